@@ -15,30 +15,44 @@ abbrev pub all_met : List Path → List Path → List Path
 all_met paths more = paths ++ firsts_after same_path (is_met paths) more
 
 -- the paths after one more leaf
-pub met_more : (old new : List (Bor Path)) (k : Bor Path) (more : List Path) → new ≡ insert_key (λ a b. same_path a.now b.now) old k → all_met (pointed new) more ≡ all_met (pointed old) (k.now ∷ more)
+pub met_more : (old new : List (Bor Path)) (k : Bor Path) (more : List Path)
+    → new ≡ insert_key (λ a b. same_path a.now b.now) old k → all_met (pointed new) more ≡ all_met (pointed old) (k.now ∷ more)
 met_more old new k more e =
-    let snoc : (y : Path) → is_met (pointed old ++ k.now ∷ []) y ≡ (is_met (pointed old) y || same_path y k.now) = λ y. grind (arith, common_steps, list_any-append (same_path y) (pointed old) (k.now ∷ [])) in
+    let snoc : (y : Path) → is_met (pointed old ++ k.now ∷ []) y ≡ (is_met (pointed old) y || same_path y k.now) =
+    λ y. grind (arith, common_steps, list_any-append (same_path y) (pointed old) (k.now ∷ [])) in
     let met : is_met (pointed old ++ k.now ∷ []) ≡ (λ y. is_met (pointed old) y || same_path y k.now) = λ i y. snoc y i in
-    grind (arith, common_steps, met, map-append (λ (r : Bor Path). r.now) old (k ∷ []), list_any-map (same_path k.now) (λ (r : Bor Path). r.now) old)
+    grind (
+      arith,
+      common_steps,
+      met,
+      map-append (λ (r : Bor Path). r.now) old (k ∷ []),
+      list_any-map (same_path k.now)
+          (λ (r : Bor Path). r.now) old,
+    )
 
 -- the paths of all leaves' domains
-pub paths_are : (h : Hierarchy) (ls : List Homed) → ls ≡ template_leaves h (top_number h) → all_met [] (filter_map (home h) ls) ≡ domains h
+pub paths_are : (h : Hierarchy) (ls : List Homed) → ls ≡ template_leaves h (top_number h)
+    → all_met [] (filter_map (home h) ls) ≡ domains h
 paths_are h ls e = ap (λ ls. firsts same_path (filter_map (home h) ls)) e ∙ ap (firsts same_path) (homes (leaves h))
   where
-    homes : (xs : List Placed) → filter_map (home h) (map (homed h (top_number h)) xs) ≡ map (λ x. domain_of h x.path) (filter (λ x. not (is_hardware h x.part)) xs)
+    homes : (xs : List Placed) → filter_map (home h) (map (homed h (top_number h)) xs) ≡ map (λ x. domain_of h x.path)
+        (filter (λ x. not (is_hardware h x.part)) xs)
     homes [] = refl
     homes (x ∷ xs) = grind (arith, common_steps, homes xs)
 
 -- the place of a path that a set finds
-pub place_found : (p : Path) (ks : List (Bor Path)) → unwrap_or (position (λ k. same_path p k.now) ks) (length ks) ≡ place_by (same_path p) (pointed ks)
+pub place_found : (p : Path) (ks : List (Bor Path)) → unwrap_or (position (λ k. same_path p k.now) ks) (length ks) ≡ place_by
+    (same_path p) (pointed ks)
 place_found p [] = refl
 place_found p (k ∷ ks) = grind (arith, common_steps, place_found p ks)
 
 -- ---- leaves
 
-pub leaves_are : (h : Hierarchy) (ps : List Path) (ls : List Homed) → ps ≡ domains h → ls ≡ template_leaves h (top_number h) → map (leaf_in h ps) ls ≡ (flattened h).leaves
+pub leaves_are : (h : Hierarchy) (ps : List Path) (ls : List Homed) → ps ≡ domains h → ls ≡ template_leaves h (top_number h)
+    → map (leaf_in h ps) ls ≡ (flattened h).leaves
 leaves_are h ps ls p e =
-    (λ i. map (leaf_in h (p i)) (e i)) ∙ map-map (leaf_in h (domains h)) (homed h (top_number h)) (leaves h) ∙ ap (λ f. map f (leaves h)) (λ i x. same x i)
+    (λ i. map (leaf_in h (p i)) (e i)) ∙ map-map (leaf_in h (domains h)) (homed h (top_number h)) (leaves h)
+    ∙ ap (λ f. map f (leaves h)) (λ i x. same x i)
   where
     same : (x : Placed) → leaf_in h (domains h) (homed h (top_number h) x) ≡ leaf_of h x
     same x = grind (arith, common_steps)
@@ -60,38 +74,53 @@ set_beyond (x ∷ xs) (suc i) y l = ap (λ zs. x ∷ zs) (set_beyond xs i y (ome
 
 -- the numbers of those that are, with one more behind them
 numbered_more : {X : Type 0} (is : X → Bool) (a n : ℕ) (xs : List X) (x : X) → n ≡ a + length xs
-    → map (λ x. x.0) (filter (λ x. is x.1) (enumerate_from a (xs ++ x ∷ []))) ≡ map (λ x. x.0) (filter (λ x. is x.1) (enumerate_from a xs)) ++ cond (is x) (n ∷ []) []
+    → map (λ x. x.0) (filter (λ x. is x.1) (enumerate_from a (xs ++ x ∷ []))) ≡ map (λ x. x.0)
+    (filter (λ x. is x.1) (enumerate_from a xs)) ++ cond (is x) (n ∷ []) []
 numbered_more is a n [] x e = grind (arith, common_steps)
-numbered_more is a n (y ∷ xs) x e = let s : n ≡ (a + 1) + length xs = omega arith in grind (arith, common_steps, numbered_more is (a + 1) n xs x s)
+numbered_more is a n (y ∷ xs) x e = let s : n ≡ (a + 1) + length xs = omega arith in
+    grind (arith, common_steps, numbered_more is (a + 1) n xs x s)
 
-domain_more : (h : Hierarchy) (n : ℕ) (xs : List Placed) (x : Placed) (p : Path) → n ≡ length xs → domain_to h (xs ++ x ∷ []) p ≡ cond (is_inside h p x) (grown n (domain_to h xs p)) (domain_to h xs p)
+domain_more : (h : Hierarchy) (n : ℕ) (xs : List Placed) (x : Placed) (p : Path) → n ≡ length xs
+    → domain_to h (xs ++ x ∷ []) p ≡ cond (is_inside h p x) (grown n (domain_to h xs p)) (domain_to h xs p)
 domain_more h n xs x p e =
     let more = numbered_more (is_inside h p) 0 n xs x (omega arith) in
     grind (arith, common_steps, more, append-nil (domain_to h xs p).leaves)
 
 -- what is put into the domain of the path q is put into no other one
-put_one : (f g : Path → Domain) (q : Path) (n : ℕ) (ds : List Path) → IsOnce ds → ((p : Path) → g p ≡ cond (same_path q p) (grown n (f p)) (f p)) → put_into (Some (place_by (same_path q) ds)) n (map f ds) ≡ map g ds
+put_one : (f g : Path → Domain) (q : Path) (n : ℕ) (ds : List Path) → IsOnce ds
+    → ((p : Path) → g p ≡ cond (same_path q p) (grown n (f p)) (f p))
+    → put_into (Some (place_by (same_path q) ds)) n (map f ds) ≡ map g ds
 put_one f g q n [] once e = refl
 put_one f g q n (p ∷ ds) once e = grind (arith, common_steps, e p, others ds (λ s i. i), put_one f g q n ds once.1 e)
   where
     others : (ss : List Path) → ((s : Path) → IsIn s ss → IsIn s ds) → same_path q p ≡ true → map f ss ≡ map g ss
     others [] m t = refl
     others (s ∷ ss) m t =
-        let no : same_path q s ≡ false = false_from_ne_true _ (λ u. once.0 (subst (λ r. IsIn r ds) (sym ((same_path-Decides q s).0 u) ∙ (same_path-Decides q p).0 t) (m s (inl refl)))) in
+        let no : same_path q s ≡ false =
+        false_from_ne_true _
+        (λ u. once.0 (subst (λ r. IsIn r ds) (sym ((same_path-Decides q s).0 u) ∙ (same_path-Decides q p).0 t)
+        (m s (inl refl)))) in
         grind (arith, common_steps, e s, others ss (λ r i. m r (inr i)) t)
 
-filled_more : (h : Hierarchy) (n : ℕ) (done xs : List Placed) → n ≡ length done → filled n (map (leaf_of h) xs) (map (domain_to h done) (domains h)) ≡ map (domain_to h (done ++ xs)) (domains h)
+filled_more : (h : Hierarchy) (n : ℕ) (done xs : List Placed) → n ≡ length done
+    → filled n (map (leaf_of h) xs) (map (domain_to h done) (domains h)) ≡ map (domain_to h (done ++ xs)) (domains h)
 filled_more h n done [] e = ap (λ xs. map (domain_to h xs) (domains h)) (sym (append-nil done))
 filled_more h n done (x ∷ xs) e =
     ap (filled (n + 1) (map (leaf_of h) xs)) (by_test (is_hardware h x.part) (λ p. domain_more h n done x p e))
-    ∙ filled_more h (n + 1) (done ++ x ∷ []) xs (omega (arith, e, length-append done (x ∷ []))) ∙ ap (λ ys. map (domain_to h ys) (domains h)) (append_assoc done (x ∷ []) xs)
+    ∙ filled_more h (n + 1) (done ++ x ∷ []) xs (omega (arith, e, length-append done (x ∷ [])))
+    ∙ ap (λ ys. map (domain_to h ys) (domains h)) (append_assoc done (x ∷ []) xs)
   where
-    by_test : (b : Bool) → ((p : Path) → domain_to h (done ++ x ∷ []) p ≡ cond (not b && same_path (domain_of h x.path) p) (grown n (domain_to h done p)) (domain_to h done p))
-        → put_into (cond b None (Some (place_by (same_path (domain_of h x.path)) (domains h)))) n (map (domain_to h done) (domains h)) ≡ map (domain_to h (done ++ x ∷ [])) (domains h)
+    by_test : (b : Bool) → ((p : Path) → domain_to h (done ++ x ∷ []) p ≡ cond (not b && same_path (domain_of h x.path) p)
+        (grown n (domain_to h done p)) (domain_to h done p))
+        → put_into (cond b None (Some (place_by (same_path (domain_of h x.path)) (domains h)))) n
+        (map (domain_to h done) (domains h)) ≡ map (domain_to h (done ++ x ∷ [])) (domains h)
     by_test true more = ap (λ (f : Path → Domain). map f (domains h)) (λ i p. sym (more p) i)
-    by_test false more = put_one (domain_to h done) (domain_to h (done ++ x ∷ [])) (domain_of h x.path) n (domains h) (domains_once h) more
+    by_test false more = put_one (domain_to h done) (domain_to h (done ++ x ∷ [])) (domain_of h x.path) n (domains h)
+        (domains_once h) more
 
-pub domains_are : (h : Hierarchy) (ls : List Leaf) (ps : List (Bor Path)) → ls ≡ (flattened h).leaves → pointed ps ≡ domains h → filled 0 ls (map empty_at ps) ≡ (flattened h).domains
+pub domains_are : (h : Hierarchy) (ls : List Leaf) (ps : List (Bor Path)) → ls ≡ (flattened h).leaves → pointed ps ≡ domains h
+    → filled 0 ls (map empty_at ps) ≡ (flattened h).domains
 domains_are h ls ps e p =
-    ap (λ ls. filled 0 ls (map empty_at ps)) e ∙ ap (filled 0 (map (leaf_of h) (leaves h))) (sym (map-map (domain_to h []) (λ (r : Bor Path). r.now) ps) ∙ ap (map (domain_to h [])) p)
+    ap (λ ls. filled 0 ls (map empty_at ps)) e ∙ ap (filled 0 (map (leaf_of h) (leaves h)))
+    (sym (map-map (domain_to h []) (λ (r : Bor Path). r.now) ps) ∙ ap (map (domain_to h [])) p)
     ∙ filled_more h 0 [] (leaves h) refl

@@ -38,4 +38,5 @@ pub record AreHeld (h : Hierarchy) (waiting : List ℕ) (held : List Bool) : Typ
   pub length_is : length held ≡ suc (length h.bodies)
   pub top : slice_index_or held (length h.bodies) false ≡ true
   pub few : (k : ℕ) → k ≤ length h.bodies → slice_index_or held k false ≡ true → length (leaves_in h k) < 2 ^ 32
-  pub inner : (k : ℕ) → k ≤ length h.bodies → has waiting k ≡ false → slice_index_or held k false ≡ true → All (λ x. slice_index_or held x.kind false ≡ true) (body h k).parts
+  pub inner : (k : ℕ) → k ≤ length h.bodies → has waiting k ≡ false → slice_index_or held k false ≡ true
+      → All (λ x. slice_index_or held x.kind false ≡ true) (body h k).parts

@@ -1,6 +1,6 @@
 -- The connections of a template in a flat system, how many ends join an interface of a leaf, and the faults of joins.
-use Rattle.adl_meaning.specs.Prelude.{Fault, Hierarchy, JoinedEnd, at_word, count_by, enumerate_from, flat_map, is_at, is_direct, is_hardware, last_name, list_all, lookup, option_and_then, option_eq, option_map_or, same_domain, slice_get, unjoined_at, used_twice, where_true}
-use Rattle.std.specs.Prelude.{Bool, List, Option, [], is_some, map, nat_eq, not, true, unwrap_or, ℕ, ◌&&◌, ◌++◌, ◌==◌, ◌∷◌, ◌≡◌}
+use Rattle.adl_meaning.specs.Prelude.{Fault, Hierarchy, JoinedEnd, at_word, count_by, enumerate_from, flat_map, is_at, is_direct, is_hardware, last_name, list_all, lookup, option_and_then, option_eq, same_domain, slice_get, unjoined_at, used_twice, where_true}
+use Rattle.std.specs.Prelude.{Bool, List, None, Option, Some, [], false, if◌then◌else◌, is_some, map, nat_eq, nat_le, not, true, ℕ, ◌&&◌, ◌++◌, ◌==◌, ◌∷◌, ◌≡◌, ◌≤◌}
 use Rattle.adl_meaning.specs.declared.flat.FlatConnection.{FlatConnection}
 use Rattle.adl_meaning.specs.declared.flat.FlatEnd.{FlatEnd}
 use Rattle.adl_meaning.specs.declared.flat.Leaf.{Leaf}
@@ -12,7 +12,12 @@ abbrev pub flat_end_of : Joined → FlatEnd
 flat_end_of e = record { role = e.end.role; leaf = e.leaf; member = e.member; place = e.end.place }
 
 abbrev pub flat_connection_of : Connected → FlatConnection
-flat_connection_of c = record { path = c.path ++ c.wire.1.id.name ∷ []; connector = c.wire.0; place = c.wire.1.id.place; ends = map flat_end_of c.ends }
+flat_connection_of c = record {
+  path = c.path ++ c.wire.1.id.name ∷ [];
+  connector = c.wire.0;
+  place = c.wire.1.id.place;
+  ends = map flat_end_of c.ends;
+}
 
 -- an end of the connection of the number
 abbrev pub joined_end_of : ℕ → Joined → JoinedEnd
@@ -28,16 +33,32 @@ all_joined cs = flat_map joined_of (enumerate_from 0 cs)
 abbrev pub same_key : EndKey → EndKey → Bool
 same_key k l = option_eq nat_eq k.connection l.connection && (k.leaf == l.leaf && k.member == l.member)
 
--- whether the end is counted at the key
-abbrev pub is_counted : EndKey → JoinedEnd → Bool
-is_counted k e = is_at k.leaf k.member e && option_map_or (λ c. e.connection == c) k.connection true
+-- whether the key is that of the end among all ends, or among those of its connection
+abbrev pub joins : EndKey → JoinedEnd → Bool
+joins k e = same_key (record { connection = None; leaf = e.end.leaf; member = e.end.member }) k
 
-abbrev pub count_at : List (EndKey × ℕ) → EndKey → ℕ
-count_at counts k = unwrap_or (lookup (same_key k) counts) 0
+abbrev pub joins_apart : EndKey → JoinedEnd → Bool
+joins_apart k e = same_key (record { connection = Some e.connection; leaf = e.end.leaf; member = e.end.member }) k
 
--- the table counts these ends
-abbrev pub AreCounts : List (EndKey × ℕ) → List JoinedEnd → Type 0
-AreCounts counts ends = (k : EndKey) → count_at counts k ≡ count_by (is_counted k) ends
+-- what a table says of so many ends: nothing of none, and else whether there are several
+abbrev pub tally : ℕ → Option Bool
+tally n = if nat_le 1 n then Some (nat_le 2 n) else None
+
+abbrev pub seen_at : List (EndKey × Bool) → EndKey → Option Bool
+seen_at seen k = lookup (same_key k) seen
+
+-- the ends at an interface that are of one connection
+abbrev pub is_apart : ℕ → ℕ → ℕ → JoinedEnd → Bool
+is_apart connection leaf member e = e.connection == connection && is_at leaf member e
+
+-- the table says how many of these ends join each interface, and where several join one, also how many of each connection
+pub record AreSeen (seen : List (EndKey × Bool)) (several : Bool) (ends : List JoinedEnd) : Type 0 where
+  pub all : (leaf member : ℕ) → seen_at seen (record { connection = None; leaf = leaf; member = member }) ≡ tally
+      (count_by (is_at leaf member) ends)
+  pub once : several ≡ false → (leaf member : ℕ) → count_by (is_at leaf member) ends ≤ 1
+  pub apart : several ≡ true → (connection leaf member : ℕ)
+      → seen_at seen (record { connection = Some connection; leaf = leaf; member = member }) ≡ tally
+      (count_by (is_apart connection leaf member) ends)
 
 -- a device below a group
 abbrev pub misplaced_leaf : Hierarchy → Homed → List Fault

@@ -41,7 +41,12 @@ pub record Connected : Type 0 where
   pub ends : List Joined
 
 abbrev pub end_in : Hierarchy → ℕ → Path → End → Reached → Joined
-end_in h k q e r = record { end = e; leaf = leaf_place h k (q ++ r.path); member = member_number h r.part r.interface; once = is_once h r }
+end_in h k q e r = record {
+  end = e;
+  leaf = leaf_place h k (q ++ r.path);
+  member = member_number h r.part r.interface;
+  once = is_once h r;
+}
 
 abbrev pub ends_in : Hierarchy → ℕ → Strung → List Joined
 ends_in h k x = filter_map (λ e. option_map (end_in h k x.path e) (joined_by h x.inside e)) x.wire.1.ends
@@ -111,10 +116,12 @@ abbrev pub own_target : Body → ℕ → Name → Target
 own_target b before j = record {
   leaf = before;
   member = option_map_or (λ c. place_by (is_interface j) c.members) b.component 0;
-  once = option_map_or (λ i. joins_once (option_map_or is_device b.component false) i.kind) (option_and_then (λ c. interface_of c j) b.component) false;
+  once = option_map_or (λ i. joins_once (option_map_or is_device b.component false) i.kind)
+      (option_and_then (λ c. interface_of c j) b.component) false;
 }
 
 -- where the interface j of an instance leads whose component is k, with so many leaves before it
 abbrev pub target_by : Hierarchy → ℕ → ℕ → Name → Option Target
 target_by h before k j =
-    if is_composite h k then option_map (moved_target before) (option_and_then (λ t. t) (export_target h k j)) else Some (own_target (body h k) before j)
+    if is_composite h k then option_map (moved_target before) (option_and_then (λ t. t) (export_target h k j)) else Some
+    (own_target (body h k) before j)

@@ -1,7 +1,7 @@
 -- The totals of a body, which are plain sums over the paths in it, each at most the greatest number of 64 bits, and what they
 -- are made of.
 use Rattle.adl_meaning.specs.Prelude.{Assembly, End, Fault, Hierarchy, Part, Placed, Strung, Wire, body, flat_map, is_composite, leaves_in, limit_passed, longest, wires_of}
-use Rattle.std.specs.Prelude.{List, codes, fold, if◌then◌else◌, length, map, max, min, slice_index_or, ℕ, ◌++◌, ◌+◌, ◌-◌, ◌==◌, ◌^◌}
+use Rattle.std.specs.Prelude.{Bool, List, codes, fold, if◌then◌else◌, length, map, max, min, nat_lt, slice_index_or, ℕ, ◌++◌, ◌+◌, ◌-◌, ◌==◌, ◌^◌, ◌||◌}
 use Rattle.adl_meaning.specs.declared.item_at.ItemAt.{ItemAt}
 use Rattle.adl_meaning.specs.Joins.{connections_in}
 use Rattle.adl_flatten.specs.declared.limits.Totals.{Totals}
@@ -39,7 +39,12 @@ outer t = if t.leaves == 0 then t else record t { depth = saturated (t.depth + 1
 
 -- those of connections of a body itself
 abbrev pub own_total : List Wire → Totals
-own_total ws = record { leaves = 0; depth = 0; connections = saturated (length ws); ends = saturated (length (flat_map (λ w. w.1.ends) ws)) }
+own_total ws = record {
+  leaves = 0;
+  depth = 0;
+  connections = saturated (length ws);
+  ends = saturated (length (flat_map (λ w. w.1.ends) ws));
+}
 
 -- those of an instance, from those of all bodies
 abbrev pub part_total : Hierarchy → List Totals → Part → Totals
@@ -60,3 +65,7 @@ limits_in a t =
     ++ limit_passed a (codes "leaves") 1024 t.leaves
     ++ limit_passed a (codes "connections") 4096 t.connections
     ++ limit_passed a (codes "ends") 16384 t.ends
+
+-- whether totals pass a limit
+abbrev pub pass : Totals → Bool
+pass t = ((nat_lt 16 t.depth || nat_lt 1024 t.leaves) || nat_lt 4096 t.connections) || nat_lt 16384 t.ends

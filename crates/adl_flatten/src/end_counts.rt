@@ -1,9 +1,9 @@
-//! All ends with what they join, and how many of them join each interface.
+//! All ends with what they join, and where several of them join one interface.
 
 ghost use Rattle.adl_meaning.specs.Prelude.{count_by, is_at, list_any};
-ghost use Rattle.adl_flatten.specs.TemplateJoins.{all_joined, count_at, is_counted, same_key};
+ghost use Rattle.adl_flatten.specs.TemplateJoins.{all_joined, joins, joins_apart, same_key, seen_at, tally};
 ghost use Rattle.adl_meaning.specs.UsedTwice.{clashes};
-ghost use Rattle.std.specs.Prelude.{IfOk, OnOk, if◌then◌else◌, ◌+◌, ◌<◌, ◌^◌, ◌≡◌};
+ghost use Rattle.std.specs.Prelude.{IfOk, None, OnOk, Some, false, if◌then◌else◌, is_some, nat_le, unwrap_or, ◌+◌, ◌≡◌, ◌≤◌};
 
 use crate::{PlacedConnection, PlacedEnd};
 use cam_base::NoMemory;
@@ -27,7 +27,7 @@ impl<'t, 'a> Model for JoinedEnd<'t, 'a> {
     ghost view = { λ e. joined_end_of e.connection e.placed.now };
 }
 
-/// An interface of a leaf, and the connection whose ends are counted there, or `None` for those of all connections.
+/// An interface of a leaf, and the connection whose ends are looked at there, or `None` for those of all connections.
 #[derive(Clone, Copy, PartialEq, Eq, Hash)]
 struct EndKey {
     connection: Option<usize>,
@@ -35,24 +35,36 @@ struct EndKey {
     member: usize,
 }
 
-fn count_at(counts: &IndexMap<EndKey, usize>, key: EndKey) -> usize
-    ensures { result ≡ count_at counts.now.entries key }
+/// Adds an end at a key, and answers whether one was there. The table says of each key whether there are several.
+fn add_at(seen: &mut IndexMap<EndKey, bool>, key: EndKey) -> Result<bool, NoMemory>
+    ensures before { IfOk result (λ before. before ≡ is_some (seen_at seen.old.entries key)) }
+    ensures seen { OnOk result ((k : EndKey) → seen_at seen.new.entries k
+        ≡ (if same_key key k then Some (is_some (seen_at seen.old.entries key)) else seen_at seen.old.entries k)) }
 {
-    counts.get(&key).copied().unwrap_or(0)
+    match seen.insert(key, false)? {
+        None => Ok(false),
+        Some(_) => {
+            seen.insert(key, true)?;
+            Ok(true)
+        }
+    }
 }
 
-#[tactic(auto, using(crate::proofs::EndLookups::count_put))]
-fn add_at(counts: &mut IndexMap<EndKey, usize>, key: EndKey) -> Result<(), NoMemory>
-    requires { count_at counts.old.entries key + 1 < 2 ^ 64 }
-    ensures { OnOk result ((k : EndKey) → count_at counts.new.entries k
-        ≡ count_at counts.old.entries k + (if same_key key k then 1 else 0)) }
+fn are_several(seen: &IndexMap<EndKey, bool>, key: EndKey) -> bool
+    ensures { result ≡ unwrap_or (seen_at seen.now.entries key) false }
 {
-    let count = count_at(&*counts, key);
-    counts.insert(key, count + 1)?;
-    Ok(())
+    seen.get(&key).copied().unwrap_or(false)
 }
 
 impl<'t, 'a> JoinedEnd<'t, 'a> {
+    /// Whether it alone may join its interface.
+    fn is_once(&self) -> bool
+        ensures { result ≡ self.now.once }
+    {
+        let placed = self.placed;
+        placed.once
+    }
+
     fn key(&self, connection: Option<usize>) -> EndKey
         ensures { result ≡ record { connection = connection; leaf = self.now.end.leaf; member = self.now.end.member } }
     {
@@ -64,22 +76,62 @@ impl<'t, 'a> JoinedEnd<'t, 'a> {
         }
     }
 
-    /// Counts the end among those of its connection, and among all.
-    fn add_to(&self, counts: &mut IndexMap<EndKey, usize>) -> Result<(), NoMemory>
-        requires { (k : EndKey) → count_at counts.old.entries k + 1 < 2 ^ 64 }
-        ensures { OnOk result ((k : EndKey) → count_at counts.new.entries k
-            ≡ count_at counts.old.entries k + (if is_counted k self.now then 1 else 0)) }
+    /// Its key among the ends of its connection.
+    fn key_apart(&self) -> EndKey
+        ensures { result ≡ record { connection = Some self.now.connection; leaf = self.now.end.leaf; member = self.now.end.member } }
     {
-        add_at(counts, self.key(None))?;
-        add_at(counts, self.key(Some(self.connection)))
+        self.key(Some(self.connection))
     }
 }
 
-/// The ends of all connections, and how many of them join each interface. Contracts see them as the ends.
+fn joined_ends<'t, 'a>(
+    alloc: Global,
+    connections: &'t [PlacedConnection<'a>],
+) -> Result<Vec<JoinedEnd<'t, 'a>>, NoMemory>
+    ensures { IfOk result (λ v. v.items ≡ all_joined connections.entry.now) }
+{
+    let mut ends = Vec::new(alloc);
+    for (connection, it) in connections.iter().enumerate() {
+        for placed in it.ends.as_slice() {
+            ends.push(JoinedEnd { connection, placed })?;
+        }
+    }
+    Ok(ends)
+}
+
+/// Adds the ends of all connections together, and answers whether several join one interface.
+fn add_all(ends: &[JoinedEnd<'_, '_>], seen: &mut IndexMap<EndKey, bool>) -> Result<bool, NoMemory>
+    requires { (k : EndKey) → seen_at seen.old.entries k ≡ None }
+    ensures seen { OnOk result ((k : EndKey) → seen_at seen.new.entries k ≡ tally (count_by (joins k) ends.now)) }
+    ensures once { IfOk result (λ several. several ≡ false → (k : EndKey) → count_by (joins k) ends.now ≤ 1) }
+{
+    let mut several = false;
+    for end in ends {
+        let before = add_at(seen, end.key(None))?;
+        several = several || before;
+    }
+    Ok(several)
+}
+
+/// Adds the ends of each connection apart.
+fn add_apart(ends: &[JoinedEnd<'_, '_>], seen: &mut IndexMap<EndKey, bool>) -> Result<(), NoMemory>
+    requires { (k : EndKey) → seen_at seen.old.entries k ≡ tally (count_by (joins k) ends.now) }
+    ensures { OnOk result ((k : EndKey) → seen_at seen.new.entries k
+        ≡ tally (count_by (joins k) ends.now + count_by (joins_apart k) ends.now)) }
+{
+    for end in ends {
+        add_at(seen, end.key_apart())?;
+    }
+    Ok(())
+}
+
+/// The ends of all connections, and where several join one interface. Contracts see them as the ends.
 #[derive(Drop)]
 pub struct CountedEnds<'t, 'a> {
     ends: Vec<JoinedEnd<'t, 'a>>,
-    counts: IndexMap<EndKey, usize>,
+    /// Those of each connection apart are in it only where several ends join one interface.
+    seen: IndexMap<EndKey, bool>,
+    several: bool,
 }
 
 impl<'t, 'a> Model for CountedEnds<'t, 'a> {
@@ -88,11 +140,11 @@ impl<'t, 'a> Model for CountedEnds<'t, 'a> {
 
     ghost Value = { List JoinedEnd };
 
-    ghost use Rattle.adl_flatten.specs.TemplateJoins.{AreCounts};
+    ghost use Rattle.adl_flatten.specs.TemplateJoins.{AreSeen};
 
     ghost view = { λ t. t.ends.items };
 
-    ghost invariant = { λ t. AreCounts t.counts.entries t.ends.items };
+    ghost invariant = { λ t. AreSeen t.seen.entries t.several t.ends.items };
 }
 
 impl<'t, 'a> CountedEnds<'t, 'a> {
@@ -103,16 +155,22 @@ impl<'t, 'a> CountedEnds<'t, 'a> {
     ) -> Result<CountedEnds<'t, 'a>, NoMemory>
         ensures { IfOk result (λ t. t ≡ all_joined connections.entry.now) }
     {
-        let mut ends = Vec::new(alloc);
-        let mut counts = IndexMap::new(alloc);
-        for (connection, it) in connections.iter().enumerate() {
-            for placed in it.ends.as_slice() {
-                let end = JoinedEnd { connection, placed };
-                end.add_to(&mut counts)?;
-                ends.push(end)?;
-            }
+        let ends = joined_ends(alloc, connections)?;
+        let mut seen = IndexMap::with_capacity(alloc, ends.len())?;
+        let several = add_all(ends.as_slice(), &mut seen)?;
+        if several {
+            add_apart(ends.as_slice(), &mut seen)?;
+            return Ok(CountedEnds {
+                ends,
+                seen,
+                several: true,
+            });
         }
-        Ok(CountedEnds { ends, counts })
+        Ok(CountedEnds {
+            ends,
+            seen,
+            several: false,
+        })
     }
 
     /// The ends, in order.
@@ -122,17 +180,17 @@ impl<'t, 'a> CountedEnds<'t, 'a> {
         self.ends.as_slice()
     }
 
-    /// The number of ends that keep this one from joining its interface; an end among them finds itself.
-    pub fn clash_count(&self, end: &JoinedEnd<'_, '_>) -> usize
-        ensures { result ≡ count_by (clashes end.now) self.now }
+    /// Whether another end keeps this one, which is among the ends, from joining its interface.
+    pub fn is_clash(&self, end: &JoinedEnd<'_, '_>) -> bool
+        ensures { result ≡ nat_le 2 (count_by (clashes end.now) self.now) }
     {
-        let placed = end.placed;
-        let connection = if placed.once {
-            None
-        } else {
-            Some(end.connection)
-        };
-        count_at(&self.counts, end.key(connection))
+        if !self.several {
+            return false;
+        }
+        if end.is_once() {
+            return are_several(&self.seen, end.key(None));
+        }
+        are_several(&self.seen, end.key_apart())
     }
 
     /// Whether an end joins the interface.
@@ -144,6 +202,6 @@ impl<'t, 'a> CountedEnds<'t, 'a> {
             leaf,
             member,
         };
-        count_at(&self.counts, key) > 0
+        self.seen.contains_key(&key)
     }
 }

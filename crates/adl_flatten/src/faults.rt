@@ -20,7 +20,7 @@ fn note_used_twice<'a>(ends: &CountedEnds<'_, 'a>, first: &mut Earliest<'a>)
     ensures { first.new ≡ noted first.old (flat_map (used_twice ends.now) ends.now) }
 {
     for end in ends.as_slice() {
-        let is_clash = ends.clash_count(end) >= 2;
+        let is_clash = ends.is_clash(end);
         let placed = end.placed;
         let word = last_name(placed.end.words.as_slice());
         first.note(is_clash, Code::UsedTwice, placed.end.place, word);

@@ -23,8 +23,8 @@ fn flat_connection(
     ensures { IfOk result (λ k. k ≡ flat_connection_of connection.now) }
 {
     let id = &connection.connection.id;
-    let path = Path::of(alloc, connection.path.names(), slice::from_ref(&id.name))?;
-    let mut ends = List::new(alloc);
+    let path = Path::of(alloc, connection.path.as_slice(), slice::from_ref(&id.name))?;
+    let mut ends = List::from_vec(Vec::with_capacity(alloc, connection.ends.len())?);
     for end in connection.ends.as_slice() {
         ends.push(FlatEnd {
             role: end.end.role,

@@ -20,7 +20,7 @@ fn home<'a>(program: &Program<'_>, leaf: &'a PlacedLeaf<'_>) -> Option<&'a [Name
     if program.body(leaf.kind).is_hardware() {
         return None;
     }
-    Some(leaf.home.as_ref().unwrap_or(&leaf.path).names())
+    Some(leaf.home.as_ref().unwrap_or(&leaf.path).as_slice())
 }
 
 /// The paths of domains, in the order of their first leaves.
@@ -33,7 +33,7 @@ pub fn domain_paths<'a>(
     ensures paths { IfOk result (λ s. pointed s.keys ≡ domains program.now) }
     ensures few { IfOk result (λ s. length s.keys ≤ length leaves.entry.now) }
 {
-    let mut paths = IndexSet::new(alloc);
+    let mut paths = IndexSet::with_capacity(alloc, leaves.len())?;
     for leaf in leaves {
         if let Some(path) = home(program, leaf) {
             paths.insert(path)?;
@@ -68,7 +68,7 @@ fn flat_leaf(
     let body = program.body(leaf.kind);
     let nowhere = ItemAt { file: 0, item: 0 };
     Ok(Leaf {
-        path: leaf.path.copy(alloc)?,
+        path: Path::of(alloc, leaf.path.as_slice(), &[])?,
         component: body.item().unwrap_or(nowhere),
         place: leaf.instance.component.place,
         hardware: body.is_hardware(),

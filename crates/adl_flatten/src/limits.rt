@@ -2,7 +2,7 @@
 //! walked.
 
 ghost use Rattle.adl_meaning.specs.Prelude.{AreFew, AreNamesSound, Refuses, body, first_size_fault, flat_map, hierarchy_of, noted, top_number};
-ghost use Rattle.adl_flatten.specs.TotalsOf.{body_total, both, limits_in, outer, own_total, part_total, saturated, totals_in};
+ghost use Rattle.adl_flatten.specs.TotalsOf.{body_total, both, limits_in, outer, own_total, part_total, pass, saturated, totals_in};
 ghost use Rattle.adl_items.specs.Located.{located};
 ghost use Rattle.adl_flatten.specs.AreTemplates.{IsReady};
 ghost use Rattle.std.specs.Prelude.{All, IfOk, length, ◌<◌, ◌≡◌};
@@ -13,6 +13,14 @@ use adl_meaning::Earliest;
 use adl_program::{Part, Program, Wire};
 use cam_base::{Code, Fault, NoMemory, Refused};
 use std::alloc::Global;
+
+const DEPTH: u64 = 16;
+
+const LEAVES: u64 = 1024;
+
+const CONNECTIONS: u64 = 4096;
+
+const ENDS: u64 = 16384;
 
 /// Sums over the paths in a body. None goes past the greatest number of 64 bits.
 #[derive(Clone, Copy)]
@@ -25,6 +33,16 @@ struct Totals {
 }
 
 impl Totals {
+    /// Whether they pass a limit.
+    fn pass(self) -> bool
+        ensures { result ≡ pass self }
+    {
+        DEPTH < self.depth
+            || LEAVES < self.leaves
+            || CONNECTIONS < self.connections
+            || ENDS < self.ends
+    }
+
     fn and(self, other: Totals) -> Totals
         ensures { result ≡ both self other }
     {
@@ -116,14 +134,6 @@ fn assembly_totals(alloc: Global, program: &Program<'_>) -> Result<Totals, NoMem
     Ok(all[top])
 }
 
-const DEPTH: u64 = 16;
-
-const LEAVES: u64 = 1024;
-
-const CONNECTIONS: u64 = 4096;
-
-const ENDS: u64 = 16384;
-
 /// Notes each limit that the totals of the assembly pass.
 #[tactic(auto, using(adl_meaning::proofs::Noting::noting))]
 fn note_limits(assembly: &Located<'_, Assembly>, totals: Totals, first: &mut Earliest<'_>)
@@ -154,6 +164,9 @@ pub fn check_limits(
     ensures { Refuses result (first_size_fault source.now) }
 {
     let totals = assembly_totals(alloc, program)?;
+    if !totals.pass() {
+        return Ok(());
+    }
     let items = all_items(alloc, source)?;
     match first_assembly(items.as_slice()) {
         None => Ok(()),

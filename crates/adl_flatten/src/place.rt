@@ -6,29 +6,33 @@ ghost use Rattle.std.specs.Prelude.{All, IfOk, OnOk, map, option_map, ◌++◌, 
 
 use crate::placed::{PlacedConnection, PlacedEnd};
 use adl_program::Part;
-use cam_base::{Name, NoMemory, Path};
+use cam_base::{List, Name, NoMemory};
 use std::alloc::Global;
-use std::slice;
 
 /// The path behind a name.
-pub fn behind(alloc: Global, name: &Name, path: &[Name]) -> Result<Path, NoMemory>
+pub fn behind(alloc: Global, name: &Name, path: &[Name]) -> Result<List<Name>, NoMemory>
     ensures { IfOk result (λ p. p ≡ name.now ∷ path.now) }
 {
-    Path::of(alloc, slice::from_ref(name), path)
+    let mut names = Vec::with_capacity(alloc, path.len().saturating_add(1))?;
+    names.push(name.copy(alloc)?)?;
+    for inner in path {
+        names.push(inner.copy(alloc)?)?;
+    }
+    Ok(List::from_vec(names))
 }
 
 /// The path of the outermost group above what stands in an instance, from that inside its component.
 pub fn home_of(
     alloc: Global,
     part: &Part<'_>,
-    home: &Option<Path>,
-) -> Result<Option<Path>, NoMemory>
+    home: &Option<List<Name>>,
+) -> Result<Option<List<Name>>, NoMemory>
     ensures { IfOk result (λ o. o ≡ group_or part.now.group (option_map (λ q. name_of part.now ∷ q) home.now)) }
 {
     match (part.group, home) {
         (Some(group), _) => Ok(Some(behind(alloc, group, &[])?)),
         (None, None) => Ok(None),
-        (None, Some(home)) => Ok(Some(behind(alloc, &part.instance.id.name, home.names())?)),
+        (None, Some(home)) => Ok(Some(behind(alloc, &part.instance.id.name, home.as_slice())?)),
     }
 }
 
@@ -51,7 +55,7 @@ pub fn place_connections<'a>(
             ends.push(PlacedEnd { leaf, ..*end })?;
         }
         connections.push(PlacedConnection {
-            path: behind(alloc, &part.instance.id.name, connection.path.names())?,
+            path: behind(alloc, &part.instance.id.name, connection.path.as_slice())?,
             ends,
             ..*connection
         })?;

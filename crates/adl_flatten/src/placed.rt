@@ -2,19 +2,19 @@
 
 use adl_ast::{Connection, End, Instance};
 use adl_meaning::Connector;
-use cam_base::{Name, Path};
+use cam_base::{List, Name};
 use std::marker::Model;
 
 /// A leaf of a body, and the path of the outermost group above it.
 #[derive(Drop)]
 pub struct PlacedLeaf<'a> {
-    pub path: Path,
+    pub path: List<Name>,
     pub instance: &'a Instance,
     /// The group that the instance stands in.
     pub group: Option<&'a Name>,
     /// The number of its component.
     pub kind: u32,
-    pub home: Option<Path>,
+    pub home: Option<List<Name>>,
 }
 
 impl<'a> Model for PlacedLeaf<'a> {
@@ -63,7 +63,7 @@ impl<'a> Model for PlacedEnd<'a> {
 /// A connection with the path of its composition and those of its ends that join something.
 #[derive(Drop)]
 pub struct PlacedConnection<'a> {
-    pub path: Path,
+    pub path: List<Name>,
     pub connector: Connector,
     pub connection: &'a Connection,
     pub ends: Vec<PlacedEnd<'a>>,

@@ -13,7 +13,7 @@ use crate::place::{behind, home_of, place_connections};
 use crate::placed::{PlacedConnection, PlacedEnd, PlacedLeaf, Target};
 use adl_ast::{Id, InterfaceKind, Line};
 use adl_program::{Body, Part, Program, port_in};
-use cam_base::{Name, NoMemory, Path};
+use cam_base::{List, Name, NoMemory};
 use name_tables::NameTable;
 use std::alloc::Global;
 
@@ -83,7 +83,7 @@ fn place_part<'a>(
     }
     for leaf in all[part.kind as usize].leaves.as_slice() {
         leaves.push(PlacedLeaf {
-            path: behind(alloc, name, leaf.path.names())?,
+            path: behind(alloc, name, leaf.path.as_slice())?,
             home: home_of(alloc, part, &leaf.home)?,
             ..*leaf
         })?;
@@ -175,7 +175,7 @@ fn connections_of<'a>(
             }
         }
         connections.push(PlacedConnection {
-            path: Path::empty(alloc),
+            path: List::new(alloc),
             connector: wire.connector,
             connection: wire.connection,
             ends,

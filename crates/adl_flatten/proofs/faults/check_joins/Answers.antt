@@ -8,4 +8,5 @@ returns c =
     let fs = faults_by h c.args.leaves.now c.args.template.now.leaves.items c.args.template.now.connections.items in
     let all : c.note_calls.new.first ≡ noted None fs = grind (arith, noting) in
     let P : Option Fault → Type 0 = λ o. Refuses c.refuse.result o in
-    subst P (all ∙ noted-none fs ∙ ap least (faults_are h _ _ _ c.requires.leaves c.requires.template.leaves c.requires.template.connections)) c.refuse.ensures
+    subst P (all ∙ noted-none fs ∙ ap least (faults_are h _ _ _ c.requires.leaves c.requires.template.leaves
+    c.requires.template.connections)) c.refuse.ensures

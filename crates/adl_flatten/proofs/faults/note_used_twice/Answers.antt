@@ -5,4 +5,5 @@ pub loop-end-preserved : goal.loop-end-preserved
 loop-end-preserved c =
     let e = c.end-item.result in
     let n : c.note.new.self ≡ noted c.loop-end.first (used_twice c.args.ends.now e) = cc in
-    noted_each (used_twice c.args.ends.now) _ _ c.as_slice-end-items.result.now c.loop-end.end-index e c.loop-end-test.true c.end-item.is n ∙ c.loop-end.invariant
+    noted_each (used_twice c.args.ends.now) _ _ c.as_slice-end-items.result.now c.loop-end.end-index e c.loop-end-test.true
+    c.end-item.is n ∙ c.loop-end.invariant

@@ -13,7 +13,8 @@ assembly_template-requires-clause-ready c = sound_is_ready _ _ c.requires.sound 
 
 pub check_joins-requires-clause-leaves : goal.check_joins-requires-clause-leaves
 check_joins-requires-clause-leaves c =
-    c.as_slice.ensures ∙ c.in_ok-leaves.ensures ∙ leaves_are c.args.program.now _ _ c.in_ok-paths.ensures.paths (c.as_slice-placed.ensures.value ∙ c.in_ok-template.ensures.leaves)
+    c.as_slice.ensures ∙ c.in_ok-leaves.ensures ∙ leaves_are c.args.program.now _ _ c.in_ok-paths.ensures.paths
+    (c.as_slice-placed.ensures.value ∙ c.in_ok-template.ensures.leaves)
 
 pub returns-in_err-check_joins-clause-fault : goal.returns-in_err-check_joins-clause-fault
 returns-in_err-check_joins-clause-fault c =
@@ -21,13 +22,18 @@ returns-in_err-check_joins-clause-fault c =
     subst P (sym (fault_is c.args.source.now c.args.program.now c.requires.program c.in_ok-check_limits.ensures)) (search rules)
 
 pub returns-clause-fault : goal.returns-clause-fault
-returns-clause-fault c = fault_is c.args.source.now c.args.program.now c.requires.program c.in_ok-check_limits.ensures ∙ c.in_ok-check_joins.ensures
+returns-clause-fault c = fault_is c.args.source.now c.args.program.now c.requires.program c.in_ok-check_limits.ensures
+    ∙ c.in_ok-check_joins.ensures
 
 pub returns-clause-flat : goal.returns-clause-flat
 returns-clause-flat c =
     let h = c.args.program.now in
     let paths = c.in_ok-paths.ensures.paths in
-    let leaves = c.in_ok-leaves.ensures ∙ leaves_are h _ _ paths (c.as_slice-placed.ensures.value ∙ c.in_ok-template.ensures.leaves) in
-    let domains = c.in_ok-flat_domains.ensures ∙ domains_are h _ _ (c.as_slice-3.ensures ∙ leaves) (ap pointed c.as_slice-2.ensures.keys ∙ paths) in
-    let connections = c.in_ok-flat_connections.ensures ∙ ap (map flat_connection_of) (c.as_slice-4.ensures.value ∙ c.in_ok-template.ensures.connections) ∙ connections_are h in
-    (λ i. record { leaves = (c.leaves.view_is ∙ leaves) i; domains = domains i; connections = connections i }) ∙ ap flattened c.requires.program
+    let leaves = c.in_ok-leaves.ensures ∙ leaves_are h _ _ paths (c.as_slice-placed.ensures.value
+    ∙ c.in_ok-template.ensures.leaves) in
+    let domains = c.in_ok-flat_domains.ensures ∙ domains_are h _ _ (c.as_slice-3.ensures ∙ leaves)
+    (ap pointed c.as_slice-2.ensures.keys ∙ paths) in
+    let connections = c.in_ok-flat_connections.ensures ∙ ap (map flat_connection_of) (c.as_slice-4.ensures.value
+    ∙ c.in_ok-template.ensures.connections) ∙ connections_are h in
+    (λ i. record { leaves = (c.leaves.view_is ∙ leaves) i; domains = domains i; connections = connections i })
+    ∙ ap flattened c.requires.program

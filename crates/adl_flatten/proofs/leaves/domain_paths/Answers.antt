@@ -8,8 +8,9 @@ loop-leaf-init c =
     let h = c.args.program.now in
     let leaves = c.args.leaves.now in
     record {
-      paths = ap (λ ks. all_met (pointed ks) (filter_map (home h) leaves)) c.new-paths.ensures.empty ∙ paths_are h leaves c.requires;
-      count = omega (arith, c.new-paths.ensures.len);
+      paths = ap (λ ks. all_met (pointed ks) (filter_map (home h) leaves)) c.in_ok-paths.ensures.empty
+          ∙ paths_are h leaves c.requires;
+      count = omega (arith, c.in_ok-paths.ensures.len);
     }
 
 pub loop-leaf-preserved : goal.loop-leaf-preserved
@@ -21,10 +22,12 @@ loop-leaf-preserved c =
     let old = c.loop-leaf.paths.keys in
     let rest = filter_map (home h) (drop (i + 1) leaves) in
     let met : all_met (pointed old) (cons_option (home h w) rest) ≡ domains h =
-    ap (λ ls. all_met (pointed old) (filter_map (home h) ls)) (sym (drop_first leaves i w c.loop-leaf-test.true c.leaf-item.is)) ∙ c.loop-leaf.invariant.paths in
+    ap (λ ls. all_met (pointed old) (filter_map (home h) ls)) (sym (drop_first leaves i w c.loop-leaf-test.true c.leaf-item.is))
+    ∙ c.loop-leaf.invariant.paths in
     elim c.match-home.branch [
       | in-Some+in_ok-insert b ↦
-          let path = met_more old b.insert.new.self.keys b.in-Some.path rest b.in_ok-insert.ensures.keys ∙ ap (λ o. all_met (pointed old) (cons_option o rest)) b.in-Some.ensures ∙ met in
+          let path = met_more old b.insert.new.self.keys b.in-Some.path rest b.in_ok-insert.ensures.keys
+          ∙ ap (λ o. all_met (pointed old) (cons_option o rest)) b.in-Some.ensures ∙ met in
           let l = b.in_ok-insert.ensures.len in
           let n = c.loop-leaf.invariant.count in
           record { paths = rw b.paths-is path; count = rw b.paths-is (grind (arith, common_steps, l, n)) }

@@ -3,5 +3,7 @@ use Rattle.adl_flatten.proofs.template.targets_of.Given as goal
 
 abbrev pub invariant-loop-line : goal.invariant-loop-line
 invariant-loop-line l =
-    (n : Name) → option_or (found l.targets n) (option_map (λ x. target_of l.program l.number x.words) (export_named (filter_map as_export (drop l.line-index l.line-items)) n))
+    (n : Name)
+    → option_or (found l.targets n) (option_map (λ x. target_of l.program l.number x.words)
+    (export_named (filter_map as_export (drop l.line-index l.line-items)) n))
     ≡ option_map (λ x. target_of l.program l.number x.words) (export_named (filter_map as_export l.line-items) n)

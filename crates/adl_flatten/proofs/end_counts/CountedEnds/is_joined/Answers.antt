@@ -1,9 +1,12 @@
-use Rattle.adl_flatten.proofs.Common.{None, ap, is_at, list_any, nat_lt, ◌∙◌}
-use Rattle.adl_flatten.proofs.EndLookups.{nat_lt-count_by}
+use Rattle.adl_flatten.proofs.Common.{ap, count_by, is_at, is_some, list_any, ◌∙◌}
+use Rattle.adl_flatten.proofs.EndLookups.{any_at, tally_some}
 use Rattle.adl_flatten.proofs.end_counts.CountedEnds.is_joined.Goals as goal
 
 pub returns : goal.returns
 returns c =
-    ap (λ n. nat_lt 0 n) (c.count_at.ensures ∙ c.self.invariant (record { connection = None; leaf = c.args.leaf; member = c.args.member }))
-    ∙ nat_lt-count_by c.args.leaf c.args.member c.self.inside.ends.items
-    ∙ ap (list_any (is_at c.args.leaf c.args.member)) c.self.view_is
+    let leaf = c.args.leaf in
+    let member = c.args.member in
+    let es = c.self.inside.ends.items in
+    c.contains_key.ensures ∙ ap is_some (c.self.invariant.all leaf member) ∙ tally_some (count_by (is_at leaf member) es)
+    ∙ any_at leaf member es
+    ∙ ap (list_any (is_at leaf member)) c.self.view_is

@@ -5,7 +5,8 @@ use Rattle.adl_flatten.proofs.template.Template.target.Goals as goal
 pub overflow_add-leaf : goal.overflow_add-leaf
 overflow_add-leaf c =
     let found = c.copied.ensures ∙ c.get.ensures ∙ c.requires.template.targets c.args.name.now in
-    let below = export_below c.args.program.now c.args.kind c.args.name.now _ _ found (sym c.flatten.ensures ∙ c.in_ok-target.was) in
+    let below = export_below c.args.program.now c.args.kind c.args.name.now _ _ found (sym c.flatten.ensures
+    ∙ c.in_ok-target.was) in
     omega (arith, below, c.requires.room)
 
 pub overflow_cast-result : goal.overflow_cast-result
