@@ -1,18 +1,7 @@
 -- Edges that bound interrupts give, added one handler after another.
-use Rattle.std.proofs.Common.{◌≡◌, ◌⊎◌, ◌<◌, ◌≤◌, ◌+◌, ℕ, List, ◌++◌, length, Option, Some, None, refl, sym, ◌∙◌, ap, subst, inl, inr, arith}
-use Rattle.std.specs.List.{slice_get}
-use Rattle.std.proofs.lemmas.Bool.{cases_lt}
-use Rattle.std.proofs.lemmas.Option.{slice_get_within}
-use Rattle.cap_model.specs.Adds.{Adds}
-use Rattle.cap_model.specs.Edges.{edge}
-use Rattle.cap_model.specs.Tables.{IsFirstFrom}
-use Rattle.cap_model.specs.declared.authority.Authority.TheVariants.{AsyncSend}
-use Rattle.cap_model.specs.declared.edge.Edge.{Edge}
-use Rattle.cap_model.proofs.EdgeGrowth.{adds_none, adds_same, adds_then}
-use Rattle.arch_policy.specs.Bound.{IsBound, IsBoundAt, IsBoundBy, bound_to}
+use Rattle.arch_policy.proofs.Common.{Adds, AsyncSend, Edge, IsBound, IsBoundAt, IsBoundBy, IsFirstFrom, IsIn, List, None, Option, Some, adds_none, adds_same, adds_then, ap, arith, bound_to, cases_lt, edge, in_append, in_left, in_place, in_right}
+use Rattle.arch_policy.proofs.Common.{inl, inr, length, place_of, refl, slice_get, slice_get_within, subst, sym, ℕ, ◌++◌, ◌+◌, ◌<◌, ◌∙◌, ◌≡◌, ◌≤◌, ◌⊎◌}
 use Rattle.arch_policy.proofs.Lists.{has_in, in_has}
-use Rattle.cam_base.specs.Gather.{IsIn}
-use Rattle.cam_base.proofs.Gathered.{in_append, in_left, in_place, in_right, place_of}
 
 -- a list behind another adds what stands in it
 pub adds_list : (xs b c : List Edge) → c ≡ b ++ xs → Adds (λ e. IsIn e xs) b c
@@ -35,9 +24,11 @@ pub record Until (handle : Edge) (signals : List Edge) (first : ℕ) (at : ℕ) 
 
 module _ (handle : Edge) (signals : List Edge) where
   pub until_none : (first : ℕ) (a : List Edge) → Adds (Until handle signals first first) a a
-  until_none first a = adds_none (Until handle signals first first) (λ e u. let l = u.low in let b = u.below in absurd (omega arith)) a
+  until_none first a = adds_none (Until handle signals first first) (λ e u. let l = u.low in let b = u.below in
+      absurd (omega arith)) a
 
-  of_bound : (o : Option Edge) (e : Edge) → IsIn e (bound_to handle o) → (s : Edge) × (o ≡ Some s) × (edge handle.to AsyncSend s.to ≡ e)
+  of_bound : (o : Option Edge) (e : Edge) → IsIn e (bound_to handle o)
+      → (s : Edge) × (o ≡ Some s) × (edge handle.to AsyncSend s.to ≡ e)
   of_bound None e i = absurd i
   of_bound (Some s) e (inl is) = (s, refl, is)
   of_bound (Some s) e (inr i) = absurd i
@@ -46,12 +37,27 @@ module _ (handle : Edge) (signals : List Edge) where
   in_bound None s e h is = absurd cc
   in_bound (Some r) s e h is = let same : r ≡ s = cc in inl (ap (λ (z : Edge). edge handle.to AsyncSend z.to) same ∙ is)
 
-  pub until_more : (first at : ℕ) (a b c : List Edge) (o : Option Edge) → first ≤ at → Adds (Until handle signals first at) a b → o ≡ slice_get signals at → c ≡ b ++ bound_to handle o → Adds (Until handle signals first (at + 1)) a c
+  pub until_more : (first at : ℕ) (a b c : List Edge) (o : Option Edge) → first ≤ at → Adds (Until handle signals first at) a b
+      → o ≡ slice_get signals at → c ≡ b ++ bound_to handle o → Adds (Until handle signals first (at + 1)) a c
   until_more first at a b c o le before here now =
       adds_same (λ e. Until handle signals first at e ⊎ IsIn e (bound_to handle o)) (Until handle signals first (at + 1))
       (λ e h. elim h [
-        | inl u ↦ record { place = u.place; low = u.low; below = (let w = u.below in omega (arith, w)); signal = u.signal; there = u.there; is = u.is }
-        | inr i ↦ let s = of_bound o e i in record { place = at; low = le; below = omega arith; signal = s.0; there = sym here ∙ s.1; is = s.2 }
+        | inl u ↦ record {
+          place = u.place;
+          low = u.low;
+          below = (let w = u.below in omega (arith, w));
+          signal = u.signal;
+          there = u.there;
+          is = u.is;
+        }
+        | inr i ↦ let s = of_bound o e i in record {
+          place = at;
+          low = le;
+          below = omega arith;
+          signal = s.0;
+          there = sym here ∙ s.1;
+          is = s.2;
+        }
       ])
       (λ e u. elim (cases_lt u.place at) [
         | inl below ↦ inl (record { place = u.place; low = u.low; below = below; signal = u.signal; there = u.there; is = u.is })
@@ -60,21 +66,37 @@ module _ (handle : Edge) (signals : List Edge) where
             inr (in_bound o u.signal e (here ∙ ap (slice_get signals) (sym same) ∙ u.there) u.is)
       ])
       a c
-      (adds_then (Until handle signals first at) (λ e. IsIn e (bound_to handle o)) a b c before (adds_list (bound_to handle o) b c now))
+      (adds_then (Until handle signals first at) (λ e. IsIn e (bound_to handle o)) a b c before
+      (adds_list (bound_to handle o) b c now))
 
-  pub until_all : (first past : ℕ) (a b : List Edge) → IsFirstFrom signals handle.from first → IsFirstFrom signals (handle.from + 1) past → Adds (Until handle signals first past) a b → Adds (IsBoundBy handle signals) a b
+  pub until_all : (first past : ℕ) (a b : List Edge) → IsFirstFrom signals handle.from first
+      → IsFirstFrom signals (handle.from + 1) past → Adds (Until handle signals first past) a b
+      → Adds (IsBoundBy handle signals) a b
   until_all first past a b f p grown =
       adds_same (Until handle signals first past) (IsBoundBy handle signals)
       (λ e u.
       let above = f.above u.place u.signal u.low u.there in
       let below = p.below u.place u.signal u.below u.there in
-      record { signal = u.signal; listed = in_place u.signal signals u.place u.there; same = omega (arith, above, below); is = u.is })
+      record {
+        signal = u.signal;
+        listed = in_place u.signal signals u.place u.there;
+        same = omega (arith, above, below);
+        is = u.is;
+      })
       (λ e by.
       let k = place_of by.signal signals by.listed in
       record {
         place = k.0;
-        low = elim (cases_lt k.0 first) [ inl l ↦ absurd (let w = f.below k.0 by.signal l k.1 in let s = by.same in omega (arith, w, s)) | inr ge ↦ ge ];
-        below = elim (cases_lt k.0 past) [ inl l ↦ l | inr ge ↦ absurd (let w = p.above k.0 by.signal ge k.1 in let s = by.same in omega (arith, w, s)) ];
+        low = elim (cases_lt k.0 first) [
+          | inl l ↦ absurd (let w = f.below k.0 by.signal l k.1 in let s = by.same in
+              omega (arith, w, s))
+          | inr ge ↦ ge
+        ];
+        below = elim (cases_lt k.0 past) [
+          | inl l ↦ l
+          | inr ge ↦ absurd (let w = p.above k.0 by.signal ge k.1 in let s = by.same in
+              omega (arith, w, s))
+        ];
         signal = by.signal;
         there = k.1;
         is = by.is;
@@ -91,7 +113,8 @@ module _ (handles : List Edge) (signals : List Edge) where
   pub among_none : (a : List Edge) → Adds (Among handles signals 0) a a
   among_none a = adds_none (Among handles signals 0) (λ e x. let b = x.below in absurd (omega arith)) a
 
-  pub among_more : (n : ℕ) (a b c : List Edge) (o : Option Edge) → o ≡ slice_get handles n → Adds (Among handles signals n) a b → Adds (IsBoundAt o signals) b c → Adds (Among handles signals (n + 1)) a c
+  pub among_more : (n : ℕ) (a b c : List Edge) (o : Option Edge) → o ≡ slice_get handles n → Adds (Among handles signals n) a b
+      → Adds (IsBoundAt o signals) b c → Adds (Among handles signals (n + 1)) a c
   among_more n a b c o here before now =
       adds_same (λ e. Among handles signals n e ⊎ IsBoundAt o signals e) (Among handles signals (n + 1))
       (λ e h. elim h [
@@ -111,7 +134,8 @@ module _ (handles : List Edge) (signals : List Edge) where
   from_at n e None h x = absurd x
   from_at n e (Some d) h x = record { handle = d; listed = in_place d handles n h; by = x }
 
-  pub among_all : (n : ℕ) (a b : List Edge) → length handles ≤ n → Adds (Among handles signals n) a b → Adds (IsBound handles signals) a b
+  pub among_all : (n : ℕ) (a b : List Edge) → length handles ≤ n → Adds (Among handles signals n) a b
+      → Adds (IsBound handles signals) a b
   among_all n a b le grown =
       adds_same (Among handles signals n) (IsBound handles signals)
       (λ e x. from_at x.place e (slice_get handles x.place) refl x.by)

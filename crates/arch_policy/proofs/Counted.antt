@@ -1,36 +1,27 @@
 -- A table that has the listed edges has as many as there are different ones.
-use Rattle.std.proofs.Common.{◌≡◌, ◌<◌, ◌||◌, Bool, true, false, List, [], ◌∷◌, ◌++◌, length, refl, sym, ◌∙◌, ap, subst, inl, inr, arith, get_or, true≢false}
+use Rattle.arch_policy.proofs.Common.{Adds, Before, Bool, Edge, IsBound, IsDistinct, IsDistinct-from_apart, IsIn, IsPolicyOf, IsSorted, List, Tables, [], ap, arith, bound_edges, cases_lt, edge_count, false, filter, get_or, has, in_append, in_left}
+use Rattle.arch_policy.proofs.Common.{in_right, inl, inr, length, list_any, not_before_self, refl, same_edge, same_edge-sym, same_edge_self, same_edge_true, slice_get-get_or, subst, sym, triples, true, true≢false, ◌++◌, ◌<◌, ◌||◌, ◌∙◌, ◌∷◌, ◌≡◌}
 use Rattle.std.specs.Cmp.{IsEquivalence}
 use Rattle.std.specs.Cmp.Derive.{one_truth}
-use Rattle.std.specs.List.{IsDistinct, filter, list_any}
 use Rattle.std.specs.Set.{is_member}
-use Rattle.std.proofs.lemmas.Bool.{cases_lt}
 use Rattle.std.proofs.lemmas.Map.Made.{length-from_keys}
-use Rattle.std.proofs.lemmas.Map.Keys.{IsDistinct-from_apart}
-use Rattle.std.proofs.lemmas.Option.{slice_get-get_or}
-use Rattle.cap_model.specs.Adds.{Adds}
-use Rattle.cap_model.specs.Edges.{Before, same_edge}
-use Rattle.cap_model.specs.Tables.{IsSorted, has}
-use Rattle.cap_model.specs.declared.edge.Edge.{Edge}
-use Rattle.cap_model.proofs.EdgeOrder.{not_before_self, same_edge_self, same_edge_true, same_edge-sym}
-use Rattle.arch_policy.specs.Bound.{IsBound}
-use Rattle.arch_policy.specs.Policies.{IsPolicyOf, edge_count}
-use Rattle.arch_policy.specs.Tables.{Tables}
-use Rattle.arch_policy.specs.Triples.{bound_edges, triples}
 use Rattle.arch_policy.proofs.Listed.{from_bound, in_bound, triples_are_policy}
 use Rattle.arch_policy.proofs.Lists.{from_filter, has_in, in_filter, in_has}
-use Rattle.cam_base.specs.Gather.{IsIn}
-use Rattle.cam_base.proofs.Gathered.{in_append, in_left, in_right}
 
 same_back : (d e : Edge) → same_edge d e ≡ true → same_edge e d ≡ true
 same_back d e h = ap (λ z. same_edge z d) (sym (same_edge_true d e h)) ∙ same_edge_self d
 
 pub same_laws : IsEquivalence same_edge
-same_laws = record { refl = same_edge_self; symm = same_edge-sym; congr = λ x y z h. ap (λ v. same_edge v z) (same_edge_true x y h) }
+same_laws = record {
+  refl = same_edge_self;
+  symm = same_edge-sym;
+  congr = λ x y z h. ap (λ v. same_edge v z) (same_edge_true x y h);
+}
 
 pub member_has : (es : List Edge) (e : Edge) → is_member same_edge es e ≡ has es e
 member_has [] e = refl
-member_has (d ∷ es) e = ap (λ b. b || list_any (same_edge e) es) (same_edge-sym e d) ∙ ap (λ b. same_edge d e || b) (member_has es e)
+member_has (d ∷ es) e = ap (λ b. b || list_any (same_edge e) es) (same_edge-sym e d) ∙ ap (λ b. same_edge d e || b)
+    (member_has es e)
 
 differs : (d e : Edge) → Before d e → same_edge d e ≡ false
 differs d e b = go (same_edge d e) refl where
@@ -42,10 +33,13 @@ differs d e b = go (same_edge d e) refl where
 pub distinct : (es : List Edge) → IsSorted es → IsDistinct same_edge es
 distinct es s =
     IsDistinct-from_apart same_edge es (λ i j d l m.
-    differs (get_or es i d) (get_or es j d) (s.by_place i j (get_or es i d) (get_or es j d) l (slice_get-get_or es i d (omega (arith, l, m))) (slice_get-get_or es j d m)))
+    differs (get_or es i d) (get_or es j d) (s.by_place i j (get_or es i d) (get_or es j d) l
+    (slice_get-get_or es i d (omega (arith, l, m))) (slice_get-get_or es j d m)))
 
-pub table_counts : (t : Tables) (table : List Edge) → IsSorted table → ((e : Edge) → has table e ≡ has (triples t) e) → length table ≡ edge_count t
-table_counts t table s same = length-from_keys same_laws table (triples t) (distinct table s) (λ q. member_has table q ∙ same q ∙ sym (member_has (triples t) q))
+pub table_counts : (t : Tables) (table : List Edge) → IsSorted table → ((e : Edge) → has table e ≡ has (triples t) e)
+    → length table ≡ edge_count t
+table_counts t table s same = length-from_keys same_laws table (triples t) (distinct table s) (λ q. member_has table q ∙ same q
+    ∙ sym (member_has (triples t) q))
 
 pub table_is_policy : (t : Tables) (table : List Edge) → ((e : Edge) → has table e ≡ has (triples t) e) → IsPolicyOf t table
 table_is_policy t table same e = (λ h. (triples_are_policy t e).0 (sym (same e) ∙ h), λ r. same e ∙ (triples_are_policy t e).1 r)
@@ -55,13 +49,19 @@ table_is_policy t table same e = (λ h. (triples_are_policy t e).0 (sym (same e)
 swapped : (xs ys : List Edge) → ((e : Edge) → has xs e ≡ has ys e) → (e : Edge) → IsIn e xs → IsIn e ys
 swapped xs ys same e i = has_in e ys (sym (same e) ∙ in_has e xs i)
 
-same_bound : (xs ys us vs : List Edge) → ((e : Edge) → has xs e ≡ has ys e) → ((e : Edge) → has us e ≡ has vs e) → (e : Edge) → IsBound xs us e → IsBound ys vs e
+same_bound : (xs ys us vs : List Edge) → ((e : Edge) → has xs e ≡ has ys e) → ((e : Edge) → has us e ≡ has vs e) → (e : Edge)
+    → IsBound xs us e → IsBound ys vs e
 same_bound xs ys us vs h s e x =
     let by = x.by in
-    record { handle = x.handle; listed = swapped xs ys h x.handle x.listed; by = record { signal = by.signal; listed = swapped us vs s by.signal by.listed; same = by.same; is = by.is } }
+    record {
+      handle = x.handle;
+      listed = swapped xs ys h x.handle x.listed;
+      by = record { signal = by.signal; listed = swapped us vs s by.signal by.listed; same = by.same; is = by.is };
+    }
 
 -- by tables hs and ss that have the edges of two lists
-module _ (direct reply handles signals hs ss before edges : List Edge) (h : (e : Edge) → has hs e ≡ has handles e) (s : (e : Edge) → has ss e ≡ has signals e)
+module _ (direct reply handles signals hs ss before edges : List Edge) (h : (e : Edge) → has hs e ≡ has handles e) (s : (e : Edge)
+    → has ss e ≡ has signals e)
     (is : before ≡ direct ++ reply) (grown : Adds (IsBound hs ss) before edges) where
   abbrev all : List Edge
   all = direct ++ (reply ++ bound_edges handles signals)
@@ -73,7 +73,8 @@ module _ (direct reply handles signals hs ss before edges : List Edge) (h : (e :
   ]
 
   bound_in : (e : Edge) → IsBound hs ss e → IsIn e all
-  bound_in e x = in_right e direct (reply ++ bound_edges handles signals) (in_right e reply (bound_edges handles signals) (in_bound handles signals e (same_bound hs handles ss signals h s e x)))
+  bound_in e x = in_right e direct (reply ++ bound_edges handles signals) (in_right e reply (bound_edges handles signals)
+      (in_bound handles signals e (same_bound hs handles ss signals h s e x)))
 
   collected_in : (e : Edge) → has edges e ≡ true → has all e ≡ true
   collected_in e k = elim (grown.only e k) [
@@ -89,7 +90,8 @@ module _ (direct reply handles signals hs ss before edges : List Edge) (h : (e :
     | inl j ↦ old_has e (in_left e direct reply j)
     | inr i ↦ elim (in_append e reply (bound_edges handles signals) i) [
       | inl j ↦ old_has e (in_right e direct reply j)
-      | inr j ↦ grown.added e (same_bound handles hs signals ss (λ d. sym (h d)) (λ d. sym (s d)) e (from_bound handles signals e j))
+      | inr j ↦ grown.added e (same_bound handles hs signals ss (λ d. sym (h d)) (λ d. sym (s d)) e
+          (from_bound handles signals e j))
     ]
   ]
 
@@ -114,7 +116,10 @@ collected_few direct reply handles signals hs ss before edges h s is grown e = e
       ∙ sym (ap (λ z. has (direct ++ (reply ++ bound_edges z signals)) e) nothing)
 ]
 
-pub has_filter : (xs ys : List Edge) (p : Edge → Bool) → ((e : Edge) → has xs e ≡ has ys e) → (e : Edge) → has (filter p xs) e ≡ has (filter p ys) e
+pub has_filter : (xs ys : List Edge) (p : Edge → Bool) → ((e : Edge) → has xs e ≡ has ys e) → (e : Edge)
+    → has (filter p xs) e ≡ has (filter p ys) e
 has_filter xs ys p same e = one_truth (has (filter p xs) e) (has (filter p ys) e)
-    (λ h. let w = from_filter p e xs (has_in e (filter p xs) h) in in_has e (filter p ys) (in_filter p e ys (swapped xs ys same e w.0) w.1))
-    (λ h. let w = from_filter p e ys (has_in e (filter p ys) h) in in_has e (filter p xs) (in_filter p e xs (swapped ys xs (λ d. sym (same d)) e w.0) w.1))
+    (λ h. let w = from_filter p e xs (has_in e (filter p xs) h) in
+    in_has e (filter p ys) (in_filter p e ys (swapped xs ys same e w.0) w.1))
+    (λ h. let w = from_filter p e ys (has_in e (filter p ys) h) in
+    in_has e (filter p xs) (in_filter p e xs (swapped ys xs (λ d. sym (same d)) e w.0) w.1))

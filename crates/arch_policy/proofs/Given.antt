@@ -1,19 +1,7 @@
 -- Tests over the whole connector table, and what it gives over the own object of a connection.
-use Rattle.std.proofs.Common.{◌≡◌, ◌∙◌, ◌||◌, not, Bool, true, false, List, [], ◌∷◌, refl, sym, ap, inl, inr, true≢false}
-use Rattle.std.specs.List.{list_all}
-use Rattle.std.proofs.lemmas.Bool.{and_parts}
-use Rattle.adl_ast.specs.declared.composition.Role.{Role}
-use Rattle.adl_ast.specs.declared.composition.Role.TheVariants.{From, To}
-use Rattle.adl_meaning.specs.declared.connector.Connector.{Connector}
-use Rattle.adl_meaning.specs.declared.connector.Connector.TheVariants.{Rpc, Notification, SharedMemory, Mmio, Interrupt, Direct}
-use Rattle.arch_policy.specs.Gives.{gives}
-use Rattle.arch_policy.specs.Owners.{has_label}
-use Rattle.cap_model.specs.Authorities.{authorities}
-use Rattle.cap_model.specs.declared.authority.Authority.{Authority}
-use Rattle.cap_model.specs.declared.authority.Authority.TheVariants.{AsyncSend, Call, Control, Grant, GrantBack, Handle, Read, Receive, Reply, Reset, SyncSend, Write}
-use Rattle.conn_rules.specs.declared.rule.ObjectKind.{ObjectKind}
-use Rattle.conn_rules.specs.declared.rule.ObjectKind.TheVariants.{NoObject, OfEndpoint, OfNotification, OfFrames, OfDevice, OfIrq}
-use Rattle.cam_base.specs.Gather.{IsIn}
+use Rattle.arch_policy.proofs.Common.{AsyncSend, Authority, Bool, Call, Connector, Control, Direct, From, Grant, GrantBack, Handle, Interrupt, IsIn, List, Mmio, NoObject, Notification, ObjectKind, OfDevice, OfEndpoint, OfFrames, OfIrq}
+use Rattle.arch_policy.proofs.Common.{OfNotification, Read, Receive, Reply, Reset, Role, Rpc, SharedMemory, SyncSend, To, Write, [], and_parts, ap, authorities, false, gives, has_label, inl, inr, list_all, not, refl, sym, true, true≢false, ◌||◌, ◌∙◌}
+use Rattle.arch_policy.proofs.Common.{◌∷◌, ◌≡◌}
 
 in_all : {X : Type 0} (p : X → Bool) (x : X) (xs : List X) → IsIn x xs → list_all p xs ≡ true → p x ≡ true
 in_all p x [] i h = absurd i
@@ -57,7 +45,8 @@ pub at_end : (p : Connector → Role → Bool) → at_ends p ≡ true → (c : C
 at_end p h c r = in_all (p c) r roles (a_role r) (in_all (λ c. list_all (p c) roles) c connectors (a_connector c) h)
 
 -- and over each object
-pub over_object : (p : Connector → Role → ObjectKind → Bool) → at_ends (λ c r. list_all (p c r) objects) ≡ true → (c : Connector) (r : Role) (o : ObjectKind) → p c r o ≡ true
+pub over_object : (p : Connector → Role → ObjectKind → Bool) → at_ends (λ c r. list_all (p c r) objects) ≡ true
+    → (c : Connector) (r : Role) (o : ObjectKind) → p c r o ≡ true
 over_object p h c r o = in_all (p c r) o objects (an_object o) (at_end (λ c r. list_all (p c r) objects) h c r)
 
 pub an_authority : (a : Authority) → IsIn a authorities
@@ -75,12 +64,15 @@ an_authority GrantBack = inr (inr (inr (inr (inr (inr (inr (inr (inr (inr (inl r
 an_authority Handle = inr (inr (inr (inr (inr (inr (inr (inr (inr (inr (inr (inl refl)))))))))))
 
 -- and by each authority
-pub at_authority : (p : Connector → Role → Authority → Bool) → at_ends (λ c r. list_all (p c r) authorities) ≡ true → (c : Connector) (r : Role) (a : Authority) → p c r a ≡ true
+pub at_authority : (p : Connector → Role → Authority → Bool) → at_ends (λ c r. list_all (p c r) authorities) ≡ true
+    → (c : Connector) (r : Role) (a : Authority) → p c r a ≡ true
 at_authority p h c r a = in_all (p c r) a authorities (an_authority a) (at_end (λ c r. list_all (p c r) authorities) h c r)
 
-pub over_all : (p : Connector → Role → ObjectKind → Authority → Bool) → at_ends (λ c r. list_all (λ o. list_all (p c r o) authorities) objects) ≡ true
+pub over_all : (p : Connector → Role → ObjectKind → Authority → Bool)
+    → at_ends (λ c r. list_all (λ o. list_all (p c r o) authorities) objects) ≡ true
     → (c : Connector) (r : Role) (o : ObjectKind) (a : Authority) → p c r o a ≡ true
-over_all p h c r o a = in_all (p c r o) a authorities (an_authority a) (over_object (λ c r o. list_all (p c r o) authorities) h c r o)
+over_all p h c r o a = in_all (p c r o) a authorities (an_authority a)
+    (over_object (λ c r o. list_all (p c r o) authorities) h c r o)
 
 abbrev pub implies : Bool → Bool → Bool
 implies a b = not a || b
@@ -92,10 +84,13 @@ implied false b h e = absurd (true≢false (sym e))
 -- ---- a connection over whose own object something is given has a label
 
 pub labelled_endpoint : (c : Connector) (r : Role) (a : Authority) → gives c r OfEndpoint a ≡ true → has_label c ≡ true
-labelled_endpoint c r a = implied (gives c r OfEndpoint a) (has_label c) (at_authority (λ c r a. implies (gives c r OfEndpoint a) (has_label c)) refl c r a)
+labelled_endpoint c r a = implied (gives c r OfEndpoint a) (has_label c)
+    (at_authority (λ c r a. implies (gives c r OfEndpoint a) (has_label c)) refl c r a)
 
 pub labelled_notification : (c : Connector) (r : Role) (a : Authority) → gives c r OfNotification a ≡ true → has_label c ≡ true
-labelled_notification c r a = implied (gives c r OfNotification a) (has_label c) (at_authority (λ c r a. implies (gives c r OfNotification a) (has_label c)) refl c r a)
+labelled_notification c r a = implied (gives c r OfNotification a) (has_label c)
+    (at_authority (λ c r a. implies (gives c r OfNotification a) (has_label c)) refl c r a)
 
 pub labelled_frames : (c : Connector) (r : Role) (a : Authority) → gives c r OfFrames a ≡ true → has_label c ≡ true
-labelled_frames c r a = implied (gives c r OfFrames a) (has_label c) (at_authority (λ c r a. implies (gives c r OfFrames a) (has_label c)) refl c r a)
+labelled_frames c r a = implied (gives c r OfFrames a) (has_label c)
+    (at_authority (λ c r a. implies (gives c r OfFrames a) (has_label c)) refl c r a)

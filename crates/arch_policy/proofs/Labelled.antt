@@ -1,28 +1,32 @@
 -- The numbers of labels
-use Rattle.std.proofs.Common.{◌≡◌, ◌<◌, ◌≤◌, ◌+◌, ◌^◌, ℕ, Bool, true, false, List, [], ◌∷◌, ◌++◌, length, ◌∙◌, ap, arith}
-use Rattle.adl_meaning.specs.declared.flat.Domain.{Domain}
+use Rattle.arch_policy.proofs.Common.{Bool, Domain, FlatConnection, LabelNumbers, Leaf, List, [], ap, arith, connection_numbers, connection_texts, device_numbers, device_texts, domain_numbers, domain_texts, false, has_label, is_device, joined}
+use Rattle.arch_policy.proofs.Common.{label_numbers, label_texts, length, length-gather, length_append, texts, true, where_true, ℕ, ◌++◌, ◌+◌, ◌<◌, ◌^◌, ◌∙◌, ◌∷◌, ◌≡◌, ◌≤◌}
 use Rattle.adl_meaning.specs.declared.flat.Flat.{Flat}
-use Rattle.adl_meaning.specs.declared.flat.FlatConnection.{FlatConnection}
-use Rattle.adl_meaning.specs.declared.flat.Leaf.{Leaf}
-use Rattle.arch_policy.specs.declared.numbers.LabelNumbers.{LabelNumbers}
-use Rattle.arch_policy.specs.Labels.{connection_numbers, device_numbers, domain_numbers, label_numbers, label_texts}
-use Rattle.arch_policy.specs.Owners.{connection_texts, device_texts, domain_texts, has_label, is_device, texts}
-use Rattle.arch_policy.specs.Where.{where_true}
 use Rattle.arch_policy.proofs.Ordering.{order_short}
-use Rattle.cam_base.specs.Paths.{joined}
-use Rattle.cam_base.proofs.Gathered.{length_append}
-use Rattle.cam_base.proofs.NumberedLists.{length-gather}
 
-pub numbers_are : (flat : Flat) (ts : List (List ℕ)) (ds : List Domain) (cs : List FlatConnection) (ls : List Leaf) (n : LabelNumbers)
+pub numbers_are : (flat : Flat) (ts : List (List ℕ)) (ds : List Domain) (cs : List FlatConnection) (ls : List Leaf)
+    (n : LabelNumbers)
     → ts ≡ label_texts flat → ds ≡ flat.domains → cs ≡ flat.connections → ls ≡ flat.leaves
-    → n.domains ≡ domain_numbers ts ds → n.connections ≡ connection_numbers ts cs → n.devices ≡ device_numbers ts ls → n ≡ label_numbers flat
+    → n.domains ≡ domain_numbers ts ds → n.connections ≡ connection_numbers ts cs → n.devices ≡ device_numbers ts ls
+    → n ≡ label_numbers flat
 numbers_are flat ts ds cs ls n t d c l a b e =
-    let A : n.domains ≡ domain_numbers (label_texts flat) flat.domains = a ∙ ap (λ z. domain_numbers z ds) t ∙ ap (λ z. domain_numbers (label_texts flat) z) d in
-    let B : n.connections ≡ connection_numbers (label_texts flat) flat.connections = b ∙ ap (λ z. connection_numbers z cs) t ∙ ap (λ z. connection_numbers (label_texts flat) z) c in
-    let E : n.devices ≡ device_numbers (label_texts flat) flat.leaves = e ∙ ap (λ z. device_numbers z ls) t ∙ ap (λ z. device_numbers (label_texts flat) z) l in
+    let A : n.domains ≡ domain_numbers (label_texts flat) flat.domains = a ∙ ap (λ z. domain_numbers z ds) t
+    ∙ ap (λ z. domain_numbers (label_texts flat) z) d in
+    let B : n.connections ≡ connection_numbers (label_texts flat) flat.connections = b ∙ ap (λ z. connection_numbers z cs) t
+    ∙ ap (λ z. connection_numbers (label_texts flat) z) c in
+    let E : n.devices ≡ device_numbers (label_texts flat) flat.leaves = e ∙ ap (λ z. device_numbers z ls) t
+    ∙ ap (λ z. device_numbers (label_texts flat) z) l in
     ap (λ z. let m : LabelNumbers = record { domains = z; connections = n.connections; devices = n.devices } in m) A
-    ∙ ap (λ z. let m : LabelNumbers = record { domains = domain_numbers (label_texts flat) flat.domains; connections = z; devices = n.devices } in m) B
-    ∙ ap (λ z. let m : LabelNumbers = record { domains = domain_numbers (label_texts flat) flat.domains; connections = connection_numbers (label_texts flat) flat.connections; devices = z } in m) E
+    ∙ ap (λ z. let m : LabelNumbers = record {
+      domains = domain_numbers (label_texts flat) flat.domains;
+      connections = z;
+      devices = n.devices;
+    } in m) B
+    ∙ ap (λ z. let m : LabelNumbers = record {
+      domains = domain_numbers (label_texts flat) flat.domains;
+      connections = connection_numbers (label_texts flat) flat.connections;
+      devices = z;
+    } in m) E
 
 where_short : {X : Type 0} (b : Bool) (x : X) → length (where_true b x) ≤ 1
 where_short true x = omega arith
@@ -34,9 +38,12 @@ texts_are_few flat =
     let b = length_append (domain_texts flat.domains) (device_texts flat.leaves ++ connection_texts flat.connections) in
     let c = length_append (device_texts flat.leaves) (connection_texts flat.connections) in
     let d = length-gather (λ d (x : Domain). joined x.path ∷ []) flat.domains (λ k x. omega arith) in
-    let e = length-gather (λ l (x : Leaf). where_true (is_device x.domain) (joined x.path)) flat.leaves (λ k x. where_short (is_device x.domain) (joined x.path)) in
-    let f = length-gather (λ k (x : FlatConnection). where_true (has_label x.connector) (joined x.path)) flat.connections (λ k x. where_short (has_label x.connector) (joined x.path)) in
+    let e = length-gather (λ l (x : Leaf). where_true (is_device x.domain) (joined x.path)) flat.leaves
+    (λ k x. where_short (is_device x.domain) (joined x.path)) in
+    let f = length-gather (λ k (x : FlatConnection). where_true (has_label x.connector) (joined x.path)) flat.connections
+    (λ k x. where_short (has_label x.connector) (joined x.path)) in
     omega (arith, a, b, c, d, e, f)
 
-pub few_texts : (flat : Flat) → length flat.domains + length flat.connections + length flat.leaves < 2 ^ 32 → length (label_texts flat) < 2 ^ 32
+pub few_texts : (flat : Flat) → length flat.domains + length flat.connections + length flat.leaves < 2 ^ 32
+    → length (label_texts flat) < 2 ^ 32
 few_texts flat h = let l = texts_are_few flat in omega (arith, l, h)

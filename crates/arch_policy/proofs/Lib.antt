@@ -1,3 +1,4 @@
+pub mod Common
 pub mod Bounding
 pub mod Counted
 pub mod Crossing

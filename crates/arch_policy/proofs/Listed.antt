@@ -1,44 +1,18 @@
 -- The listed edges are those that have a reason.
-use Rattle.std.proofs.Common.{◌≡◌, ◌≢◌, ◌↔◌, ◌∙◌, ◌&&◌, ◌==◌, ℕ, Bool, true, false, cond, List, [], ◌∷◌, ◌++◌, Option, Some, None, refl, sym, ap, subst, inl, inr, true≢false}
-use Rattle.std.specs.List.{list_any, slice_get}
-use Rattle.std.proofs.lemmas.Bool.{and_from, and_parts, eq-eqb, eqb-true}
+use Rattle.arch_policy.proofs.Common.{AsyncSend, Authority, Bool, Connector, Control, Edge, EndAt, FlatConnection, FlatEnd, From, Handle, Interrupt, IsBound, IsEnd, IsIn, IsPolicyOf, Leaf, List, LockAt, NoObject, None, Notification, ObjectKind}
+use Rattle.arch_policy.proofs.Common.{OfDevice, OfEndpoint, OfFrames, OfIrq, OfNotification, Option, Reply, Role, Rpc, Some, Tables, To, [], and_from, and_parts, ap, authorities, bound_edges, cond, connection_label, crossed, crossed_at}
+use Rattle.arch_policy.proofs.Common.{crossed_edges, direct_edges, domain_label, edge, end_edges, eq-eqb, eqb-true, false, from_any, from_gather, gather, given_edges, gives, handle_edges, has, in_append, in_gather, in_left, in_place, in_right, inl}
+use Rattle.arch_policy.proofs.Common.{inr, is_lock, labels_in_role, leads_out, leaf_label, leaves, list_any, lock_edge, lock_edges, members_at, opposite, place_of, refl, reply_edges, row_edges, row_gives, rows_of, same_connector, same_object}
+use Rattle.arch_policy.proofs.Common.{same_role, set_has, signal_edges, signals_at, slice_get, subst, sym, targets, triples, true, true≢false, where_true, ℕ, ◌&&◌, ◌++◌, ◌==◌, ◌↔◌, ◌∙◌, ◌∷◌, ◌≡◌, ◌≢◌}
 use Rattle.adl_ast.specs.declared.component.Lock.{Lock}
 use Rattle.adl_ast.specs.declared.component.Member.{Member}
 use Rattle.adl_ast.specs.declared.component.Member.TheVariants as members
-use Rattle.adl_ast.specs.declared.composition.Role.{Role}
-use Rattle.adl_ast.specs.declared.composition.Role.TheVariants.{From, To}
-use Rattle.adl_meaning.specs.declared.connector.Connector.{Connector}
-use Rattle.adl_meaning.specs.declared.connector.Connector.TheVariants.{Rpc, Notification, Interrupt}
-use Rattle.adl_meaning.specs.declared.flat.FlatConnection.{FlatConnection}
-use Rattle.adl_meaning.specs.declared.flat.FlatEnd.{FlatEnd}
-use Rattle.adl_meaning.specs.declared.flat.Leaf.{Leaf}
-use Rattle.cap_model.specs.Authorities.{authorities}
-use Rattle.cap_model.specs.AuthoritySets.{set_has}
-use Rattle.cap_model.specs.Edges.{edge}
-use Rattle.cap_model.specs.Tables.{has}
-use Rattle.cap_model.specs.declared.authority.Authority.{Authority}
-use Rattle.cap_model.specs.declared.authority.Authority.TheVariants.{AsyncSend, Control, Reply, Handle}
-use Rattle.cap_model.specs.declared.edge.Edge.{Edge}
-use Rattle.conn_rules.specs.Row.{rows_of, same_connector, same_role}
-use Rattle.conn_rules.specs.declared.rule.ObjectKind.{ObjectKind}
-use Rattle.conn_rules.specs.declared.rule.ObjectKind.TheVariants.{NoObject, OfEndpoint, OfNotification, OfFrames, OfDevice, OfIrq}
 use Rattle.conn_rules.specs.declared.rule.RuleRow.{RuleRow}
 use Rattle.cspace_layout.specs.Lookups.{setting_of}
-use Rattle.cspace_layout.specs.Members.{is_lock, members_at}
-use Rattle.cam_base.specs.Gather.{IsIn, gather}
-use Rattle.cam_base.proofs.Gathered.{from_gather, in_append, in_gather, in_left, in_place, in_right, place_of}
-use Rattle.arch_policy.specs.Ends.{EndAt, IsEnd, LockAt}
-use Rattle.arch_policy.specs.Gives.{gives, leaves, opposite, same_object}
-use Rattle.arch_policy.specs.Policies.{IsPolicyOf}
 use Rattle.arch_policy.specs.Reasons.{AtOtherEnd, BindReason, CallReason, DirectReason, Handles, IsReasoned, LeadsTo, LockReason, Reason, by_bind, by_call, by_direct, by_lock}
-use Rattle.arch_policy.specs.Tables.{Tables, connection_label, domain_label, leaf_label}
-use Rattle.arch_policy.specs.Triples.{bound_edges, crossed, crossed_at, crossed_edges, direct_edges, end_edges, given_edges, handle_edges, labels_in_role, leads_out, lock_edge, lock_edges, reply_edges, row_edges, row_gives, signal_edges, signals_at, targets, triples}
-use Rattle.arch_policy.specs.Bound.{IsBound}
-use Rattle.arch_policy.specs.Where.{where_true}
 use Rattle.arch_policy.proofs.Lists.{from_filter, from_where, has_in, in_any, in_filter, in_has, in_where, leads, led_out}
 use Rattle.arch_policy.proofs.Same.{is_connector, is_object, same_connector_self, same_object_self, same_role_self}
 use Rattle.arch_policy.proofs.Given.{an_authority}
-use Rattle.cam_base.proofs.NumberedLists.{from_any}
 use Rattle.conn_rules.proofs.Roles.{is_role}
 
 pub is_same_role : (r q : Role) → r ≡ q → same_role r q ≡ true
@@ -49,7 +23,8 @@ is_same_connector c d e = ap (λ z. same_connector z d) e ∙ same_connector_sel
 
 -- ---- edges from labels to labels
 
-from_crossed : (ls : List ℕ) (a : Authority) (ms : List ℕ) (e : Edge) → IsIn e (crossed ls a ms) → (l : ℕ) × (m : ℕ) × IsIn l ls × IsIn m ms × (edge l a m ≡ e)
+from_crossed : (ls : List ℕ) (a : Authority) (ms : List ℕ) (e : Edge) → IsIn e (crossed ls a ms) → (l : ℕ) × (m : ℕ) × IsIn l ls
+    × IsIn m ms × (edge l a m ≡ e)
 from_crossed ls a ms e i =
     let l = from_gather (λ i l. gather (λ j m. edge l a m ∷ []) ms) e ls i in
     let m = from_gather (λ j m. edge l.1 a m ∷ []) e ms l.3 in
@@ -62,14 +37,25 @@ in_crossed : (ls : List ℕ) (a : Authority) (ms : List ℕ) (l m : ℕ) → IsI
 in_crossed ls a ms l m i j =
     let p = place_of l ls i in
     let q = place_of m ms j in
-    in_gather (λ i l. gather (λ j m. edge l a m ∷ []) ms) (edge l a m) ls p.0 l p.1 (in_gather (λ j m. edge l a m ∷ []) (edge l a m) ms q.0 m q.1 (inl refl))
+    in_gather (λ i l. gather (λ j m. edge l a m ∷ []) ms) (edge l a m) ls p.0 l p.1
+    (in_gather (λ j m. edge l a m ∷ []) (edge l a m) ms q.0 m q.1 (inl refl))
 
 pub from_bound : (hs ss : List Edge) (e : Edge) → IsIn e (bound_edges hs ss) → IsBound hs ss e
 from_bound hs ss e i =
-    let h = from_gather (λ i (h : Edge). gather (λ j (s : Edge). where_true (h.from == s.from) (edge h.to AsyncSend s.to)) ss) e hs i in
+    let h = from_gather (λ i (h : Edge). gather (λ j (s : Edge). where_true (h.from == s.from) (edge h.to AsyncSend s.to))
+    ss) e hs i in
     let s = from_gather (λ j (s : Edge). where_true (h.1.from == s.from) (edge h.1.to AsyncSend s.to)) e ss h.3 in
     let w = from_where (h.1.from == s.1.from) (edge h.1.to AsyncSend s.1.to) e s.3 in
-    record { handle = h.1; listed = in_place h.1 hs h.0 h.2; by = record { signal = s.1; listed = in_place s.1 ss s.0 s.2; same = eqb-true h.1.from s.1.from w.0; is = w.1 } }
+    record {
+      handle = h.1;
+      listed = in_place h.1 hs h.0 h.2;
+      by = record {
+        signal = s.1;
+        listed = in_place s.1 ss s.0 s.2;
+        same = eqb-true h.1.from s.1.from w.0;
+        is = w.1;
+      };
+    }
 
 pub in_bound : (hs ss : List Edge) (e : Edge) → IsBound hs ss e → IsIn e (bound_edges hs ss)
 in_bound hs ss e j =
@@ -78,7 +64,8 @@ in_bound hs ss e j =
     let q = place_of by.signal ss by.listed in
     let d = edge j.handle.to AsyncSend by.signal.to in
     let E : IsIn d (bound_edges hs ss) =
-    in_gather (λ i (h : Edge). gather (λ k (s : Edge). where_true (h.from == s.from) (edge h.to AsyncSend s.to)) ss) d hs p.0 j.handle p.1
+    in_gather (λ i (h : Edge). gather (λ k (s : Edge). where_true (h.from == s.from) (edge h.to AsyncSend s.to)) ss) d hs
+    p.0 j.handle p.1
     (in_gather (λ k (s : Edge). where_true (j.handle.from == s.from) (edge j.handle.to AsyncSend s.to)) d ss q.0 by.signal q.1
     (in_where (j.handle.from == by.signal.from) d (eq-eqb j.handle.from by.signal.from by.same))) in
     subst (λ z. IsIn z (bound_edges hs ss)) by.is E
@@ -97,7 +84,8 @@ module _ (t : Tables) where
   abbrev pub End : Type 0
   End = EndAt t.flat
 
-  abbrev pub end_in : (k n : ℕ) (c : FlatConnection) (e : FlatEnd) → slice_get t.flat.connections k ≡ Some c → slice_get c.ends n ≡ Some e → End
+  abbrev pub end_in : (k n : ℕ) (c : FlatConnection) (e : FlatEnd) → slice_get t.flat.connections k ≡ Some c
+      → slice_get c.ends n ≡ Some e → End
   end_in k n c e h s = record { place = k; connection = c; here = h; number = n; end = e; stands = s }
 
   pub same_place : (x y : End) → y.place ≡ x.place → y.connection ≡ x.connection
@@ -113,20 +101,30 @@ module _ (t : Tables) where
     role : at.end.role ≡ r
     label : l ≡ leaf_label t at.end.leaf
 
-  from_role : (k : ℕ) (c : FlatConnection) (h : slice_get t.flat.connections k ≡ Some c) (r : Role) (l : ℕ) → IsIn l (labels_in_role t r c.ends) → InRole k c r l
+  from_role : (k : ℕ) (c : FlatConnection) (h : slice_get t.flat.connections k ≡ Some c) (r : Role) (l : ℕ)
+      → IsIn l (labels_in_role t r c.ends) → InRole k c r l
   from_role k c h r l i =
       let g = from_gather (λ n (e : FlatEnd). where_true (same_role e.role r) (leaf_label t e.leaf)) l c.ends i in
       let w = from_where (same_role g.1.role r) (leaf_label t g.1.leaf) l g.3 in
-      record { at = end_in k g.0 c g.1 h g.2; place_is = refl; connection_is = refl; role = is_role g.1.role r w.0; label = sym w.1 }
+      record {
+        at = end_in k g.0 c g.1 h g.2;
+        place_is = refl;
+        connection_is = refl;
+        role = is_role g.1.role r w.0;
+        label = sym w.1;
+      }
 
   in_role : (x : End) (r : Role) → x.end.role ≡ r → IsIn (leaf_label t x.end.leaf) (labels_in_role t r x.connection.ends)
   in_role x r e =
-      in_gather (λ n (f : FlatEnd). where_true (same_role f.role r) (leaf_label t f.leaf)) (leaf_label t x.end.leaf) x.connection.ends x.number x.end x.stands
+      in_gather (λ n (f : FlatEnd). where_true (same_role f.role r) (leaf_label t f.leaf)) (leaf_label t x.end.leaf)
+      x.connection.ends x.number x.end x.stands
       (in_where (same_role x.end.role r) (leaf_label t x.end.leaf) (is_same_role x.end.role r e))
 
   -- ---- direct
 
-  from_other : (k n : ℕ) (c : FlatConnection) (e : FlatEnd) (h : slice_get t.flat.connections k ≡ Some c) (s : slice_get c.ends n ≡ Some e) (m : ℕ) → IsIn m (labels_in_role t (opposite e.role) c.ends) → AtOtherEnd t (end_in k n c e h s) m
+  from_other : (k n : ℕ) (c : FlatConnection) (e : FlatEnd) (h : slice_get t.flat.connections k ≡ Some c)
+      (s : slice_get c.ends n ≡ Some e) (m : ℕ) → IsIn m (labels_in_role t (opposite e.role) c.ends)
+      → AtOtherEnd t (end_in k n c e h s) m
   from_other k n c e h s m i =
       let g = from_role k c h (opposite e.role) m i in
       record { at = g.at; same = g.place_is; role = g.role; label_is = g.label }
@@ -135,10 +133,13 @@ module _ (t : Tables) where
   in_other x m o =
       let same = same_place x o.at o.same in
       let there : IsIn (leaf_label t o.at.end.leaf) (labels_in_role t (opposite x.end.role) x.connection.ends) =
-      subst (λ (c : FlatConnection). IsIn (leaf_label t o.at.end.leaf) (labels_in_role t (opposite x.end.role) c.ends)) same (in_role o.at (opposite x.end.role) o.role) in
+      subst (λ (c : FlatConnection). IsIn (leaf_label t o.at.end.leaf) (labels_in_role t (opposite x.end.role) c.ends)) same
+      (in_role o.at (opposite x.end.role) o.role) in
       subst (λ z. IsIn z (labels_in_role t (opposite x.end.role) x.connection.ends)) (sym o.label_is) there
 
-  from_target : (k n : ℕ) (c : FlatConnection) (e : FlatEnd) (h : slice_get t.flat.connections k ≡ Some c) (s : slice_get c.ends n ≡ Some e) (o : ObjectKind) (m : ℕ) → IsIn m (targets t k c e.role o) → LeadsTo t (end_in k n c e h s) o m
+  from_target : (k n : ℕ) (c : FlatConnection) (e : FlatEnd) (h : slice_get t.flat.connections k ≡ Some c)
+      (s : slice_get c.ends n ≡ Some e) (o : ObjectKind) (m : ℕ) → IsIn m (targets t k c e.role o)
+      → LeadsTo t (end_in k n c e h s) o m
   from_target k n c e h s OfEndpoint m (inl q) = sym q
   from_target k n c e h s OfEndpoint m (inr i) = absurd i
   from_target k n c e h s OfNotification m (inl q) = sym q
@@ -158,42 +159,52 @@ module _ (t : Tables) where
   in_target x NoObject m q = absurd q
 
   -- a row gives what the table gives over its object
-  row_given : (c : Connector) (r : Role) (row : RuleRow) (a : Authority) → IsIn row (rows_of c r) → set_has row.authorities.bits a ≡ true → gives c r row.object a ≡ true
-  row_given c r row a i h = in_any (λ row2. same_object row2.object row.object && set_has row2.authorities.bits a) row (rows_of c r) i (and_from (same_object row.object row.object) (set_has row.authorities.bits a) (same_object_self row.object) h)
+  row_given : (c : Connector) (r : Role) (row : RuleRow) (a : Authority) → IsIn row (rows_of c r)
+      → set_has row.authorities.bits a ≡ true → gives c r row.object a ≡ true
+  row_given c r row a i h = in_any (λ row2. same_object row2.object row.object && set_has row2.authorities.bits a) row
+      (rows_of c r) i (and_from (same_object row.object row.object) (set_has row.authorities.bits a)
+      (same_object_self row.object) h)
 
-  given_row : (c : Connector) (r : Role) (o : ObjectKind) (a : Authority) → gives c r o a ≡ true → (row : RuleRow) × IsIn row (rows_of c r) × (row.object ≡ o) × (set_has row.authorities.bits a ≡ true)
+  given_row : (c : Connector) (r : Role) (o : ObjectKind) (a : Authority) → gives c r o a ≡ true
+      → (row : RuleRow) × IsIn row (rows_of c r) × (row.object ≡ o) × (set_has row.authorities.bits a ≡ true)
   given_row c r o a h =
       let g = from_any (λ row. same_object row.object o && set_has row.authorities.bits a) (rows_of c r) h in
       let w = and_parts (same_object g.0.object o) (set_has g.0.authorities.bits a) g.2 in
       (g.0, g.1, is_object g.0.object o w.0, w.1)
 
-  from_given : (k n : ℕ) (row : RuleRow) (l m : ℕ) (e : Edge) → IsIn e (given_edges t k n row l m) → (a : Authority) × (row_gives t k n row a ≡ true) × (edge l a m ≡ e)
+  from_given : (k n : ℕ) (row : RuleRow) (l m : ℕ) (e : Edge) → IsIn e (given_edges t k n row l m)
+      → (a : Authority) × (row_gives t k n row a ≡ true) × (edge l a m ≡ e)
   from_given k n row l m e i =
       let g = from_gather (λ i a. where_true (row_gives t k n row a) (edge l a m)) e authorities i in
       let w = from_where (row_gives t k n row g.1) (edge l g.1 m) e g.3 in
       (g.1, w.0, w.1)
 
-  in_given : (k n : ℕ) (row : RuleRow) (l m : ℕ) (a : Authority) → row_gives t k n row a ≡ true → IsIn (edge l a m) (given_edges t k n row l m)
+  in_given : (k n : ℕ) (row : RuleRow) (l m : ℕ) (a : Authority) → row_gives t k n row a ≡ true
+      → IsIn (edge l a m) (given_edges t k n row l m)
   in_given k n row l m a h =
       let p = place_of a authorities (an_authority a) in
-      in_gather (λ i a. where_true (row_gives t k n row a) (edge l a m)) (edge l a m) authorities p.0 a p.1 (in_where (row_gives t k n row a) (edge l a m) h)
+      in_gather (λ i a. where_true (row_gives t k n row a) (edge l a m)) (edge l a m) authorities p.0 a p.1
+      (in_where (row_gives t k n row a) (edge l a m) h)
 
   -- an edge that an end is given leads out of its label
-  out_of_own : (k n : ℕ) (c : FlatConnection) (f : FlatEnd) (e : Edge) → IsIn e (end_edges t k c n f) → e.from ≡ leaf_label t f.leaf
+  out_of_own : (k n : ℕ) (c : FlatConnection) (f : FlatEnd) (e : Edge) → IsIn e (end_edges t k c n f)
+      → e.from ≡ leaf_label t f.leaf
   out_of_own k n c f e i =
       let r = from_gather (λ i row. row_edges t k c n f row) e (rows_of c.connector f.role) i in
       let m = from_gather (λ i m. given_edges t k n r.1 (leaf_label t f.leaf) m) e (targets t k c f.role r.1.object) r.3 in
       let w = from_given k n r.1 (leaf_label t f.leaf) m.1 e m.3 in
       ap (λ (z : Edge). z.from) (sym w.2)
 
-  pub none_of_another : (k n : ℕ) (c : FlatConnection) (f : FlatEnd) (e : Edge) → leaf_label t f.leaf ≢ e.from → has (end_edges t k c n f) e ≡ false
+  pub none_of_another : (k n : ℕ) (c : FlatConnection) (f : FlatEnd) (e : Edge) → leaf_label t f.leaf ≢ e.from
+      → has (end_edges t k c n f) e ≡ false
   none_of_another k n c f e differ = go (has (end_edges t k c n f) e) refl where
     go : (b : Bool) → has (end_edges t k c n f) e ≡ b → has (end_edges t k c n f) e ≡ false
     go true h = absurd (differ (sym (out_of_own k n c f e (has_in e (end_edges t k c n f) h))))
     go false h = h
 
   -- what an end is given
-  pub from_end : (k n : ℕ) (c : FlatConnection) (f : FlatEnd) (h : slice_get t.flat.connections k ≡ Some c) (s : slice_get c.ends n ≡ Some f) (e : Edge) → IsIn e (end_edges t k c n f) → DirectReason t e
+  pub from_end : (k n : ℕ) (c : FlatConnection) (f : FlatEnd) (h : slice_get t.flat.connections k ≡ Some c)
+      (s : slice_get c.ends n ≡ Some f) (e : Edge) → IsIn e (end_edges t k c n f) → DirectReason t e
   from_end k n c f h s e i =
       let r = from_gather (λ i row. row_edges t k c n f row) e (rows_of c.connector f.role) i in
       let row = r.1 in
@@ -206,14 +217,17 @@ module _ (t : Tables) where
       record {
         at = end_in k n c f h s;
         object = row.object;
-        given = subst (λ a. gives c.connector f.role row.object a ≡ true) authority (row_given c.connector f.role row w.0 (in_place row (rows_of c.connector f.role) r.0 r.2) both.0);
+        given = subst (λ a. gives c.connector f.role row.object a ≡ true) authority
+            (row_given c.connector f.role row w.0 (in_place row (rows_of c.connector f.role) r.0 r.2) both.0);
         left = subst (λ a. leaves (setting_of t.settled k n) a ≡ true) authority both.1;
         from = ap (λ (z : Edge). z.from) (sym w.2);
         to = subst (λ z. LeadsTo t (end_in k n c f h s) row.object z) target lead;
       }
 
   -- it is given at this end
-  pub from_end_at : (k n : ℕ) (c : FlatConnection) (f : FlatEnd) (h : slice_get t.flat.connections k ≡ Some c) (s : slice_get c.ends n ≡ Some f) (e : Edge) (i : IsIn e (end_edges t k c n f)) → (from_end k n c f h s e i).at ≡ end_in k n c f h s
+  pub from_end_at : (k n : ℕ) (c : FlatConnection) (f : FlatEnd) (h : slice_get t.flat.connections k ≡ Some c)
+      (s : slice_get c.ends n ≡ Some f) (e : Edge) (i : IsIn e (end_edges t k c n f))
+      → (from_end k n c f h s e i).at ≡ end_in k n c f h s
   unfolding from_end
   from_end_at k n c f h s e i = refl
 
@@ -225,14 +239,17 @@ module _ (t : Tables) where
       let m = e.to in
       let row = given_row x.connection.connector x.end.role d.object a d.given in
       let ts = targets t x.place x.connection x.end.role row.0.object in
-      let there : IsIn m ts = subst (λ o. IsIn m (targets t x.place x.connection x.end.role o)) (sym row.2) (in_target x d.object m d.to) in
+      let there : IsIn m ts = subst (λ o. IsIn m (targets t x.place x.connection x.end.role o)) (sym row.2)
+      (in_target x d.object m d.to) in
       let p = place_of m ts there in
       let q = place_of row.0 (rows_of x.connection.connector x.end.role) row.1 in
       let own = leaf_label t x.end.leaf in
       let E : IsIn (edge own a m) (end_edges t x.place x.connection x.number x.end) =
-      in_gather (λ i row. row_edges t x.place x.connection x.number x.end row) (edge own a m) (rows_of x.connection.connector x.end.role) q.0 row.0 q.1
+      in_gather (λ i row. row_edges t x.place x.connection x.number x.end row) (edge own a m)
+      (rows_of x.connection.connector x.end.role) q.0 row.0 q.1
       (in_gather (λ i m. given_edges t x.place x.number row.0 own m) (edge own a m) ts p.0 m p.1
-      (in_given x.place x.number row.0 own m a (and_from (set_has row.0.authorities.bits a) (leaves (setting_of t.settled x.place x.number) a) row.3 d.left))) in
+      (in_given x.place x.number row.0 own m a (and_from (set_has row.0.authorities.bits a)
+      (leaves (setting_of t.settled x.place x.number) a) row.3 d.left))) in
       subst (λ z. IsIn (edge z a m) (end_edges t x.place x.connection x.number x.end)) (sym d.from) E
 
   from_direct : (e : Edge) → IsIn e (direct_edges t) → DirectReason t e
@@ -244,7 +261,8 @@ module _ (t : Tables) where
   in_direct : (e : Edge) → DirectReason t e → IsIn e (direct_edges t)
   in_direct e d =
       let x = d.at in
-      in_gather (λ k (c : FlatConnection). gather (λ n f. end_edges t k c n f) c.ends) e t.flat.connections x.place x.connection x.here
+      in_gather (λ k (c : FlatConnection). gather (λ n f. end_edges t k c n f) c.ends) e t.flat.connections x.place
+      x.connection x.here
       (in_gather (λ n f. end_edges t x.place x.connection n f) e x.connection.ends x.number x.end x.stands (in_end e d))
 
   -- ---- of two ends of one connection
@@ -258,13 +276,19 @@ module _ (t : Tables) where
     l_is : l ≡ leaf_label t to_end.end.leaf
     m_is : m ≡ leaf_label t from_end.end.leaf
 
-  from_at : (connector : Connector) (a : Authority) (e : Edge) (c : FlatConnection) → IsIn e (crossed_at t connector a c) → (same_connector c.connector connector ≡ true) × IsIn e (crossed (labels_in_role t To c.ends) a (labels_in_role t From c.ends))
+  from_at : (connector : Connector) (a : Authority) (e : Edge) (c : FlatConnection) → IsIn e (crossed_at t connector a c)
+      → (same_connector c.connector connector ≡ true)
+      × IsIn e (crossed (labels_in_role t To c.ends) a (labels_in_role t From c.ends))
   from_at connector a e c i = go (same_connector c.connector connector) refl i where
-    go : (b : Bool) → same_connector c.connector connector ≡ b → IsIn e (cond b (crossed (labels_in_role t To c.ends) a (labels_in_role t From c.ends)) []) → (same_connector c.connector connector ≡ true) × IsIn e (crossed (labels_in_role t To c.ends) a (labels_in_role t From c.ends))
+    go : (b : Bool) → same_connector c.connector connector ≡ b
+        → IsIn e (cond b (crossed (labels_in_role t To c.ends) a (labels_in_role t From c.ends)) [])
+        → (same_connector c.connector connector ≡ true)
+        × IsIn e (crossed (labels_in_role t To c.ends) a (labels_in_role t From c.ends))
     go true q j = (q, j)
     go false q j = absurd j
 
-  in_at : (connector : Connector) (a : Authority) (e : Edge) (c : FlatConnection) → same_connector c.connector connector ≡ true → IsIn e (crossed (labels_in_role t To c.ends) a (labels_in_role t From c.ends)) → IsIn e (crossed_at t connector a c)
+  in_at : (connector : Connector) (a : Authority) (e : Edge) (c : FlatConnection) → same_connector c.connector connector ≡ true
+      → IsIn e (crossed (labels_in_role t To c.ends) a (labels_in_role t From c.ends)) → IsIn e (crossed_at t connector a c)
   in_at connector a e c q i =
       let P : Bool → Type 0 = λ b. IsIn e (cond b (crossed (labels_in_role t To c.ends) a (labels_in_role t From c.ends)) []) in
       subst P (sym q) i
@@ -299,37 +323,75 @@ module _ (t : Tables) where
         is = x.4;
       }
 
-  in_pair : (connector : Connector) (a : Authority) (l m : ℕ) → Pair connector l m → IsIn (edge l a m) (crossed_edges t connector a)
+  in_pair : (connector : Connector) (a : Authority) (l m : ℕ) → Pair connector l m
+      → IsIn (edge l a m) (crossed_edges t connector a)
   in_pair connector a l m p =
       let x = p.to_end in
       let y = p.from_end in
       let c = x.connection in
       let same = same_place x y p.same in
-      let i : IsIn l (labels_in_role t To c.ends) = subst (λ z. IsIn z (labels_in_role t To c.ends)) (sym p.l_is) (in_role x To p.is_to.role) in
+      let i : IsIn l (labels_in_role t To c.ends) = subst (λ z. IsIn z (labels_in_role t To c.ends)) (sym p.l_is)
+      (in_role x To p.is_to.role) in
       let j : IsIn m (labels_in_role t From c.ends) =
-      subst (λ z. IsIn z (labels_in_role t From c.ends)) (sym p.m_is) (subst (λ (d : FlatConnection). IsIn (leaf_label t y.end.leaf) (labels_in_role t From d.ends)) same (in_role y From p.is_from.role)) in
+      subst (λ z. IsIn z (labels_in_role t From c.ends)) (sym p.m_is)
+      (subst (λ (d : FlatConnection). IsIn (leaf_label t y.end.leaf) (labels_in_role t From d.ends)) same
+      (in_role y From p.is_from.role)) in
       in_gather (λ k (c : FlatConnection). crossed_at t connector a c) (edge l a m) t.flat.connections x.place c x.here
-      (in_at connector a (edge l a m) c (is_same_connector c.connector connector p.is_to.connector) (in_crossed (labels_in_role t To c.ends) a (labels_in_role t From c.ends) l m i j))
+      (in_at connector a (edge l a m) c (is_same_connector c.connector connector p.is_to.connector)
+      (in_crossed (labels_in_role t To c.ends) a (labels_in_role t From c.ends) l m i j))
 
   from_reply : (e : Edge) → IsIn e (reply_edges t) → CallReason t e
   from_reply e i =
       let g = from_pair Rpc Reply e i in
       let p = g.pair in
-      let reason : CallReason t (edge g.l Reply g.m) = record { caller = p.from_end; calls = p.is_from; server = p.to_end; serves = p.is_to; same = sym p.same; from = p.l_is; authority = refl; to = p.m_is } in
+      let reason : CallReason t (edge g.l Reply g.m) = record {
+        caller = p.from_end;
+        calls = p.is_from;
+        server = p.to_end;
+        serves = p.is_to;
+        same = sym p.same;
+        from = p.l_is;
+        authority = refl;
+        to = p.m_is;
+      } in
       subst (λ z. CallReason t z) g.is reason
 
   in_reply : (l : ℕ) (a : Authority) (m : ℕ) → CallReason t (edge l a m) → IsIn (edge l a m) (reply_edges t)
   in_reply l a m c =
-      let E : IsIn (edge l Reply m) (reply_edges t) = in_pair Rpc Reply l m (record { to_end = c.server; is_to = c.serves; from_end = c.caller; is_from = c.calls; same = sym c.same; l_is = c.from; m_is = c.to }) in
+      let E : IsIn (edge l Reply m) (reply_edges t) = in_pair Rpc Reply l m (record {
+        to_end = c.server;
+        is_to = c.serves;
+        from_end = c.caller;
+        is_from = c.calls;
+        same = sym c.same;
+        l_is = c.from;
+        m_is = c.to;
+      }) in
       subst (λ z. IsIn (edge l z m) (reply_edges t)) (sym c.authority) E
 
   -- ---- of interrupts
 
   handles_of : (l d : ℕ) → Pair Interrupt l d → Handles t l d
-  handles_of l d p = record { handler = p.to_end; handles = p.is_to; source = p.from_end; interrupts = p.is_from; same = p.same; label_is = p.l_is; device_is = p.m_is }
+  handles_of l d p = record {
+    handler = p.to_end;
+    handles = p.is_to;
+    source = p.from_end;
+    interrupts = p.is_from;
+    same = p.same;
+    label_is = p.l_is;
+    device_is = p.m_is;
+  }
 
   in_handles : (l d : ℕ) → Handles t l d → IsIn (edge l Handle d) (handle_edges t)
-  in_handles l d h = in_pair Interrupt Handle l d (record { to_end = h.handler; is_to = h.handles; from_end = h.source; is_from = h.interrupts; same = h.same; l_is = h.label_is; m_is = h.device_is })
+  in_handles l d h = in_pair Interrupt Handle l d (record {
+    to_end = h.handler;
+    is_to = h.handles;
+    from_end = h.source;
+    is_from = h.interrupts;
+    same = h.same;
+    l_is = h.label_is;
+    m_is = h.device_is;
+  })
 
   pub record Signal (s : Edge) : Type 0 where
     pub at : End
@@ -340,16 +402,27 @@ module _ (t : Tables) where
   from_signal s i =
       let k = from_gather (λ k (c : FlatConnection). gather (λ n e. signals_at t k c e) c.ends) s t.flat.connections i in
       let n = from_gather (λ n e. signals_at t k.0 k.1 e) s k.1.ends k.3 in
-      let v = from_where (same_connector k.1.connector Notification && same_role n.1.role From) (edge (leaf_label t n.1.leaf) AsyncSend (connection_label t k.0)) s n.3 in
+      let v = from_where (same_connector k.1.connector Notification && same_role n.1.role From)
+      (edge (leaf_label t n.1.leaf) AsyncSend (connection_label t k.0)) s n.3 in
       let b = and_parts (same_connector k.1.connector Notification) (same_role n.1.role From) v.0 in
-      record { at = end_in k.0 n.0 k.1 n.1 k.2 n.2; is = record { connector = is_connector k.1.connector Notification b.0; role = is_role n.1.role From b.1 }; edge_is = v.1 }
+      record {
+        at = end_in k.0 n.0 k.1 n.1 k.2 n.2;
+        is = record {
+          connector = is_connector k.1.connector Notification b.0;
+          role = is_role n.1.role From b.1;
+        };
+        edge_is = v.1;
+      }
 
-  pub in_signal : (y : End) → IsEnd Notification From y → IsIn (edge (leaf_label t y.end.leaf) AsyncSend (connection_label t y.place)) (signal_edges t)
+  pub in_signal : (y : End) → IsEnd Notification From y
+      → IsIn (edge (leaf_label t y.end.leaf) AsyncSend (connection_label t y.place)) (signal_edges t)
   in_signal y s =
       let x = edge (leaf_label t y.end.leaf) AsyncSend (connection_label t y.place) in
       let test : same_connector y.connection.connector Notification && same_role y.end.role From ≡ true =
-      and_from (same_connector y.connection.connector Notification) (same_role y.end.role From) (is_same_connector y.connection.connector Notification s.connector) (is_same_role y.end.role From s.role) in
-      in_gather (λ k (c : FlatConnection). gather (λ n e. signals_at t k c e) c.ends) x t.flat.connections y.place y.connection y.here
+      and_from (same_connector y.connection.connector Notification) (same_role y.end.role From)
+      (is_same_connector y.connection.connector Notification s.connector) (is_same_role y.end.role From s.role) in
+      in_gather (λ k (c : FlatConnection). gather (λ n e. signals_at t k c e) c.ends) x t.flat.connections y.place
+      y.connection y.here
       (in_gather (λ n e. signals_at t y.place y.connection e) x y.connection.ends y.number y.end y.stands
       (in_where (same_connector y.connection.connector Notification && same_role y.end.role From) x test))
 
@@ -359,24 +432,41 @@ module _ (t : Tables) where
 
   from_lock : (s : Edge) → IsIn s (lock_edges t) → Locked s
   from_lock s i =
-      let g = from_gather (λ l (leaf : Leaf). lock_edge t leaf.domain (list_any is_lock (members_at t.source leaf.component))) s t.flat.leaves i in
+      let g = from_gather (λ l (leaf : Leaf). lock_edge t leaf.domain (list_any is_lock (members_at t.source leaf.component))) s
+      t.flat.leaves i in
       go g.0 g.1 g.2 g.1.domain refl g.3
     where
-      go : (k : ℕ) (leaf : Leaf) → slice_get t.flat.leaves k ≡ Some leaf → (o : Option ℕ) → leaf.domain ≡ o → IsIn s (lock_edge t o (list_any is_lock (members_at t.source leaf.component))) → Locked s
+      go : (k : ℕ) (leaf : Leaf) → slice_get t.flat.leaves k ≡ Some leaf → (o : Option ℕ) → leaf.domain ≡ o
+          → IsIn s (lock_edge t o (list_any is_lock (members_at t.source leaf.component))) → Locked s
       go k leaf h None e i = absurd i
       go k leaf h (Some d) e i =
-          let w = from_where (list_any is_lock (members_at t.source leaf.component)) (edge (domain_label t d) AsyncSend (domain_label t d)) s i in
+          let w = from_where (list_any is_lock (members_at t.source leaf.component))
+          (edge (domain_label t d) AsyncSend (domain_label t d)) s i in
           let x = from_any is_lock (members_at t.source leaf.component) w.0 in
           let p = place_of x.0 (members_at t.source leaf.component) x.1 in
           let y = lock_of_member x.0 x.2 in
-          record { lock = record { leaf = k; found = leaf; here = h; domain = d; inside = e; member = p.0; lock = y.0; declared = p.1 ∙ ap (λ z. Some z) y.1 }; is = w.1 }
+          record {
+            lock = record {
+              leaf = k;
+              found = leaf;
+              here = h;
+              domain = d;
+              inside = e;
+              member = p.0;
+              lock = y.0;
+              declared = p.1 ∙ ap (λ z. Some z) y.1;
+            };
+            is = w.1;
+          }
 
-  in_lock : (k : LockAt t.source t.flat) → IsIn (edge (domain_label t k.domain) AsyncSend (domain_label t k.domain)) (lock_edges t)
+  in_lock : (k : LockAt t.source t.flat) → IsIn (edge (domain_label t k.domain) AsyncSend (domain_label t k.domain))
+      (lock_edges t)
   in_lock k =
       let own = edge (domain_label t k.domain) AsyncSend (domain_label t k.domain) in
       let ms = members_at t.source k.found.component in
       let any = in_any is_lock (members.Lock k.lock) ms (in_place (members.Lock k.lock) ms k.member k.declared) refl in
-      in_gather (λ l (leaf : Leaf). lock_edge t leaf.domain (list_any is_lock (members_at t.source leaf.component))) own t.flat.leaves k.leaf k.found k.here
+      in_gather (λ l (leaf : Leaf). lock_edge t leaf.domain (list_any is_lock (members_at t.source leaf.component))) own
+      t.flat.leaves k.leaf k.found k.here
       (subst (λ o. IsIn own (lock_edge t o (list_any is_lock ms))) (sym k.inside) (in_where (list_any is_lock ms) own any))
 
   -- ---- what a bound interrupt gives
@@ -475,9 +565,12 @@ module _ (t : Tables) where
 
   in_all : (l : ℕ) (a : Authority) (m : ℕ) → Reason t (edge l a m) → IsIn (edge l a m) all
   in_all l a m (by_direct d) = in_left (edge l a m) (direct_edges t) (reply_edges t ++ bound) (in_direct (edge l a m) d)
-  in_all l a m (by_call c) = in_right (edge l a m) (direct_edges t) (reply_edges t ++ bound) (in_left (edge l a m) (reply_edges t) bound (in_reply l a m c))
-  in_all l a m (by_bind b) = in_right (edge l a m) (direct_edges t) (reply_edges t ++ bound) (in_right (edge l a m) (reply_edges t) bound (in_bound (handle_edges t) signals (edge l a m) (in_bind l a m b)))
-  in_all l a m (by_lock b) = in_right (edge l a m) (direct_edges t) (reply_edges t ++ bound) (in_right (edge l a m) (reply_edges t) bound (in_bound (handle_edges t) signals (edge l a m) (in_bound_lock l a m b)))
+  in_all l a m (by_call c) = in_right (edge l a m) (direct_edges t) (reply_edges t ++ bound)
+      (in_left (edge l a m) (reply_edges t) bound (in_reply l a m c))
+  in_all l a m (by_bind b) = in_right (edge l a m) (direct_edges t) (reply_edges t ++ bound)
+      (in_right (edge l a m) (reply_edges t) bound (in_bound (handle_edges t) signals (edge l a m) (in_bind l a m b)))
+  in_all l a m (by_lock b) = in_right (edge l a m) (direct_edges t) (reply_edges t ++ bound)
+      (in_right (edge l a m) (reply_edges t) bound (in_bound (handle_edges t) signals (edge l a m) (in_bound_lock l a m b)))
 
   pub listed : (e : Edge) → IsIn e (triples t) ↔ IsReasoned t e
   listed e = (

@@ -1,15 +1,6 @@
 -- What stands in lists that are made by a test
-use Rattle.std.proofs.Common.{◌≡◌, ◌≢◌, ◌∙◌, ◌||◌, ◌==◌, Bool, true, false, cond, not, List, [], ◌∷◌, refl, sym, ap, subst, inl, inr, true≢false}
-use Rattle.std.specs.List.{filter, list_any}
-use Rattle.std.proofs.lemmas.Bool.{eq-eqb, eqb-true}
-use Rattle.cap_model.specs.Edges.{same_edge}
-use Rattle.cap_model.specs.Tables.{has}
-use Rattle.cap_model.specs.declared.edge.Edge.{Edge}
-use Rattle.cap_model.proofs.EdgeOrder.{same_edge_self, same_edge_true}
-use Rattle.arch_policy.specs.Triples.{leads_out}
-use Rattle.arch_policy.specs.Where.{where_true}
-use Rattle.cam_base.specs.Gather.{IsIn}
-use Rattle.cam_base.proofs.NumberedLists.{from_any}
+use Rattle.arch_policy.proofs.Common.{Bool, Edge, IsIn, List, [], ap, cond, eq-eqb, eqb-true, false, filter, from_any, has, inl, inr, leads_out, list_any, not, refl, same_edge, same_edge_self, same_edge_true, subst, sym, true, true≢false, where_true}
+use Rattle.arch_policy.proofs.Common.{◌==◌, ◌||◌, ◌∙◌, ◌∷◌, ◌≡◌, ◌≢◌}
 
 pub from_where : {X : Type 0} (b : Bool) (x y : X) → IsIn y (where_true b x) → (b ≡ true) × (x ≡ y)
 from_where true x y (inl e) = (refl, e)
@@ -30,7 +21,8 @@ in_any p x (y ∷ ys) (inr i) h = go (p y) (in_any p x ys i h) where
 pub from_filter : {X : Type 0} (p : X → Bool) (x : X) (xs : List X) → IsIn x (filter p xs) → IsIn x xs × (p x ≡ true)
 from_filter p x [] i = absurd i
 from_filter {X} p x (y ∷ ys) i = go (p y) refl (from_filter p x ys) i where
-  go : (b : Bool) → p y ≡ b → (IsIn x (filter p ys) → IsIn x ys × (p x ≡ true)) → IsIn x (cond b (y ∷ filter p ys) (filter p ys)) → IsIn x (y ∷ ys) × (p x ≡ true)
+  go : (b : Bool) → p y ≡ b → (IsIn x (filter p ys) → IsIn x ys × (p x ≡ true)) → IsIn x (cond b (y ∷ filter p ys) (filter p ys))
+      → IsIn x (y ∷ ys) × (p x ≡ true)
   go true e rest (inl same) = (inl same, ap p (sym same) ∙ e)
   go true e rest (inr j) = let r = rest j in (inr r.0, r.1)
   go false e rest j = let r = rest j in (inr r.0, r.1)
@@ -38,7 +30,8 @@ from_filter {X} p x (y ∷ ys) i = go (p y) refl (from_filter p x ys) i where
 pub in_filter : {X : Type 0} (p : X → Bool) (x : X) (xs : List X) → IsIn x xs → p x ≡ true → IsIn x (filter p xs)
 in_filter p x [] i h = absurd i
 in_filter {X} p x (y ∷ ys) i h = go (p y) refl i (λ j. in_filter p x ys j h) where
-  go : (b : Bool) → p y ≡ b → IsIn x (y ∷ ys) → (IsIn x ys → IsIn x (filter p ys)) → IsIn x (cond b (y ∷ filter p ys) (filter p ys))
+  go : (b : Bool) → p y ≡ b → IsIn x (y ∷ ys) → (IsIn x ys → IsIn x (filter p ys))
+      → IsIn x (cond b (y ∷ filter p ys) (filter p ys))
   go true e (inl same) rest = inl same
   go true e (inr j) rest = inr (rest j)
   go false e (inl same) rest = absurd (true≢false (sym h ∙ ap p (sym same) ∙ e))

@@ -1,37 +1,24 @@
 -- The edges of locks, leaf by leaf, are those of the locks of domains.
-use Rattle.std.proofs.Common.{◌≡◌, ◌↔◌, ◌⊎◌, ◌∙◌, ◌+◌, ◌++◌, ◌∷◌, [], ℕ, true, List, Some, take, refl, sym, ap, subst, inl, inr, ⊎_elim}
-use Rattle.std.specs.List.{list_any, slice_get}
-use Rattle.std.proofs.lemmas.List.{take_more}
-use Rattle.std.proofs.lemmas.Option.{get_or_from_slice_get, slice_get_within}
+use Rattle.arch_policy.proofs.Common.{Adds, Edge, IsCertificateOf, IsLockEdge, IsOfLeaf, IsOfSet, IsPolicyOf, IsSetOf, IsWithLock, Leaf, List, LockAt, RW, Some, Tables, [], adds_none, adds_same, ap, domain_label, from_any, get_or_from_slice_get, has}
+use Rattle.arch_policy.proofs.Common.{in_place, inl, inr, is_lock, list_any, members_at, place_of, refl, set_has, slice_get, slice_get_within, subst, sym, take, take_more, true, ℕ, ⊎_elim, ◌++◌, ◌+◌, ◌↔◌, ◌∙◌, ◌∷◌, ◌≡◌, ◌⊎◌}
 use Rattle.adl_ast.specs.declared.component.Member.TheVariants as members
-use Rattle.adl_meaning.specs.declared.flat.Leaf.{Leaf}
-use Rattle.arch_policy.specs.LockEdges.{IsOfLeaf, IsWithLock}
-use Rattle.arch_policy.specs.Ends.{LockAt}
-use Rattle.arch_policy.specs.Policies.{IsCertificateOf, IsLockEdge, IsPolicyOf}
-use Rattle.arch_policy.specs.Tables.{Tables, domain_label}
 use Rattle.arch_policy.proofs.Listed.{lock_of_member}
 use Rattle.arch_policy.proofs.Lists.{in_any}
 use Rattle.cap_machine.specs.Sources.{OfEach}
-use Rattle.cap_model.specs.Adds.{Adds, IsOfSet}
-use Rattle.cap_model.specs.AuthoritySets.{IsSetOf, set_has}
-use Rattle.cap_model.specs.Tables.{has}
-use Rattle.cap_model.specs.declared.edge.Edge.{Edge}
-use Rattle.cap_model.proofs.EdgeGrowth.{adds_none, adds_same}
 use Rattle.cap_model.specs.Confers.{kind_confers}
 use Rattle.cap_model.specs.declared.kind.Kind.TheVariants.{Notification}
-use Rattle.conn_rules.specs.Row.{RW}
-use Rattle.cspace_layout.specs.Members.{is_lock, members_at}
-use Rattle.cam_base.proofs.Gathered.{in_place, place_of}
-use Rattle.cam_base.proofs.NumberedLists.{from_any}
 
-pub with_lock_adds : (label bits : ℕ) (a b : List Edge) → IsSetOf (kind_confers Notification RW) bits → Adds (IsOfSet label bits label) a b → Adds (IsWithLock label) a b
+pub with_lock_adds : (label bits : ℕ) (a b : List Edge) → IsSetOf (kind_confers Notification RW) bits
+    → Adds (IsOfSet label bits label) a b → Adds (IsWithLock label) a b
 with_lock_adds label bits a b set grown =
     adds_same (IsOfSet label bits label) (IsWithLock label)
     (λ e h. record { from = h.from_is; conferred = sym (set.each e.authority) ∙ h.in_set; to = h.to_is })
     (λ e h. record { from_is = h.from; in_set = set.each e.authority ∙ h.conferred; to_is = h.to })
     a b grown
 
-pub leaf_adds : (t : Tables) (leaf : Leaf) (d : ℕ) (a b : List Edge) → leaf.domain ≡ Some d → list_any is_lock (members_at t.source leaf.component) ≡ true → Adds (IsWithLock (domain_label t d)) a b → Adds (IsOfLeaf t leaf) a b
+pub leaf_adds : (t : Tables) (leaf : Leaf) (d : ℕ) (a b : List Edge) → leaf.domain ≡ Some d
+    → list_any is_lock (members_at t.source leaf.component) ≡ true → Adds (IsWithLock (domain_label t d)) a b
+    → Adds (IsOfLeaf t leaf) a b
 leaf_adds t leaf d a b inside locks grown =
     adds_same (IsWithLock (domain_label t d)) (IsOfLeaf t leaf)
     (λ e h. record { domain = d; inside = inside; locks = locks; with_lock = h })
@@ -42,9 +29,15 @@ leaf_adds t leaf d a b inside locks grown =
     one x e = cc
 
     there : (e : Edge) (x : ℕ) → x ≡ d → IsWithLock (domain_label t x) e → IsWithLock (domain_label t d) e
-    there e x same h = record { from = h.from ∙ ap (domain_label t) same; conferred = h.conferred; to = h.to ∙ ap (domain_label t) same }
+    there e x same h = record {
+      from = h.from ∙ ap (domain_label t) same;
+      conferred = h.conferred;
+      to = h.to ∙ ap (domain_label t) same;
+    }
 
-pub no_leaf_adds : (t : Tables) (leaf : Leaf) (a : List Edge) → ((d : ℕ) → leaf.domain ≡ Some d → list_any is_lock (members_at t.source leaf.component) ≡ true → ⊥) → Adds (IsOfLeaf t leaf) a a
+pub no_leaf_adds : (t : Tables) (leaf : Leaf) (a : List Edge)
+    → ((d : ℕ) → leaf.domain ≡ Some d → list_any is_lock (members_at t.source leaf.component) ≡ true → ⊥)
+    → Adds (IsOfLeaf t leaf) a a
 no_leaf_adds t leaf a none = adds_none (IsOfLeaf t leaf) (λ e h. none h.domain h.inside h.locks) a
 
 -- ---- all leaves
@@ -74,33 +67,49 @@ lock_edge t e h =
     let y = lock_of_member x.0 x.2 in
     let own = by.with_lock in
     record {
-      lock = record { leaf = h.place; found = h.item; here = h.there; domain = by.domain; inside = by.inside; member = p.0; lock = y.0; declared = p.1 ∙ ap (λ z. Some z) y.1 };
+      lock = record {
+        leaf = h.place;
+        found = h.item;
+        here = h.there;
+        domain = by.domain;
+        inside = by.inside;
+        member = p.0;
+        lock = y.0;
+        declared = p.1 ∙ ap (λ z. Some z) y.1;
+      };
       from = own.from;
       conferred = own.conferred;
       to = own.to;
     }
 
-pub all_leaves : (t : Tables) (a b : List Edge) → Adds (OfEach (λ k leaf. IsOfLeaf t leaf) t.flat.leaves) a b → Adds (IsLockEdge t) a b
-all_leaves t a b grown = adds_same (OfEach (λ k leaf. IsOfLeaf t leaf) t.flat.leaves) (IsLockEdge t) (lock_edge t) (of_leaf t) a b grown
+pub all_leaves : (t : Tables) (a b : List Edge) → Adds (OfEach (λ k leaf. IsOfLeaf t leaf) t.flat.leaves) a b
+    → Adds (IsLockEdge t) a b
+all_leaves t a b grown = adds_same (OfEach (λ k leaf. IsOfLeaf t leaf) t.flat.leaves) (IsLockEdge t) (lock_edge t)
+    (of_leaf t) a b grown
 
 -- ---- the certificate
 
-exactly : (t : Tables) (policy edges cert : List Edge) → Adds (IsLockEdge t) policy edges → ((e : Edge) → has cert e ≡ has edges e) → (e : Edge) → (has cert e ≡ true) ↔ ((has policy e ≡ true) ⊎ IsLockEdge t e)
-exactly t policy edges cert grown same e = (λ h. grown.only e (sym (same e) ∙ h), λ h. same e ∙ ⊎_elim (λ i. grown.kept e i) (λ l. grown.added e l) h)
+exactly : (t : Tables) (policy edges cert : List Edge) → Adds (IsLockEdge t) policy edges
+    → ((e : Edge) → has cert e ≡ has edges e) → (e : Edge) → (has cert e ≡ true) ↔ ((has policy e ≡ true) ⊎ IsLockEdge t e)
+exactly t policy edges cert grown same e =
+    (λ h. grown.only e (sym (same e) ∙ h), λ h. same e ∙ ⊎_elim (λ i. grown.kept e i) (λ l. grown.added e l) h)
 
-pub certified : (t : Tables) (policy kept edges read cert : List Edge) → kept ≡ policy → Adds (IsLockEdge t) kept edges → read ≡ edges → ((e : Edge) → has cert e ≡ has read e)
+pub certified : (t : Tables) (policy kept edges read cert : List Edge) → kept ≡ policy → Adds (IsLockEdge t) kept edges
+    → read ≡ edges → ((e : Edge) → has cert e ≡ has read e)
     → (e : Edge) → (has cert e ≡ true) ↔ ((has policy e ≡ true) ⊎ IsLockEdge t e)
 certified t policy kept edges read cert first grown told same =
     exactly t policy edges cert (subst (λ z. Adds (IsLockEdge t) z edges) first grown) (λ e. same e ∙ ap (λ z. has z e) told)
 
-pub certifies : (t : Tables) (policy cert : List Edge) → ((e : Edge) → (has cert e ≡ true) ↔ ((has policy e ≡ true) ⊎ IsLockEdge t e)) → IsPolicyOf t policy → IsCertificateOf t cert
+pub certifies : (t : Tables) (policy cert : List Edge)
+    → ((e : Edge) → (has cert e ≡ true) ↔ ((has policy e ≡ true) ⊎ IsLockEdge t e)) → IsPolicyOf t policy → IsCertificateOf t cert
 certifies t policy cert exact is e = (
   λ h. ⊎_elim (λ i. inl ((is e).0 i)) (λ l. inr l) ((exact e).0 h),
   λ h. (exact e).1 (⊎_elim (λ r. inl ((is e).1 r)) (λ l. inr l) h),
 )
 
 -- one edge more of a table
-pub edge_more : (table old new : List Edge) (i : ℕ) (e : Edge) → slice_get table i ≡ Some e → old ≡ take i table → new ≡ old ++ e ∷ [] → new ≡ take (i + 1) table
+pub edge_more : (table old new : List Edge) (i : ℕ) (e : Edge) → slice_get table i ≡ Some e → old ≡ take i table
+    → new ≡ old ++ e ∷ [] → new ≡ take (i + 1) table
 edge_more table old new i e at o n =
     let is = sym (get_or_from_slice_get table i e e at) in
     let below = slice_get_within table i e at in

@@ -1,13 +1,6 @@
 -- Connectors, roles and kinds of objects that are told to be the same are
-use Rattle.std.proofs.Common.{◌≡◌, refl, sym, true≢false, true}
-use Rattle.adl_ast.specs.declared.composition.Role.{Role}
-use Rattle.adl_ast.specs.declared.composition.Role.TheVariants.{From, To}
-use Rattle.adl_meaning.specs.declared.connector.Connector.{Connector}
-use Rattle.adl_meaning.specs.declared.connector.Connector.TheVariants.{Rpc, Notification, SharedMemory, Mmio, Interrupt, Direct}
-use Rattle.arch_policy.specs.Gives.{same_object}
-use Rattle.conn_rules.specs.Row.{same_connector, same_role}
-use Rattle.conn_rules.specs.declared.rule.ObjectKind.{ObjectKind}
-use Rattle.conn_rules.specs.declared.rule.ObjectKind.TheVariants.{NoObject, OfEndpoint, OfNotification, OfFrames, OfDevice, OfIrq}
+use Rattle.arch_policy.proofs.Common.{Connector, Direct, From, Interrupt, Mmio, NoObject, Notification, ObjectKind, OfDevice, OfEndpoint, OfFrames, OfIrq, OfNotification, Role, Rpc, SharedMemory, To, refl, same_connector, same_object, same_role, sym}
+use Rattle.arch_policy.proofs.Common.{true, true≢false, ◌≡◌}
 
 pub is_connector : (c d : Connector) → same_connector c d ≡ true → c ≡ d
 is_connector Rpc Rpc h = refl

@@ -1,7 +1,7 @@
 -- What a bound interrupt gives: the device may signal what the handler of its interrupt may signal.
 use Rattle.std.specs.Prelude.{◌≡◌, List, [], ◌∷◌, Option, Some, None}
 use Rattle.cap_model.specs.Edges.{edge}
-use Rattle.cap_model.specs.declared.authority.Authority.TheVariants.{AsyncSend}
+use Rattle.authorities.specs.declared.authority.Authority.TheVariants.{AsyncSend}
 use Rattle.cap_model.specs.declared.edge.Edge.{Edge}
 use Rattle.cam_base.specs.Gather.{IsIn}
 

@@ -9,11 +9,11 @@ use Rattle.adl_meaning.specs.declared.connector.Connector.{Connector}
 use Rattle.adl_meaning.specs.declared.connector.Connector.TheVariants.{Rpc, Notification, Interrupt}
 use Rattle.adl_meaning.specs.declared.flat.FlatConnection.{FlatConnection}
 use Rattle.adl_meaning.specs.declared.flat.FlatEnd.{FlatEnd}
-use Rattle.cap_model.specs.Authorities.{authorities}
-use Rattle.cap_model.specs.AuthoritySets.{set_has}
+use Rattle.authorities.specs.Authorities.{authorities}
+use Rattle.authorities.specs.AuthoritySets.{set_has}
 use Rattle.cap_model.specs.Edges.{edge}
-use Rattle.cap_model.specs.declared.authority.Authority.{Authority}
-use Rattle.cap_model.specs.declared.authority.Authority.TheVariants.{AsyncSend, Reply, Handle}
+use Rattle.authorities.specs.declared.authority.Authority.{Authority}
+use Rattle.authorities.specs.declared.authority.Authority.TheVariants.{AsyncSend, Reply, Handle}
 use Rattle.cap_model.specs.declared.edge.Edge.{Edge}
 use Rattle.conn_rules.specs.Row.{rows_of, same_connector, same_role}
 use Rattle.conn_rules.specs.declared.rule.ObjectKind.{ObjectKind}
@@ -66,7 +66,8 @@ crossed ls a ms = gather (λ i l. gather (λ j m. edge l a m ∷ []) ms) ls
 
 -- of a connection of this connector, from the labels of the `to` ends to those of the `from` ends
 abbrev pub crossed_at : Tables → Connector → Authority → FlatConnection → List Edge
-crossed_at t connector a c = if same_connector c.connector connector then crossed (labels_in_role t To c.ends) a (labels_in_role t From c.ends) else []
+crossed_at t connector a c = if same_connector c.connector connector then crossed (labels_in_role t To c.ends) a
+    (labels_in_role t From c.ends) else []
 
 abbrev pub crossed_edges : Tables → Connector → Authority → List Edge
 crossed_edges t connector a = gather (λ k c. crossed_at t connector a c) t.flat.connections
@@ -83,7 +84,8 @@ handle_edges t = crossed_edges t Interrupt Handle
 
 -- who signals on which notification, end by end
 abbrev pub signals_at : Tables → ℕ → FlatConnection → FlatEnd → List Edge
-signals_at t k c e = where_true (same_connector c.connector Notification && same_role e.role From) (edge (leaf_label t e.leaf) AsyncSend (connection_label t k))
+signals_at t k c e = where_true (same_connector c.connector Notification && same_role e.role From)
+    (edge (leaf_label t e.leaf) AsyncSend (connection_label t k))
 
 abbrev pub signal_edges : Tables → List Edge
 signal_edges t = gather (λ k c. gather (λ n e. signals_at t k c e) c.ends) t.flat.connections
@@ -98,7 +100,8 @@ lock_edges t = gather (λ l leaf. lock_edge t leaf.domain (list_any is_lock (mem
 
 -- the device may signal what the handler of its interrupt may signal
 abbrev pub bound_edges : List Edge → List Edge → List Edge
-bound_edges handles signals = gather (λ i h. gather (λ j s. where_true (h.from == s.from) (edge h.to AsyncSend s.to)) signals) handles
+bound_edges handles signals = gather (λ i h. gather (λ j s. where_true (h.from == s.from) (edge h.to AsyncSend s.to))
+    signals) handles
 
 -- ---- all
 

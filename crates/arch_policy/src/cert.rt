@@ -2,7 +2,7 @@ ghost use Rattle.arch_policy.specs.LockEdges.{IsOfLeaf, IsWithLock};
 ghost use Rattle.arch_policy.specs.Policies.{IsCertificateOf, IsLockEdge, IsPolicyOf};
 ghost use Rattle.arch_policy.specs.Tables.{domain_label, told};
 ghost use Rattle.cap_model.specs.Adds.{Adds};
-ghost use Rattle.cap_model.specs.AuthoritySets.{IsSetOf};
+ghost use Rattle.authorities.specs.AuthoritySets.{IsSetOf};
 ghost use Rattle.cap_model.specs.Tables.{IsSorted, has};
 ghost use Rattle.cap_model.specs.declared.edge.Edge.{Edge as Triple};
 ghost use Rattle.cap_model.specs.Confers.{kind_confers};

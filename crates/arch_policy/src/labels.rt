@@ -5,7 +5,7 @@ ghost use Rattle.arch_policy.specs.Owners.{connection_texts, device_texts, domai
 ghost use Rattle.arch_policy.specs.Where.{where_true};
 ghost use Rattle.cam_base.specs.Paths.{joined};
 ghost use Rattle.cam_base.specs.Gather.{gather};
-ghost use Rattle.std.specs.Prelude.{◌≡◌, ◌+◌, ◌<◌, ◌^◌, ◌++◌, ◌∷◌, [], length, IfOk, OnOk};
+ghost use Rattle.std.specs.Prelude.{◌≡◌, ◌≤◌, ◌+◌, ◌<◌, ◌^◌, ◌++◌, ◌∷◌, [], true, length, IfOk, OnOk};
 
 use crate::LabelNumbers;
 use adl_meaning::{Connector, Domain, Flat, FlatConnection, Leaf};
@@ -131,39 +131,63 @@ fn rank(texts: &[Text], text: &[u8]) -> usize
     texts.partition_point(|other| comes_before(other, text))
 }
 
-/// The same, looked for at a place first.
-fn rank_near(texts: &[Text], near: usize, text: &[u8]) -> usize
+/// Whether the text stands at a place.
+fn stands_at(texts: &[Text], place: usize, text: &[u8]) -> bool
     requires { IsOrdered texts.now }
-    ensures { result ≡ rank texts.now text.now }
+    ensures { result ≡ true → rank texts.now text.now ≡ place }
 {
-    match texts.get(near) {
-        Some(other) if other.as_bytes() == text => near,
-        _ => rank(texts, text),
+    match texts.get(place) {
+        Some(other) => other.as_bytes() == text,
+        None => false,
     }
-}
-
-/// How many of the texts, which are in order, come before that of the path, looked for at a place first. A path of one name
-/// is its text.
-fn path_rank(alloc: Global, texts: &[Text], near: usize, path: &Path) -> Result<usize, NoMemory>
-    requires { IsOrdered texts.now }
-    ensures { IfOk result (λ n. n ≡ rank texts.now (joined path.now)) }
-{
-    if let [name] = path.names() {
-        return Ok(rank_near(texts, near, name.as_bytes()));
-    }
-    let text = path.text(alloc)?;
-    Ok(rank_near(texts, near, text.as_bytes()))
 }
 
 /// The number behind the last.
-fn next_number(numbers: &[u32]) -> usize {
+fn next_number(numbers: &[u32]) -> usize
+    ensures { result ≤ 2 ^ 32 }
+{
     match numbers.last() {
         Some(last) => *last as usize + 1,
         None => 0,
     }
 }
 
-/// Puts the number that the path has behind the others. What is listed in order often is numbered in order.
+/// The same, looked for first just behind the last of these numbers, and then behind the two before it. What is listed in
+/// order, or by turns from few lists in order, often is numbered so.
+fn rank_near(texts: &[Text], numbers: &[u32], text: &[u8]) -> usize
+    requires { IsOrdered texts.now }
+    ensures { result ≡ rank texts.now text.now }
+{
+    let next = next_number(numbers);
+    for place in next..next + 4 {
+        if stands_at(texts, place, text) {
+            return place;
+        }
+    }
+    let before = &numbers[numbers.len().saturating_sub(3)..];
+    for number in before {
+        let place = *number as usize + 1;
+        if stands_at(texts, place, text) {
+            return place;
+        }
+    }
+    rank(texts, text)
+}
+
+/// How many of the texts, which are in order, come before that of the path, looked for first near these numbers. A path of
+/// one name is its text.
+fn path_rank(alloc: Global, texts: &[Text], numbers: &[u32], path: &Path) -> Result<usize, NoMemory>
+    requires { IsOrdered texts.now }
+    ensures { IfOk result (λ n. n ≡ rank texts.now (joined path.now)) }
+{
+    if let [name] = path.names() {
+        return Ok(rank_near(texts, numbers, name.as_bytes()));
+    }
+    let text = path.text(alloc)?;
+    Ok(rank_near(texts, numbers, text.as_bytes()))
+}
+
+/// Puts the number that the path has behind the others.
 fn push_number(
     alloc: Global,
     texts: &[Text],
@@ -174,8 +198,7 @@ fn push_number(
     requires few { length texts.now < 2 ^ 32 }
     ensures { OnOk result (numbers.new ≡ numbers.old ++ rank texts.now (joined path.now) ∷ []) }
 {
-    let near = next_number(numbers.as_slice());
-    let number = path_rank(alloc, texts, near, path)?;
+    let number = path_rank(alloc, texts, numbers.as_slice(), path)?;
     numbers.push(number as u32)
 }
 

@@ -1,8 +1,7 @@
 -- Lines that end with a capability, and lines of bare frames, written in one piece
-use Rattle.std.proofs.Common.{◌≡◌, ◌∙◌, ℕ, List, [], ◌∷◌, ◌++◌, None, Some, codes, append_assoc, append-nil, refl, sym, ap}
-use Rattle.cam_base.specs.Hex.{hex_text}
+use Rattle.capdl_write.proofs.Common.{Bool, List, None, Rights, Some, [], ap, append_assoc, false, frame_line, has_rights, hex_text, params, refl, rights_word, sym, true, ℕ, ◌++◌, ◌∙◌, ◌∷◌, ◌≡◌}
+use Rattle.std.proofs.Common.{codes, append-nil}
 use Rattle.cam_base.specs.Texts.{◌⊹◌, together}
-use Rattle.cap_model.specs.Canonical.{frame_line}
 
 -- two pieces in front, the name of an object, what follows, and the end of the line
 in_line : (word mark name rest : List ℕ) → word ++ (mark ++ (name ++ (rest ++ codes "\n"))) ≡ together (word ∷ mark ∷ [])
@@ -13,17 +12,40 @@ in_line word mark name rest =
     ∙ ap (λ z. word ++ (z ++ ((name ++ rest) ++ codes "\n"))) (sym (append-nil mark))
     ∙ sym (append_assoc word (mark ++ []) ((name ++ rest) ++ codes "\n"))
 
-pub bare : (word mark name : List ℕ) → together (word ∷ mark ∷ name ∷ codes "\n" ∷ []) ≡ together (word ∷ mark ∷ [])
-    ⊹ (name ⊹ [] ⊹ codes "\n")
-unfolding together
-bare word mark name = in_line word mark name []
+pub without_badge : (word mark name rest : List ℕ) → together (word ∷ mark ∷ name ∷ (rest ⊹ codes "\n") ∷ [])
+    ≡ together (word ∷ mark ∷ []) ⊹ (name ⊹ rest ⊹ codes "\n")
+unfolding together ◌⊹◌
+without_badge word mark name rest =
+    ap (λ z. word ++ (mark ++ (name ++ z))) (append-nil (rest ++ codes "\n")) ∙ in_line word mark name rest
 
-pub with_rights : (word mark name rights : List ℕ) → together (word ∷ mark ∷ name ∷ codes " (" ∷ rights ∷ codes ")\n" ∷ [])
-    ≡ together (word ∷ mark ∷ []) ⊹ (name ⊹ together (codes " (" ∷ rights ∷ codes ")" ∷ []) ⊹ codes "\n")
-unfolding together
-with_rights word mark name rights =
-    ap (λ z. word ++ (mark ++ (name ++ (codes " (" ++ z)))) (sym (append_assoc rights (codes ")") (codes "\n")))
-    ∙ in_line word mark name (together (codes " (" ∷ rights ∷ codes ")" ∷ []))
+-- the rights that a capability without a badge has, in brackets, and the end of the line
+abbrev bare_end : List ℕ → List ℕ
+bare_end [] = codes "\n"
+bare_end (l ∷ ls) = codes " (" ++ ((l ∷ ls) ++ codes ")\n")
+
+abbrev rights : Bool → Bool → Bool → Bool → Rights
+rights a b c d = record { read = a; write = b; grant = c; reply = d }
+
+bracketed : (w : List ℕ) → codes " (" ++ (w ++ codes ")\n") ≡ together (codes " (" ∷ w ∷ codes ")" ∷ []) ⊹ codes "\n"
+unfolding together ◌⊹◌
+bracketed w = ap (λ z. codes " (" ++ z) (sym (append_assoc w (codes ")") (codes "\n")))
+
+plain_end : (a b c d : Bool) → bare_end (rights_word (rights a b c d))
+    ≡ params (has_rights (rights a b c d)) false (rights a b c d) 0 ⊹ codes "\n"
+unfolding ◌⊹◌
+plain_end true b c d = bracketed (rights_word (rights true b c d))
+plain_end false true c d = bracketed (rights_word (rights false true c d))
+plain_end false false true d = bracketed (rights_word (rights false false true d))
+plain_end false false false true = bracketed (rights_word (rights false false false true))
+plain_end false false false false = refl
+
+pub end_is : (r : Rights) (a b c d : Bool) → r.read ≡ a → r.write ≡ b → r.grant ≡ c → r.reply ≡ d
+    → bare_end (rights_word (rights a b c d)) ≡ params (has_rights r) false r 0 ⊹ codes "\n"
+end_is r a b c d p q s t =
+    ap (λ z. bare_end (rights_word (rights z b c d))) (sym p) ∙ ap (λ z. bare_end (rights_word (rights r.read z c d))) (sym q)
+    ∙ ap (λ z. bare_end (rights_word (rights r.read r.write z d))) (sym s)
+    ∙ ap (λ z. bare_end (rights_word (rights r.read r.write r.grant z))) (sym t)
+    ∙ plain_end r.read r.write r.grant r.reply
 
 pub with_badge : (word mark name badge : List ℕ) → together (word ∷ mark ∷ name ∷ codes " (badge: " ∷ badge ∷ codes ")\n" ∷ [])
     ≡ together (word ∷ mark ∷ []) ⊹ (name ⊹ together (codes " (badge: " ∷ badge ∷ codes ")" ∷ []) ⊹ codes "\n")

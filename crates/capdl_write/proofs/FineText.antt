@@ -1,30 +1,12 @@
 -- The pieces of a canonical text are fine, line by line.
-use Rattle.std.proofs.Common.{drop, ◌≡◌, ℕ, ◌<◌, ◌≤◌, ◌^◌, Bool, true, false, List, [], ◌∷◌, Option, Some, None, refl, arith}
-use Rattle.std.specs.Prelude.{codes, ◌&&◌, ◌==◌, ◌+◌, ◌%◌, not, nat_lt, leb, ◌||◌}
-use Rattle.std.specs.List.{list_all}
-use Rattle.std.proofs.lemmas.Bool.{and_parts, ltb-true}
-use Rattle.std.proofs.lemmas.Bool.Decides.{nat_tests}
-use Rattle.cap_model.specs.Canonical.{arch_word, level_word, has_slot}
-use Rattle.cap_model.specs.Kept.{if_any, keeps, keeps_fill, keeps_slots}
-use Rattle.cap_model.specs.Lookup.{name_at}
-use Rattle.cap_model.specs.RightsWord.{has_rights, rights_word}
-use Rattle.cap_model.specs.declared.cap.Cap.{Cap}
-use Rattle.cap_model.specs.declared.level.Arch.{Arch}
-use Rattle.cap_model.specs.declared.level.Arch.TheVariants.{Arm11, Aarch64}
-use Rattle.cap_model.specs.declared.level.Level.{Level}
-use Rattle.cap_model.specs.declared.level.Level.TheVariants.{Global, Upper, Directory, Table}
-use Rattle.cap_model.specs.declared.object.Fill.{Fill}
-use Rattle.cap_model.specs.declared.object.Object.{Object}
-use Rattle.cap_model.specs.declared.object.Object.TheVariants.{Endpoint, Notification, CNode, Thread, Frame, Pages, Irq}
-use Rattle.cap_model.specs.declared.object.Tcb.{Tcb}
-use Rattle.cap_model.specs.declared.rights.Rights.{Rights}
-use Rattle.cap_model.specs.declared.spec.Entry.{Entry}
-use Rattle.cap_model.specs.declared.spec.Spec.{Spec}
+use Rattle.capdl_write.proofs.Common.{Aarch64, Arch, Arm11, Bool, CNode, Cap, Directory, Endpoint, Entry, Fill, Fine, Frame, Global, Irq, IsWritable, Level, List, None, Notification, Object, Option, Pages, Piece, Rights, Some, Spec, Table, Tcb}
+use Rattle.capdl_write.proofs.Common.{Thread, Upper, [], all_blank, and_parts, arch_word, arith, brace_l, brace_r, buffer_pieces, cap_pieces, caps_pieces, codes, colon, comma, dec, drop, equals, false, fill_pieces, goes_on, has_rights, has_slot}
+use Rattle.capdl_write.proofs.Common.{held_irq, held_pieces, held_slots, held_tcb, hex, holder_pieces, holders_pieces, if_any, irqs_pieces, is_fill, is_laid, is_number, is_plain, is_word, keeps, keeps_fill, keeps_slots, laid, last_pieces, leb}
+use Rattle.capdl_write.proofs.Common.{level_word, list_all, ltb-true, name_at, named_pieces, nat_lt, nat_tests, not, object_pieces, objects_pieces, paddr_pieces, paren_l, paren_r, pieces, quoted, refl, rights_word, size_4k, slots_pieces, square_l}
+use Rattle.capdl_write.proofs.Common.{square_r, target_pieces, tcb_slots, true, word, ℕ, ◌%◌, ◌&&◌, ◌<◌, ◌==◌, ◌^◌, ◌||◌, ◌∷◌, ◌≡◌, ◌≤◌}
+use Rattle.std.specs.Prelude.{◌+◌}
 use Rattle.capdl_text.specs.TokenFaults.{is_left_out_word, fault_at}
 use Rattle.capdl_text.specs.TokenKinds.{mark_of, kind_of}
-use Rattle.capdl_write.specs.Canon.{word, dec, hex, quoted, equals, colon, comma, paren_l, paren_r, brace_l, brace_r, square_l, square_r, size_4k, paddr_pieces, fill_pieces, object_pieces, objects_pieces, target_pieces, cap_pieces, slots_pieces, holder_pieces, named_pieces, buffer_pieces, tcb_slots, held_slots, held_tcb, held_irq, held_pieces, holders_pieces, irqs_pieces, last_pieces, caps_pieces, pieces}
-use Rattle.capdl_write.specs.Pieces.{Piece, laid, all_blank, goes_on, Fine}
-use Rattle.capdl_write.specs.Writable.{IsWritable, is_word, is_number, is_plain, is_fill, is_laid}
 use Rattle.capdl_write.proofs.Fitting.{fine_word, fine_tcb, rights_are, text_fine}
 use Rattle.capdl_write.proofs.Named.{are_words, is_named, is_target, is_slot, has_named, is_line, all_named, lines_named}
 use Rattle.capdl_write.proofs.Numbers.{decimal_fine, hex_fine}

@@ -1,25 +1,10 @@
 -- The pieces of a canonical text are tokens without faults, and none runs into the next.
-use Rattle.std.proofs.Common.{drop, ◌≡◌, ℕ, zero, suc, ◌<◌, ◌≤◌, ◌^◌, Bool, true, false, List, [], ◌∷◌, ◌++◌, length, Option, Some, None, refl, sym, ap, ◌∙◌, arith, inl, inr}
-use Rattle.std.specs.Prelude.{codes, decimal, ◌&&◌, ◌||◌, not, ◌==◌, nat_lt, leb}
-use Rattle.std.specs.List.{list_all}
-use Rattle.std.specs.Str.{bytes_eq}
-use Rattle.std.proofs.lemmas.Bool.{and_parts, ltb-true, cases_Bool}
-use Rattle.std.proofs.lemmas.Bool.Decides.{nat_tests}
-use Rattle.cam_base.specs.Hex.{hex_text}
-use Rattle.cam_base.specs.Names.{is_letter, is_word_byte, is_name}
-use Rattle.cam_base.specs.Numbers.{number_value}
+use Rattle.capdl_write.proofs.Common.{Bool, Fine, List, None, Option, Piece, Rights, Some, Tcb, [], after_text, all_blank, and_parts, ap, arith, bytes_eq, cases_Bool, codes, colon, comma, dec, decimal, drop, elf_pieces, ends_text, equals, false}
+use Rattle.capdl_write.proofs.Common.{goes_on, has_rights, hex, hex_text, if_any, inl, inr, is_letter, is_name, is_number, is_plain, is_tcb, is_word, is_word_byte, laid, leb, length, letter, list_all, ltb-true, nat_lt, nat_tests, not, number_value}
+use Rattle.capdl_write.proofs.Common.{paren_l, paren_r, quoted, refl, rights_word, run, suc, sym, tcb_pieces, true, word, word_fault, word_of, word_or, zero, ℕ, ◌&&◌, ◌++◌, ◌<◌, ◌==◌, ◌^◌, ◌||◌, ◌∙◌, ◌∷◌, ◌≡◌, ◌≤◌}
 use Rattle.capdl_text.specs.declared.token.Kind.TheVariants as kinds
-use Rattle.capdl_text.specs.TokenFaults.{run, word_fault, is_left_out_word, after_text, fault_at}
-use Rattle.capdl_text.specs.TokenKinds.{mark_of, ends_text, kind_of}
-use Rattle.capdl_text.specs.Words.{word_of}
-use Rattle.capdl_text.proofs.Tokens.{word_or}
-use Rattle.cap_model.specs.Kept.{if_any}
-use Rattle.cap_model.specs.RightsWord.{has_rights, letter, rights_word}
-use Rattle.cap_model.specs.declared.object.Tcb.{Tcb}
-use Rattle.cap_model.specs.declared.rights.Rights.{Rights}
-use Rattle.capdl_write.specs.Canon.{word, dec, hex, quoted, equals, colon, comma, paren_l, paren_r, elf_pieces, tcb_pieces}
-use Rattle.capdl_write.specs.Pieces.{Piece, laid, all_blank, goes_on, Fine}
-use Rattle.capdl_write.specs.Writable.{is_word, is_number, is_plain, is_tcb}
+use Rattle.capdl_text.specs.TokenFaults.{is_left_out_word, fault_at}
+use Rattle.capdl_text.specs.TokenKinds.{mark_of, kind_of}
 use Rattle.capdl_write.proofs.Laying.{run_all}
 use Rattle.capdl_write.proofs.Numbers.{decimal_fine, hex_fine}
 

@@ -1,6 +1,5 @@
 -- Items of a slice that are read with a default.
-use Rattle.std.proofs.Common.{ℕ, false}
-use Rattle.cap_model.specs.declared.cap.Cap.{Cap}
+use Rattle.capdl_write.proofs.Common.{Cap, false, ℕ}
 
 -- the default of slots
 abbrev pub no_slot : ℕ × Cap

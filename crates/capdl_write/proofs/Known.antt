@@ -1,24 +1,7 @@
 -- What the names of a canonical text stand for: each for the object that has it.
-use Rattle.std.proofs.Common.{◌≡◌, ℕ, zero, suc, ◌+◌, Bool, true, false, List, [], ◌∷◌, map, Option, Some, None, refl, ap, ◌∙◌, slice_get, arith}
-use Rattle.std.specs.Prelude.{◌&&◌, ◌||◌, not}
-use Rattle.std.specs.List.{list_all, list_any}
-use Rattle.std.specs.Str.{bytes_eq}
-use Rattle.std.proofs.lemmas.Bool.{and_parts, not-true}
-use Rattle.std.proofs.lemmas.Slice.Eq.{bytes_eq-Decides}
-use Rattle.cap_model.specs.Kept.{names_differ}
-use Rattle.cap_model.specs.Kinds.{kind_of_object}
-use Rattle.cap_model.specs.Levels.{size}
-use Rattle.cap_model.specs.Lookup.{entry_name, entry_object, name_at, object_at}
-use Rattle.cap_model.specs.declared.level.Arch.{Arch}
-use Rattle.cap_model.specs.declared.object.Object.{Object}
-use Rattle.cap_model.specs.declared.object.Object.TheVariants.{Endpoint, Notification, CNode, Thread, Frame, Pages, Irq}
-use Rattle.cap_model.specs.declared.spec.Entry.{Entry}
-use Rattle.cap_model.specs.declared.spec.Spec.{Spec}
-use Rattle.capdl_text.specs.declared.token.Span.{Span}
-use Rattle.capdl_text.specs.Knowing.{Knows, known_as, known_from, node_size}
-use Rattle.capdl_text.specs.declared.known.Known.{Known}
-use Rattle.capdl_write.specs.Canon.{objects_pieces}
-use Rattle.capdl_write.specs.Pieces.{Piece}
+use Rattle.capdl_write.proofs.Common.{Arch, Bool, CNode, Endpoint, Entry, Frame, Irq, Known, Knows, List, None, Notification, Object, Option, Pages, Piece, Some, Span, Spec, Thread, [], and_parts, ap, arith, bytes_eq, bytes_eq-Decides, entry_name}
+use Rattle.capdl_write.proofs.Common.{entry_object, false, kind_of_object, known_as, known_from, list_all, list_any, map, name_at, names_differ, node_size, not, not-true, object_at, objects_pieces, refl, size, slice_get, suc, true, zero, ℕ, ◌&&◌}
+use Rattle.capdl_write.proofs.Common.{◌+◌, ◌||◌, ◌∙◌, ◌∷◌, ◌≡◌}
 use Rattle.capdl_write.proofs.ReadBack.{object_at as line_at, objects_at}
 
 -- how many numbered slots an object has

@@ -1,28 +1,19 @@
 -- A text of pieces has the tokens of its pieces.
-use Rattle.std.proofs.Common.{◌≡◌, ℕ, Bool, true, false, cond, List, [], ◌∷◌, ◌++◌, length, Option, Some, None, refl, sym, ap, subst, ◌∙◌, inl, inr}
-use Rattle.std.specs.Prelude.{◌==◌, ◌&&◌, ◌||◌, not, codes}
-use Rattle.std.specs.List.{list_all}
-use Rattle.std.specs.Option.{is_some, option_map}
-use Rattle.std.specs.Str.{bytes_eq}
-use Rattle.std.proofs.lemmas.Bool.{eqb-true, and_parts, cases_Bool}
+use Rattle.capdl_write.proofs.Common.{Bool, Fine, Found, IsTokenAt, LexesFrom, List, None, Option, Piece, Some, Token, [], after_run, after_text, all_blank, and_parts, ap, bytes_eq, cases_Bool, codes, cond, digit_or, digits_fault, digits_kind}
+use Rattle.capdl_write.proofs.Common.{digits_word, ends_text, eqb-true, false, goes_on, inl, inr, is_digit, is_end, is_letter, is_line_byte, is_star, is_word_byte, laid, length, list_all, mark_fault, mark_of, none_is_not, not, number_value}
+use Rattle.capdl_write.proofs.Common.{option_map, refl, run, runs_on, subst, sym, token_at, tokens, true, unless, word_fault, word_of, word_or, ℕ, ◌&&◌, ◌++◌, ◌==◌, ◌||◌, ◌∙◌, ◌∷◌, ◌≡◌}
+use Rattle.std.specs.Option.{is_some}
 use Rattle.std.proofs.lemmas.Option.{same_Some}
 use Rattle.cam_base.specs.declared.text_fault.TextCode.{TextCode}
 use Rattle.cam_base.specs.declared.text_fault.TextCode.TheVariants.{CapdlByte}
-use Rattle.cam_base.specs.Names.{is_letter, is_word_byte}
-use Rattle.cam_base.specs.Numbers.{is_digit, number_value}
 use Rattle.capdl_text.specs.declared.token.Kind.{Kind}
 use Rattle.capdl_text.specs.declared.token.Kind.TheVariants as kinds
 use Rattle.capdl_text.specs.declared.token.Mark.{Mark}
-use Rattle.capdl_text.specs.declared.token.Token.{Token}
 use Rattle.capdl_text.specs.Gaps.{is_blank, after_slash, after_dash, one_gap, none, more}
-use Rattle.capdl_text.specs.Lexes.{IsTokenAt, LexesFrom}
 use Rattle.capdl_text.specs.Pieces.{Taken, word_taken, digits_taken, text_taken, mark_taken, one_token}
-use Rattle.capdl_text.specs.TokenFaults.{Found, run, after_run, word_fault, digits_fault, unless, after_text, is_line_byte, is_star, mark_fault, fault_at}
-use Rattle.capdl_text.specs.TokenKinds.{mark_of, digits_kind, is_end, ends_text, kind_of}
-use Rattle.capdl_text.specs.Words.{word_of}
+use Rattle.capdl_text.specs.TokenFaults.{fault_at}
+use Rattle.capdl_text.specs.TokenKinds.{kind_of}
 use Rattle.capdl_text.proofs.Steps.{lexes_gap, no_kind}
-use Rattle.capdl_text.proofs.Tokens.{none_is_not, token_at, digits_word, word_or, digit_or}
-use Rattle.capdl_write.specs.Pieces.{Piece, laid, all_blank, runs_on, goes_on, Fine, tokens}
 use Rattle.cam_base.proofs.TerminalCodes.{true_is_not_false}
 
 -- ---- runs

@@ -1,3 +1,4 @@
+pub mod Common
 pub mod CapEnds
 pub mod Items
 pub mod Nothing

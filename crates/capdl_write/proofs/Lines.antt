@@ -1,25 +1,12 @@
 -- The canonical text of a spec is laid out of its pieces.
-use Rattle.std.proofs.Common.{◌≡◌, ℕ, Bool, true, false, List, [], ◌∷◌, ◌++◌, Option, Some, None, refl, sym, ap, ◌∙◌, append_assoc}
-use Rattle.std.specs.Prelude.{codes, decimal, not, ◌==◌}
-use Rattle.std.specs.List.{flat_map}
-use Rattle.std.proofs.lemmas.List.{append-nil}
+use Rattle.capdl_write.proofs.Common.{Aarch64, Arm11, Bool, CNode, Cap, Directory, Endpoint, Entry, Fill, Frame, Global, Irq, List, None, Notification, Object, Option, Pages, Piece, Rights, Some, Spec, Table, Tcb, Thread, Upper, [], ap, append-nil}
+use Rattle.capdl_write.proofs.Common.{append_assoc, arch_word, buffer_line, buffer_pieces, cap_end, cap_pieces, caps_pieces, codes, decimal, elf_field, elf_pieces, entry_line, entry_text, false, fill_field, fill_pieces, flat_map, frame_line}
+use Rattle.capdl_write.proofs.Common.{has_rights, has_slot, held_irq, held_pieces, held_slots, held_tcb, holder_text, holders_pieces, irq_line, irq_text, irqs_pieces, laid, last_pieces, level_word, name_at, named_line, named_pieces, not, object_line}
+use Rattle.capdl_write.proofs.Common.{object_pieces, objects_pieces, paddr_field, paddr_pieces, params, pieces, refl, rights_word, slot_line, slots_pieces, slots_text, sym, target_pieces, tcb_line, tcb_slots, tcb_text, true, ℕ, ◌++◌, ◌==◌, ◌∙◌, ◌∷◌}
+use Rattle.capdl_write.proofs.Common.{◌≡◌}
 use Rattle.cam_base.specs.Hex.{hex_digits, hex_text}
 use Rattle.cam_base.specs.Texts.{◌⊹◌, together}
-use Rattle.cap_model.specs.Canonical.{arch_word, level_word, elf_field, tcb_line, paddr_field, fill_field, frame_line, object_line, entry_line, params, cap_end, slot_line, slots_text, named_line, buffer_line, has_slot, tcb_text, irq_text, holder_text, entry_text, irq_line, canonical}
-use Rattle.cap_model.specs.Lookup.{name_at}
-use Rattle.cap_model.specs.RightsWord.{has_rights, rights_word}
-use Rattle.cap_model.specs.declared.cap.Cap.{Cap}
-use Rattle.cap_model.specs.declared.level.Arch.TheVariants.{Arm11, Aarch64}
-use Rattle.cap_model.specs.declared.level.Level.TheVariants.{Global, Upper, Directory, Table}
-use Rattle.cap_model.specs.declared.object.Fill.{Fill}
-use Rattle.cap_model.specs.declared.object.Object.{Object}
-use Rattle.cap_model.specs.declared.object.Object.TheVariants.{Endpoint, Notification, CNode, Thread, Frame, Pages, Irq}
-use Rattle.cap_model.specs.declared.object.Tcb.{Tcb}
-use Rattle.cap_model.specs.declared.rights.Rights.{Rights}
-use Rattle.cap_model.specs.declared.spec.Entry.{Entry}
-use Rattle.cap_model.specs.declared.spec.Spec.{Spec}
-use Rattle.capdl_write.specs.Canon.{elf_pieces, paddr_pieces, fill_pieces, object_pieces, objects_pieces, target_pieces, cap_pieces, slots_pieces, named_pieces, buffer_pieces, tcb_slots, held_slots, held_tcb, held_irq, held_pieces, holders_pieces, irqs_pieces, last_pieces, caps_pieces, pieces}
-use Rattle.capdl_write.specs.Pieces.{Piece, laid}
+use Rattle.cap_model.specs.Canonical.{canonical}
 
 -- the parts one behind another, in front of the rest
 chain : List (List ℕ) → List ℕ → List ℕ

@@ -1,24 +1,8 @@
 -- What the slots of a writable spec hold can be named.
-use Rattle.std.proofs.Common.{◌≡◌, ℕ, zero, suc, ◌^◌, Bool, true, List, [], ◌∷◌, map, Option, Some, None, is_some, refl, slice_get}
-use Rattle.std.specs.Prelude.{◌&&◌, ◌==◌, nat_lt, leb}
-use Rattle.std.specs.List.{list_all}
-use Rattle.std.specs.Option.{option_map}
-use Rattle.std.proofs.lemmas.Bool.{and_parts, and_from}
-use Rattle.cap_model.specs.Kept.{differ, rise, if_any, keeps, keeps_slots, keeps_table, keeps_tcb, fits, fits_as, fits_kind}
-use Rattle.cap_model.specs.Kinds.{is_at, is_kind, is_space_root, kind_at, kind_of_object}
-use Rattle.cap_model.specs.Levels.{size, child}
-use Rattle.cap_model.specs.Lookup.{entry_name, entry_object, name_at, object_at}
-use Rattle.cap_model.specs.declared.cap.Cap.{Cap}
-use Rattle.cap_model.specs.declared.kind.Kind.{Kind}
+use Rattle.capdl_write.proofs.Common.{Bool, CNode, Cap, Endpoint, Entry, Frame, Irq, IsWritable, Kind, Level, List, None, Notification, Object, Option, Pages, Some, Spec, Tcb, Thread, [], and_from, and_parts, are_slots, child, differ, entry_name}
+use Rattle.capdl_write.proofs.Common.{entry_object, fits, fits_as, fits_kind, if_any, is_at, is_kind, is_laid, is_number, is_plain, is_some, is_space_root, is_tcb, is_word, keeps, keeps_slots, keeps_table, keeps_tcb, kind_at, kind_of_object, leb}
+use Rattle.capdl_write.proofs.Common.{list_all, map, name_at, nat_lt, none_is_root, object_at, option_map, refl, rise, size, slice_get, suc, true, zero, ℕ, ◌&&◌, ◌==◌, ◌^◌, ◌∷◌, ◌≡◌}
 use Rattle.cap_model.specs.declared.kind.Kind.TheVariants as kinds
-use Rattle.cap_model.specs.declared.level.Level.{Level}
-use Rattle.cap_model.specs.declared.object.Object.{Object}
-use Rattle.cap_model.specs.declared.object.Object.TheVariants.{Endpoint, Notification, CNode, Thread, Frame, Pages, Irq}
-use Rattle.cap_model.specs.declared.object.Tcb.{Tcb}
-use Rattle.cap_model.specs.declared.spec.Entry.{Entry}
-use Rattle.cap_model.specs.declared.spec.Spec.{Spec}
-use Rattle.capdl_write.specs.Writable.{IsWritable, is_word, is_number, is_plain, are_slots, is_laid, is_tcb}
-use Rattle.cap_model.proofs.Kept.{none_is_root}
 
 -- ---- tests of lists
 

@@ -1,21 +1,13 @@
 -- Numbers that are written are tokens without faults.
-use Rattle.std.proofs.Common.{◌≡◌, ℕ, ◌<◌, ◌^◌, Bool, true, false, cond, List, [], ◌∷◌, length, Some, None, refl, sym, ap, ◌∙◌, arith}
-use Rattle.std.specs.Prelude.{decimal, ◌==◌, ◌&&◌, ◌||◌, codes}
-use Rattle.std.specs.List.{list_all}
-use Rattle.std.specs.Str.{bytes_eq}
+use Rattle.capdl_write.proofs.Common.{Bool, List, None, Some, [], and_parts, ap, arith, bytes_eq, bytes_eq-Decides, codes, cond, decimal, digits_fault, digits_kind, eqb-true, false, hex_text, is_decimal, is_digit, is_hexadecimal, is_letter}
+use Rattle.capdl_write.proofs.Common.{is_word_byte, length, list_all, nat_tests, number_value, number_word, refl, run, sym, true, ℕ, ◌&&◌, ◌<◌, ◌==◌, ◌^◌, ◌||◌, ◌∙◌, ◌∷◌, ◌≡◌}
 use Rattle.std.specs.Str.Parse.{digits_value}
-use Rattle.std.proofs.lemmas.Bool.{and_parts, eqb-true}
-use Rattle.std.proofs.lemmas.Slice.Eq.{bytes_eq-Decides}
-use Rattle.std.proofs.lemmas.Bool.Decides.{nat_tests}
-use Rattle.cam_base.specs.Hex.{hex_text}
-use Rattle.cam_base.specs.Names.{is_letter, is_word_byte}
-use Rattle.cam_base.specs.Numbers.{is_digit, is_decimal, is_hexadecimal, fits, number_value}
+use Rattle.cam_base.specs.Numbers.{fits}
 use Rattle.cam_base.proofs.Decimals.{number_value-decimal}
 use Rattle.cam_base.proofs.Hexadecimals.{number_value-hex_text}
 use Rattle.capdl_text.specs.declared.token.Kind.TheVariants as kinds
-use Rattle.capdl_text.specs.TokenFaults.{run, digits_fault, fault_at}
-use Rattle.capdl_text.specs.TokenKinds.{digits_kind, kind_of}
-use Rattle.capdl_text.proofs.Tokens.{number_word}
+use Rattle.capdl_text.specs.TokenFaults.{fault_at}
+use Rattle.capdl_text.specs.TokenKinds.{kind_of}
 use Rattle.capdl_write.proofs.Laying.{run_all}
 
 -- a run that is a number is one token

@@ -1,54 +1,22 @@
 -- Reading the tokens of a canonical text gives its tree.
-use Rattle.std.proofs.Common.{◌≡◌, ℕ, zero, suc, ◌+◌, ◌-◌, ◌<◌, Bool, true, false, List, [], ◌∷◌, ◌++◌, length, take, Option, Some, None, Result, Ok, refl, sym, ap, ◌∙◌, arith}
-use Rattle.std.specs.Prelude.{codes, decimal, not, ◌==◌, ◌&&◌}
-use Rattle.std.specs.List.{list_all}
-use Rattle.std.proofs.lemmas.Bool.{and_parts}
-use Rattle.std.proofs.lemmas.List.{take_at, length-append}
-use Rattle.cam_base.specs.Names.{is_name}
-use Rattle.cam_base.specs.Deciding.{decides}
-use Rattle.cam_base.specs.Form.{among, Many, behind}
-use Rattle.cam_base.specs.Reading.{starts, many, whole}
-use Rattle.cam_base.proofs.Loops.{Eats, eats}
-use Rattle.cam_base.proofs.Repeats.{and_more, many_more, many_none}
-use Rattle.cap_model.specs.Canonical.{arch_word, level_word, has_slot}
-use Rattle.cap_model.specs.Lookup.{name_at}
-use Rattle.cap_model.specs.RightsWord.{has_rights, rights_word}
-use Rattle.cap_model.specs.declared.cap.Cap.{Cap}
-use Rattle.cap_model.specs.declared.level.Arch.TheVariants.{Arm11, Aarch64}
-use Rattle.cap_model.specs.declared.level.Level.{Level}
-use Rattle.cap_model.specs.declared.level.Level.TheVariants.{Global, Upper, Directory, Table}
-use Rattle.cap_model.specs.declared.object.Fill.{Fill}
-use Rattle.cap_model.specs.declared.object.Object.{Object}
-use Rattle.cap_model.specs.declared.object.Object.TheVariants.{Endpoint, Notification, CNode, Thread, Frame, Pages, Irq}
-use Rattle.cap_model.specs.declared.object.Tcb.{Tcb}
-use Rattle.cap_model.specs.declared.rights.Rights.{Rights}
-use Rattle.cap_model.specs.declared.spec.Entry.{Entry}
-use Rattle.cap_model.specs.declared.spec.Spec.{Spec}
-use Rattle.capdl_text.specs.Codes.{token_code, word_code, name_codes, mark_code}
+use Rattle.capdl_write.proofs.Common.{Aarch64, Arm11, Bool, CNode, Cap, Directory, Eats, Endpoint, Entry, Fill, Frame, Global, Id, Irq, Level, List, Many, None, Notification, Number, Object, Ok, Option, Pages, Piece, Result, Rights, Rule, Seen, Some}
+use Rattle.capdl_write.proofs.Common.{Span, Spec, Table, Tcb, Thread, ThreadField, Upper, [], among, and_more, and_parts, ap, arch_word, arith, behind, brace_l, brace_r, codes, colon, comma, dec, decides, decimal, eats, elf_pieces, equals, false}
+use Rattle.capdl_write.proofs.Common.{fill_pieces, has_rights, has_slot, hex, inner, is_name, left_out_is, left_out_line, length, length-append, level_word, list_all, many, many_more, many_none, mark_code, name_at, name_codes, next_frame_field}
+use Rattle.capdl_write.proofs.Common.{next_frame_field_eats, not, object_eats, object_form, object_pieces, objects_pieces, opens, paddr_pieces, paren_l, paren_r, quoted, reads, refl, rights_word, square_l, square_r, starts, suc, sym, take, take_at}
+use Rattle.capdl_write.proofs.Common.{thread_field_decides, thread_field_form, token_code, true, whole, word, word_code, zero, ℕ, ◌&&◌, ◌++◌, ◌+◌, ◌-◌, ◌<◌, ◌==◌, ◌∙◌, ◌∷◌, ◌≡◌}
 use Rattle.capdl_text.specs.declared.field.Field.TheVariants as fields
-use Rattle.capdl_text.specs.declared.seen.Seen.{Seen}
 use Rattle.capdl_text.specs.declared.token.Mark.TheVariants as marks
-use Rattle.capdl_text.specs.declared.token.Span.{Span}
 use Rattle.capdl_text.specs.declared.token.Word.{Word}
 use Rattle.capdl_text.specs.declared.token.Word.TheVariants as words
 use Rattle.capdl_text.specs.Words.{word_of, field_of}
-use Rattle.capdl_text.specs.Forms.{Rule, left_out_line, number_field_line, elf_field_line, thread_field_line, thread_field_form, thread_fields_line, maybe_thread_fields, thread_line, paddr_line, fill_line, fill_field_line, frame_field_line, next_frame_field_line, next_frame_field, frame_line, cnode_line, kind_line, object_line, object_form}
-use Rattle.capdl_text.specs.Seeing.{inner}
-use Rattle.capdl_text.specs.Spelling.{opens, reads}
+use Rattle.capdl_text.specs.Forms.{number_field_line, elf_field_line, thread_field_line, thread_fields_line, maybe_thread_fields, thread_line, paddr_line, fill_line, fill_field_line, frame_field_line, next_frame_field_line, frame_line, cnode_line, kind_line, object_line}
 use Rattle.capdl_text.specs.declared.tree.FrameField.{FrameField}
 use Rattle.capdl_text.specs.declared.tree.FrameValue.TheVariants as frame
-use Rattle.capdl_text.specs.declared.tree.Id.{Id}
 use Rattle.capdl_text.specs.declared.tree.KindLine.{KindLine}
 use Rattle.capdl_text.specs.declared.tree.KindLine.TheVariants as kind
-use Rattle.capdl_text.specs.declared.tree.Number.{Number}
 use Rattle.capdl_text.specs.declared.tree.ObjectLine.{ObjectLine}
-use Rattle.capdl_text.specs.declared.tree.ThreadField.{ThreadField}
 use Rattle.capdl_text.specs.declared.tree.ThreadValue.{ThreadValue}
 use Rattle.capdl_text.specs.declared.tree.ThreadValue.TheVariants as thread
-use Rattle.capdl_text.proofs.Decides.{left_out_is, thread_field_decides}
-use Rattle.capdl_text.proofs.Eats.{object_eats, next_frame_field_eats}
-use Rattle.capdl_write.specs.Canon.{word, dec, hex, quoted, equals, colon, comma, paren_l, paren_r, brace_l, brace_r, square_l, square_r, elf_pieces, paddr_pieces, fill_pieces, object_pieces, objects_pieces}
-use Rattle.capdl_write.specs.Pieces.{Piece}
 use Rattle.capdl_write.proofs.Shown.{shown}
 
 -- every word may name an object

@@ -1,50 +1,16 @@
 -- Reading the holders, the interrupt lines and the whole of a canonical text.
-use Rattle.std.proofs.Common.{◌≡◌, ℕ, Bool, true, false, List, [], ◌∷◌, ◌++◌, Option, Some, None, Ok, refl, sym, ap, ◌∙◌}
-use Rattle.std.specs.Prelude.{codes, decimal, not, ◌==◌, ◌&&◌, ◌||◌}
-use Rattle.std.specs.List.{list_all, flat_map}
-use Rattle.std.proofs.lemmas.Bool.{and_parts}
-use Rattle.cam_base.specs.Names.{is_name}
-use Rattle.cam_base.specs.Deciding.{decides}
-use Rattle.cam_base.specs.Form.{behind}
-use Rattle.cam_base.specs.Reading.{starts, many, whole}
-use Rattle.cam_base.proofs.Loops.{Eats, eats}
-use Rattle.cam_base.proofs.Repeats.{many_none}
-use Rattle.cam_base.proofs.Theorems.{whole_found}
-use Rattle.cap_model.specs.Canonical.{arch_word, has_slot}
-use Rattle.cap_model.specs.Lookup.{name_at}
-use Rattle.cap_model.specs.RightsWord.{has_rights, letter, rights_word}
-use Rattle.cap_model.specs.declared.cap.Cap.{Cap}
-use Rattle.cap_model.specs.declared.level.Arch.{Arch}
-use Rattle.cap_model.specs.declared.level.Arch.TheVariants.{Arm11, Aarch64}
-use Rattle.cap_model.specs.declared.object.Object.{Object}
-use Rattle.cap_model.specs.declared.object.Object.TheVariants.{Endpoint, Notification, CNode, Thread, Frame, Pages, Irq}
-use Rattle.cap_model.specs.declared.object.Tcb.{Tcb}
-use Rattle.cap_model.specs.declared.rights.Rights.{Rights}
-use Rattle.cap_model.specs.declared.spec.Entry.{Entry}
-use Rattle.cap_model.specs.declared.spec.Spec.{Spec}
-use Rattle.capdl_text.specs.Codes.{token_code, name_codes, mark_code, number_code}
-use Rattle.capdl_text.specs.declared.seen.Seen.{Seen}
+use Rattle.capdl_write.proofs.Common.{Aarch64, Arch, Arm11, Bool, CNode, Cap, Eats, Endpoint, Entry, Frame, Holder, Id, Irq, IrqLine, IsSpecSpelled, List, None, Notification, Number, Object, Ok, Option, Pages, Param, Piece, Rights, Rule, Seen}
+use Rattle.capdl_write.proofs.Common.{SlotKey, SlotLine, Some, Span, Spec, SpecTree, Tcb, Thread, [], and_parts, ap, arch_line, arch_word, behind, brace_l, brace_r, buffer_pieces, cap_pieces, caps_pieces, codes, colon, comma, dec, decides, decimal}
+use Rattle.capdl_write.proofs.Common.{eats, false, flat_map, has_rights, has_slot, held_irq, held_pieces, held_slots, held_tcb, hex, holder_eats, holder_form, holder_line, holder_pieces, holders_pieces, irq_eats, irq_form, irqs_line, irqs_pieces}
+use Rattle.capdl_write.proofs.Common.{is_name, key_codes, last_pieces, left_out_is, left_out_line, letter, list_all, many, many_none, mark_code, maybe_irqs, name_at, name_codes, named_pieces, not, number_code, object_form, objects_pieces, opens}
+use Rattle.capdl_write.proofs.Common.{param_decides, param_form, paren_l, paren_r, pieces, reads, refl, rights_of, rights_word, slot_eats, slot_form, slots_pieces, spec_decides, spec_line, starts, sym, target_pieces, tcb_slots, token_code, true}
+use Rattle.capdl_write.proofs.Common.{whole, whole_found, word, ℕ, ◌&&◌, ◌++◌, ◌==◌, ◌||◌, ◌∙◌, ◌∷◌, ◌≡◌}
 use Rattle.capdl_text.specs.declared.token.Mark.TheVariants as marks
-use Rattle.capdl_text.specs.declared.token.Span.{Span}
 use Rattle.capdl_text.specs.declared.token.Word.TheVariants as words
 use Rattle.capdl_text.specs.Words.{word_of, field_of}
-use Rattle.capdl_text.specs.Forms.{Rule, left_out_line, badge_line, param_line, param_form, params_line, maybe_params, key_codes, key_line, slot_line, slot_form, holder_line, holder_form, irq_line, irq_form, irqs_line, maybe_irqs, arch_line, object_form, spec_line}
-use Rattle.capdl_text.specs.Seeing.{rights_of}
-use Rattle.capdl_text.specs.Spelling.{opens, reads, IsSpecSpelled}
-use Rattle.capdl_text.specs.declared.tree.Holder.{Holder}
-use Rattle.capdl_text.specs.declared.tree.Id.{Id}
-use Rattle.capdl_text.specs.declared.tree.IrqLine.{IrqLine}
-use Rattle.capdl_text.specs.declared.tree.Number.{Number}
-use Rattle.capdl_text.specs.declared.tree.Param.{Param}
+use Rattle.capdl_text.specs.Forms.{badge_line, param_line, params_line, maybe_params, key_line, slot_line, irq_line}
 use Rattle.capdl_text.specs.declared.tree.Param.TheVariants as params
-use Rattle.capdl_text.specs.declared.tree.SlotKey.{SlotKey}
 use Rattle.capdl_text.specs.declared.tree.SlotKey.TheVariants as keys
-use Rattle.capdl_text.specs.declared.tree.SlotLine.{SlotLine}
-use Rattle.capdl_text.specs.declared.tree.SpecTree.{SpecTree}
-use Rattle.capdl_text.proofs.Decides.{left_out_is, param_decides, spec_decides}
-use Rattle.capdl_text.proofs.Eats.{slot_eats, holder_eats, irq_eats}
-use Rattle.capdl_write.specs.Canon.{word, dec, hex, colon, comma, paren_l, paren_r, brace_l, brace_r, target_pieces, cap_pieces, slots_pieces, holder_pieces, named_pieces, buffer_pieces, tcb_slots, held_slots, held_tcb, held_irq, held_pieces, holders_pieces, irqs_pieces, objects_pieces, last_pieces, caps_pieces, pieces}
-use Rattle.capdl_write.specs.Pieces.{Piece}
 use Rattle.capdl_write.proofs.ReadBack.{any, one_more, at_number, objects_at, read_objects, word-badge, word-cspace, word-vspace, word-buffer, word-irq, word-maps, word-arch, word-arm11, word-aarch64, word-objects, word-caps}
 use Rattle.capdl_write.proofs.Shown.{shown}
 

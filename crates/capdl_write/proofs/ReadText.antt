@@ -1,44 +1,13 @@
 -- Reading the tokens of a whole canonical text gives its tree: the lists of slots, holders and interrupt lines, and the whole.
-use Rattle.std.proofs.Common.{◌≡◌, ℕ, Bool, true, false, List, [], ◌∷◌, Option, Some, None, Result, Ok, refl, is_some, ◌||◌}
-use Rattle.std.specs.Prelude.{codes, not, ◌==◌, ◌&&◌}
-use Rattle.std.specs.List.{list_all}
-use Rattle.std.proofs.lemmas.Bool.{and_parts}
-use Rattle.cam_base.specs.Names.{is_name}
-use Rattle.cam_base.specs.Reading.{starts, many, whole}
-use Rattle.cam_base.proofs.Repeats.{many_none}
-use Rattle.cam_base.proofs.Theorems.{whole_found}
-use Rattle.cap_model.specs.Canonical.{arch_word, has_slot}
-use Rattle.cap_model.specs.Kept.{if_any}
-use Rattle.cap_model.specs.Lookup.{name_at}
-use Rattle.cap_model.specs.RightsWord.{has_rights}
-use Rattle.cap_model.specs.declared.cap.Cap.{Cap}
-use Rattle.cap_model.specs.declared.level.Arch.{Arch}
-use Rattle.cap_model.specs.declared.level.Arch.TheVariants.{Arm11, Aarch64}
-use Rattle.cap_model.specs.declared.object.Object.{Object}
-use Rattle.cap_model.specs.declared.object.Object.TheVariants.{Endpoint, Notification, CNode, Thread, Frame, Pages, Irq}
-use Rattle.cap_model.specs.declared.object.Tcb.{Tcb}
-use Rattle.cap_model.specs.declared.spec.Entry.{Entry}
-use Rattle.cap_model.specs.declared.spec.Spec.{Spec}
-use Rattle.capdl_text.specs.Codes.{token_code, name_codes, mark_code, number_code}
-use Rattle.capdl_text.specs.Words.{word_of}
-use Rattle.capdl_text.specs.declared.seen.Seen.{Seen}
+use Rattle.capdl_write.proofs.Common.{Aarch64, Arch, Arm11, Bool, CNode, Cap, Endpoint, Entry, Frame, Holder, Id, Irq, IrqLine, IsSpecSpelled, IsWritable, List, None, Notification, Object, Ok, Option, Pages, Piece, Result, Rule, Seen, SlotKey}
+use Rattle.capdl_write.proofs.Common.{SlotLine, Some, Span, Spec, SpecTree, Tcb, Thread, [], and_parts, arch_form, arch_word, brace_l, brace_r, buffer_pieces, cap_pieces, caps_pieces, codes, colon, dec, false, has_rights, has_slot, held_irq}
+use Rattle.capdl_write.proofs.Common.{held_pieces, held_slots, held_tcb, hex, holder_eats, holder_form, holder_pieces, holders_pieces, if_any, irq_eats, irq_form, irqs_pieces, is_left_out_word, is_name, is_number, is_some, is_word, key_codes}
+use Rattle.capdl_write.proofs.Common.{last_pieces, left_out_is, left_out_line, list_all, many, many_none, mark_code, name_at, name_codes, named_pieces, not, number_code, object_form, objects_pieces, opens, pieces, reads, refl, slot_eats, slot_form}
+use Rattle.capdl_write.proofs.Common.{slots_pieces, spec_decides, starts, tcb_slots, token_code, true, whole, whole_found, word, word_of, ℕ, ◌&&◌, ◌==◌, ◌∷◌, ◌≡◌}
+use Rattle.std.proofs.Common.{◌||◌}
 use Rattle.capdl_text.specs.declared.token.Mark.TheVariants as marks
-use Rattle.capdl_text.specs.declared.token.Span.{Span}
-use Rattle.capdl_text.specs.TokenFaults.{is_left_out_word}
-use Rattle.capdl_text.specs.Forms.{Rule, key_codes, slot_form, holder_line, holder_form, irq_line, irq_form, irqs_line, maybe_irqs, arch_line, arch_form, object_form, spec_line, left_out_line}
-use Rattle.capdl_text.specs.Spelling.{opens, reads, IsSpecSpelled}
-use Rattle.capdl_text.specs.declared.tree.Holder.{Holder}
-use Rattle.capdl_text.specs.declared.tree.Id.{Id}
-use Rattle.capdl_text.specs.declared.tree.IrqLine.{IrqLine}
-use Rattle.capdl_text.specs.declared.tree.SlotKey.{SlotKey}
+use Rattle.capdl_text.specs.Forms.{holder_line, irq_line, irqs_line, maybe_irqs, arch_line, spec_line}
 use Rattle.capdl_text.specs.declared.tree.SlotKey.TheVariants as keys
-use Rattle.capdl_text.specs.declared.tree.SlotLine.{SlotLine}
-use Rattle.capdl_text.specs.declared.tree.SpecTree.{SpecTree}
-use Rattle.capdl_text.proofs.Decides.{left_out_is, spec_decides}
-use Rattle.capdl_text.proofs.Eats.{slot_eats, holder_eats, irq_eats}
-use Rattle.capdl_write.specs.Canon.{word, dec, hex, colon, brace_l, brace_r, cap_pieces, slots_pieces, holder_pieces, named_pieces, buffer_pieces, tcb_slots, held_slots, held_tcb, held_irq, held_pieces, holders_pieces, irqs_pieces, objects_pieces, last_pieces, caps_pieces, pieces}
-use Rattle.capdl_write.specs.Pieces.{Piece}
-use Rattle.capdl_write.specs.Writable.{IsWritable, is_word, is_number}
 use Rattle.capdl_write.proofs.Named.{all_from, are_words, is_named, is_target, is_slot, has_named, is_line, all_named, lines_named}
 use Rattle.capdl_write.proofs.ReadBack.{any, one_more, at_number, objects_at, read_objects, word-cspace, word-vspace, word-buffer, word-irq, word-maps, word-arch, word-arm11, word-aarch64, word-objects, word-caps}
 use Rattle.capdl_write.proofs.ReadHolders.{no_rights_at, plain_at, read_slot, read_buffer, read_cspace, read_vspace, slot_at}

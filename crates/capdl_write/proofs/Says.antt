@@ -1,40 +1,14 @@
 -- The tree of a canonical text says its spec.
-use Rattle.std.proofs.Common.{◌≡◌, ℕ, ◌+◌, ◌^◌, Bool, true, false, List, [], ◌∷◌, ◌++◌, map, Option, Some, None, refl, sym, ap, ◌∙◌, arith, append_assoc}
-use Rattle.std.specs.Prelude.{codes, ◌&&◌, ◌||◌, not, ◌==◌, nat_lt, leb}
+use Rattle.capdl_write.proofs.Common.{Bool, CNode, Cap, Endpoint, Entry, Fill, Frame, Holder, Irq, IsKept, Knows, Level, List, None, Notification, Object, Option, Pages, Piece, Rights, SlotKey, SlotLine, Some, Span, Spec, Tcb, Thread, ThreadField}
+use Rattle.capdl_write.proofs.Common.{[], and_from, and_parts, ap, append-nil, append_assoc, arith, badge_said, brace_r, bytes_eq, bytes_eq-Decides, cap_said, child, codes, entry_said, eqb-true, false, fields_from, fill_said, fits, fits_as}
+use Rattle.capdl_write.proofs.Common.{has_rights, held, held_pieces, hex, holders_pieces, if_any, is_at, is_space_root, keeps, keeps_slots, keeps_table, keeps_tcb, leb, lines_from, list_all, map, name_at, named_from, names_differ, nat_lt, nat_tests}
+use Rattle.capdl_write.proofs.Common.{no_tcb, not, not-true, notification_said, object_at, object_said, objects_pieces, paddr_said, paren_r, place_or, refl, rights_said, rise, size, slots_from, slots_pieces, sym, thread_said, true, word, ℕ, ◌&&◌}
+use Rattle.capdl_write.proofs.Common.{◌++◌, ◌+◌, ◌==◌, ◌^◌, ◌||◌, ◌∙◌, ◌∷◌, ◌≡◌}
 use Rattle.std.specs.BTreeMap.{insert_entry}
-use Rattle.std.specs.List.{list_all}
 use Rattle.std.specs.Ordering.{nat_cmp}
-use Rattle.std.specs.Str.{bytes_eq}
-use Rattle.std.proofs.lemmas.Bool.{and_parts, eqb-true, not-true, and_from}
-use Rattle.std.proofs.lemmas.Bool.Decides.{nat_tests}
-use Rattle.std.proofs.lemmas.List.{append-nil}
-use Rattle.std.proofs.lemmas.Slice.Eq.{bytes_eq-Decides}
-use Rattle.cap_model.specs.Kept.{IsKept, rise, if_any, keeps, keeps_slots, keeps_table, keeps_tcb, names_differ, fits, fits_as}
-use Rattle.cap_model.specs.Kinds.{is_at, is_space_root}
-use Rattle.cap_model.specs.Levels.{size, child}
-use Rattle.cap_model.specs.Lookup.{name_at, object_at}
-use Rattle.cap_model.specs.RightsWord.{has_rights}
-use Rattle.cap_model.specs.declared.cap.Cap.{Cap}
 use Rattle.cap_model.specs.declared.kind.Kind.TheVariants as kinds
-use Rattle.cap_model.specs.declared.level.Level.{Level}
-use Rattle.cap_model.specs.declared.object.Fill.{Fill}
-use Rattle.cap_model.specs.declared.object.Object.{Object}
-use Rattle.cap_model.specs.declared.object.Object.TheVariants.{Endpoint, Notification, CNode, Thread, Frame, Pages, Irq}
-use Rattle.cap_model.specs.declared.object.Tcb.{Tcb}
-use Rattle.cap_model.specs.declared.rights.Rights.{Rights}
-use Rattle.cap_model.specs.declared.spec.Entry.{Entry}
-use Rattle.cap_model.specs.declared.spec.Spec.{Spec}
-use Rattle.capdl_text.specs.declared.token.Span.{Span}
-use Rattle.capdl_text.specs.Knowing.{Knows}
-use Rattle.capdl_text.specs.Meaning.{badge_said, cap_said, entry_said, fields_from, fill_said, held, lines_from, named_from, no_tcb, notification_said, object_said, paddr_said, place_or, rights_said, slots_from, thread_said}
-use Rattle.capdl_text.specs.declared.tree.Holder.{Holder}
-use Rattle.capdl_text.specs.declared.tree.SlotKey.{SlotKey}
 use Rattle.capdl_text.specs.declared.tree.SlotKey.TheVariants as keys
-use Rattle.capdl_text.specs.declared.tree.SlotLine.{SlotLine}
-use Rattle.capdl_text.specs.declared.tree.ThreadField.{ThreadField}
 use Rattle.capdl_text.specs.declared.tree.ThreadValue.TheVariants as thread
-use Rattle.capdl_write.specs.Canon.{word, hex, brace_r, paren_r, held_pieces, holders_pieces, objects_pieces, slots_pieces}
-use Rattle.capdl_write.specs.Pieces.{Piece}
 use Rattle.capdl_write.proofs.Known.{KnowsAll, is_other, differ_parts, known_place}
 use Rattle.capdl_write.proofs.Named.{all_from}
 use Rattle.capdl_write.proofs.ReadBack.{kind_at as kind_line_at, objects_at, addr_tail, ip_tail, sp_tail, prio_tail, field_at, with_elf, last_fields, fields_at, frame_fields}

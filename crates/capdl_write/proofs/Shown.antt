@@ -1,10 +1,6 @@
 -- The tokens of a laid-out text, with their bytes.
-use Rattle.std.proofs.Common.{◌≡◌, ℕ, ◌-◌, List, [], ◌∷◌, ◌++◌, length, refl, sym, ap, subst, ◌∙◌, append_assoc}
-use Rattle.capdl_text.specs.declared.seen.Seen.{Seen}
-use Rattle.capdl_text.specs.declared.token.Span.{Span}
-use Rattle.capdl_text.specs.TokensSeen.{text_at, see}
+use Rattle.capdl_write.proofs.Common.{List, Piece, Seen, Span, [], ap, append_assoc, laid, length, refl, see, subst, sym, text_at, tokens, ℕ, ◌++◌, ◌-◌, ◌∙◌, ◌∷◌, ◌≡◌}
 use Rattle.capdl_text.proofs.Lexemes.{text_there}
-use Rattle.capdl_write.specs.Pieces.{Piece, laid, tokens}
 
 -- the pieces as tokens, each at a place that depends on what stands from there on
 abbrev pub shown : (List Piece → Span) → List Piece → List Seen

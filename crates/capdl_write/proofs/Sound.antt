@@ -1,53 +1,20 @@
 -- No fault stands in the tree of a canonical text.
-use Rattle.std.proofs.Common.{◌≡◌, ◌⊎◌, ℕ, zero, suc, ◌+◌, ◌^◌, Bool, true, false, List, [], ◌∷◌, ◌++◌, map, Option, Some, None, is_some, refl, sym, ap, ◌∙◌, slice_get, arith, inl, inr}
-use Rattle.std.specs.Prelude.{codes, ◌&&◌, ◌||◌, not, ◌==◌, ◌%◌, nat_lt, leb}
-use Rattle.std.specs.List.{flat_map, list_all, list_any}
-use Rattle.std.specs.Option.{option_map}
-use Rattle.std.specs.Str.{bytes_eq}
-use Rattle.std.proofs.lemmas.Bool.{and_parts, not-true, and_from}
-use Rattle.std.proofs.lemmas.Bool.Decides.{nat_tests}
-use Rattle.std.proofs.lemmas.Slice.Eq.{bytes_eq-Decides}
-use Rattle.cap_model.specs.Kept.{IsKept, differ, rise, if_any, within, keeps, keeps_fill, keeps_slots, keeps_table, names_differ, fits, fits_as, fits_kind}
-use Rattle.cap_model.specs.Kinds.{is_at, is_kind, is_root_object, is_space_root, kind_of_object, kind_rights, has_badge, same_kind}
-use Rattle.cap_model.specs.Levels.{size, child}
-use Rattle.cap_model.specs.Lookup.{name_at, object_at}
-use Rattle.cap_model.specs.RightsWord.{has_rights}
-use Rattle.cap_model.specs.declared.cap.Cap.{Cap}
-use Rattle.cap_model.specs.declared.kind.Kind.{Kind}
+use Rattle.capdl_write.proofs.Common.{Arch, Bool, CNode, Cap, Directory, Each, Endpoint, Entry, Frame, Global, Holder, Id, Irq, IsKept, Kind, Known, Knows, Level, List, None, Notification, Object, Option, Pages, Param, Piece, Rights, SlotKey}
+use Rattle.capdl_write.proofs.Common.{SlotLine, Some, Span, Spec, Table, Thread, ThreadField, Upper, [], and_from, and_parts, ap, arith, brace_r, bytes_eq, bytes_eq-Decides, child, codes, differ, each_then, false, fields_twice, fits, fits_as}
+use Rattle.capdl_write.proofs.Common.{fits_kind, flat_map, has_badge, has_key, has_rights, hex, holders_pieces, holds, if_any, inl, inr, irq_keyed, irq_off, is_at, is_kind, is_root_object, is_some, is_space_root, keeps, keeps_fill, keeps_slots}
+use Rattle.capdl_write.proofs.Common.{keeps_table, key_past, keys_after, keys_twice, kind_of_object, kind_off, kind_rights, kind_takes, leb, list_all, list_any, map, name_at, names_after, names_differ, nat_lt, nat_tests, not, not-true, object_at}
+use Rattle.capdl_write.proofs.Common.{objects_pieces, off_in, option_map, param_off, params_twice, past_in, refl, rise, rise_tail, same_kind, size, slice_get, slot_keyed, slot_off, slots_past, suc, sym, takes, thread_keyed, thread_value_off, true}
+use Rattle.capdl_write.proofs.Common.{twice_in, unknown, unknown_in, within, word, zero, ℕ, ◌%◌, ◌&&◌, ◌++◌, ◌+◌, ◌==◌, ◌^◌, ◌||◌, ◌∙◌, ◌∷◌, ◌≡◌, ◌⊎◌}
 use Rattle.cap_model.specs.declared.kind.Kind.TheVariants as kinds
-use Rattle.cap_model.specs.declared.level.Arch.{Arch}
-use Rattle.cap_model.specs.declared.level.Level.{Level}
-use Rattle.cap_model.specs.declared.level.Level.TheVariants.{Global, Upper, Directory, Table}
-use Rattle.cap_model.specs.declared.object.Object.{Object}
-use Rattle.cap_model.specs.declared.object.Object.TheVariants.{Endpoint, Notification, CNode, Thread, Frame, Pages, Irq}
-use Rattle.cap_model.specs.declared.rights.Rights.{Rights}
-use Rattle.cap_model.specs.declared.spec.Entry.{Entry}
-use Rattle.cap_model.specs.declared.spec.Spec.{Spec}
-use Rattle.capdl_text.specs.declared.token.Span.{Span}
 use Rattle.name_tables.specs.Keys.{Key, same_key}
-use Rattle.capdl_text.specs.KindField.{has_key, holds, is_space_root as root_kind, takes, kind_takes, param_off, slot_off, off_in, irq_off, kind_off, thread_value_off}
-use Rattle.capdl_text.specs.Knowing.{Knows}
-use Rattle.capdl_text.specs.SlotRange.{key_past, slots_past, past_in}
-use Rattle.capdl_text.specs.Twice.{names_after, keys_after, keys_twice, params_twice, slot_keyed, thread_keyed, irq_keyed, fields_twice, twice_in}
-use Rattle.capdl_text.specs.Unknown.{unknown, unknown_in}
-use Rattle.capdl_text.specs.declared.known.Known.{Known}
-use Rattle.capdl_text.specs.declared.tree.Holder.{Holder}
-use Rattle.capdl_text.specs.declared.tree.Id.{Id}
-use Rattle.capdl_text.specs.declared.tree.Param.{Param}
-use Rattle.capdl_text.specs.declared.tree.SlotKey.{SlotKey}
+use Rattle.capdl_text.specs.KindField.{is_space_root as root_kind}
 use Rattle.capdl_text.specs.declared.tree.SlotKey.TheVariants as keys
-use Rattle.capdl_text.specs.declared.tree.SlotLine.{SlotLine}
-use Rattle.capdl_text.specs.declared.tree.ThreadField.{ThreadField}
 use Rattle.capdl_text.specs.declared.tree.ThreadValue.TheVariants as thread
-use Rattle.capdl_write.specs.Canon.{word, hex, brace_r, holders_pieces, objects_pieces}
-use Rattle.capdl_write.specs.Pieces.{Piece}
 use Rattle.capdl_write.proofs.Known.{KnowsAll, any_none, is_other, differ_parts, known_object, known_place}
 use Rattle.capdl_write.proofs.Named.{all_from}
 use Rattle.capdl_write.proofs.ReadBack.{kind_at as kind_line_at, objects_at, addr_tail, ip_tail, sp_tail, prio_tail, field_at, with_elf, last_fields}
 use Rattle.capdl_write.proofs.ReadHolders.{no_rights_at, params_at, slot_at}
 use Rattle.capdl_write.proofs.ReadText.{cap_at, slots_at, buffer_at, vspace_at, cspace_at, irq_slot_at, lines_at, held_at, holders_at, irqs_at}
-use Rattle.cap_model.proofs.Kept.{rise_tail}
-use Rattle.cap_model.proofs.Eaches.{each_then, Each}
 use Rattle.capdl_text.proofs.Below.{IsBelow}
 
 -- ---- lists

@@ -1,42 +1,14 @@
 -- A canonical text is a text of its spec.
-use Rattle.std.proofs.Common.{◌≡◌, ◌⊎◌, ℕ, suc, ◌+◌, ◌≤◌, Bool, true, false, List, [], ◌∷◌, ◌++◌, map, length, drop, Option, Some, None, refl, sym, ap, subst, ◌∙◌, arith, zero-add}
-use Rattle.std.specs.Prelude.{codes, ◌&&◌, ◌==◌, sum}
-use Rattle.std.specs.List.{flat_map, list_all}
-use Rattle.std.proofs.lemmas.Bool.{and_parts}
-use Rattle.std.proofs.lemmas.List.{drop_all, length-append}
+use Rattle.capdl_write.proofs.Common.{Bool, CNode, Cap, Each, Endpoint, Entry, Frame, Holder, Id, Irq, IsSpecSpelled, IsWritable, Lexes, List, None, Notification, Object, Option, Pages, Piece, Seen, SlotLine, Some, Span, Spec, SpecTree, Thread}
+use Rattle.capdl_write.proofs.Common.{Token, [], and_parts, ap, arith, brace_r, canonical, caps_of, caps_pieces, codes, differ, drop, drop_all, false, fields_twice, flat_map, held_pieces, holders_pieces, irq_keyed, irq_off, is_at, keys_twice}
+use Rattle.capdl_write.proofs.Common.{kind_fields, kind_off, knows, laid, last_pieces, length, length-append, list_all, map, names_twice, off_in, past_in, pieces, refl, rise, see, slot_ranges, some, spec_of, subst, suc, sum, sym, tokens, true}
+use Rattle.capdl_write.proofs.Common.{twice_in, twices, unknown, unknown_in, unknowns, zero-add, ℕ, ◌&&◌, ◌++◌, ◌+◌, ◌==◌, ◌∙◌, ◌∷◌, ◌≡◌, ◌≤◌, ◌⊎◌}
 use Rattle.std.proofs.lemmas.List.Sums.{sum_by-cons}
-use Rattle.cap_model.specs.Canonical.{canonical}
-use Rattle.cap_model.specs.Kept.{differ, rise}
-use Rattle.cap_model.specs.Kinds.{is_at}
-use Rattle.cap_model.specs.declared.cap.Cap.{Cap}
 use Rattle.cap_model.specs.declared.kind.Kind.TheVariants as kinds
-use Rattle.cap_model.specs.declared.object.Object.{Object}
-use Rattle.cap_model.specs.declared.object.Object.TheVariants.{Endpoint, Notification, CNode, Thread, Frame, Pages, Irq}
-use Rattle.cap_model.specs.declared.spec.Entry.{Entry}
-use Rattle.cap_model.specs.declared.spec.Spec.{Spec}
 use Rattle.cam_base.specs.declared.text_fault.TextFault.{TextFault}
-use Rattle.capdl_text.specs.Lexes.{Lexes}
-use Rattle.capdl_text.specs.TokensSeen.{see}
-use Rattle.capdl_text.specs.declared.seen.Seen.{Seen}
-use Rattle.capdl_text.specs.declared.token.Span.{Span}
-use Rattle.capdl_text.specs.declared.token.Token.{Token}
-use Rattle.capdl_text.specs.Knowing.{knows}
-use Rattle.capdl_text.specs.KindField.{irq_off, kind_fields, kind_off, off_in}
 use Rattle.capdl_text.specs.Limits.{caps_named, limits, most_caps, most_objects, objects_named, past}
-use Rattle.capdl_text.specs.Meaning.{spec_of}
-use Rattle.capdl_text.specs.SlotRange.{past_in, slot_ranges}
-use Rattle.capdl_text.specs.Spelling.{IsSpecSpelled}
 use Rattle.capdl_text.specs.Texts.{Text, is_long}
 use Rattle.capdl_text.specs.TreeFaults.{tree_faults}
-use Rattle.capdl_text.specs.Twice.{fields_twice, irq_keyed, keys_twice, names_twice, twice_in, twices}
-use Rattle.capdl_text.specs.Unknown.{unknown, unknown_in, unknowns}
-use Rattle.capdl_text.specs.declared.tree.Holder.{Holder}
-use Rattle.capdl_text.specs.declared.tree.Id.{Id}
-use Rattle.capdl_text.specs.declared.tree.SlotLine.{SlotLine}
-use Rattle.capdl_text.specs.declared.tree.SpecTree.{SpecTree}
-use Rattle.capdl_write.specs.Canon.{brace_r, caps_pieces, held_pieces, holders_pieces, last_pieces, pieces}
-use Rattle.capdl_write.specs.Pieces.{Piece, laid, tokens}
-use Rattle.capdl_write.specs.Writable.{IsWritable, caps_of, some}
 use Rattle.capdl_write.proofs.FineText.{fine_pieces}
 use Rattle.capdl_write.proofs.Known.{KnowsAll, found_at, known_object}
 use Rattle.capdl_write.proofs.Laying.{laid_lexes}
@@ -46,7 +18,6 @@ use Rattle.capdl_write.proofs.ReadText.{slots_at, cspace_at, irq_slot_at, lines_
 use Rattle.capdl_write.proofs.Says.{entries_back, lines_back}
 use Rattle.capdl_write.proofs.Shown.{placed, seen_tokens, shown}
 use Rattle.capdl_write.proofs.Sound.{IsFine, all_fine, all_fields_once, flat_none, held_names_once, irq_names_once, irqs_found, irqs_suit, names_once, nil_both, numbers_once, objects_suit}
-use Rattle.cap_model.proofs.Eaches.{Each}
 
 -- ---- limits
 

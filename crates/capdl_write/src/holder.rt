@@ -1,9 +1,9 @@
 ghost use Rattle.cam_base.specs.Texts.{◌⊹◌, together};
 ghost use Rattle.cam_io.specs.Sinks.{IsOpen, Writes};
-ghost use Rattle.cap_model.specs.Canonical.{cap_end, slot_line, slots_text, named_line, buffer_line, has_slot, tcb_text, irq_text, entry_text};
-ghost use Rattle.cap_model.specs.RightsWord.{rights_word};
+ghost use Rattle.cap_model.specs.Canonical.{cap_end, slot_line, slots_text, named_line, buffer_line, has_slot, tcb_text, irq_text, entry_text, params};
+ghost use Rattle.cap_model.specs.RightsWord.{has_rights, rights_word};
 ghost use Rattle.std.specs.List.{flat_map};
-ghost use Rattle.std.specs.Prelude.{◌≡◌, [], ◌∷◌, codes, true};
+ghost use Rattle.std.specs.Prelude.{◌≡◌, [], ◌∷◌, codes, true, false};
 
 use crate::digits::hexadecimal;
 use cam_io::{Failed, Outputs, write_all, write_parts};
@@ -128,22 +128,48 @@ fn write_cap<'a, O: Outputs>(
         (O.sink out.old) (O.sink out.new) (O.faults out.old) (O.faults out.new) }
 {
     let name = spec.name(cap.object);
+    if cap.badge == 0 {
+        return write_parts(out, channel, &[word, mark, name, end_word(&cap.rights)]);
+    }
     let rights = rights_word(&cap.rights);
     let mut digits = Buffer::new();
     let badge = digits.format(cap.badge).as_bytes();
-    match (cap.rights.any(), cap.badge != 0) {
-        (false, false) => write_parts(out, channel, &[word, mark, name, b"\n"]),
-        (true, false) => write_parts(out, channel, &[word, mark, name, b" (", rights, b")\n"]),
-        (false, true) => write_parts(
-            out,
-            channel,
-            &[word, mark, name, b" (badge: ", badge, b")\n"],
-        ),
-        (true, true) => write_parts(
+    if cap.rights.any() {
+        write_parts(
             out,
             channel,
             &[word, mark, name, b" (", rights, b", badge: ", badge, b")\n"],
-        ),
+        )
+    } else {
+        write_parts(
+            out,
+            channel,
+            &[word, mark, name, b" (badge: ", badge, b")\n"],
+        )
+    }
+}
+
+/// What follows the name of the object of a capability without a badge.
+fn end_word(rights: &Rights) -> &[u8]
+    ensures { result.now ≡ params (has_rights rights.now) false rights.now 0 ⊹ codes "\n" }
+{
+    match (rights.read, rights.write, rights.grant, rights.reply) {
+        (false, false, false, false) => b"\n",
+        (false, false, false, true) => b" (P)\n",
+        (false, false, true, false) => b" (G)\n",
+        (false, false, true, true) => b" (GP)\n",
+        (false, true, false, false) => b" (W)\n",
+        (false, true, false, true) => b" (WP)\n",
+        (false, true, true, false) => b" (WG)\n",
+        (false, true, true, true) => b" (WGP)\n",
+        (true, false, false, false) => b" (R)\n",
+        (true, false, false, true) => b" (RP)\n",
+        (true, false, true, false) => b" (RG)\n",
+        (true, false, true, true) => b" (RGP)\n",
+        (true, true, false, false) => b" (RW)\n",
+        (true, true, false, true) => b" (RWP)\n",
+        (true, true, true, false) => b" (RWG)\n",
+        (true, true, true, true) => b" (RWGP)\n",
     }
 }
 

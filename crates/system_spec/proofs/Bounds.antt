@@ -1,15 +1,7 @@
 -- Sections are no longer than the whole
-use Rattle.std.proofs.Common.{◌≡◌, ◌<◌, ◌+◌, ◌^◌, List, [], ◌++◌, length, arith}
-use Rattle.cam_base.proofs.Gathered.{gather_ones, length_append}
-use Rattle.system_spec.specs.declared.part.Owned.{Owned}
-use Rattle.system_spec.specs.declared.part.PageTable.{PageTable}
-use Rattle.system_spec.specs.declared.series.Series.{Series}
+use Rattle.system_spec.proofs.Common.{AreFew, FrameInfo, FrameOf, List, Owned, PageTable, Series, Tables, [], all_tables, arith, cnodes, endpoints, first_of, frame_owner, frame_parts, gather_ones, irqs, length, length_append, locks, notifications}
+use Rattle.system_spec.proofs.Common.{numbered, owned, part, table_part, table_parts, tcbs, ◌++◌, ◌+◌, ◌<◌, ◌^◌, ◌≡◌}
 use Rattle.system_spec.specs.declared.series.Series.TheVariants as series
-use Rattle.system_spec.specs.declared.part.What.TheVariants.{FrameOf}
-use Rattle.vspace_layout.specs.declared.spaces.FrameInfo.{FrameInfo}
-use Rattle.system_spec.specs.Few.{AreFew}
-use Rattle.system_spec.specs.Parts.{all_tables, cnodes, endpoints, first_of, frame_parts, irqs, locks, notifications, numbered, owned, part, table_part, table_parts, tcbs}
-use Rattle.system_spec.specs.Tables.{Tables, frame_owner}
 
 pub length-eight : {X : Type 0} (a b c d e f g h : List X) → length (a ++ (b ++ (c ++ (d ++ (e ++ (f ++ (g ++ (h ++ []))))))))
     ≡ length a + (length b + (length c + (length d + (length e + (length f + (length g + (length h + 0)))))))

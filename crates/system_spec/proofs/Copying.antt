@@ -1,22 +1,10 @@
 -- A copy of a page table is the page table
-use Rattle.std.proofs.Common.{◌≡◌, ◌<◌, ◌+◌, ◌∙◌, ℕ, zero, suc, List, [], ◌∷◌, ◌++◌, length, map, get_or, refl, ap, subst, inl, inr}
-use Rattle.cap_model.specs.declared.level.Level.{Level}
-use Rattle.cap_model.specs.declared.cap.Cap.{Cap}
-use Rattle.cap_model.specs.declared.object.Object.{Object}
-use Rattle.cap_model.specs.declared.object.Object.TheVariants.{Endpoint, Notification, CNode, Thread, Frame, Pages, Irq}
-use Rattle.cam_base.specs.Gather.{IsIn}
-use Rattle.cam_base.proofs.Gathered.{in_append}
-use Rattle.cam_base.proofs.NumberedLists.{from_map}
+use Rattle.system_spec.proofs.Common.{CNode, Cap, Endpoint, FrameOf, Irq, IsIn, Level, List, Object, Pages, SpaceTables, TableOf, Tables, Thread, [], all_spaces, ap, arch, copied, from_map, get_or, in_append, inl, inr, layers, length, map, object}
+use Rattle.system_spec.proofs.Common.{objects_in, page_mapping, pages_at, place, refl, shapes, sizes, subst, suc, table_of, tables_at, zero, ℕ, ◌++◌, ◌+◌, ◌<◌, ◌∙◌, ◌∷◌, ◌≡◌}
+use Rattle.cap_model.specs.declared.object.Object.TheVariants.{Notification, Frame}
 use Rattle.page_tables.specs.declared.layer.Layer.{Layer}
 use Rattle.page_tables.specs.declared.mapping.Mapping.{Mapping}
-use Rattle.page_tables.specs.Levels.{layers, numbered, sizes, table_of}
-use Rattle.page_tables.specs.Shapes.{shapes}
-use Rattle.system_spec.specs.Landmarks.{all_spaces, copied, objects_in}
-use Rattle.system_spec.specs.declared.landmarks.SpaceTables.{SpaceTables}
-use Rattle.system_spec.specs.declared.part.What.TheVariants.{TableOf, FrameOf}
-use Rattle.system_spec.specs.Objects.{object}
-use Rattle.system_spec.specs.Parts.{page_mapping, place, tables_at}
-use Rattle.system_spec.specs.Tables.{Tables, arch, pages_at}
+use Rattle.page_tables.specs.Levels.{numbered}
 use Rattle.system_spec.proofs.Domains.{objects_read}
 
 tables_copied : (first link : ℕ) (ys : List Layer) (o : Object) → IsIn o (numbered first link ys) → copied o ≡ o

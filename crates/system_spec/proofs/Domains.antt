@@ -1,27 +1,9 @@
 -- What stands where in each domain, counted domain by domain
-use Rattle.std.proofs.Common.{◌≡◌, ◌<◌, ◌≤◌, ◌+◌, ◌^◌, ℕ, Bool, true, false, List, [], ◌∷◌, ◌++◌, length, map, take, get_or, refl, sym, ◌∙◌, ap, Some, add-one, arith}
-use Rattle.std.specs.List.{flat_map, slice_get}
-use Rattle.std.specs.Option.{option_map_or}
-use Rattle.adl_meaning.specs.declared.flat.Domain.{Domain}
-use Rattle.cap_model.specs.declared.object.Object.{Object}
-use Rattle.cspace_layout.specs.declared.plan.SlotUse.{SlotUse}
-use Rattle.std.proofs.lemmas.List.{map-append, take_all}
-use Rattle.cam_base.specs.Gather.{gather}
-use Rattle.cam_base.proofs.Gathered.{gather_more, gather_ones, get_ones, length_append}
-use Rattle.cam_base.proofs.NumberedLists.{at_place, taken_le, length-gather}
-use Rattle.page_tables.specs.Levels.{layers}
-use Rattle.page_tables.specs.Shapes.{shapes}
+use Rattle.system_spec.proofs.Common.{AreFew, Bool, Domain, FrameOf, List, LockOf, Object, Page, SlotUse, Some, SpaceTables, TableOf, Tables, [], add-one, all_spaces, ap, arch, arith, as_many, at_place, counts_of_addresses, domain_locks}
+use Rattle.system_spec.proofs.Common.{domain_tables, false, first_of, flat_map, gather, gather_more, gather_ones, get_ones, get_or, holds_lock, layers, length, length-gather, length_append, level_of, lock, map, map-append, objects_in, one}
+use Rattle.system_spec.proofs.Common.{option_map_or, page_mapping, page_table, pages_at, place, refl, root_in, shapes, slice_get, space_tables, sym, table_count, tables_at, take, take_all, taken_le, true, uses_at, ℕ, ◌++◌, ◌+◌, ◌<◌, ◌^◌, ◌∙◌, ◌∷◌}
+use Rattle.system_spec.proofs.Common.{◌≡◌, ◌≤◌}
 use Rattle.page_tables.specs.Counts.{table_count as count_of}
-use Rattle.page_tables.proofs.Counted.{counts_of_addresses}
-use Rattle.page_tables.proofs.Leveled.{as_many}
-use Rattle.vspace_layout.specs.declared.spaces.Page.{Page}
-use Rattle.system_spec.specs.declared.landmarks.SpaceTables.{SpaceTables}
-use Rattle.system_spec.specs.declared.part.What.TheVariants.{LockOf, TableOf, FrameOf}
-use Rattle.system_spec.specs.Few.{AreFew, table_count}
-use Rattle.system_spec.specs.Landmarks.{all_spaces, objects_in, root_in, space_tables}
-use Rattle.system_spec.specs.Parts.{domain_locks, domain_tables, first_of, level_of, lock, page_mapping, page_table, place, tables_at}
-use Rattle.system_spec.specs.Places.{holds_lock, one}
-use Rattle.system_spec.specs.Tables.{Tables, arch, pages_at, uses_at}
 use Rattle.system_spec.proofs.Bounds.{ends}
 use Rattle.system_spec.proofs.Placing.{as_long, grown_length, length-lock}
 

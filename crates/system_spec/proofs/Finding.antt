@@ -1,17 +1,7 @@
 -- A page is found by its address, where addresses rise
-use Rattle.std.proofs.Common.{◌≡◌, ◌<◌, ◌≤◌, ◌+◌, ◌==◌, ℕ, zero, suc, Bool, true, false, cond, List, [], ◌∷◌, length, map, get_or, refl, sym, ◌∙◌, ap, subst, Some, None, inl, inr, arith}
-use Rattle.std.specs.List.{find, slice_get}
+use Rattle.system_spec.proofs.Common.{AllWithin, Bool, IsIn, IsNonDecreasingBy, IsPartitionPoint, List, None, Page, Rises, Some, [], ap, arith, cond, false, find, frame_at, get_or, get_or_from_slice_get, inl, inr, length, ltb, ltb-false, ltb-true}
+use Rattle.system_spec.proofs.Common.{map, ne_eqb, option_map, refl, slice_get, slice_get_within, subst, suc, sym, true, zero, ℕ, ◌+◌, ◌<◌, ◌==◌, ◌∙◌, ◌∷◌, ◌≡◌, ◌≤◌}
 use Rattle.std.specs.Prelude.{Option}
-use Rattle.std.specs.Option.{option_map}
-use Rattle.std.specs.List.{AllWithin}
-use Rattle.std.specs.List.Sorted.{IsNonDecreasingBy, IsPartitionPoint}
-use Rattle.std.proofs.Math.Dec.{ltb}
-use Rattle.std.proofs.lemmas.Option.{get_or_from_slice_get, slice_get_within}
-use Rattle.std.proofs.lemmas.Bool.{ltb-true, ltb-false, ne_eqb}
-use Rattle.cam_base.specs.Gather.{IsIn}
-use Rattle.page_tables.specs.Runs.{Rises}
-use Rattle.vspace_layout.specs.declared.spaces.Page.{Page}
-use Rattle.system_spec.specs.Objects.{frame_at}
 
 abbrev at_page : ℕ → Page → Bool
 at_page at p = p.vaddr == at

@@ -1,13 +1,7 @@
 -- Page tables are counted level by level
-use Rattle.std.proofs.Common.{◌≡◌, ◌<◌, ◌≤◌, ◌+◌, ℕ, true, false, List, length, take, get_or, refl, sym, ◌∙◌, ap, subst, arith}
-use Rattle.std.specs.List.{count_by}
+use Rattle.system_spec.proofs.Common.{Directory, Global, Level, List, PageTable, Table, Upper, ap, arith, count_by, counted, counts, counts_in, false, get_or, is_of, length, length-take-le, one_more, refl, subst, sym, take, true, ℕ, ◌+◌, ◌<◌, ◌∙◌}
+use Rattle.system_spec.proofs.Common.{◌≡◌, ◌≤◌}
 use Rattle.std.proofs.lemmas.List.Sums.{count_by-le-length, count_by_more_no, count_by_more_yes}
-use Rattle.std.proofs.lemmas.List.{length-take-le}
-use Rattle.cap_model.specs.declared.level.Level.{Level}
-use Rattle.cap_model.specs.declared.level.Level.TheVariants.{Global, Upper, Directory, Table}
-use Rattle.system_spec.specs.declared.part.PageTable.{PageTable}
-use Rattle.system_spec.specs.LevelNumbers.{counted, counts, counts_in, one_more}
-use Rattle.system_spec.specs.Parts.{is_of}
 
 pub counted_in : (xs : List PageTable) (l : Level) → counted (counts_in xs) l ≡ count_by (is_of l) xs
 counted_in xs Global = refl

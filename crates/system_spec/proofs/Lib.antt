@@ -1,3 +1,4 @@
+pub mod Common
 pub mod Bounds
 pub mod Copying
 pub mod Domains

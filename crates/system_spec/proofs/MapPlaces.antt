@@ -1,22 +1,8 @@
 -- Places of the threads and the locks that lines of the map name
-use Rattle.std.proofs.Common.{◌≡◌, ◌<◌, ◌≤◌, ◌+◌, ◌^◌, ℕ, List, [], ◌∷◌, ◌++◌, length, take, refl, sym, ◌∙◌, ap, subst, Some, add-one, arith}
-use Rattle.std.specs.List.{slice_get}
-use Rattle.std.proofs.lemmas.List.{take_all}
-use Rattle.adl_meaning.specs.declared.flat.Domain.{Domain}
-use Rattle.arch_policy.specs.declared.owner.Owner.TheVariants.{OfDomain}
-use Rattle.cspace_layout.specs.declared.plan.SlotUse.{SlotUse}
-use Rattle.cam_base.specs.Gather.{gather, before}
-use Rattle.cam_base.proofs.Gathered.{gather_more, gather_ones, length_append}
-use Rattle.cam_base.proofs.NumberedLists.{at_place, taken_le}
-use Rattle.vspace_layout.specs.declared.spaces.ThreadPlace.{ThreadPlace}
-use Rattle.system_spec.specs.declared.part.Owned.{Owned}
-use Rattle.system_spec.specs.declared.part.Part.{Part}
-use Rattle.system_spec.specs.declared.part.What.TheVariants.{LockOf, ThreadOf}
+use Rattle.system_spec.proofs.Common.{AreFew, Domain, List, LockOf, OfDomain, Owned, Part, SlotUse, Some, Tables, ThreadOf, ThreadPlace, [], add-one, all_tables, ap, arith, at_place, before, cnodes, domain_locks, domain_tcbs, domain_threads}
+use Rattle.system_spec.proofs.Common.{endpoints, first_of, frame_parts, gather, gather_more, gather_ones, irqs, length, length_append, lock, locks, notifications, numbered, owned, part, place, refl, sections, slice_get, subst, sym, table_parts, take}
+use Rattle.system_spec.proofs.Common.{take_all, taken_le, tcbs, thread_lines_from, threads_at, together, uses_at, ℕ, ◌++◌, ◌+◌, ◌<◌, ◌^◌, ◌∙◌, ◌∷◌, ◌≡◌, ◌≤◌}
 use Rattle.system_spec.specs.declared.series.Series.TheVariants as series
-use Rattle.system_spec.specs.Few.{AreFew}
-use Rattle.system_spec.specs.MapLines.{domain_threads, thread_lines_from}
-use Rattle.system_spec.specs.Parts.{all_tables, cnodes, domain_locks, domain_tcbs, endpoints, first_of, frame_parts, irqs, lock, locks, notifications, numbered, owned, part, place, sections, table_parts, tcbs, together}
-use Rattle.system_spec.specs.Tables.{Tables, threads_at, uses_at}
 use Rattle.system_spec.proofs.Bounds.{ends}
 
 none_before : {X Y : Type 0} (f : ℕ → X → List Y) (xs : List X) → before f xs 0 ≡ 0

@@ -1,12 +1,8 @@
 -- Texts of the map as they are written
-use Rattle.std.proofs.Common.{◌≡◌, ℕ, List, [], ◌∷◌, length, codes, Result, None, refl, sym, ap, subst, append-nil, arith}
-use Rattle.std.specs.List.{flat_map}
-use Rattle.std.specs.Option.{option_map_or}
-use Rattle.cam_base.specs.Paths.{joined}
+use Rattle.system_spec.proofs.Common.{List, Named, None, Result, [], ap, append-nil, arith, codes, end_text, flat_map, joined, joined_text, length, option_map_or, refl, subst, sym, ℕ, ◌∷◌, ◌≡◌}
 use Rattle.cam_base.specs.Texts.{◌⊹◌, together}
 use Rattle.cam_io.specs.Sinks.{Sink, Writes}
 use Rattle.cspace_layout.specs.Lookups.{end_of}
-use Rattle.system_spec.specs.MapText.{Named, end_text, joined_text}
 
 dot_name : (n : List ℕ) → together (codes "." ∷ n ∷ []) ≡ 46 ∷ n
 unfolding together
@@ -19,6 +15,10 @@ dotted {r = r} {c = c} {n = n} {s = s} {u = u} {m = m} {k = k} w = subst (λ z. 
 pub joined_none : (names : List (List ℕ)) → length names ≡ 0 → length (joined names) ≡ 0
 joined_none [] e = refl
 joined_none (n ∷ ns) e = absurd (omega (arith, e))
+
+pub dotted_none : (names : List (List ℕ)) → length names ≡ 0 → length (flat_map (λ (n : List ℕ). 46 ∷ n) names) ≡ 0
+dotted_none [] e = refl
+dotted_none (n ∷ ns) e = absurd (omega (arith, e))
 
 -- a path is its first name, and the others behind dots
 joined_cons : (n : List ℕ) (ns names : List (List ℕ)) → names ≡ n ∷ ns → n ⊹ flat_map (λ (m : List ℕ). 46 ∷ m) ns ≡ joined names

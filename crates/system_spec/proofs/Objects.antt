@@ -1,23 +1,8 @@
 -- What stands at the place of a part, and which parts there are
-use Rattle.std.proofs.Common.{◌≡◌, ℕ, zero, suc, List, [], ◌∷◌, Some, refl, sym, ap, subst, inl}
-use Rattle.std.specs.List.{flat_map, slice_get}
-use Rattle.adl_meaning.specs.declared.connector.Connector.{Connector}
-use Rattle.adl_meaning.specs.declared.connector.Connector.TheVariants.{Rpc}
-use Rattle.adl_meaning.specs.declared.flat.Domain.{Domain}
-use Rattle.adl_meaning.specs.declared.flat.FlatConnection.{FlatConnection}
-use Rattle.arch_policy.specs.declared.owner.Owner.TheVariants.{OfDomain, OfConnection}
-use Rattle.cap_model.specs.Lookup.{entry_name, entry_object}
-use Rattle.cam_base.specs.Gather.{IsIn, gather}
-use Rattle.cam_base.proofs.NumberedLists.{get_map}
-use Rattle.cam_base.proofs.Gathered.{get_ones, in_gather, in_left, in_right}
+use Rattle.system_spec.proofs.Common.{CNodeOf, Connector, Domain, EndpointOf, FlatConnection, IsIn, List, OfConnection, OfDomain, Owned, Part, Rpc, Some, Tables, [], ap, cnodes, endpoint, endpoint_by, entry, entry_name, entry_object, flat_map}
+use Rattle.system_spec.proofs.Common.{gather, get_map, get_ones, in_gather, in_left, in_right, inl, notification, notification_by, numbered, owned, part, parts, place, refl, sections, slice_get, subst, suc, sym, zero, ℕ, ◌∷◌, ◌≡◌}
 use Rattle.system_spec.specs.declared.series.Series.TheVariants as series
-use Rattle.system_spec.specs.Made.{entry}
-use Rattle.system_spec.specs.declared.part.Owned.{Owned}
-use Rattle.system_spec.specs.declared.part.Part.{Part}
-use Rattle.system_spec.specs.declared.part.What.TheVariants.{CNodeOf, EndpointOf}
-use Rattle.system_spec.specs.Parts.{cnodes, endpoint, endpoint_by, notification, notification_by, numbered, owned, part, parts, place, sections}
 use Rattle.system_spec.specs.SpecLaws.{ObjectsStand, PartsAreThere}
-use Rattle.system_spec.specs.Tables.{Tables}
 use Rattle.system_spec.proofs.Standing.{stands}
 
 pub objects_stand : (t : Tables) → ObjectsStand t

@@ -1,25 +1,10 @@
 -- Places as they are counted
-use Rattle.std.proofs.Common.{◌≡◌, ◌<◌, ◌≤◌, ◌+◌, ℕ, suc, Bool, true, false, cond, List, [], ◌∷◌, ◌++◌, length, take, get_or, refl, sym, ◌∙◌, ap, subst, Some, add-one, arith}
-use Rattle.std.specs.List.{slice_get}
-use Rattle.std.specs.Prelude.{slice_index}
-use Rattle.std.specs.Option.{option_map_or}
-use Rattle.std.proofs.lemmas.Option.{get_or_from_slice_get, slice_get-get_or, slice_get_read}
-use Rattle.adl_meaning.specs.declared.connector.Connector.{Connector}
-use Rattle.adl_meaning.specs.declared.connector.Connector.TheVariants.{Rpc, Notification, SharedMemory, Mmio, Interrupt, Direct}
-use Rattle.adl_meaning.specs.declared.flat.FlatConnection.{FlatConnection}
-use Rattle.arch_policy.specs.declared.owner.Owner.{Owner}
-use Rattle.cspace_layout.specs.declared.plan.SlotUse.{SlotUse}
-use Rattle.cspace_layout.specs.declared.plan.SlotUse.TheVariants.{OfEnd, Handler, OwnLock}
-use Rattle.cam_base.specs.Gather.{gather, before}
-use Rattle.cam_base.proofs.Gathered.{gather_more, gather_same, gather_turn, get_ones, length_append}
-use Rattle.cam_base.proofs.NumberedLists.{at_place, taken_le}
-use Rattle.system_spec.specs.declared.part.What.TheVariants.{EndpointOf, NotificationOf, LockOf, IrqOf}
+use Rattle.system_spec.proofs.Common.{Bool, Connector, Direct, EndpointOf, FlatConnection, Handler, Interrupt, IrqOf, List, LockOf, Mmio, Notification, NotificationOf, OfEnd, OwnLock, Owner, Rpc, SharedMemory, SlotUse, Some, Tables, [], add-one, ap}
+use Rattle.system_spec.proofs.Common.{arith, at_place, before, cond, endpoint, endpoint_by, false, first_of, gather, gather_more, gather_same, gather_turn, get_ones, get_or, get_or_from_slice_get, has_endpoint, has_irq, has_notification, holds_lock}
+use Rattle.system_spec.proofs.Common.{irq, irq_by, irq_owner, joint, joint_by, length, length_append, lock, mark, notification, notification_by, one, option_map_or, place, places_from, refl, slice_get, slice_get-get_or, slice_get_read, slice_index}
+use Rattle.system_spec.proofs.Common.{stands, subst, suc, sym, take, taken_le, true, uses_at, ℕ, ◌++◌, ◌+◌, ◌<◌, ◌∙◌, ◌∷◌, ◌≡◌, ◌≤◌}
 use Rattle.system_spec.specs.declared.places.Standing.{Standing}
 use Rattle.system_spec.specs.declared.places.Standing.TheVariants as standings
-use Rattle.system_spec.specs.Objects.{joint, joint_by}
-use Rattle.system_spec.specs.Parts.{endpoint, endpoint_by, first_of, irq, irq_by, lock, notification, notification_by, place}
-use Rattle.system_spec.specs.Places.{has_endpoint, has_irq, has_notification, holds_lock, mark, one, places_from, stands}
-use Rattle.system_spec.specs.Tables.{Tables, irq_owner, uses_at}
 
 pub grown_length : {X Y : Type 0} (F : ℕ → X → List Y) (xs : List X) (i : ℕ) (x : X) → i < length xs → x ≡ get_or xs i x
     → length (gather F (take (i + 1) xs)) ≡ length (gather F (take i xs)) + length (F i x)

@@ -1,7 +1,7 @@
 -- The search for the number of bits.
-use Rattle.std.proofs.Common.{◌≡◌, ℕ, zero, suc, ◌+◌, ◌-◌, ◌^◌, ◌<◌, ◌≤◌, nat_lt, true, false, refl, arith, sym}
-use Rattle.std.proofs.lemmas.Bool.{lt-ltb, le-ltb}
-use Rattle.system_spec.specs.Bits.{bits_from, bits_for}
+use Rattle.system_spec.proofs.Common.{arith, bits_from, false, le-ltb, lt-ltb, refl, suc, sym, true, zero, ℕ, ◌+◌, ◌-◌, ◌<◌, ◌^◌, ◌≡◌, ◌≤◌}
+use Rattle.std.proofs.Common.{nat_lt}
+use Rattle.system_spec.specs.Bits.{bits_for}
 
 stop : (n b m : ℕ) → n < 2 ^ b → bits_from n b m ≡ b
 stop n b zero h = refl

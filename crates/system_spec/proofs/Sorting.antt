@@ -1,10 +1,7 @@
 -- A stable sort by number puts lines in their order.
-use Rattle.std.proofs.Common.{◌≡◌, ℕ, zero, suc, ◌<◌, ◌≤◌, Bool, true, false, cond, List, [], ◌∷◌, length, get_or, filter, nat_cmp, is_lt, refl, sym, ap, ◌∙◌, arith, inl, inr, suc-le-suc, zero-le}
-use Rattle.std.specs.Prelude.{leb}
-use Rattle.std.proofs.lemmas.Bool.{cond-true, cond-false, cases_Bool, leb-false, leb-true}
+use Rattle.system_spec.proofs.Common.{Bool, IsNonDecreasingBy, IsStableByKey, List, [], ap, arith, by_number, cases_Bool, cond, cond-false, cond-true, false, filter, get_or, inl, inr, is_lt, leb, leb-false, leb-true, length, nat_cmp, put_line, refl}
+use Rattle.system_spec.proofs.Common.{suc, suc-le-suc, sym, ties, true, zero, zero-le, ℕ, ◌<◌, ◌∙◌, ◌∷◌, ◌≡◌, ◌≤◌}
 use Rattle.std.proofs.lemmas.Bool.Decides.{nat_tests}
-use Rattle.std.specs.List.Sorted.{ties, IsNonDecreasingBy, IsStableByKey}
-use Rattle.system_spec.specs.Objects.{by_number, put_line}
 
 abbrev Line : Type 0
 Line = ℕ × ℕ

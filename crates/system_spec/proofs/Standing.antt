@@ -1,27 +1,10 @@
 -- Each part stands at its place
-use Rattle.std.proofs.Common.{◌≡◌, ◌+◌, ℕ, zero, suc, List, [], ◌∷◌, ◌++◌, length, take, refl, sym, ◌∙◌, ap, subst, inl, inr, Some, arith}
-use Rattle.std.specs.List.{flat_map, slice_get}
-use Rattle.adl_meaning.specs.declared.connector.Connector.{Connector}
-use Rattle.adl_meaning.specs.declared.connector.Connector.TheVariants.{Rpc, Notification, SharedMemory, Mmio, Interrupt, Direct}
-use Rattle.adl_meaning.specs.declared.flat.Domain.{Domain}
-use Rattle.arch_policy.specs.declared.owner.Owner.{Owner}
-use Rattle.arch_policy.specs.declared.owner.Owner.TheVariants.{OfDomain, OfConnection}
-use Rattle.cap_model.specs.declared.object.Object.{Object}
-use Rattle.cspace_layout.specs.declared.plan.SlotUse.{SlotUse}
-use Rattle.cspace_layout.specs.declared.plan.SlotUse.TheVariants.{OfEnd, Handler, OwnLock}
-use Rattle.cam_base.specs.Gather.{IsIn, before}
-use Rattle.cam_base.proofs.Gathered.{from_ones, from_place, get_behind, get_front, length_append, place_of, split_get}
-use Rattle.cam_base.proofs.NumberedLists.{single}
-use Rattle.vspace_layout.specs.declared.spaces.FrameInfo.{FrameInfo}
-use Rattle.vspace_layout.specs.declared.spaces.ThreadPlace.{ThreadPlace}
-use Rattle.system_spec.specs.declared.part.Owned.{Owned}
-use Rattle.system_spec.specs.declared.part.PageTable.{PageTable}
-use Rattle.system_spec.specs.declared.part.Part.{Part}
-use Rattle.system_spec.specs.declared.part.What.TheVariants.{CNodeOf, ThreadOf, EndpointOf, NotificationOf, LockOf, IrqOf, TableOf, FrameOf}
-use Rattle.system_spec.specs.declared.series.Series.{Series}
+use Rattle.system_spec.proofs.Common.{CNodeOf, Connector, Direct, Domain, EndpointOf, FrameInfo, FrameOf, Handler, Interrupt, IrqOf, IsIn, List, LockOf, Mmio, Notification, NotificationOf, Object, OfConnection, OfDomain, OfEnd, OwnLock, Owned, Owner}
+use Rattle.system_spec.proofs.Common.{PageTable, Part, Rpc, Series, SharedMemory, SlotUse, Some, TableOf, Tables, ThreadOf, ThreadPlace, [], all_tables, ap, arith, before, cnodes, domain_locks, domain_tables, domain_tcbs, endpoint, endpoint_by}
+use Rattle.system_spec.proofs.Common.{endpoints, first_of, flat_map, frame_owner, frame_parts, from_ones, from_place, get_behind, get_front, inl, inr, irq, irq_by, irq_owner, irqs, length, length_append, level_of, lock, locks, notification}
+use Rattle.system_spec.proofs.Common.{notification_by, notifications, numbered, owned, page_table, part, parts, place, place_of, refl, sections, single, slice_get, split_get, subst, suc, sym, table_part, table_parts, tables_at, take, tcbs}
+use Rattle.system_spec.proofs.Common.{threads_at, uses_at, zero, ℕ, ◌++◌, ◌+◌, ◌∙◌, ◌∷◌, ◌≡◌}
 use Rattle.system_spec.specs.declared.series.Series.TheVariants as series
-use Rattle.system_spec.specs.Parts.{all_tables, cnodes, domain_locks, domain_tables, domain_tcbs, endpoint, endpoint_by, endpoints, first_of, frame_parts, irq, irq_by, irqs, level_of, lock, locks, notification, notification_by, notifications, numbered, owned, page_table, part, parts, place, sections, table_part, table_parts, tables_at, tcbs}
-use Rattle.system_spec.specs.Tables.{Tables, frame_owner, irq_owner, threads_at, uses_at}
 
 -- ---- sections
 

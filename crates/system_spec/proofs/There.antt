@@ -1,36 +1,14 @@
 -- The parts of a system are of what there is: domains, threads, connections, locks, page tables and frames, each by its number.
-use Rattle.std.proofs.Common.{◌≡◌, ℕ, List, [], ◌∷◌, ◌++◌, refl, sym, ap, subst, inl, inr, ◌⊎◌, Some}
-use Rattle.std.specs.List.{slice_get}
-use Rattle.std.specs.Option.{option_map}
-use Rattle.std.proofs.lemmas.Option.{slice_get_within}
-use Rattle.adl_meaning.specs.declared.connector.Connector.{Connector}
-use Rattle.adl_meaning.specs.declared.connector.Connector.TheVariants.{Rpc, Notification, SharedMemory, Mmio, Interrupt, Direct}
-use Rattle.adl_meaning.specs.declared.flat.Domain.{Domain}
-use Rattle.adl_meaning.specs.declared.flat.FlatConnection.{FlatConnection}
-use Rattle.arch_policy.specs.declared.owner.Owner.{Owner}
-use Rattle.arch_policy.specs.declared.owner.Owner.TheVariants.{OfDomain, OfConnection}
-use Rattle.cap_model.specs.declared.object.Object.{Object}
+use Rattle.system_spec.proofs.Common.{CNodeOf, Connector, Direct, Domain, EndpointOf, FlatConnection, FrameInfo, FrameOf, Handler, Interrupt, IrqOf, IsIn, List, LockOf, Mmio, Notification, NotificationOf, Object, OfConnection, OfDomain, OfEnd}
+use Rattle.system_spec.proofs.Common.{OwnLock, Owned, Owner, PageTable, Part, Rpc, Series, SharedMemory, SlotUse, Some, TableOf, Tables, ThreadOf, ThreadPlace, [], all_tables, ap, cnodes, domain_locks, domain_tables, domain_tcbs, endpoint}
+use Rattle.system_spec.proofs.Common.{endpoint_by, endpoints, frame_owner, frame_parts, from_gather, from_ones, gather, in_append, in_gather, in_place, inl, inr, irq, irq_by, irq_owner, irqs, level_of, lock, locks, notification, notification_by}
+use Rattle.system_spec.proofs.Common.{notifications, numbered, object, object_at, option_map, owned, page_table, part, parts, place, place_of, refl, sections, slice_get, slice_get_within, spec_of, subst, sym, table_part, table_parts, tables_at, tcbs}
+use Rattle.system_spec.proofs.Common.{threads_at, uses_at, ℕ, ◌++◌, ◌∷◌, ◌≡◌, ◌⊎◌}
 use Rattle.cap_model.specs.Kinds.{kind_at, kind_of_object}
-use Rattle.cap_model.specs.Lookup.{object_at}
-use Rattle.cspace_layout.specs.declared.plan.SlotUse.{SlotUse}
-use Rattle.cspace_layout.specs.declared.plan.SlotUse.TheVariants.{OfEnd, Handler, OwnLock}
-use Rattle.cam_base.specs.Gather.{IsIn, gather}
-use Rattle.cam_base.proofs.Gathered.{from_gather, from_ones, in_append, in_gather, in_place, place_of}
 use Rattle.system_spec.proofs.Objects.{in_together, objects_stand}
-use Rattle.system_spec.specs.declared.part.Owned.{Owned}
-use Rattle.system_spec.specs.declared.part.PageTable.{PageTable}
-use Rattle.system_spec.specs.declared.part.Part.{Part}
 use Rattle.system_spec.specs.declared.part.What.{What}
-use Rattle.system_spec.specs.declared.part.What.TheVariants.{CNodeOf, ThreadOf, EndpointOf, NotificationOf, LockOf, IrqOf, TableOf, FrameOf}
-use Rattle.system_spec.specs.declared.series.Series.{Series}
 use Rattle.system_spec.specs.declared.series.Series.TheVariants as series
-use Rattle.system_spec.specs.Made.{spec_of}
-use Rattle.system_spec.specs.Objects.{object}
-use Rattle.system_spec.specs.Parts.{all_tables, cnodes, domain_locks, domain_tables, domain_tcbs, endpoint, endpoint_by, endpoints, frame_parts, irq, irq_by, irqs, level_of, lock, locks, notification, notification_by, notifications, numbered, owned, page_table, part, parts, place, sections, table_part, table_parts, tables_at, tcbs}
-use Rattle.system_spec.specs.Tables.{Tables, frame_owner, irq_owner, threads_at, uses_at}
 use Rattle.system_spec.specs.Landmarks.{IsThere as IsCounted}
-use Rattle.vspace_layout.specs.declared.spaces.FrameInfo.{FrameInfo}
-use Rattle.vspace_layout.specs.declared.spaces.ThreadPlace.{ThreadPlace}
 
 -- ---- what there is
 

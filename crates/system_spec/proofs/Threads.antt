@@ -1,14 +1,6 @@
 -- A thread of the parts that it is made of
-use Rattle.std.proofs.Common.{◌≡◌, ◌+◌, ℕ, List, Option, Some, None, refl, ◌∙◌, ap, arith}
-use Rattle.std.specs.Option.{option_map}
-use Rattle.cap_model.specs.declared.cap.Cap.{Cap}
+use Rattle.system_spec.proofs.Common.{CNodeOf, Cap, FrameOf, List, None, Option, RW, Some, TableOf, Tables, ThreadPlace, ap, arith, buffer_cap, cap, leaf_entry, leaf_name, option_map, place, priority, refl, tcb, ℕ, ◌+◌, ◌∙◌, ◌≡◌}
 use Rattle.cap_model.specs.declared.object.Tcb.{Tcb}
-use Rattle.conn_rules.specs.Row.{RW}
-use Rattle.vspace_layout.specs.declared.spaces.ThreadPlace.{ThreadPlace}
-use Rattle.system_spec.specs.declared.part.What.TheVariants.{CNodeOf, FrameOf, TableOf}
-use Rattle.system_spec.specs.Objects.{buffer_cap, cap, tcb}
-use Rattle.system_spec.specs.Parts.{place}
-use Rattle.system_spec.specs.Tables.{Tables, leaf_entry, leaf_name, priority}
 
 pub cnode_place : (t : Tables) (d : ℕ) → d ≡ place t (CNodeOf d)
 cnode_place t d = omega arith

@@ -1,9 +1,5 @@
 -- Turns of loops over places
-use Rattle.std.proofs.Common.{◌≡◌, ◌<◌, ◌+◌, ℕ, suc, List, [], ◌∷◌, ◌++◌, length, take, refl, sym, ◌∙◌, ap, Some, append_assoc, add-one}
-use Rattle.std.specs.List.{slice_get}
-use Rattle.cam_base.specs.Gather.{gather}
-use Rattle.cam_base.proofs.Gathered.{gather_more}
-use Rattle.cam_base.proofs.NumberedLists.{at_place}
+use Rattle.system_spec.proofs.Common.{List, Some, [], add-one, ap, append_assoc, at_place, gather, gather_more, length, refl, slice_get, suc, sym, take, ℕ, ◌++◌, ◌+◌, ◌<◌, ◌∙◌, ◌∷◌, ◌≡◌}
 
 -- where what comes from an element depends on its place alone
 pub place_turn : {X Y : Type 0} (f : ℕ → X → List Y) (xs : List X) (i : ℕ) (old mid new : List Y) → i < length xs

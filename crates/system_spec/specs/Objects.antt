@@ -15,7 +15,7 @@ use Rattle.std.specs.Option.{option_map_or}
 use Rattle.adl_ast.specs.declared.composition.Role.{Role}
 use Rattle.adl_ast.specs.declared.composition.Role.TheVariants.{From, To}
 use Rattle.adl_meaning.specs.declared.connector.Connector.{Connector}
-use Rattle.adl_meaning.specs.declared.connector.Connector.TheVariants.{Rpc, Notification as Notifies, SharedMemory, Mmio, Interrupt, Direct}
+use Rattle.adl_meaning.specs.declared.connector.Connector.TheVariants.{Rpc, Interrupt}
 use Rattle.adl_meaning.specs.declared.flat.FlatConnection.{FlatConnection}
 use Rattle.adl_meaning.specs.declared.settled.Settled.{Settled}
 use Rattle.cap_model.specs.declared.cap.Cap.{Cap}
@@ -46,11 +46,7 @@ cap o r b = record { object = o; rights = r; badge = b }
 -- what the capability of an end of connection k leads to: an endpoint for an RPC, and else a notification
 abbrev pub joint_by : ℕ → Connector → What
 joint_by k Rpc = EndpointOf k
-joint_by k Notifies = NotificationOf k
-joint_by k Interrupt = NotificationOf k
-joint_by k SharedMemory = NotificationOf k
-joint_by k Mmio = NotificationOf k
-joint_by k Direct = NotificationOf k
+joint_by k _ = NotificationOf k
 
 abbrev pub joint : Tables → ℕ → What
 joint t k = option_map_or (λ c. joint_by k c.connector) (slice_get t.flat.connections k) (NotificationOf k)
@@ -130,11 +126,7 @@ object t (FrameOf f) = option_map_or frame_object (slice_get t.spaces.frames f) 
 -- the number of an interrupt and the place of its object
 abbrev pub line_by : Tables → ℕ → FlatConnection → Connector → List (ℕ × ℕ)
 line_by t k c Interrupt = (irq_number t.settled k c, place t (IrqOf k)) ∷ []
-line_by t k c Rpc = []
-line_by t k c Notifies = []
-line_by t k c SharedMemory = []
-line_by t k c Mmio = []
-line_by t k c Direct = []
+line_by t k c _ = []
 
 -- in front of the first line whose number is no less
 abbrev pub put_line : ℕ × ℕ → List (ℕ × ℕ) → List (ℕ × ℕ)

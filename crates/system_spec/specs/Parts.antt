@@ -15,7 +15,7 @@
 use Rattle.std.specs.Prelude.{ℕ, ◌+◌, ◌==◌, Bool, false, List, [], ◌∷◌, map, length, take}
 use Rattle.std.specs.List.{count_by, flat_map}
 use Rattle.adl_meaning.specs.declared.connector.Connector.{Connector}
-use Rattle.adl_meaning.specs.declared.connector.Connector.TheVariants.{Rpc, Notification, SharedMemory, Mmio, Interrupt, Direct}
+use Rattle.adl_meaning.specs.declared.connector.Connector.TheVariants.{Rpc, Notification, Interrupt}
 use Rattle.adl_meaning.specs.declared.flat.Domain.{Domain}
 use Rattle.adl_meaning.specs.declared.flat.FlatConnection.{FlatConnection}
 use Rattle.arch_policy.specs.declared.owner.Owner.{Owner}
@@ -83,27 +83,16 @@ locks t = gather (domain_locks t) t.flat.domains
 
 abbrev pub endpoint_by : ℕ → Connector → List Part
 endpoint_by k Rpc = part series.Ep k (OfConnection k) (EndpointOf k) ∷ []
-endpoint_by k Notification = []
-endpoint_by k Interrupt = []
-endpoint_by k SharedMemory = []
-endpoint_by k Mmio = []
-endpoint_by k Direct = []
+endpoint_by k _ = []
 
 abbrev pub notification_by : ℕ → Connector → List Part
 notification_by k Notification = part series.Ntfn k (OfConnection k) (NotificationOf k) ∷ []
 notification_by k Interrupt = part series.Ntfn k (OfConnection k) (NotificationOf k) ∷ []
-notification_by k Rpc = []
-notification_by k SharedMemory = []
-notification_by k Mmio = []
-notification_by k Direct = []
+notification_by k _ = []
 
 abbrev pub irq_by : ℕ → Owner → Connector → List Owned
 irq_by k device Interrupt = owned device (IrqOf k) ∷ []
-irq_by k device Rpc = []
-irq_by k device Notification = []
-irq_by k device SharedMemory = []
-irq_by k device Mmio = []
-irq_by k device Direct = []
+irq_by k device _ = []
 
 abbrev pub endpoint : ℕ → FlatConnection → List Part
 endpoint k c = endpoint_by k c.connector

@@ -1,7 +1,7 @@
 -- Places as they are counted.
 use Rattle.std.specs.Prelude.{◌≡◌, ℕ, ◌+◌, Bool, true, false, if◌then◌else◌, List, [], ◌∷◌}
 use Rattle.adl_meaning.specs.declared.connector.Connector.{Connector}
-use Rattle.adl_meaning.specs.declared.connector.Connector.TheVariants.{Rpc, Notification, SharedMemory, Mmio, Interrupt, Direct}
+use Rattle.adl_meaning.specs.declared.connector.Connector.TheVariants.{Rpc, Notification, Interrupt}
 use Rattle.adl_meaning.specs.declared.flat.FlatConnection.{FlatConnection}
 use Rattle.cspace_layout.specs.declared.plan.SlotUse.{SlotUse}
 use Rattle.cspace_layout.specs.declared.plan.SlotUse.TheVariants.{OfEnd, Handler, OwnLock}
@@ -23,27 +23,16 @@ holds_lock (OwnLock leaf m) = true
 
 abbrev pub has_endpoint : Connector → Bool
 has_endpoint Rpc = true
-has_endpoint Notification = false
-has_endpoint Interrupt = false
-has_endpoint SharedMemory = false
-has_endpoint Mmio = false
-has_endpoint Direct = false
+has_endpoint _ = false
 
 abbrev pub has_notification : Connector → Bool
-has_notification Rpc = false
 has_notification Notification = true
 has_notification Interrupt = true
-has_notification SharedMemory = false
-has_notification Mmio = false
-has_notification Direct = false
+has_notification _ = false
 
 abbrev pub has_irq : Connector → Bool
 has_irq Interrupt = true
-has_irq Rpc = false
-has_irq Notification = false
-has_irq SharedMemory = false
-has_irq Mmio = false
-has_irq Direct = false
+has_irq _ = false
 
 -- whether connections of this connector have such an object
 abbrev pub stands : Standing → Connector → Bool

@@ -60,10 +60,8 @@ windows_at t d = option_map_or (λ s. s.windows) (slice_get t.spaces.spaces d) [
 -- ---- leaves
 
 abbrev pub name_of_item : Item → List ℕ
-name_of_item (items.Import i) = []
-name_of_item (items.Procedure p) = []
 name_of_item (items.Component c) = c.id.name
-name_of_item (items.Assembly a) = []
+name_of_item _ = []
 
 -- the name of the component that stands there
 abbrev pub component_name : Source → ItemAt → List ℕ

@@ -53,6 +53,19 @@ fn joint_place(tables: &Tables<'_>, places: &Places, connection: u32) -> u32
     }
 }
 
+/// The place of what the capability of a use leads to, where its lock would stand at this place.
+pub fn use_object(tables: &Tables<'_>, places: &Places, lock: u32, used: SlotUse) -> u32
+    requires places { ArePlaces (told tables.now) places.now }
+    requires named { NamesOneOf (length tables.now.flat.now.connections) used }
+    ensures { result ≡ (use_cap_at (told tables.now) lock used).object }
+{
+    match used {
+        SlotUse::OfEnd(connection, _) => joint_place(tables, places, connection),
+        SlotUse::Handler(connection, _) => number_at(places.irqs.as_slice(), connection),
+        SlotUse::OwnLock(_, _) => lock,
+    }
+}
+
 /// The capability of a use, where its lock would stand at this place.
 pub fn use_cap(tables: &Tables<'_>, places: &Places, lock: u32, used: SlotUse) -> Cap
     requires places { ArePlaces (told tables.now) places.now }

@@ -14,7 +14,7 @@ ghost use Rattle.system_spec.specs.declared.part.What.TheVariants.{LockOf};
 ghost use Rattle.system_spec.specs.Told.{told};
 
 use crate::MapLine;
-use crate::caps::{lock_number, use_cap};
+use crate::caps::{lock_number, use_object};
 use crate::landmarks::Plan;
 use crate::listing::first_of;
 use crate::places::Places;
@@ -110,7 +110,7 @@ fn push_slots_of(
 {
     let mut next = first_lock;
     for (number, used) in uses.iter().enumerate() {
-        let object = use_cap(tables, places, next, *used).object;
+        let object = use_object(tables, places, next, *used);
         lines.push(slot_line(object, number as u32, *used))?;
         next += lock_number(*used);
     }

@@ -6,12 +6,13 @@ ghost use Rattle.cam_base.specs.Texts.{◌⊹◌, together};
 ghost use Rattle.cam_io.specs.Sinks.{IsOpen, Writes};
 ghost use Rattle.cspace_layout.specs.Members.{leaf_members};
 ghost use Rattle.std.specs.List.{flat_map};
-ghost use Rattle.std.specs.Prelude.{◌≡◌, ◌∷◌, map};
+ghost use Rattle.std.specs.Prelude.{◌≡◌, ◌≤◌, ◌∷◌, ◌++◌, length, map, take, IfSome};
 ghost use Rattle.system_spec.specs.MapText.{connection_path, domain_line, domain_path, end_text, joined_text};
 ghost use Rattle.system_spec.specs.MapText.{leaf_path, line_text, map_text, member_name, name_in, named, own_line};
 ghost use Rattle.system_spec.specs.MapText.{slot_line, thread_line, window_line};
 ghost use Rattle.system_spec.specs.Names.{root_series};
 
+use crate::series::put_behind;
 use crate::{MapLine, Series};
 use adl_ast::{Member, Source};
 use adl_meaning::Flat;
@@ -102,8 +103,50 @@ fn member_name<'a>(names: &'a MapNames<'_>, leaf: u32, member: u32) -> &'a [u8]
     }
 }
 
-/// Writes names, a dot before each.
+/// Puts a name with a dot before it behind so many bytes of a buffer, and answers where it ends; none where it doesn't fit.
+fn put_name(line: &mut [u8], end: usize, name: &[u8]) -> Option<usize>
+    requires { end ≤ length line.old }
+    ensures same { length line.new ≡ length line.old }
+    ensures within { IfSome result (λ past. past ≤ length line.new) }
+    ensures put { IfSome result (λ past. take past line.new ≡ take end line.old ++ 46 ∷ name.now) }
+{
+    if name.len() >= line.len() - end {
+        return None;
+    }
+    let behind = put_behind(line, end, b".");
+    Some(put_behind(line, behind, name))
+}
+
+/// Puts names, a dot before each, at the front of a buffer, and answers how many bytes they are; none where they don't fit.
+fn put_names(names: &[Name], line: &mut [u8]) -> Option<usize>
+    ensures within { IfSome result (λ end. end ≤ length line.new) }
+    ensures put { IfSome result (λ end. take end line.new ≡ flat_map (λ name. 46 ∷ name) names.now) }
+{
+    let mut end = 0;
+    for name in names {
+        end = put_name(line, end, name.as_bytes())?;
+    }
+    Some(end)
+}
+
+/// Writes names, a dot before each; in one go where they are short.
 fn write_dotted<O: Outputs>(names: &[Name], out: &mut O, channel: u8) -> Result<(), Failed>
+    requires { IsOpen (O.sink out.old) channel }
+    ensures { Writes result channel (flat_map (λ name. 46 ∷ name) names.now)
+        (O.sink out.old) (O.sink out.new) (O.faults out.old) (O.faults out.new) }
+{
+    if names.is_empty() {
+        return Ok(());
+    }
+    let mut line = [0; 128];
+    match put_names(names, &mut line) {
+        Some(end) => write_all(out, channel, &line[..end]),
+        None => write_names(names, out, channel),
+    }
+}
+
+/// The same, one by one.
+fn write_names<O: Outputs>(names: &[Name], out: &mut O, channel: u8) -> Result<(), Failed>
     requires { IsOpen (O.sink out.old) channel }
     ensures { Writes result channel (flat_map (λ name. 46 ∷ name) names.now)
         (O.sink out.old) (O.sink out.new) (O.faults out.old) (O.faults out.new) }

@@ -1,4 +1,4 @@
-use Rattle.cap_model.specs.Adds.{Adds}
+use Rattle.arch_policy.proofs.Common.{Adds}
 use Rattle.arch_policy.proofs.Bounding.{Among}
 use Rattle.arch_policy.proofs.bound.push_bound.Given as goal
 

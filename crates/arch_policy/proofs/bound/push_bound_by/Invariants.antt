@@ -1,4 +1,4 @@
-use Rattle.cap_model.specs.Adds.{Adds}
+use Rattle.arch_policy.proofs.Common.{Adds}
 use Rattle.arch_policy.proofs.Bounding.{Until}
 use Rattle.arch_policy.proofs.bound.push_bound_by.Given as goal
 

@@ -1,13 +1,8 @@
-use Rattle.std.proofs.Common.{[]}
-use Rattle.adl_meaning.specs.declared.flat.FlatConnection.{FlatConnection}
-use Rattle.adl_meaning.specs.declared.flat.FlatEnd.{FlatEnd}
-use Rattle.arch_policy.specs.Tables.{told}
-use Rattle.arch_policy.specs.Triples.{end_edges}
-use Rattle.cam_base.specs.Gather.{gather}
-use Rattle.cam_base.proofs.Gathered.{gather_turn}
+use Rattle.arch_policy.proofs.Common.{FlatConnection, FlatEnd, [], end_edges, gather, gather_turn, told}
 use Rattle.arch_policy.proofs.edges.direct_edges.Goals as goal
 
 pub loop-place-preserved : goal.loop-place-preserved
 loop-place-preserved c =
-    gather_turn (λ k (x : FlatConnection). gather (λ n (e : FlatEnd). end_edges (told c.args.tables.now) k x n e) x.ends) c.args.tables.now.flat.now.connections _ c.loop-place.place _ [] _ _ c.as_slice-connection-items.ensures
+    gather_turn (λ k (x : FlatConnection). gather (λ n (e : FlatEnd). end_edges (told c.args.tables.now) k x n e) x.ends)
+    c.args.tables.now.flat.now.connections _ c.loop-place.place _ [] _ _ c.as_slice-connection-items.ensures
     c.loop-place-test.true c.connection-item.is c.loop-place.invariant c.in_ok-push_ends.ensures

@@ -1,9 +1,6 @@
-use Rattle.std.proofs.Common.{◌≡◌, take}
-use Rattle.conn_rules.specs.Row.{same_role}
-use Rattle.arch_policy.specs.Tables.{leaf_label, told}
-use Rattle.arch_policy.specs.Where.{where_true}
-use Rattle.cam_base.specs.Gather.{gather}
+use Rattle.arch_policy.proofs.Common.{gather, leaf_label, same_role, take, told, where_true, ◌≡◌}
 use Rattle.arch_policy.proofs.edges.labels_in_role.Given as goal
 
 abbrev pub invariant-loop-end : goal.invariant-loop-end
-invariant-loop-end l = l.labels ≡ gather (λ n e. where_true (same_role e.role l.role) (leaf_label (told l.tables) e.leaf)) (take l.end-index l.ends)
+invariant-loop-end l = l.labels ≡ gather (λ n e. where_true (same_role e.role l.role) (leaf_label (told l.tables) e.leaf))
+    (take l.end-index l.ends)

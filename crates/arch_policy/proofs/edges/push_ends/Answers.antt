@@ -1,11 +1,8 @@
-use Rattle.adl_meaning.specs.declared.flat.FlatEnd.{FlatEnd}
-use Rattle.std.proofs.lemmas.List.{get_or_default}
-use Rattle.arch_policy.specs.Tables.{told}
-use Rattle.arch_policy.specs.Triples.{end_edges}
-use Rattle.cam_base.proofs.Gathered.{gather_turn}
+use Rattle.arch_policy.proofs.Common.{FlatEnd, end_edges, gather_turn, get_or_default, told}
 use Rattle.arch_policy.proofs.edges.push_ends.Goals as goal
 
 pub loop-number-preserved : goal.loop-number-preserved
 loop-number-preserved c =
-    gather_turn (λ n (e : FlatEnd). end_edges (told c.args.tables.now) c.args.place c.args.connection.now n e) c.args.connection.now.ends _ c.loop-number.number _ c.args.edges.now _ _ c.as_slice-end-items.ensures
+    gather_turn (λ n (e : FlatEnd). end_edges (told c.args.tables.now) c.args.place c.args.connection.now n e)
+    c.args.connection.now.ends _ c.loop-number.number _ c.args.edges.now _ _ c.as_slice-end-items.ensures
     c.loop-number-test.true (get_or_default _ _ _ _ c.loop-number-test.true) c.loop-number.invariant c.in_ok-push_end.ensures

@@ -1,11 +1,8 @@
-use Rattle.std.proofs.Common.{◌∷◌, [], refl}
-use Rattle.adl_meaning.specs.declared.flat.Leaf.{Leaf}
-use Rattle.arch_policy.specs.Labels.{rank}
-use Rattle.cam_base.specs.Paths.{joined}
-use Rattle.cam_base.proofs.Gathered.{gather_turn}
+use Rattle.arch_policy.proofs.Common.{Leaf, [], gather_turn, joined, rank, refl, ◌∷◌}
 use Rattle.arch_policy.proofs.labels.device_numbers.Goals as goal
 
 pub loop-leaf-preserved : goal.loop-leaf-preserved
 loop-leaf-preserved c =
-    gather_turn (λ d (x : Leaf). rank c.args.texts.now (joined x.path) ∷ []) c.args.leaves.now _ c.loop-leaf.leaf-index _ [] _ _ refl
+    gather_turn (λ d (x : Leaf). rank c.args.texts.now (joined x.path) ∷ []) c.args.leaves.now _ c.loop-leaf.leaf-index
+    _ [] _ _ refl
     c.loop-leaf-test.true c.leaf-item.is c.loop-leaf.invariant c.in_ok-push_number.ensures

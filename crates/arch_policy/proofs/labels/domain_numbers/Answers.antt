@@ -1,11 +1,8 @@
-use Rattle.std.proofs.Common.{◌∷◌, [], refl}
-use Rattle.adl_meaning.specs.declared.flat.Domain.{Domain}
-use Rattle.arch_policy.specs.Labels.{rank}
-use Rattle.cam_base.specs.Paths.{joined}
-use Rattle.cam_base.proofs.Gathered.{gather_turn}
+use Rattle.arch_policy.proofs.Common.{Domain, [], gather_turn, joined, rank, refl, ◌∷◌}
 use Rattle.arch_policy.proofs.labels.domain_numbers.Goals as goal
 
 pub loop-domain-preserved : goal.loop-domain-preserved
 loop-domain-preserved c =
-    gather_turn (λ d (x : Domain). rank c.args.texts.now (joined x.path) ∷ []) c.args.domains.now _ c.loop-domain.domain-index _ [] _ _ refl
+    gather_turn (λ d (x : Domain). rank c.args.texts.now (joined x.path) ∷ []) c.args.domains.now _ c.loop-domain.domain-index
+    _ [] _ _ refl
     c.loop-domain-test.true c.domain-item.is c.loop-domain.invariant c.in_ok-push_number.ensures

@@ -1,5 +1,4 @@
-use Rattle.std.proofs.Common.{◌≡◌, ◌∷◌, []}
-use Rattle.cam_base.specs.Gather.{gather}
+use Rattle.arch_policy.proofs.Common.{[], gather, ◌∷◌, ◌≡◌}
 use Rattle.arch_policy.proofs.labels.label_lines.Given as goal
 
 abbrev pub invariant-loop-text : goal.invariant-loop-text

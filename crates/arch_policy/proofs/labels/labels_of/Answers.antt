@@ -1,6 +1,5 @@
-use Rattle.std.proofs.Common.{◌≡◌, ◌∙◌, ◌<◌, ◌^◌, ap, length, sym, subst}
+use Rattle.arch_policy.proofs.Common.{ap, in_order, label_texts, length, subst, sym, ◌<◌, ◌^◌, ◌∙◌, ◌≡◌}
 use Rattle.arch_policy.proofs.Labelled.{few_texts}
-use Rattle.arch_policy.specs.Labels.{in_order, label_texts}
 use Rattle.arch_policy.proofs.labels.labels_of.Goals as goal
 
 pub label_numbers-requires-clause-ordered : goal.label_numbers-requires-clause-ordered
@@ -8,5 +7,6 @@ label_numbers-requires-clause-ordered c = (c.in_ok-all_texts.field-0, c.as_slice
 
 pub label_numbers-requires-clause-few : goal.label_numbers-requires-clause-few
 label_numbers-requires-clause-few c =
-    let are : c.as_slice.result.now ≡ label_texts c.args.flat.now = c.as_slice.ensures ∙ c.in_ok-texts.ensures ∙ ap in_order c.in_ok-all_texts.ensures in
+    let are : c.as_slice.result.now ≡ label_texts c.args.flat.now = c.as_slice.ensures ∙ c.in_ok-texts.ensures
+    ∙ ap in_order c.in_ok-all_texts.ensures in
     subst (λ z. length z < 2 ^ 32) (sym are) (few_texts c.args.flat.now c.requires)

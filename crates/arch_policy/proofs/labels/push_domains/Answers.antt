@@ -1,7 +1,4 @@
-use Rattle.std.proofs.Common.{◌∷◌, [], refl}
-use Rattle.adl_meaning.specs.declared.flat.Domain.{Domain}
-use Rattle.cam_base.specs.Paths.{joined}
-use Rattle.cam_base.proofs.Gathered.{gather_turn}
+use Rattle.arch_policy.proofs.Common.{Domain, [], gather_turn, joined, refl, ◌∷◌}
 use Rattle.arch_policy.proofs.labels.push_domains.Goals as goal
 
 pub loop-domain-preserved : goal.loop-domain-preserved

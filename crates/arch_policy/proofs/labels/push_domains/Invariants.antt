@@ -1,6 +1,4 @@
-use Rattle.std.proofs.Common.{◌≡◌, ◌++◌, ◌∷◌, [], take}
-use Rattle.cam_base.specs.Paths.{joined}
-use Rattle.cam_base.specs.Gather.{gather}
+use Rattle.arch_policy.proofs.Common.{[], gather, joined, take, ◌++◌, ◌∷◌, ◌≡◌}
 use Rattle.arch_policy.proofs.labels.push_domains.Given as goal
 
 abbrev pub invariant-loop-domain : goal.invariant-loop-domain

@@ -1,7 +1,5 @@
-use Rattle.std.proofs.Common.{sym, subst, rules}
-use Rattle.std.proofs.lemmas.List.Sorted.{IsPartitionPoint-from_clause}
+use Rattle.arch_policy.proofs.Common.{IsPartitionPoint-from_clause, comes_before, rules, subst, sym}
 use Rattle.arch_policy.proofs.Ordering.{Rises, order_rises, parted, parted_count}
-use Rattle.arch_policy.specs.Labels.{comes_before}
 use Rattle.arch_policy.proofs.labels.rank.Goals as goal
 
 pub returns : goal.returns
@@ -10,4 +8,5 @@ returns c =
     let t = c.args.text.now in
     let rises : Rises ts = subst Rises (sym c.requires.1) (order_rises c.requires.0) in
     sym (parted_count (λ s. comes_before s t) ts c.partition_point.result c.partition_point.ensures.bound
-    (IsPartitionPoint-from_clause (λ s. comes_before s t) ts c.partition_point.result c.partition_point.ensures.partitioned (parted ts t rises) (λ a r f k. search rules)))
+    (IsPartitionPoint-from_clause (λ s. comes_before s t) ts c.partition_point.result c.partition_point.ensures.partitioned
+    (parted ts t rises) (λ a r f k. search rules)))

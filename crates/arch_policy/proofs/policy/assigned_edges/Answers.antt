@@ -1,9 +1,5 @@
-use Rattle.std.proofs.Common.{◌∙◌, ap}
-use Rattle.std.specs.List.{filter}
-use Rattle.arch_policy.specs.Tables.{told}
-use Rattle.arch_policy.specs.Triples.{leads_out, reasoned_edges}
+use Rattle.arch_policy.proofs.Common.{ap, filter, has, leads_out, reasoned_edges, told, ◌∙◌}
 use Rattle.arch_policy.proofs.Counted.{has_filter}
-use Rattle.cap_model.specs.Tables.{has}
 use Rattle.arch_policy.proofs.policy.assigned_edges.Goals as goal
 
 pub returns-clause-same : goal.returns-clause-same

@@ -1,11 +1,11 @@
-use Rattle.std.proofs.Common.{◌++◌, ◌∙◌, ap}
-use Rattle.arch_policy.specs.Tables.{told}
-use Rattle.arch_policy.specs.Triples.{direct_edges, handle_edges, lock_edges, reply_edges, signal_edges}
+use Rattle.arch_policy.proofs.Common.{ap, direct_edges, handle_edges, lock_edges, reply_edges, signal_edges, told, ◌++◌, ◌∙◌}
 use Rattle.arch_policy.proofs.Counted.{collected_few}
 use Rattle.arch_policy.proofs.policy.reasoned_with.Goals as goal
 
 pub returns : goal.returns
 returns c =
     let t = told c.args.tables.now in
-    collected_few (direct_edges t) (reply_edges t) (handle_edges t) (signal_edges t ++ lock_edges t) c.args.handlers.now c.args.signallers.now c.push_crossed_edges.new.edges c.push_bound.new.edges
-    c.requires.handlers c.requires.signallers (c.in_ok-push_crossed_edges.ensures ∙ ap (λ z. z ++ reply_edges t) c.in_ok-edges.ensures) c.in_ok-push_bound.ensures
+    collected_few (direct_edges t) (reply_edges t) (handle_edges t) (signal_edges t ++ lock_edges t) c.args.handlers.now
+    c.args.signallers.now c.push_crossed_edges.new.edges c.push_bound.new.edges
+    c.requires.handlers c.requires.signallers (c.in_ok-push_crossed_edges.ensures ∙ ap (λ z. z ++ reply_edges t)
+    c.in_ok-edges.ensures) c.in_ok-push_bound.ensures

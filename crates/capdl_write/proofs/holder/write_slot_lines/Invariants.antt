@@ -1,7 +1,4 @@
-use Rattle.std.proofs.Common.{take}
-use Rattle.std.specs.List.{flat_map}
-use Rattle.cam_io.proofs.Lines.{Wrote}
-use Rattle.cap_model.specs.Canonical.{slot_line}
+use Rattle.capdl_write.proofs.Common.{Wrote, flat_map, slot_line, take}
 use Rattle.capdl_write.proofs.holder.write_slot_lines.Given as goal
 
 abbrev pub invariant-loop-slot : goal.invariant-loop-slot

@@ -1,10 +1,6 @@
-use Rattle.std.proofs.Common.{◌≡◌, ℕ, List, [], ◌∷◌, ◌<◌, Result, Ok, codes, length, arith}
-use Rattle.cam_io.specs.Sinks.{Sink, Writes}
-use Rattle.cap_model.specs.Canonical.{slot_line, slots_text}
+use Rattle.capdl_write.proofs.Common.{Cap, List, Ok, Result, Sink, Spec, Writes, [], arith, flat_map, length, slot_line, slots_text, ℕ, ◌<◌, ◌∷◌, ◌≡◌}
+use Rattle.std.proofs.Common.{codes}
 use Rattle.cam_base.specs.Texts.{◌⊹◌, together}
-use Rattle.std.specs.List.{flat_map}
-use Rattle.cap_model.specs.declared.cap.Cap.{Cap}
-use Rattle.cap_model.specs.declared.spec.Spec.{Spec}
 use Rattle.capdl_write.proofs.Nothing.{wrote_no_text}
 use Rattle.capdl_write.proofs.holder.write_slots.Goals as goal
 

@@ -1,4 +1,4 @@
-use Rattle.std.proofs.Common.{◌≡◌, false, rules, sym}
+use Rattle.capdl_write.proofs.Common.{false, rules, sym, ◌≡◌}
 use Rattle.capdl_write.proofs.Nothing.{wrote_no_text}
 use Rattle.capdl_write.proofs.holder.write_tcb_slots.Goals as goal
 

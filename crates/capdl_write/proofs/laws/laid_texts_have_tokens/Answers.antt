@@ -1,5 +1,4 @@
-use Rattle.std.proofs.Common.{length}
-use Rattle.capdl_write.specs.Pieces.{laid}
+use Rattle.capdl_write.proofs.Common.{laid, length}
 use Rattle.capdl_write.proofs.Laying.{laid_lexes}
 use Rattle.capdl_write.proofs.laws.laid_texts_have_tokens.Goals as goal
 

@@ -1,4 +1,4 @@
-use Rattle.cap_model.specs.Canonical.{canonical}
+use Rattle.capdl_write.proofs.Common.{canonical}
 use Rattle.capdl_text.proofs.Answered.{read_text}
 use Rattle.capdl_write.proofs.Whole.{canonical_text}
 use Rattle.capdl_write.proofs.laws.written_is_read.Goals as goal

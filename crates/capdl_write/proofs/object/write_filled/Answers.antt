@@ -1,4 +1,4 @@
-use Rattle.cam_io.proofs.Sequence.{writes_after, writes_first, writes_exit, open_still}
+use Rattle.capdl_write.proofs.Common.{open_still, writes_after, writes_exit, writes_first}
 use Rattle.capdl_write.proofs.object.write_filled.Goals as goal
 
 pub returns-in_err-write_parts : goal.returns-in_err-write_parts

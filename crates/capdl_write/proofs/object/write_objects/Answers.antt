@@ -1,7 +1,4 @@
-use Rattle.std.proofs.Common.{arith}
-use Rattle.cam_io.proofs.Lines.{lines_begin, lines_end, lines_fail, lines_step}
-use Rattle.cam_io.proofs.Sequence.{writes_exit}
-use Rattle.cap_model.specs.Canonical.{entry_line}
+use Rattle.capdl_write.proofs.Common.{arith, entry_line, lines_begin, lines_end, lines_fail, lines_step, writes_exit}
 use Rattle.capdl_write.proofs.object.write_objects.Goals as goal
 
 pub loop-entry-init : goal.loop-entry-init

@@ -1,7 +1,4 @@
-use Rattle.std.proofs.Common.{take}
-use Rattle.std.specs.List.{flat_map}
-use Rattle.cam_io.proofs.Lines.{Wrote}
-use Rattle.cap_model.specs.Canonical.{entry_line}
+use Rattle.capdl_write.proofs.Common.{Wrote, entry_line, flat_map, take}
 use Rattle.capdl_write.proofs.object.write_objects.Given as goal
 
 abbrev pub invariant-loop-entry : goal.invariant-loop-entry

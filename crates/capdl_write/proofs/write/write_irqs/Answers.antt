@@ -1,8 +1,4 @@
-use Rattle.std.proofs.Common.{arith, get_or}
-use Rattle.std.proofs.lemmas.List.{get_or_default}
-use Rattle.cam_io.proofs.Lines.{lines_begin, lines_end, lines_fail, lines_step}
-use Rattle.cam_io.proofs.Sequence.{writes_exit}
-use Rattle.cap_model.specs.Canonical.{irq_line}
+use Rattle.capdl_write.proofs.Common.{arith, get_or, get_or_default, irq_line, lines_begin, lines_end, lines_fail, lines_step, writes_exit}
 use Rattle.capdl_write.proofs.write.write_irqs.Goals as goal
 
 pub loop-line-init : goal.loop-line-init

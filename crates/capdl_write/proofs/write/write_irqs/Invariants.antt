@@ -1,7 +1,4 @@
-use Rattle.std.proofs.Common.{take}
-use Rattle.std.specs.List.{flat_map}
-use Rattle.cam_io.proofs.Lines.{Wrote}
-use Rattle.cap_model.specs.Canonical.{irq_line}
+use Rattle.capdl_write.proofs.Common.{Wrote, flat_map, irq_line, take}
 use Rattle.capdl_write.proofs.write.write_irqs.Given as goal
 
 abbrev pub invariant-loop-line : goal.invariant-loop-line

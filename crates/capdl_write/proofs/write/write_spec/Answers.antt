@@ -1,4 +1,4 @@
-use Rattle.cam_io.proofs.Sequence.{writes_after, writes_first, writes_exit, open_still}
+use Rattle.capdl_write.proofs.Common.{open_still, writes_after, writes_exit, writes_first}
 use Rattle.cap_model.specs.Canonical.{canonical}
 use Rattle.capdl_write.proofs.write.write_spec.Goals as goal
 

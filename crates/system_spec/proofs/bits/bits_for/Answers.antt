@@ -1,4 +1,4 @@
-use Rattle.std.proofs.Common.{◌≡◌, ◌+◌, ◌*◌, ◌^◌, ◌≤◌, ◌∙◌, arith}
+use Rattle.system_spec.proofs.Common.{arith, ◌*◌, ◌+◌, ◌^◌, ◌∙◌, ◌≡◌, ◌≤◌}
 use Rattle.std.proofs.lemmas.Nat.{pow-add}
 use Rattle.system_spec.proofs.Sizes.{bits_more}
 use Rattle.system_spec.proofs.bits.bits_for.Goals as goal

@@ -1,5 +1,4 @@
-use Rattle.std.proofs.Common.{◌≡◌, ◌-◌, ◌^◌, ◌≤◌}
-use Rattle.system_spec.specs.Bits.{bits_from, bits_for}
+use Rattle.system_spec.proofs.Common.{bits_for, bits_from, ◌-◌, ◌^◌, ◌≡◌, ◌≤◌}
 use Rattle.system_spec.proofs.bits.bits_for.Given as goal
 
 abbrev pub invariant-loop-bits : goal.invariant-loop-bits

@@ -1,11 +1,4 @@
-use Rattle.std.proofs.Common.{◌+◌, ◌∷◌, [], ◌++◌, ◌∙◌, get_or, refl, ap, arith}
-use Rattle.std.proofs.lemmas.Option.{slice_get-get_or}
-use Rattle.std.proofs.lemmas.List.{get_or_default}
-use Rattle.cspace_layout.specs.declared.plan.SlotUse.{SlotUse}
-use Rattle.cspace_layout.specs.declared.plan.SlotUse.TheVariants.{OfEnd}
-use Rattle.cam_base.proofs.Gathered.{gather_turn}
-use Rattle.system_spec.specs.Objects.{use_cap, use_cap_at}
-use Rattle.system_spec.specs.Told.{told}
+use Rattle.system_spec.proofs.Common.{OfEnd, SlotUse, [], ap, arith, gather_turn, get_or, get_or_default, refl, slice_get-get_or, told, use_cap, use_cap_at, ◌++◌, ◌+◌, ◌∙◌, ◌∷◌}
 use Rattle.system_spec.proofs.Placing.{lock_turn, lock_within}
 use Rattle.system_spec.proofs.caps.caps_of.Goals as goal
 

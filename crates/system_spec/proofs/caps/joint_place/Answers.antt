@@ -1,9 +1,4 @@
-use Rattle.std.proofs.Common.{◌∙◌, ap, sym}
-use Rattle.std.specs.Prelude.{slice_index}
-use Rattle.system_spec.specs.declared.part.What.TheVariants.{EndpointOf, NotificationOf}
-use Rattle.system_spec.specs.Objects.{joint_by}
-use Rattle.system_spec.specs.Parts.{place}
-use Rattle.system_spec.specs.Told.{told}
+use Rattle.system_spec.proofs.Common.{EndpointOf, NotificationOf, ap, joint_by, place, slice_index, sym, told, ◌∙◌}
 use Rattle.system_spec.proofs.Placing.{joint_read, not_called, place_found}
 use Rattle.system_spec.proofs.caps.joint_place.Goals as goal
 

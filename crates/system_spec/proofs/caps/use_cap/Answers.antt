@@ -1,10 +1,5 @@
-use Rattle.std.proofs.Common.{◌∙◌, ap, sym, subst}
-use Rattle.std.specs.Prelude.{slice_index, length}
-use Rattle.system_spec.specs.declared.part.What.TheVariants.{IrqOf}
-use Rattle.system_spec.specs.Objects.{cap, joint, rights_at, use_cap_at}
-use Rattle.system_spec.specs.Parts.{place}
-use Rattle.system_spec.specs.Ready.{NamesOneOf}
-use Rattle.system_spec.specs.Told.{told}
+use Rattle.system_spec.proofs.Common.{IrqOf, NamesOneOf, ap, cap, joint, place, rights_at, slice_index, subst, sym, told, use_cap_at, ◌∙◌}
+use Rattle.std.specs.Prelude.{length}
 use Rattle.system_spec.proofs.Placing.{place_found}
 use Rattle.system_spec.proofs.caps.use_cap.Goals as goal
 

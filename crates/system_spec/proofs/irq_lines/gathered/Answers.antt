@@ -1,16 +1,5 @@
-use Rattle.std.proofs.Common.{◌≡◌, ◌∙◌, ◌<◌, ◌+◌, ◌^◌, ℕ, [], List, length, take, ap, refl, arith}
-use Rattle.adl_meaning.specs.declared.connector.Connector.{Connector}
-use Rattle.adl_meaning.specs.declared.connector.Connector.TheVariants.{Rpc, Notification, SharedMemory, Mmio, Interrupt, Direct}
-use Rattle.adl_meaning.specs.declared.flat.FlatConnection.{FlatConnection}
-use Rattle.arch_policy.specs.declared.owner.Owner.{Owner}
-use Rattle.cam_base.proofs.Gathered.{gather_turn}
-use Rattle.cam_base.specs.Gather.{gather, before}
-use Rattle.cam_base.proofs.NumberedLists.{taken_le}
-use Rattle.system_spec.specs.Few.{AreFew}
-use Rattle.system_spec.specs.Objects.{line, line_by}
-use Rattle.system_spec.specs.Parts.{first_of, irq, irq_by}
-use Rattle.system_spec.specs.Tables.{Tables, irq_owner}
-use Rattle.system_spec.specs.Told.{told}
+use Rattle.system_spec.proofs.Common.{AreFew, Connector, Direct, FlatConnection, Interrupt, List, Mmio, Notification, Owner, Rpc, SharedMemory, Tables, [], ap, arith, before, first_of, gather, gather_turn, irq, irq_by, irq_owner, length, line}
+use Rattle.system_spec.proofs.Common.{line_by, refl, take, taken_le, told, ℕ, ◌+◌, ◌<◌, ◌^◌, ◌∙◌, ◌≡◌}
 use Rattle.system_spec.proofs.Bounds.{ends}
 use Rattle.system_spec.proofs.Placing.{as_long}
 use Rattle.system_spec.proofs.irq_lines.gathered.Goals as goal

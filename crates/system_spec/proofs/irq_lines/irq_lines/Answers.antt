@@ -1,6 +1,4 @@
-use Rattle.std.proofs.Common.{◌∙◌, ap, rules}
-use Rattle.std.proofs.lemmas.List.Sorted.{answers_always, IsNonDecreasingBy-from_sort}
-use Rattle.system_spec.specs.Objects.{by_number}
+use Rattle.system_spec.proofs.Common.{IsNonDecreasingBy-from_sort, answers_always, ap, by_number, rules, ◌∙◌}
 use Rattle.system_spec.proofs.Sorting.{by_number_from_sort}
 use Rattle.system_spec.proofs.irq_lines.irq_lines.Goals as goal
 

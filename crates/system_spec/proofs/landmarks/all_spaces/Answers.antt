@@ -1,7 +1,4 @@
-use Rattle.std.proofs.Common.{◌+◌, ◌∷◌, [], ◌++◌, ◌∙◌, length, inr, ap, arith}
-use Rattle.adl_meaning.specs.declared.flat.Domain.{Domain}
-use Rattle.system_spec.specs.Landmarks.{space_tables}
-use Rattle.system_spec.specs.Told.{told}
+use Rattle.system_spec.proofs.Common.{Domain, [], ap, arith, inr, length, space_tables, told, ◌++◌, ◌+◌, ◌∙◌, ◌∷◌}
 use Rattle.system_spec.proofs.Bounds.{ends}
 use Rattle.system_spec.proofs.Domains.{few_objects, space_is, table_place, tables_few, tables_turn, tables_within}
 use Rattle.system_spec.proofs.Turning.{place_turn}

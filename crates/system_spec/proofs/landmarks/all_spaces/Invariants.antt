@@ -1,9 +1,4 @@
-use Rattle.std.proofs.Common.{◌≡◌, ◌+◌, ◌∷◌, [], length, take}
-use Rattle.adl_meaning.specs.declared.flat.Domain.{Domain}
-use Rattle.cam_base.specs.Gather.{gather}
-use Rattle.system_spec.specs.Landmarks.{space_tables}
-use Rattle.system_spec.specs.Parts.{domain_tables, first_of}
-use Rattle.system_spec.specs.Told.{told}
+use Rattle.system_spec.proofs.Common.{Domain, [], domain_tables, first_of, gather, length, space_tables, take, told, ◌+◌, ◌∷◌, ◌≡◌}
 use Rattle.system_spec.proofs.landmarks.all_spaces.Given as goal
 
 abbrev pub invariant-loop-number : goal.invariant-loop-number

@@ -1,8 +1,4 @@
-use Rattle.std.proofs.Common.{◌+◌, ◌∷◌, [], ◌++◌, ◌∙◌, length, ap, arith}
-use Rattle.adl_meaning.specs.declared.flat.Domain.{Domain}
-use Rattle.system_spec.specs.declared.part.What.TheVariants.{LockOf}
-use Rattle.system_spec.specs.Parts.{place}
-use Rattle.system_spec.specs.Told.{told}
+use Rattle.system_spec.proofs.Common.{Domain, LockOf, [], ap, arith, length, place, told, ◌++◌, ◌+◌, ◌∙◌, ◌∷◌}
 use Rattle.system_spec.proofs.Domains.{lock_place, locks_turn, locks_within}
 use Rattle.system_spec.proofs.Turning.{place_turn}
 use Rattle.system_spec.proofs.landmarks.first_locks.Goals as goal

@@ -1,9 +1,4 @@
-use Rattle.std.proofs.Common.{◌≡◌, ◌+◌, ◌∷◌, [], length, take}
-use Rattle.adl_meaning.specs.declared.flat.Domain.{Domain}
-use Rattle.cam_base.specs.Gather.{gather}
-use Rattle.system_spec.specs.declared.part.What.TheVariants.{LockOf}
-use Rattle.system_spec.specs.Parts.{domain_locks, first_of, place}
-use Rattle.system_spec.specs.Told.{told}
+use Rattle.system_spec.proofs.Common.{Domain, LockOf, [], domain_locks, first_of, gather, length, place, take, told, ◌+◌, ◌∷◌, ◌≡◌}
 use Rattle.system_spec.proofs.landmarks.first_locks.Given as goal
 
 abbrev pub invariant-loop-number : goal.invariant-loop-number

@@ -1,6 +1,4 @@
-use Rattle.std.proofs.Common.{◌+◌, get_or, arith}
-use Rattle.std.proofs.lemmas.List.{get_or_default}
-use Rattle.cspace_layout.specs.declared.plan.SlotUse.TheVariants.{OfEnd}
+use Rattle.system_spec.proofs.Common.{OfEnd, arith, get_or, get_or_default, ◌+◌}
 use Rattle.system_spec.proofs.Domains.{count_turn, few_locks}
 use Rattle.system_spec.proofs.landmarks.lock_count.Goals as goal
 

@@ -1,6 +1,4 @@
-use Rattle.std.proofs.Common.{◌≡◌, length, take}
-use Rattle.cam_base.specs.Gather.{gather}
-use Rattle.system_spec.specs.Parts.{lock}
+use Rattle.system_spec.proofs.Common.{gather, length, lock, take, ◌≡◌}
 use Rattle.system_spec.proofs.landmarks.lock_count.Given as goal
 
 abbrev pub invariant-loop-used : goal.invariant-loop-used

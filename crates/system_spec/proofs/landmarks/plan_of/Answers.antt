@@ -1,4 +1,4 @@
-use Rattle.std.proofs.Common.{◌∙◌}
+use Rattle.system_spec.proofs.Common.{◌∙◌}
 use Rattle.system_spec.proofs.landmarks.plan_of.Goals as goal
 
 pub landmarks_of-requires-clause-sections : goal.landmarks_of-requires-clause-sections

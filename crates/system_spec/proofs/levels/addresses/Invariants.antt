@@ -1,5 +1,4 @@
-use Rattle.std.proofs.Common.{◌≡◌, ◌++◌, drop, map}
-use Rattle.vspace_layout.specs.declared.spaces.Page.{Page}
+use Rattle.system_spec.proofs.Common.{Page, drop, map, ◌++◌, ◌≡◌}
 use Rattle.system_spec.proofs.levels.addresses.Given as goal
 
 abbrev pub invariant-loop-page : goal.invariant-loop-page

@@ -1,13 +1,5 @@
-use Rattle.std.proofs.Common.{[], ◌∷◌, ◌++◌, length, map, ap, ◌∙◌, arith}
-use Rattle.std.proofs.lemmas.List.{length-map}
-use Rattle.cap_model.specs.declared.level.Level.{Level}
-use Rattle.system_spec.specs.Parts.{domain_tables, page_mapping, page_table, tables_at}
-use Rattle.system_spec.specs.Told.{told}
-use Rattle.page_tables.specs.Levels.{layers, level_of}
-use Rattle.page_tables.specs.Shapes.{shapes}
-use Rattle.system_spec.specs.Tables.{arch, pages_at}
-use Rattle.page_tables.proofs.Leveled.{as_many}
-use Rattle.cam_base.specs.Gather.{gather}
+use Rattle.system_spec.proofs.Common.{Level, [], ap, arch, arith, as_many, domain_tables, gather, layers, length, length-map, map, page_mapping, page_table, pages_at, shapes, tables_at, told, ◌++◌, ◌∙◌, ◌∷◌}
+use Rattle.page_tables.specs.Levels.{level_of}
 use Rattle.vspace_layout.proofs.Joining.{gather_mapped}
 use Rattle.system_spec.proofs.Turning.{place_turn}
 use Rattle.system_spec.proofs.levels.all_tables.Goals as goal

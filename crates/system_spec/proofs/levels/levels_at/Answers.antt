@@ -1,13 +1,6 @@
-use Rattle.std.proofs.Common.{◌≡◌, ◌∙◌, sym, ap, map}
-use Rattle.std.proofs.lemmas.Result.{IfOk-weaker}
-use Rattle.page_tables.proofs.Counted.{levels_of_addresses}
+use Rattle.system_spec.proofs.Common.{IfOk-weaker, Page, ap, arch, levels_of_addresses, map, page_mapping, pages_at, shapes, sym, tables_at, told, ◌∙◌, ◌≡◌}
 use Rattle.page_tables.specs.Counts.{levels_of}
 use Rattle.page_tables.specs.Levels.{level_of}
-use Rattle.page_tables.specs.Shapes.{shapes}
-use Rattle.vspace_layout.specs.declared.spaces.Page.{Page}
-use Rattle.system_spec.specs.Parts.{page_mapping, tables_at}
-use Rattle.system_spec.specs.Tables.{arch, pages_at}
-use Rattle.system_spec.specs.Told.{told}
 use Rattle.system_spec.proofs.Domains.{addresses_same}
 use Rattle.system_spec.proofs.levels.levels_at.Goals as goal
 

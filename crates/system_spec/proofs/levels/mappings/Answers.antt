@@ -1,4 +1,4 @@
-use Rattle.cam_base.proofs.NumberedLists.{read_in}
+use Rattle.system_spec.proofs.Common.{read_in}
 use Rattle.system_spec.proofs.levels.mappings.Goals as goal
 
 pub mapping-requires : goal.mapping-requires

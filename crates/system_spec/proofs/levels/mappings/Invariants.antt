@@ -1,5 +1,4 @@
-use Rattle.std.proofs.Common.{◌≡◌, ◌++◌, drop, map}
-use Rattle.system_spec.specs.Parts.{page_mapping}
+use Rattle.system_spec.proofs.Common.{drop, map, page_mapping, ◌++◌, ◌≡◌}
 use Rattle.system_spec.proofs.levels.mappings.Given as goal
 
 abbrev pub invariant-loop-page : goal.invariant-loop-page

@@ -1,9 +1,4 @@
-use Rattle.std.proofs.Common.{◌∷◌, [], get_or, refl}
-use Rattle.std.proofs.lemmas.List.{get_or_default}
-use Rattle.cap_model.specs.declared.level.Level.{Level}
-use Rattle.cap_model.specs.declared.level.Level.TheVariants.{Global}
-use Rattle.cam_base.proofs.Gathered.{gather_turn}
-use Rattle.system_spec.specs.Parts.{page_table}
+use Rattle.system_spec.proofs.Common.{Global, Level, [], gather_turn, get_or, get_or_default, page_table, refl, ◌∷◌}
 use Rattle.system_spec.proofs.levels.push_page_tables.Goals as goal
 
 pub loop-place-preserved : goal.loop-place-preserved

@@ -1,13 +1,5 @@
-use Rattle.std.proofs.Common.{◌∷◌, [], ◌++◌, ◌∙◌, get_or, take, refl, sym, ap}
-use Rattle.std.proofs.lemmas.List.{get_or_default}
-use Rattle.arch_policy.specs.declared.owner.Owner.TheVariants.{OfDomain}
-use Rattle.cap_model.specs.declared.level.Level.TheVariants.{Global}
-use Rattle.cam_base.proofs.Gathered.{gather_turn}
-use Rattle.system_spec.specs.declared.part.PageTable.{PageTable}
-use Rattle.system_spec.specs.declared.part.What.TheVariants.{TableOf}
-use Rattle.system_spec.specs.LevelNumbers.{counted, one_more}
+use Rattle.system_spec.proofs.Common.{Global, OfDomain, PageTable, TableOf, [], ap, counted, gather_turn, get_or, get_or_default, one_more, part, refl, sym, table_part, take, ◌++◌, ◌∙◌, ◌∷◌}
 use Rattle.system_spec.specs.Names.{level_series}
-use Rattle.system_spec.specs.Parts.{part, table_part}
 use Rattle.system_spec.proofs.LevelCounting.{counted_in, counts_more}
 use Rattle.system_spec.proofs.levels.table_parts.Goals as goal
 

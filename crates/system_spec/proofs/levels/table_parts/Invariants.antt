@@ -1,8 +1,4 @@
-use Rattle.std.proofs.Common.{◌≡◌, ◌∷◌, [], take}
-use Rattle.cam_base.specs.Gather.{gather}
-use Rattle.system_spec.specs.declared.part.PageTable.{PageTable}
-use Rattle.system_spec.specs.LevelNumbers.{counts_in}
-use Rattle.system_spec.specs.Parts.{table_part}
+use Rattle.system_spec.proofs.Common.{PageTable, [], counts_in, gather, table_part, take, ◌∷◌, ◌≡◌}
 use Rattle.system_spec.proofs.levels.table_parts.Given as goal
 
 abbrev pub invariant-loop-table : goal.invariant-loop-table

@@ -1,5 +1,4 @@
-use Rattle.std.proofs.Common.{sym, subst}
-use Rattle.system_spec.specs.Few.{AreShown}
+use Rattle.system_spec.proofs.Common.{AreShown, subst, sym}
 use Rattle.system_spec.proofs.levels.tables_at.Goals as goal
 
 pub mappings-requires : goal.mappings-requires

@@ -1,8 +1,4 @@
-use Rattle.std.proofs.Common.{◌∷◌, [], arith}
-use Rattle.adl_meaning.specs.declared.flat.Domain.{Domain}
-use Rattle.arch_policy.specs.declared.owner.Owner.TheVariants.{OfDomain}
-use Rattle.system_spec.specs.declared.part.What.TheVariants.{CNodeOf}
-use Rattle.system_spec.specs.Parts.{owned}
+use Rattle.system_spec.proofs.Common.{CNodeOf, Domain, OfDomain, [], arith, owned, ◌∷◌}
 use Rattle.system_spec.proofs.Turning.{place_turn}
 use Rattle.system_spec.proofs.listing.cnodes.Goals as goal
 

@@ -1,4 +1,4 @@
-use Rattle.std.proofs.Common.{arith}
+use Rattle.system_spec.proofs.Common.{arith}
 use Rattle.system_spec.proofs.Domains.{first_whole, turned}
 use Rattle.system_spec.proofs.listing.first_of.Goals as goal
 

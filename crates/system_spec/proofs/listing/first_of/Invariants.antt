@@ -1,6 +1,4 @@
-use Rattle.std.proofs.Common.{◌≡◌, List, length, take}
-use Rattle.cam_base.specs.Gather.{gather}
-use Rattle.system_spec.specs.declared.part.Part.{Part}
+use Rattle.system_spec.proofs.Common.{List, Part, gather, length, take, ◌≡◌}
 use Rattle.system_spec.proofs.listing.first_of.Given as goal
 
 abbrev pub invariant-loop-section : goal.invariant-loop-section

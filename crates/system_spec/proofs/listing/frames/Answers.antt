@@ -1,13 +1,4 @@
-use Rattle.std.proofs.Common.{◌∷◌, [], ◌++◌, ◌∙◌, refl, ap, sym}
-use Rattle.std.proofs.lemmas.List.{take_all}
-use Rattle.cam_base.specs.Gather.{gather}
-use Rattle.cam_base.proofs.Gathered.{gather_turn}
-use Rattle.vspace_layout.specs.declared.spaces.FrameInfo.{FrameInfo}
-use Rattle.system_spec.specs.declared.part.Owned.{Owned}
-use Rattle.system_spec.specs.declared.part.What.TheVariants.{FrameOf}
-use Rattle.system_spec.specs.declared.series.Series.TheVariants.{Frame}
-use Rattle.system_spec.specs.Parts.{owned, part}
-use Rattle.system_spec.specs.Tables.{frame_owner}
+use Rattle.system_spec.proofs.Common.{Frame, FrameInfo, FrameOf, Owned, [], ap, frame_owner, gather, gather_turn, owned, part, refl, sym, take_all, ◌++◌, ◌∙◌, ◌∷◌}
 use Rattle.system_spec.proofs.Turning.{gather_twice}
 use Rattle.system_spec.proofs.listing.frames.Goals as goal
 

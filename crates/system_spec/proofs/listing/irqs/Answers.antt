@@ -1,6 +1,4 @@
-use Rattle.std.proofs.Common.{[], refl}
-use Rattle.cam_base.proofs.Gathered.{gather_turn}
-use Rattle.system_spec.specs.Parts.{irq}
+use Rattle.system_spec.proofs.Common.{[], gather_turn, irq, refl}
 use Rattle.system_spec.proofs.listing.irqs.Goals as goal
 
 pub loop-number-preserved : goal.loop-number-preserved

@@ -1,7 +1,4 @@
-use Rattle.std.proofs.Common.{[], ◌++◌, length, ap, ◌∙◌, arith}
-use Rattle.cam_base.specs.Gather.{gather}
-use Rattle.system_spec.specs.Parts.{domain_locks, lock}
-use Rattle.system_spec.specs.Told.{told}
+use Rattle.system_spec.proofs.Common.{[], ap, arith, domain_locks, gather, length, lock, told, ◌++◌, ◌∙◌}
 use Rattle.system_spec.proofs.Turning.{place_turn}
 use Rattle.system_spec.proofs.listing.locks.Goals as goal
 

@@ -1,10 +1,4 @@
-use Rattle.std.proofs.Common.{◌∷◌, [], get_or, refl}
-use Rattle.std.proofs.lemmas.List.{get_or_default}
-use Rattle.arch_policy.specs.declared.owner.Owner.TheVariants.{OfDomain}
-use Rattle.system_spec.specs.declared.part.What.TheVariants.{CNodeOf}
-use Rattle.cam_base.proofs.Gathered.{gather_turn}
-use Rattle.system_spec.specs.declared.part.Owned.{Owned}
-use Rattle.system_spec.specs.Parts.{part}
+use Rattle.system_spec.proofs.Common.{CNodeOf, OfDomain, Owned, [], gather_turn, get_or, get_or_default, part, refl, ◌∷◌}
 use Rattle.system_spec.proofs.listing.numbered.Goals as goal
 
 pub loop-number-preserved : goal.loop-number-preserved

@@ -1,6 +1,4 @@
-use Rattle.std.proofs.Common.{length, ap, ◌∙◌, arith}
-use Rattle.system_spec.specs.Parts.{cnodes}
-use Rattle.system_spec.specs.Told.{told}
+use Rattle.system_spec.proofs.Common.{ap, arith, cnodes, length, told, ◌∙◌}
 use Rattle.system_spec.proofs.Bounds.{bounds}
 use Rattle.system_spec.proofs.listing.push_holders.Goals as goal
 

@@ -1,7 +1,4 @@
-use Rattle.std.proofs.Common.{length, ap, ◌∙◌, arith}
-use Rattle.cam_base.specs.Gather.{gather}
-use Rattle.system_spec.specs.Parts.{irq}
-use Rattle.system_spec.specs.Told.{told}
+use Rattle.system_spec.proofs.Common.{ap, arith, gather, irq, length, told, ◌∙◌}
 use Rattle.system_spec.proofs.Bounds.{bounds}
 use Rattle.system_spec.proofs.listing.push_joints.Goals as goal
 

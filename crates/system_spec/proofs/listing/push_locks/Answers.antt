@@ -1,8 +1,4 @@
-use Rattle.std.proofs.Common.{get_or, refl}
-use Rattle.std.proofs.lemmas.List.{get_or_default}
-use Rattle.cam_base.proofs.Gathered.{gather_turn}
-use Rattle.cspace_layout.specs.declared.plan.SlotUse.TheVariants.{OfEnd}
-use Rattle.system_spec.specs.Parts.{lock}
+use Rattle.system_spec.proofs.Common.{OfEnd, gather_turn, get_or, get_or_default, lock, refl}
 use Rattle.system_spec.proofs.listing.push_locks.Goals as goal
 
 pub loop-place-preserved : goal.loop-place-preserved

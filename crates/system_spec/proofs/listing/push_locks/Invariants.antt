@@ -1,6 +1,4 @@
-use Rattle.std.proofs.Common.{◌≡◌, ◌++◌, take}
-use Rattle.cam_base.specs.Gather.{gather}
-use Rattle.system_spec.specs.Parts.{lock}
+use Rattle.system_spec.proofs.Common.{gather, lock, take, ◌++◌, ◌≡◌}
 use Rattle.system_spec.proofs.listing.push_locks.Given as goal
 
 abbrev pub invariant-loop-place : goal.invariant-loop-place

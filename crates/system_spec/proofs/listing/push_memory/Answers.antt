@@ -1,11 +1,5 @@
-use Rattle.std.proofs.Common.{length, ap, ◌∙◌, arith}
-use Rattle.system_spec.specs.Told.{told}
+use Rattle.system_spec.proofs.Common.{FrameInfo, FrameOf, ap, arith, frame_owner, gather_ones, length, owned, told, ◌∙◌}
 use Rattle.system_spec.proofs.Bounds.{bounds}
-use Rattle.cam_base.proofs.Gathered.{gather_ones}
-use Rattle.vspace_layout.specs.declared.spaces.FrameInfo.{FrameInfo}
-use Rattle.system_spec.specs.declared.part.What.TheVariants.{FrameOf}
-use Rattle.system_spec.specs.Parts.{owned}
-use Rattle.system_spec.specs.Tables.{frame_owner}
 use Rattle.system_spec.proofs.listing.push_memory.Goals as goal
 
 pub table_parts-requires : goal.table_parts-requires

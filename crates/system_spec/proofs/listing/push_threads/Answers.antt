@@ -1,8 +1,4 @@
-use Rattle.std.proofs.Common.{◌∷◌, [], arith}
-use Rattle.vspace_layout.specs.declared.spaces.ThreadPlace.{ThreadPlace}
-use Rattle.arch_policy.specs.declared.owner.Owner.TheVariants.{OfDomain}
-use Rattle.system_spec.specs.declared.part.What.TheVariants.{ThreadOf}
-use Rattle.system_spec.specs.Parts.{owned}
+use Rattle.system_spec.proofs.Common.{OfDomain, ThreadOf, ThreadPlace, [], arith, owned, ◌∷◌}
 use Rattle.system_spec.proofs.Turning.{place_turn}
 use Rattle.system_spec.proofs.listing.push_threads.Goals as goal
 

@@ -1,9 +1,4 @@
-use Rattle.std.proofs.Common.{◌≡◌, ◌∷◌, [], ◌++◌, take}
-use Rattle.cam_base.specs.Gather.{gather}
-use Rattle.vspace_layout.specs.declared.spaces.ThreadPlace.{ThreadPlace}
-use Rattle.arch_policy.specs.declared.owner.Owner.TheVariants.{OfDomain}
-use Rattle.system_spec.specs.declared.part.What.TheVariants.{ThreadOf}
-use Rattle.system_spec.specs.Parts.{owned}
+use Rattle.system_spec.proofs.Common.{OfDomain, ThreadOf, ThreadPlace, [], gather, owned, take, ◌++◌, ◌∷◌, ◌≡◌}
 use Rattle.system_spec.proofs.listing.push_threads.Given as goal
 
 abbrev pub invariant-loop-number : goal.invariant-loop-number

@@ -1,6 +1,4 @@
-use Rattle.std.proofs.Common.{[], ◌++◌, length, ap, ◌∙◌, arith}
-use Rattle.system_spec.specs.Parts.{domain_tcbs, threads_of}
-use Rattle.system_spec.specs.Told.{told}
+use Rattle.system_spec.proofs.Common.{[], ap, arith, domain_tcbs, length, threads_of, told, ◌++◌, ◌∙◌}
 use Rattle.system_spec.proofs.Turning.{place_turn}
 use Rattle.system_spec.proofs.listing.tcbs.Goals as goal
 

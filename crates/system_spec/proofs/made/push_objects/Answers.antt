@@ -1,8 +1,4 @@
-use Rattle.std.proofs.Common.{get_or}
-use Rattle.arch_policy.specs.declared.owner.Owner.TheVariants.{OfDomain}
-use Rattle.cam_base.proofs.NumberedLists.{read_in}
-use Rattle.system_spec.specs.declared.part.Part.{Part}
-use Rattle.system_spec.specs.declared.part.What.TheVariants.{CNodeOf}
+use Rattle.system_spec.proofs.Common.{CNodeOf, OfDomain, Part, get_or, read_in}
 use Rattle.system_spec.specs.declared.series.Series.TheVariants.{CNode}
 use Rattle.system_spec.proofs.made.push_objects.Goals as goal
 

@@ -1,6 +1,4 @@
-use Rattle.std.proofs.Common.{◌≡◌, ◌++◌, drop, map}
-use Rattle.system_spec.specs.Made.{entry, part_label}
-use Rattle.system_spec.specs.Told.{told}
+use Rattle.system_spec.proofs.Common.{drop, entry, map, part_label, told, ◌++◌, ◌≡◌}
 use Rattle.system_spec.proofs.made.push_objects.Given as goal
 
 abbrev pub invariant-loop-part : goal.invariant-loop-part

@@ -1,16 +1,8 @@
-use Rattle.std.proofs.Common.{◌∙◌, ◌++◌, ℕ, [], List, ap, map, refl, subst, arith}
+use Rattle.system_spec.proofs.Common.{IsIn, List, Part, [], ap, arch, arith, entry, gather_turn, map, part_label, parts, read_place, refl, sections, subst, together, told, ℕ, ◌++◌, ◌∙◌}
 use Rattle.cap_model.specs.declared.object_labels.Labels.{Labels}
 use Rattle.cap_model.specs.declared.level.Arch.{Arch}
 use Rattle.cap_model.specs.declared.spec.Entry.{Entry}
 use Rattle.cap_model.specs.declared.spec.Spec.{Spec}
-use Rattle.cam_base.specs.Gather.{IsIn}
-use Rattle.cam_base.proofs.Gathered.{gather_turn}
-use Rattle.cam_base.proofs.NumberedLists.{read_place}
-use Rattle.system_spec.specs.declared.part.Part.{Part}
-use Rattle.system_spec.specs.Made.{entry, part_label}
-use Rattle.system_spec.specs.Parts.{parts, sections, together}
-use Rattle.system_spec.specs.Tables.{arch}
-use Rattle.system_spec.specs.Told.{told}
 use Rattle.system_spec.proofs.Domains.{mapped_whole}
 use Rattle.system_spec.proofs.MapPlaces.{at_most_eight, few_in, first_is}
 use Rattle.system_spec.proofs.Objects.{in_together}

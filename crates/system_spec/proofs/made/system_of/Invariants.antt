@@ -1,8 +1,4 @@
-use Rattle.std.proofs.Common.{◌≡◌, List, map, take}
-use Rattle.cam_base.specs.Gather.{gather}
-use Rattle.system_spec.specs.declared.part.Part.{Part}
-use Rattle.system_spec.specs.Made.{entry, part_label}
-use Rattle.system_spec.specs.Told.{told}
+use Rattle.system_spec.proofs.Common.{List, Part, entry, gather, map, part_label, take, told, ◌≡◌}
 use Rattle.system_spec.proofs.made.system_of.Given as goal
 
 abbrev pub invariant-loop-section : goal.invariant-loop-section

@@ -1,6 +1,4 @@
-use Rattle.std.proofs.Common.{◌++◌, ◌∙◌, ap, append_assoc, arith}
-use Rattle.system_spec.specs.MapLines.{domain_lines, slot_lines, thread_lines, window_lines}
-use Rattle.system_spec.specs.Told.{told}
+use Rattle.system_spec.proofs.Common.{ap, append_assoc, arith, domain_lines, slot_lines, thread_lines, told, window_lines, ◌++◌, ◌∙◌}
 use Rattle.system_spec.proofs.MapPlaces.{at_most_eight, few_in, first_is}
 use Rattle.system_spec.proofs.map_listing.lines_of.Goals as goal
 

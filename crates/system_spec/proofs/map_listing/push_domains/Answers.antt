@@ -1,7 +1,4 @@
-use Rattle.std.proofs.Common.{◌∷◌, [], arith}
-use Rattle.adl_meaning.specs.declared.flat.Domain.{Domain}
-use Rattle.system_spec.specs.declared.map_line.MapLine.TheVariants.{DomainLine}
-use Rattle.system_spec.specs.Told.{told}
+use Rattle.system_spec.proofs.Common.{Domain, DomainLine, [], arith, told, ◌∷◌}
 use Rattle.system_spec.proofs.Turning.{place_turn}
 use Rattle.system_spec.proofs.map_listing.push_domains.Goals as goal
 

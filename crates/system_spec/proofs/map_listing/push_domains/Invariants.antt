@@ -1,7 +1,4 @@
-use Rattle.std.proofs.Common.{◌≡◌, ◌∷◌, [], ◌++◌, take}
-use Rattle.adl_meaning.specs.declared.flat.Domain.{Domain}
-use Rattle.cam_base.specs.Gather.{gather}
-use Rattle.system_spec.specs.declared.map_line.MapLine.TheVariants.{DomainLine}
+use Rattle.system_spec.proofs.Common.{Domain, DomainLine, [], gather, take, ◌++◌, ◌∷◌, ◌≡◌}
 use Rattle.system_spec.proofs.map_listing.push_domains.Given as goal
 
 abbrev pub invariant-loop-number : goal.invariant-loop-number

@@ -1,21 +1,11 @@
-use Rattle.std.proofs.Common.{◌≡◌, ◌+◌, ◌∷◌, [], ◌++◌, ◌∙◌, get_or, refl, sym, ap, subst, arith}
-use Rattle.std.proofs.lemmas.Option.{slice_get-get_or}
+use Rattle.system_spec.proofs.Common.{AreNamed, OfEnd, SlotUse, [], ap, arith, gather_turn, get_or, get_or_default, refl, slice_get-get_or, slot_line, subst, sym, told, use_cap, use_cap_at, ◌++◌, ◌+◌, ◌∙◌, ◌∷◌, ◌≡◌}
 use Rattle.std.specs.Prelude.{length}
-use Rattle.std.proofs.lemmas.List.{get_or_default}
-use Rattle.cspace_layout.specs.declared.plan.SlotUse.{SlotUse}
-use Rattle.cspace_layout.specs.declared.plan.SlotUse.TheVariants.{OfEnd}
-use Rattle.cap_model.specs.declared.cap.Cap.{Cap}
-use Rattle.cam_base.proofs.Gathered.{gather_turn}
-use Rattle.system_spec.specs.MapLines.{slot_line}
-use Rattle.system_spec.specs.Objects.{use_cap, use_cap_at}
-use Rattle.system_spec.specs.Ready.{AreNamed}
-use Rattle.system_spec.specs.Told.{told}
 use Rattle.system_spec.proofs.MapPlaces.{lock_end}
 use Rattle.system_spec.proofs.Placing.{lock_turn, lock_within}
 use Rattle.system_spec.proofs.map_listing.push_slots_of.Goals as goal
 
-pub use_cap-object-requires-clause-named : goal.use_cap-object-requires-clause-named
-use_cap-object-requires-clause-named c =
+pub use_object-object-requires-clause-named : goal.use_object-object-requires-clause-named
+use_object-object-requires-clause-named c =
     let t = told c.args.tables.now in
     let named : AreNamed (length t.flat.connections) c.args.uses.now = subst (AreNamed (length t.flat.connections))
     (sym c.requires.uses) (c.requires.buildable.named c.args.domain) in
@@ -43,8 +33,7 @@ loop-number-preserved c =
     let n = c.loop-number.number in
     let u = get_or uses n (OfEnd 0 0) in
     let below = c.loop-number-test.true in
-    let object =
-    ap (λ (z : Cap). z.object) (c.use_cap-object.ensures ∙ ap (λ z. use_cap_at t z u) c.loop-number.invariant.next) in
+    let object = c.use_object-object.ensures ∙ ap (λ z. (use_cap_at t z u).object) c.loop-number.invariant.next in
     record {
       so_far = gather_turn (λ k (v : SlotUse). slot_line (use_cap t c.args.domain k v).object k v ∷ []) uses uses n u
           c.args.lines.now _ _ refl below (get_or_default _ _ _ _ below) c.loop-number.invariant.so_far

@@ -1,11 +1,4 @@
-use Rattle.std.proofs.Common.{◌≡◌, ◌∷◌, [], ◌++◌, take}
-use Rattle.cspace_layout.specs.declared.plan.SlotUse.{SlotUse}
-use Rattle.cam_base.specs.Gather.{gather}
-use Rattle.system_spec.specs.declared.part.What.TheVariants.{LockOf}
-use Rattle.system_spec.specs.MapLines.{slot_line}
-use Rattle.system_spec.specs.Objects.{use_cap}
-use Rattle.system_spec.specs.Parts.{place}
-use Rattle.system_spec.specs.Told.{told}
+use Rattle.system_spec.proofs.Common.{LockOf, SlotUse, [], gather, place, slot_line, take, told, use_cap, ◌++◌, ◌∷◌, ◌≡◌}
 use Rattle.system_spec.proofs.map_listing.push_slots_of.Given as goal
 
 abbrev pub invariant-loop-number : goal.invariant-loop-number

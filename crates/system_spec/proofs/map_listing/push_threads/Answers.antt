@@ -1,9 +1,4 @@
-use Rattle.std.proofs.Common.{◌≡◌, ◌<◌, ◌+◌, ◌^◌, ◌++◌, ◌∙◌, length, ap, arith}
-use Rattle.adl_meaning.specs.declared.flat.Domain.{Domain}
-use Rattle.cam_base.specs.Gather.{before}
-use Rattle.system_spec.specs.MapLines.{domain_threads}
-use Rattle.system_spec.specs.Parts.{domain_tcbs}
-use Rattle.system_spec.specs.Told.{told}
+use Rattle.system_spec.proofs.Common.{Domain, ap, arith, before, domain_tcbs, domain_threads, length, told, ◌++◌, ◌+◌, ◌<◌, ◌^◌, ◌∙◌, ◌≡◌}
 use Rattle.system_spec.proofs.MapPlaces.{domain_threads_are, threads_turn, threads_within}
 use Rattle.system_spec.proofs.Turning.{place_turn}
 use Rattle.system_spec.proofs.map_listing.push_threads.Goals as goal

@@ -1,9 +1,4 @@
-use Rattle.std.proofs.Common.{◌≡◌, ◌+◌, ◌++◌, take}
-use Rattle.adl_meaning.specs.declared.flat.Domain.{Domain}
-use Rattle.cam_base.specs.Gather.{gather, before}
-use Rattle.system_spec.specs.MapLines.{domain_threads}
-use Rattle.system_spec.specs.Parts.{domain_tcbs}
-use Rattle.system_spec.specs.Told.{told}
+use Rattle.system_spec.proofs.Common.{Domain, before, domain_tcbs, domain_threads, gather, take, told, ◌++◌, ◌+◌, ◌≡◌}
 use Rattle.system_spec.proofs.map_listing.push_threads.Given as goal
 
 abbrev pub invariant-loop-number : goal.invariant-loop-number

@@ -1,8 +1,4 @@
-use Rattle.std.proofs.Common.{◌+◌, ◌∷◌, [], refl}
-use Rattle.std.proofs.lemmas.List.{get_or_default}
-use Rattle.cam_base.proofs.Gathered.{gather_turn}
-use Rattle.vspace_layout.specs.declared.spaces.ThreadPlace.{ThreadPlace}
-use Rattle.system_spec.specs.declared.map_line.MapLine.TheVariants.{ThreadLine}
+use Rattle.system_spec.proofs.Common.{ThreadLine, ThreadPlace, [], gather_turn, get_or_default, refl, ◌+◌, ◌∷◌}
 use Rattle.system_spec.proofs.map_listing.push_threads_from.Goals as goal
 
 pub loop-number-preserved : goal.loop-number-preserved

@@ -1,5 +1,4 @@
-use Rattle.std.proofs.Common.{◌≡◌, ◌++◌, take}
-use Rattle.system_spec.specs.MapLines.{thread_lines_from}
+use Rattle.system_spec.proofs.Common.{take, thread_lines_from, ◌++◌, ◌≡◌}
 use Rattle.system_spec.proofs.map_listing.push_threads_from.Given as goal
 
 abbrev pub invariant-loop-number : goal.invariant-loop-number

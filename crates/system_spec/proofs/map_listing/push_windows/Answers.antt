@@ -1,9 +1,4 @@
-use Rattle.std.proofs.Common.{◌∷◌, [], ◌++◌, ◌∙◌, sym, ap, subst, arith}
-use Rattle.adl_meaning.specs.declared.flat.Domain.{Domain}
-use Rattle.cam_base.specs.Gather.{gather}
-use Rattle.vspace_layout.specs.declared.spaces.Window.{Window}
-use Rattle.system_spec.specs.MapLines.{domain_windows, window_line}
-use Rattle.system_spec.specs.Told.{told}
+use Rattle.system_spec.proofs.Common.{Domain, Window, [], ap, arith, domain_windows, gather, subst, sym, told, window_line, ◌++◌, ◌∙◌, ◌∷◌}
 use Rattle.system_spec.specs.Windowed.{AreSized}
 use Rattle.system_spec.proofs.Turning.{place_turn}
 use Rattle.system_spec.proofs.map_listing.push_windows.Goals as goal

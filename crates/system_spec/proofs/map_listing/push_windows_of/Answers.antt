@@ -1,9 +1,4 @@
-use Rattle.std.proofs.Common.{◌∷◌, [], get_or, refl, arith}
-use Rattle.std.proofs.lemmas.List.{get_or_default}
-use Rattle.cam_base.proofs.Gathered.{gather_turn}
-use Rattle.cam_base.proofs.NumberedLists.{read_in}
-use Rattle.vspace_layout.specs.declared.spaces.Window.{Window}
-use Rattle.system_spec.specs.MapLines.{window_line}
+use Rattle.system_spec.proofs.Common.{Window, [], arith, gather_turn, get_or, get_or_default, read_in, refl, window_line, ◌∷◌}
 use Rattle.system_spec.proofs.map_listing.push_windows_of.Goals as goal
 
 pub overflow_mul-bytes : goal.overflow_mul-bytes

@@ -1,7 +1,4 @@
-use Rattle.std.proofs.Common.{◌≡◌, ◌∷◌, [], ◌++◌, take}
-use Rattle.cam_base.specs.Gather.{gather}
-use Rattle.vspace_layout.specs.declared.spaces.Window.{Window}
-use Rattle.system_spec.specs.MapLines.{window_line}
+use Rattle.system_spec.proofs.Common.{Window, [], gather, take, window_line, ◌++◌, ◌∷◌, ◌≡◌}
 use Rattle.system_spec.proofs.map_listing.push_windows_of.Given as goal
 
 abbrev pub invariant-loop-window : goal.invariant-loop-window

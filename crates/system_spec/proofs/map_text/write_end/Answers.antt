@@ -1,6 +1,4 @@
-use Rattle.std.proofs.Common.{◌∙◌, sym}
-use Rattle.cam_io.proofs.Sequence.{wrote_none}
-use Rattle.system_spec.specs.MapText.{end_text, named}
+use Rattle.system_spec.proofs.Common.{end_text, named, sym, wrote_none, ◌∙◌}
 use Rattle.system_spec.proofs.Mapping.{no_text}
 use Rattle.system_spec.proofs.map_text.write_end.Goals as goal
 

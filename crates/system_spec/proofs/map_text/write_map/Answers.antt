@@ -1,9 +1,4 @@
-use Rattle.std.proofs.Common.{arith, get_or}
-use Rattle.std.proofs.lemmas.List.{get_or_default}
-use Rattle.cam_io.proofs.Lines.{lines_begin, lines_end, lines_fail, lines_step}
-use Rattle.cam_io.proofs.Sequence.{writes_exit}
-use Rattle.system_spec.specs.MapText.{line_text, named}
-use Rattle.system_spec.specs.declared.map_line.MapLine.TheVariants.{DomainLine}
+use Rattle.system_spec.proofs.Common.{DomainLine, arith, get_or, get_or_default, line_text, lines_begin, lines_end, lines_fail, lines_step, named, writes_exit}
 use Rattle.system_spec.proofs.map_text.write_map.Goals as goal
 
 pub loop-line-init : goal.loop-line-init

@@ -1,7 +1,4 @@
-use Rattle.std.proofs.Common.{take}
-use Rattle.std.specs.List.{flat_map}
-use Rattle.cam_io.proofs.Lines.{Wrote}
-use Rattle.system_spec.specs.MapText.{line_text, named}
+use Rattle.system_spec.proofs.Common.{Wrote, flat_map, line_text, named, take}
 use Rattle.system_spec.proofs.map_text.write_map.Given as goal
 
 abbrev pub invariant-loop-line : goal.invariant-loop-line

@@ -1,6 +1,4 @@
-use Rattle.std.proofs.Common.{arith}
-use Rattle.cam_base.specs.Paths.{joined}
-use Rattle.cam_io.proofs.Sequence.{writes_after, writes_first, writes_exit, open_still, wrote_none}
+use Rattle.system_spec.proofs.Common.{arith, joined, open_still, writes_after, writes_exit, writes_first, wrote_none}
 use Rattle.system_spec.proofs.Mapping.{joined_none, whole_path}
 use Rattle.system_spec.proofs.map_text.write_path.Goals as goal
 

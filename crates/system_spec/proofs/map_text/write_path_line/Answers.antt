@@ -1,4 +1,4 @@
-use Rattle.cam_io.proofs.Sequence.{writes_after, writes_first, writes_exit, open_still}
+use Rattle.system_spec.proofs.Common.{open_still, writes_after, writes_exit, writes_first}
 use Rattle.system_spec.proofs.map_text.write_path_line.Goals as goal
 
 pub returns-in_err-write_all : goal.returns-in_err-write_all

@@ -1,10 +1,4 @@
-use Rattle.std.proofs.Common.{◌∙◌, List, length, ap, sym, subst}
-use Rattle.std.specs.Prelude.{slice_index}
-use Rattle.cspace_layout.specs.declared.plan.SlotUse.{SlotUse}
-use Rattle.system_spec.specs.declared.part.What.TheVariants.{LockOf}
-use Rattle.system_spec.specs.Parts.{place}
-use Rattle.system_spec.specs.Ready.{AreNamed}
-use Rattle.system_spec.specs.Told.{told}
+use Rattle.system_spec.proofs.Common.{AreNamed, List, LockOf, SlotUse, ap, length, place, slice_index, subst, sym, told, ◌∙◌}
 use Rattle.system_spec.proofs.Domains.{locks_few}
 use Rattle.system_spec.proofs.Placing.{place_found}
 use Rattle.system_spec.proofs.object.cnode.Goals as goal

@@ -1,11 +1,4 @@
-use Rattle.std.proofs.Common.{◌≡◌, ◌∙◌, get_or, Some, ap, sym, subst}
-use Rattle.std.proofs.lemmas.Result.{IfOk-weaker}
-use Rattle.cap_model.specs.declared.object.Object.TheVariants.{Endpoint, Irq}
-use Rattle.system_spec.specs.declared.part.What.TheVariants.{CNodeOf, FrameOf, NotificationOf, ThreadOf}
-use Rattle.system_spec.specs.Landmarks.{IsThere, copied, objects_in}
-use Rattle.system_spec.specs.Objects.{object}
-use Rattle.system_spec.specs.Parts.{place}
-use Rattle.system_spec.specs.Told.{told}
+use Rattle.system_spec.proofs.Common.{CNodeOf, Endpoint, FrameOf, IfOk-weaker, Irq, IsThere, NotificationOf, Some, ThreadOf, ap, copied, get_or, object, objects_in, place, subst, sym, told, ◌∙◌, ◌≡◌}
 use Rattle.system_spec.proofs.Copying.{table_read}
 use Rattle.system_spec.proofs.Placing.{place_found}
 use Rattle.system_spec.proofs.object.object.Goals as goal

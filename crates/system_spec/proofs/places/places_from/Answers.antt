@@ -1,6 +1,4 @@
-use Rattle.std.proofs.Common.{◌+◌, arith}
-use Rattle.cam_base.proofs.NumberedLists.{taken_le}
-use Rattle.system_spec.specs.Places.{mark}
+use Rattle.system_spec.proofs.Common.{arith, mark, taken_le, ◌+◌}
 use Rattle.system_spec.proofs.Placing.{mark_turn, places_turn}
 use Rattle.system_spec.proofs.places.places_from.Goals as goal
 

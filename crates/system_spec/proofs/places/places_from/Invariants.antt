@@ -1,6 +1,4 @@
-use Rattle.std.proofs.Common.{◌≡◌, ◌+◌, ◌∷◌, [], length, take}
-use Rattle.cam_base.specs.Gather.{gather, before}
-use Rattle.system_spec.specs.Places.{mark}
+use Rattle.system_spec.proofs.Common.{[], before, gather, length, mark, take, ◌+◌, ◌∷◌, ◌≡◌}
 use Rattle.system_spec.proofs.places.places_from.Given as goal
 
 abbrev pub invariant-loop-connection : goal.invariant-loop-connection

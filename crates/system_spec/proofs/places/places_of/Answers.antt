@@ -1,9 +1,5 @@
-use Rattle.std.proofs.Common.{◌∙◌, List, length, ap, arith}
-use Rattle.adl_meaning.specs.declared.flat.FlatConnection.{FlatConnection}
-use Rattle.cam_base.specs.Gather.{gather}
+use Rattle.system_spec.proofs.Common.{FlatConnection, List, ap, arith, gather, length, mark, places_from, told, ◌∙◌}
 use Rattle.system_spec.specs.declared.places.Standing.TheVariants as standings
-use Rattle.system_spec.specs.Places.{mark, places_from}
-use Rattle.system_spec.specs.Told.{told}
 use Rattle.system_spec.proofs.Bounds.{ends}
 use Rattle.system_spec.proofs.Placing.{endpoints_marked, endpoints_placed, irqs_marked, irqs_placed, notifications_marked, notifications_placed}
 use Rattle.system_spec.proofs.places.places_of.Goals as goal

@@ -1,4 +1,4 @@
-use Rattle.std.proofs.Common.{◌∙◌, sym, arith}
+use Rattle.system_spec.proofs.Common.{arith, sym, ◌∙◌}
 use Rattle.system_spec.proofs.Finding.{frame_found}
 use Rattle.system_spec.proofs.tcbs.buffer_cap.Goals as goal
 

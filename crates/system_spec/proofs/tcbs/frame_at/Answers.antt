@@ -1,10 +1,4 @@
-use Rattle.std.proofs.Common.{◌≡◌, ◌∙◌, true, false, Some, None, length, refl, sym, rules}
-use Rattle.std.proofs.lemmas.Bool.{ltb-false, ltb-true}
-use Rattle.std.proofs.lemmas.Option.{slice_get_past, slice_get_read}
-use Rattle.std.proofs.Math.Dec.{ltb}
-use Rattle.std.proofs.lemmas.List.Sorted.{IsPartitionPoint-from_clause, IsPartitionedBy-ltb}
-use Rattle.std.specs.List.Sorted.{IsPartitionPoint}
-use Rattle.vspace_layout.specs.declared.spaces.Page.{Page}
+use Rattle.system_spec.proofs.Common.{IsPartitionPoint, IsPartitionPoint-from_clause, IsPartitionedBy-ltb, None, Page, Some, false, length, ltb, ltb-false, ltb-true, refl, rules, slice_get_past, slice_get_read, sym, true, ◌∙◌, ◌≡◌}
 use Rattle.system_spec.proofs.Finding.{frame_elsewhere, frame_here, frame_read, rises_in_order}
 use Rattle.system_spec.proofs.tcbs.frame_at.Goals as goal
 

@@ -1,13 +1,4 @@
-use Rattle.std.proofs.Common.{◌+◌, ◌∙◌, List, ap, map, arith, sym, subst}
-use Rattle.std.specs.Option.{option_map}
-use Rattle.conn_rules.specs.Row.{RW}
-use Rattle.cam_base.specs.Gather.{IsIn}
-use Rattle.page_tables.specs.Runs.{Rises}
-use Rattle.vspace_layout.specs.declared.spaces.Page.{Page}
-use Rattle.system_spec.specs.Landmarks.{root_in}
-use Rattle.system_spec.specs.Objects.{cap, frame_at}
-use Rattle.system_spec.specs.Tables.{pages_at}
-use Rattle.system_spec.specs.Told.{told}
+use Rattle.system_spec.proofs.Common.{IsIn, List, Page, RW, Rises, ap, arith, cap, frame_at, map, option_map, pages_at, root_in, subst, sym, told, ◌+◌, ◌∙◌}
 use Rattle.system_spec.proofs.Bounds.{ends}
 use Rattle.system_spec.proofs.Domains.{root_read}
 use Rattle.system_spec.proofs.Threads.{frames_same, tcb_is}

@@ -1,7 +1,5 @@
-use Rattle.std.proofs.Common.{take, ℕ, List, ◌∷◌}
-use Rattle.std.specs.List.{flat_map}
-use Rattle.cam_io.proofs.Lines.{Wrote}
-use Rattle.system_spec.proofs.map_text.write_dotted.Given as goal
+use Rattle.system_spec.proofs.Common.{List, Wrote, flat_map, take, ℕ, ◌∷◌}
+use Rattle.system_spec.proofs.map_text.write_names.Given as goal
 
 abbrev pub invariant-loop-name : goal.invariant-loop-name
 invariant-loop-name g l =

@@ -1,0 +1,22 @@
+use Rattle.system_spec.proofs.Common.{IrqOf, NamesOneOf, ap, place, slice_index, subst, sym, told, use_cap_at, ◌∙◌}
+use Rattle.std.specs.Prelude.{length}
+use Rattle.system_spec.proofs.Placing.{place_found}
+use Rattle.system_spec.proofs.caps.use_object.Goals as goal
+
+pub joint_place-requires-clause-named : goal.joint_place-requires-clause-named
+joint_place-requires-clause-named c = subst (NamesOneOf (length (told c.args.tables.now).flat.connections)) c.in-OfEnd.is
+    c.requires.named
+
+pub returns-in-OfEnd : goal.returns-in-OfEnd
+returns-in-OfEnd c =
+    let t = told c.args.tables.now in
+    c.joint_place.ensures ∙ ap (λ u. (use_cap_at t c.args.lock u).object) (sym c.in-OfEnd.is)
+
+pub returns-in-Handler : goal.returns-in-Handler
+returns-in-Handler c =
+    let t = told c.args.tables.now in
+    let k = c.in-Handler.connection in
+    let named = subst (NamesOneOf (length t.flat.connections)) c.in-Handler.is c.requires.named in
+    c.number_at.ensures ∙ ap (λ z. slice_index z k) c.as_slice.ensures ∙ place_found (λ j. place t (IrqOf j))
+    t.flat.connections c.args.places.now.irqs k c.requires.places.irqs named
+    ∙ ap (λ u. (use_cap_at t c.args.lock u).object) (sym c.in-Handler.is)
