@@ -1,38 +1,11 @@
 -- Each frame is mapped
-use Rattle.std.proofs.Common.{◌≡◌, ◌<◌, ◌+◌, ◌*◌, ◌⊎◌, ℕ, Bool, true, false, cond, List, [], length, map, Option, Some, None, refl, sym, ◌∙◌, ap, subst, inl, inr, arith}
-use Rattle.std.specs.List.{range_with_len, slice_get}
-use Rattle.std.specs.Option.{option_map_or}
-use Rattle.std.specs.Prelude.{◌==◌}
-use Rattle.std.proofs.lemmas.Bool.{eqb-true}
-use Rattle.adl_meaning.specs.declared.connector.Connector.{Connector}
-use Rattle.adl_meaning.specs.declared.connector.Connector.TheVariants.{Rpc, Notification, SharedMemory, Mmio, Interrupt, Direct}
-use Rattle.adl_meaning.specs.declared.flat.Domain.{Domain}
-use Rattle.adl_meaning.specs.declared.flat.FlatConnection.{FlatConnection}
-use Rattle.adl_meaning.specs.declared.flat.FlatEnd.{FlatEnd}
-use Rattle.cap_model.specs.declared.cap.Cap.{Cap}
+use Rattle.spec_laws.proofs.Common.{AreAllMapped, Bool, CanMap, Cap, Connector, Direct, Domain, FlatConnection, FlatEnd, FrameInfo, FrameOf, Interrupt, IsAt, IsRegionPage, List, MappedPage, Memory, Mmio, None, Notification, Option, Own, Rpc}
+use Rattle.spec_laws.proofs.Common.{SharedMemory, Shown, Some, Spaces, Tables, Window, [], ap, arith, before, begins, below, cond, connection_frames, eqb-true, false, first_to, frame, frames, frames_at, from_place, in_map, in_right, inl, inr}
+use Rattle.spec_laws.proofs.Common.{is_first, is_shared, length, map, mapped_pages, memory_number, memory_pages, memory_part, number_shown, option_map_or, own_frame, own_frames, own_number, own_part, place, place_is, place_of, range_with_len, refl}
+use Rattle.spec_laws.proofs.Common.{region_page, regions, register_frame, register_frames, register_part, registers, registers_in, registers_mmio, root_of, shared_frames, shared_part, slice_get, spec_of, split_get, subst, sym, system, true}
+use Rattle.spec_laws.proofs.Common.{window_region, windows_of, ℕ, ◌*◌, ◌+◌, ◌<◌, ◌==◌, ◌∙◌, ◌≡◌, ◌⊎◌}
 use Rattle.cap_model.specs.declared.object.Object.TheVariants as objects
-use Rattle.cam_base.specs.Gather.{before}
-use Rattle.cam_base.proofs.Gathered.{from_place, in_right, place_of, split_get}
-use Rattle.cam_base.proofs.NumberedLists.{below, in_map}
-use Rattle.system_spec.specs.declared.part.What.TheVariants.{FrameOf}
-use Rattle.system_spec.specs.Made.{spec_of}
-use Rattle.system_spec.specs.Parts.{place}
-use Rattle.system_spec.specs.Tables.{Tables}
-use Rattle.system_spec.proofs.Standing.{place_is}
-use Rattle.vspace_layout.specs.declared.mapped.MappedPage.{MappedPage}
-use Rattle.vspace_layout.specs.declared.mapped.Shown.{Shown}
-use Rattle.vspace_layout.specs.declared.mapped.Shown.TheVariants.{Memory, Own}
 use Rattle.vspace_layout.specs.declared.owner.Owner.TheVariants.{OfConnection}
-use Rattle.vspace_layout.specs.declared.region.Content.TheVariants.{Window}
-use Rattle.vspace_layout.specs.declared.spaces.FrameInfo.{FrameInfo}
-use Rattle.vspace_layout.specs.declared.spaces.Spaces.{Spaces}
-use Rattle.vspace_layout.specs.Frames.{connection_frames, frame, frames, frames_at, is_first, memory_number, memory_part, number_shown, own_frame, own_frames, own_number, own_part, register_frame, register_frames, register_part, shared_frames, shared_part}
-use Rattle.vspace_layout.specs.MappedPages.{mapped_pages, region_page}
-use Rattle.vspace_layout.specs.Memory.{first_to, is_shared, memory_pages, registers, registers_in}
-use Rattle.vspace_layout.specs.Regions.{regions, window_region, windows_of}
-use Rattle.spec_laws.specs.CanMap.{CanMap}
-use Rattle.spec_laws.specs.Framed.{AreAllMapped}
-use Rattle.spec_laws.specs.Spaced.{IsAt, IsRegionPage, begins, root_of, system}
 use Rattle.spec_laws.proofs.Blocks.{as_long}
 use Rattle.spec_laws.proofs.Finding.{page_cap}
 use Rattle.spec_laws.proofs.Locks.{part_there}
@@ -43,7 +16,6 @@ use Rattle.spec_laws.proofs.Showing.{MemoryPlace, in_domain, memory_at}
 use Rattle.spec_laws.proofs.SlotLists.{some}
 use Rattle.spec_laws.proofs.Spaces.{is_at}
 use Rattle.spec_laws.proofs.Whats.{frame_what}
-use Rattle.vspace_layout.proofs.Standing.{registers_mmio}
 
 shared_is : (c : Connector) → is_shared c ≡ true → c ≡ SharedMemory
 shared_is SharedMemory h = refl

@@ -1,32 +1,8 @@
 -- A source without faults can be laid out, and what is laid out of it can be built.
-use Rattle.std.proofs.Common.{◌≡◌, None, refl, arith}
-use Rattle.adl_ast.specs.declared.source.Source.{Source}
-use Rattle.adl_hierarchy.specs.Leads.{AreDotted}
-use Rattle.adl_hierarchy.proofs.Spelled.{spelled_dotted}
-use Rattle.adl_meaning.specs.Flat.{flat_of}
-use Rattle.adl_meaning.specs.Hierarchy.{hierarchy_of}
-use Rattle.adl_meaning.specs.JoinFaults.{first_flat_fault}
-use Rattle.adl_meaning.specs.NameFaults.{AreNamesSound}
-use Rattle.adl_meaning.proofs.SoundNames.{one_assembly}
-use Rattle.adl_settings.specs.Settled.{settled_of}
-use Rattle.adl_settings.specs.SettingFaults.{first_setting_fault}
-use Rattle.adl_types.specs.TypeFaults.{first_type_fault}
-use Rattle.cspace_layout.specs.SlotFaults.{first_slot_fault}
-use Rattle.flat_laws.specs.ShortFiles.{AreFilesShort}
-use Rattle.flat_laws.proofs.AreTyped.{ends_typed}
-use Rattle.flat_laws.proofs.SoundSettings.{settings_sound}
+use Rattle.spec_laws.proofs.Common.{AreDotted, AreFilesShort, AreNamesSound, AreNumbered, AreSound, CanLay, Images, IsBuildable, None, Source, arith, ends_typed, first_flat_fault, first_page_limit, first_setting_fault, first_slot_fault}
+use Rattle.spec_laws.proofs.Common.{first_space_fault, first_type_fault, flat_of, flat_small, given, hierarchy_of, one_assembly, refl, sections_stand, settings_sound, settled_of, spelled_dotted, tables_from, ◌≡◌}
 use Rattle.spec_laws.proofs.SlotBounds.{AreFewSlots, few_slots}
-use Rattle.flat_laws.proofs.Small.{flat_small}
-use Rattle.source_images.specs.Numbered.{AreNumbered, AreSound}
-use Rattle.source_images.specs.SpaceFaults.{first_space_fault}
-use Rattle.source_images.specs.declared.images.Images.{Images}
-use Rattle.system_spec.specs.Buildable.{IsBuildable}
-use Rattle.system_spec.specs.TablesFrom.{tables_from}
 use Rattle.system_spec.specs.Windowed.{IsWindowed}
-use Rattle.vspace_layout.specs.CanLay.{CanLay}
-use Rattle.vspace_layout.specs.Given.{given}
-use Rattle.vspace_layout.specs.PageLimits.{first_page_limit}
-use Rattle.vspace_layout.proofs.Sections.{sections_stand}
 use Rattle.spec_laws.proofs.MemorySizes.{addresses_fit, memory_some, pages_fit, registers_are}
 use Rattle.spec_laws.proofs.PageCounts.{few_pages}
 use Rattle.spec_laws.proofs.PartBounds.{buildable}

@@ -1,14 +1,8 @@
 -- How many capabilities page tables have: one for each page, and one for each table that isn't a root.
-use Rattle.std.proofs.Common.{◌≡◌, ◌≤◌, ◌+◌, ℕ, Bool, true, false, cond, List, [], ◌∷◌, length, map, refl, ◌∙◌, ap, arith}
+use Rattle.spec_laws.proofs.Common.{Bool, List, Mapping, Shape, [], ap, arith, caps_of, cond, false, gather_ones, layers, length, length-map, map, put_front, refl, runs, sizes, slot_of, span, table_of, true, under, upper, uppers, ℕ, ◌+◌, ◌∙◌, ◌∷◌}
+use Rattle.spec_laws.proofs.Common.{◌≡◌, ◌≤◌}
 use Rattle.std.specs.List.{slice_index_or}
-use Rattle.std.proofs.lemmas.List.{length-map}
-use Rattle.capdl_write.specs.Writable.{caps_of}
-use Rattle.cam_base.proofs.Gathered.{gather_ones}
-use Rattle.page_tables.specs.declared.mapping.Mapping.{Mapping}
-use Rattle.page_tables.specs.declared.shape.Shape.{Shape}
-use Rattle.page_tables.specs.Levels.{layers, numbered, sizes, slot_of, table_of, upper, uppers}
-use Rattle.page_tables.specs.Runs.{put_front, runs, under}
-use Rattle.page_tables.specs.Shapes.{span}
+use Rattle.page_tables.specs.Levels.{numbered}
 use Rattle.spec_laws.proofs.Totals.{total, total_append, totals}
 
 -- each mapping is in one run

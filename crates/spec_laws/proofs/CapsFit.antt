@@ -1,39 +1,13 @@
 -- Capabilities of slots fit the objects that they lead to.
-use Rattle.std.proofs.Common.{◌≡◌, ◌<◌, ◌≤◌, ◌+◌, ◌^◌, ℕ, zero, suc, Bool, true, ◌&&◌, ◌||◌, List, [], ◌∷◌, length, refl, sym, ◌∙◌, ap, subst, Some, inl, inr, arith}
-use Rattle.std.specs.Prelude.{nat_lt, leb, ◌==◌}
-use Rattle.std.specs.List.{list_all, slice_get}
-use Rattle.std.specs.Option.{option_and_then, option_map, option_map_or}
-use Rattle.std.proofs.lemmas.Bool.{and_from, lt-ltb, le-leb, cond_both}
-use Rattle.std.proofs.lemmas.Option.{slice_get_within}
-use Rattle.adl_ast.specs.declared.composition.Role.{Role}
-use Rattle.adl_ast.specs.declared.composition.Role.TheVariants.{From, To}
-use Rattle.adl_meaning.specs.declared.connector.Connector.{Connector}
-use Rattle.adl_meaning.specs.declared.connector.Connector.TheVariants.{Rpc, Notification, SharedMemory, Mmio, Interrupt, Direct}
-use Rattle.adl_meaning.specs.declared.flat.Domain.{Domain}
-use Rattle.adl_meaning.specs.declared.flat.FlatConnection.{FlatConnection}
-use Rattle.adl_meaning.specs.declared.flat.FlatEnd.{FlatEnd}
-use Rattle.cap_model.specs.Kept.{fits, fits_as, fits_kind, keeps, keeps_slots, rise, within}
-use Rattle.cap_model.specs.Kinds.{has_badge, is_at, is_kind, kind_of_object, kind_rights}
-use Rattle.cap_model.specs.declared.cap.Cap.{Cap}
-use Rattle.cap_model.specs.declared.kind.Kind.{Kind}
+use Rattle.spec_laws.proofs.Common.{Bool, CNodeOf, Cap, Connector, Direct, Domain, EndpointOf, FlatConnection, FlatEnd, From, Handler, Interrupt, IrqOf, IsFit, IsIn, IsThere, Kind, List, LockOf, Mmio, NONE, Notification, NotificationOf, OfEnd}
+use Rattle.spec_laws.proofs.Common.{OwnLock, RW, Rights, Role, Rpc, SharedMemory, SlotUse, Some, Tables, To, What, [], and_from, ap, arith, badge_at, bits_from, cap, cond_both, end_in, end_of, end_rights, fits_as, fits_kind, from_gather, gather, inl}
+use Rattle.spec_laws.proofs.Common.{inr, is_at, is_kind, joint, joint_by, keeps, keeps_slots, kind_of_object, kind_rights, kind_there, le-leb, least, leb, length, list_all, lt-ltb, nat_lt, object, option_and_then, option_map_or, place, refl}
+use Rattle.spec_laws.proofs.Common.{rights_at, rise, slice_get, slice_get_within, slots_at, spec_of, subst, suc, sym, true, use_cap, uses_at, zero, ℕ, ◌&&◌, ◌+◌, ◌<◌, ◌==◌, ◌^◌, ◌||◌, ◌∙◌, ◌∷◌, ◌≡◌, ◌≤◌}
+use Rattle.std.specs.Option.{option_map}
+use Rattle.cap_model.specs.Kept.{fits, within}
+use Rattle.cap_model.specs.Kinds.{has_badge}
 use Rattle.cap_model.specs.declared.kind.Kind.TheVariants as kinds
-use Rattle.cap_model.specs.declared.rights.Rights.{Rights}
-use Rattle.conn_rules.specs.Row.{NONE, RW}
-use Rattle.cspace_layout.specs.declared.plan.SlotUse.{SlotUse}
-use Rattle.cspace_layout.specs.declared.plan.SlotUse.TheVariants.{OfEnd, Handler, OwnLock}
-use Rattle.cspace_layout.specs.Lookups.{end_in, end_of}
-use Rattle.cam_base.specs.Gather.{IsIn, gather}
-use Rattle.cam_base.proofs.Gathered.{from_gather}
-use Rattle.system_spec.proofs.LeastBits.{least}
-use Rattle.system_spec.specs.declared.part.What.{What}
-use Rattle.system_spec.specs.declared.part.What.TheVariants.{CNodeOf, EndpointOf, NotificationOf, LockOf, IrqOf}
-use Rattle.system_spec.specs.Bits.{bits_from, bits_for}
-use Rattle.system_spec.specs.Made.{spec_of}
-use Rattle.system_spec.specs.Objects.{badge_at, cap, end_rights, joint, joint_by, object, rights_at, slots_at, use_cap}
-use Rattle.system_spec.specs.Parts.{place}
-use Rattle.system_spec.specs.Tables.{Tables, uses_at}
-use Rattle.spec_laws.specs.Fit.{IsFit}
-use Rattle.system_spec.proofs.There.{IsThere, kind_there}
+use Rattle.system_spec.specs.Bits.{bits_for}
 use Rattle.spec_laws.proofs.Uses.{HasSlot, IsEnd, IsUse, is_use}
 
 -- ---- bits

@@ -1,33 +1,13 @@
 -- The names of components are names, in files that tokens spell.
-use Rattle.std.proofs.Common.{◌≡◌, ◌∙◌, ℕ, Bool, true, false, cond, List, [], ◌∷◌, Option, Some, refl, sym, ap, subst, unwrap_or}
-use Rattle.std.specs.List.{slice_get}
-use Rattle.std.specs.Option.{option_map_or}
-use Rattle.adl_ast.specs.Forms.{component_line, item_line}
+use Rattle.spec_laws.proofs.Common.{AreFilesShort, AreNamesSound, Body, Bool, Component, Ended, IsIn, IsOne, Item, ItemAt, Leaf, List, Option, Some, Source, [], ap, as_component, body_number, component_name, components, cond, false, flat_of}
+use Rattle.spec_laws.proofs.Common.{from_filter_map, from_get_map, hierarchy_of, in_get, is_name, item_component, item_line, item_spelled, items_of, leaf_component, leaf_of, leaves, name_of_item, option_map_or, refl, slice_get, subst, sym, true}
+use Rattle.spec_laws.proofs.Common.{unwrap_or, ℕ, ◌∙◌, ◌∷◌, ◌≡◌}
+use Rattle.adl_ast.specs.Forms.{component_line}
 use Rattle.adl_ast.specs.Seeing.{named}
-use Rattle.adl_ast.specs.declared.component.Component.{Component}
-use Rattle.adl_ast.specs.declared.file.Ended.{Ended}
-use Rattle.adl_ast.specs.declared.file.Item.{Item}
 use Rattle.adl_ast.specs.declared.file.Item.TheVariants as items
 use Rattle.adl_ast.specs.declared.id.Id.{Id}
-use Rattle.adl_ast.specs.declared.source.Source.{Source}
-use Rattle.adl_hierarchy.proofs.Bodies.{body_number}
 use Rattle.adl_hierarchy.proofs.Sources.{component_item}
-use Rattle.adl_meaning.specs.declared.flat.Leaf.{Leaf}
-use Rattle.adl_meaning.specs.declared.item_at.ItemAt.{ItemAt}
-use Rattle.adl_meaning.specs.Flat.{flat_of, leaf_of}
-use Rattle.adl_meaning.specs.Hierarchy.{Body, hierarchy_of}
-use Rattle.adl_meaning.specs.Items.{as_component, components, items_of}
-use Rattle.cam_base.specs.Gather.{IsIn}
-use Rattle.adl_meaning.specs.NameFaults.{AreNamesSound}
-use Rattle.adl_meaning.specs.Paths.{leaves}
-use Rattle.cam_base.specs.Names.{is_name}
-use Rattle.adl_hierarchy.proofs.Lists.{in_get}
-use Rattle.cam_base.proofs.NumberedLists.{from_filter_map, from_get_map}
-use Rattle.flat_laws.specs.ShortFiles.{AreFilesShort}
-use Rattle.flat_laws.proofs.FlatLeaves.{leaf_component}
 use Rattle.flat_laws.proofs.MembersAt.{item_at}
-use Rattle.system_spec.specs.Tables.{component_name, name_of_item}
-use Rattle.adl_hierarchy.proofs.Spelled.{item_component, IsOne, item_spelled}
 
 -- ---- names of spelled components
 

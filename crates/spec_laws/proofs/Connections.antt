@@ -1,53 +1,18 @@
 -- The spec of connected tables is laid out.
-use Rattle.std.proofs.Common.{◌≡◌, ◌≢◌, ◌⊎◌, ◌+◌, ◌∙◌, ℕ, true, Option, Some, None, option_map, refl, sym, ap, subst, inl, inr, true≢false}
-use Rattle.std.specs.List.{slice_get}
-use Rattle.std.specs.Option.{option_map_or}
-use Rattle.adl_meaning.specs.declared.connector.Connector.TheVariants.{Rpc}
-use Rattle.adl_meaning.specs.declared.flat.FlatConnection.{FlatConnection}
+use Rattle.spec_laws.proofs.Common.{AreApart, Authority, CNodeOf, Cap, Directory, EndpointOf, FlatConnection, Global, Handler, HasPieces, Held, Holds, HoldsPlain, IrqOf, IsConnected, IsDomains, IsIn, IsKept, IsThere, Kind, Level, LockOf, NONE, None}
+use Rattle.spec_laws.proofs.Common.{NotificationOf, Object, OfEnd, Option, OwnLock, RW, RootOf, Rpc, SlotUse, Some, Table, Tables, ThreadOf, Upper, ap, boot, confers, connection_label, device_end, domain_label, domain_no_connection, domain_no_device}
+use Rattle.spec_laws.proofs.Common.{edge, has_label, inl, inr, irq_at, is_at, is_kind, is_plain, kind_of_object, kind_there, label_of, members_of_leaf, object, object_at, object_there, one_connection, one_domain, option_confers, option_map}
+use Rattle.spec_laws.proofs.Common.{option_map_or, option_plain, place, place_of, plain_kind, policy_tables, refl, rights_at, slice_get, spec_of, subst, sym, tcb, thread, thread_place, threads_of, true, true≢false, use_cap, uses_at, ℕ, ◌+◌, ◌∙◌, ◌≡◌}
+use Rattle.spec_laws.proofs.Common.{◌≢◌, ◌⊎◌}
 use Rattle.arch_policy.specs.declared.owner.Owner.TheVariants as owners
-use Rattle.arch_policy.specs.Owners.{has_label}
 use Rattle.arch_policy.specs.Policies.{IsLockEdge}
-use Rattle.arch_policy.specs.Tables.{AreApart, IsThere as HasLabel, connection_label, domain_label}
-use Rattle.cap_model.specs.Edges.{edge}
-use Rattle.cap_model.specs.ObjectLabels.{label_of}
-use Rattle.cap_model.specs.declared.authority.Authority.{Authority}
-use Rattle.cap_model.specs.Auth.{Held}
-use Rattle.cap_model.specs.Confers.{confers, option_confers}
-use Rattle.cap_model.specs.Kept.{IsKept}
-use Rattle.cap_model.specs.Kinds.{is_at, is_kind, kind_of_object, same_kind}
-use Rattle.cap_model.specs.Lookup.{object_at}
-use Rattle.cap_model.specs.State.{boot, irq_at}
-use Rattle.cap_model.specs.declared.cap.Cap.{Cap}
-use Rattle.cap_model.specs.declared.kind.Kind.{Kind}
+use Rattle.arch_policy.specs.Tables.{IsThere as HasLabel}
+use Rattle.cap_model.specs.Kinds.{same_kind}
 use Rattle.cap_model.specs.declared.kind.Kind.TheVariants as kinds
-use Rattle.cap_model.specs.declared.level.Level.{Level}
-use Rattle.cap_model.specs.declared.level.Level.TheVariants.{Global, Upper, Directory, Table}
-use Rattle.cap_model.specs.declared.object.Object.{Object}
 use Rattle.cap_model.specs.declared.object.Object.TheVariants as objects
-use Rattle.conn_rules.specs.Row.{NONE, RW}
-use Rattle.cspace_layout.specs.declared.plan.SlotUse.{SlotUse}
-use Rattle.cspace_layout.specs.declared.plan.SlotUse.TheVariants.{OfEnd, Handler, OwnLock}
-use Rattle.cspace_layout.specs.Members.{members_of_leaf}
-use Rattle.cam_base.specs.Gather.{IsIn}
-use Rattle.cam_base.proofs.Gathered.{place_of}
 use Rattle.reach_laws.specs.LaidOut.{IsLaidOut}
-use Rattle.reach_laws.specs.Pieces.{HasPieces}
-use Rattle.reach_laws.proofs.EndLabels.{IsDomains, device_end, domain_no_connection, domain_no_device, one_connection, one_domain}
 use Rattle.reach_laws.proofs.PieceEdges.{pieces_direct}
-use Rattle.reach_laws.specs.Arranged.{Holds, RootOf}
-use Rattle.reach_laws.specs.Plain.{HoldsPlain, is_plain, option_plain, plain_kind}
-use Rattle.system_spec.proofs.There.{IsThere, kind_there, object_there}
 use Rattle.spec_laws.proofs.Uses.{uses_are}
-use Rattle.system_spec.specs.declared.part.What.TheVariants.{CNodeOf, EndpointOf, IrqOf, LockOf, NotificationOf, ThreadOf}
-use Rattle.system_spec.specs.Made.{spec_of}
-use Rattle.system_spec.specs.Objects.{object, rights_at, tcb, use_cap}
-use Rattle.system_spec.specs.Parts.{place}
-use Rattle.system_spec.specs.Tables.{Tables, uses_at}
-use Rattle.vspace_layout.specs.Laid.{thread_place}
-use Rattle.vspace_layout.specs.Regions.{threads_of}
-use Rattle.vspace_layout.specs.Threads.{thread}
-use Rattle.spec_laws.specs.Connected.{IsConnected}
-use Rattle.spec_laws.specs.Policy.{policy_tables}
 use Rattle.spec_laws.proofs.EndsHere.{in_threads, leaves_are}
 use Rattle.spec_laws.proofs.CapsFit.{rights_are}
 use Rattle.spec_laws.proofs.EdgeJoints.{bound, device_here, given, holder, irq_label, joint_kind_at, joint_label, joints, node_label, slot_holds, used_in}

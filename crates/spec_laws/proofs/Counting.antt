@@ -1,27 +1,10 @@
 -- How many parts there are, and what a count of each kind of part comes to.
-use Rattle.std.proofs.Common.{◌≡◌, ◌≤◌, ◌+◌, ◌*◌, ℕ, List, [], ◌∷◌, ◌++◌, length, refl, sym, ◌∙◌, ap, Some, arith}
-use Rattle.std.specs.List.{slice_get}
-use Rattle.adl_meaning.specs.declared.connector.Connector.{Connector}
-use Rattle.adl_meaning.specs.declared.connector.Connector.TheVariants.{Rpc, Notification, SharedMemory, Mmio, Interrupt, Direct}
-use Rattle.adl_meaning.specs.declared.flat.Domain.{Domain}
-use Rattle.adl_meaning.specs.declared.flat.FlatConnection.{FlatConnection}
-use Rattle.arch_policy.specs.declared.owner.Owner.{Owner}
-use Rattle.cap_model.specs.declared.object.Object.{Object}
-use Rattle.cspace_layout.specs.declared.plan.SlotUse.{SlotUse}
-use Rattle.cspace_layout.specs.declared.plan.SlotUse.TheVariants.{OfEnd, Handler, OwnLock}
-use Rattle.system_spec.specs.declared.part.Owned.{Owned}
-use Rattle.system_spec.specs.declared.part.PageTable.{PageTable}
-use Rattle.system_spec.specs.declared.part.Part.{Part}
-use Rattle.system_spec.specs.declared.part.What.{What}
-use Rattle.system_spec.specs.declared.part.What.TheVariants.{CNodeOf, ThreadOf, EndpointOf, NotificationOf, LockOf, IrqOf, TableOf, FrameOf}
-use Rattle.system_spec.specs.declared.series.Series.{Series}
+use Rattle.spec_laws.proofs.Common.{CNodeOf, Connector, Direct, Domain, EndpointOf, FlatConnection, FrameInfo, FrameOf, Handler, Interrupt, IrqOf, List, LockOf, Mmio, Notification, NotificationOf, Object, OfDomain, OfEnd, OwnLock, Owned, Owner}
+use Rattle.spec_laws.proofs.Common.{PageTable, Part, Rpc, Series, SharedMemory, SlotUse, Some, TableOf, Tables, ThreadOf, ThreadPlace, What, [], all_tables, ap, arith, cnodes, domain_locks, domain_tables, domain_tcbs, endpoint, endpoint_by}
+use Rattle.spec_laws.proofs.Common.{endpoints, frame_owner, frame_parts, irq_by, irq_owner, irqs, length, level_of, locks, notification, notification_by, notifications, numbered, owned, page_table, part, parts, refl, slice_get, sym, table_part}
+use Rattle.spec_laws.proofs.Common.{table_parts, tables_at, tcbs, thread_count, threads_at, use_count, uses_at, ℕ, ◌*◌, ◌++◌, ◌+◌, ◌∙◌, ◌∷◌, ◌≡◌, ◌≤◌}
 use Rattle.system_spec.specs.declared.series.Series.TheVariants as series
-use Rattle.system_spec.specs.Parts.{all_tables, cnodes, domain_locks, domain_tables, domain_tcbs, endpoint, endpoint_by, endpoints, frame_parts, irq as irq_of, irq_by, irqs, level_of, lock as lock_of, locks, notification, notification_by, notifications, numbered, owned, page_table, part, parts, table_part, table_parts, tables_at, tcbs}
-use Rattle.system_spec.specs.Tables.{Tables, frame_owner, irq_owner, threads_at, uses_at}
-use Rattle.vspace_layout.specs.declared.spaces.FrameInfo.{FrameInfo}
-use Rattle.vspace_layout.specs.declared.spaces.ThreadPlace.{ThreadPlace}
-use Rattle.arch_policy.specs.declared.owner.Owner.TheVariants.{OfDomain}
-use Rattle.spec_laws.specs.Sized.{thread_count, use_count}
+use Rattle.system_spec.specs.Parts.{irq as irq_of, lock as lock_of}
 use Rattle.spec_laws.proofs.Totals.{sum_ones, total, total_append, total_gather, total_ones, totals, totals_add, totals_each, totals_most, totals_same, totals_times}
 
 module _ (t : Tables) (w : What → ℕ) where

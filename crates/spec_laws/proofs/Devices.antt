@@ -1,19 +1,9 @@
 -- The device that a connection joins.
-use Rattle.std.proofs.Common.{◌≡◌, ◌+◌, ◌∙◌, ℕ, zero, suc, Bool, true, false, not, cond, List, [], ◌∷◌, length, nat_lt, Some, None, refl, sym, ap, subst, arith}
-use Rattle.std.specs.List.{position, position_or_len, slice_get}
-use Rattle.std.specs.Option.{option_and_then, option_map_or}
-use Rattle.std.proofs.lemmas.Bool.{lt-ltb}
-use Rattle.std.proofs.lemmas.Option.{slice_get_within}
-use Rattle.adl_meaning.specs.declared.flat.FlatConnection.{FlatConnection}
-use Rattle.adl_meaning.specs.declared.flat.FlatEnd.{FlatEnd}
-use Rattle.arch_policy.specs.declared.owner.Owner.TheVariants.{OfConnection, OfLeaf}
+use Rattle.spec_laws.proofs.Common.{Bool, FlatConnection, FlatEnd, HasDevice, IsFlat, List, None, OfConnection, OfLeaf, Some, Tables, [], ap, arith, cond, device_place, end_rule, false, irq_owner, is_at_device, leaf_label, length, lt-ltb, not}
+use Rattle.spec_laws.proofs.Common.{number_of, option_and_then, option_map_or, own_label, policy_tables, position, position_or_len, refl, slice_get, slice_get_within, subst, suc, sym, true, zero, ℕ, ◌+◌, ◌∙◌, ◌∷◌, ◌≡◌}
+use Rattle.std.proofs.Common.{nat_lt}
 use Rattle.arch_policy.specs.Ends.{EndAt}
-use Rattle.arch_policy.specs.Tables.{leaf_label, number_of}
-use Rattle.conn_rules.specs.Ends.{end_rule}
-use Rattle.reach_laws.specs.Flat.{HasDevice, IsFlat, is_at_device}
-use Rattle.reach_laws.proofs.EndLabels.{own_label}
-use Rattle.system_spec.specs.Tables.{Tables, device_end as first_device, device_place, irq_owner, is_hardware}
-use Rattle.spec_laws.specs.Policy.{policy_tables}
+use Rattle.system_spec.specs.Tables.{device_end as first_device, is_hardware}
 use Rattle.spec_laws.proofs.Whose.{device_at}
 
 -- the first that passes

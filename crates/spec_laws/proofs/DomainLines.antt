@@ -1,18 +1,6 @@
 -- The map has a line for each domain
-use Rattle.std.proofs.Common.{◌≡◌, ◌↔◌, ℕ, List, [], ◌∷◌, ◌++◌, Some, refl, sym, subst, inl, inr}
-use Rattle.std.specs.List.{slice_get}
-use Rattle.adl_meaning.specs.declared.flat.Domain.{Domain}
-use Rattle.cspace_layout.specs.declared.plan.SlotUse.{SlotUse}
-use Rattle.cspace_layout.specs.declared.plan.SlotUse.TheVariants.{OfEnd, Handler, OwnLock}
-use Rattle.cam_base.specs.Gather.{IsIn}
-use Rattle.cam_base.proofs.Gathered.{from_gather, in_append, in_gather, in_left}
-use Rattle.system_spec.specs.declared.map_line.MapLine.{MapLine}
-use Rattle.system_spec.specs.declared.map_line.MapLine.TheVariants.{DomainLine}
-use Rattle.system_spec.specs.MapLines.{domain_lines, domain_slots, domain_threads, domain_windows, map_lines, slot_line, slot_lines, thread_line, thread_lines, window_line, window_lines}
-use Rattle.system_spec.specs.Objects.{use_cap}
-use Rattle.system_spec.specs.Tables.{Tables, threads_at, uses_at, windows_at}
-use Rattle.system_spec.proofs.There.{single}
-use Rattle.vspace_layout.specs.declared.spaces.ThreadPlace.{ThreadPlace}
+use Rattle.spec_laws.proofs.Common.{Domain, DomainLine, Handler, IsIn, List, MapLine, OfEnd, OwnLock, SlotUse, Some, Tables, ThreadPlace, [], domain_lines, domain_slots, domain_threads, domain_windows, from_gather, in_append, in_gather, in_left, inl}
+use Rattle.spec_laws.proofs.Common.{inr, map_lines, refl, single, slice_get, slot_line, slot_lines, subst, sym, thread_line, thread_lines, threads_at, use_cap, uses_at, window_line, window_lines, windows_at, ℕ, ◌++◌, ◌↔◌, ◌∷◌, ◌≡◌}
 use Rattle.vspace_layout.specs.declared.spaces.Window.{Window}
 
 abbrev SaysDomain : MapLine → Type 0

@@ -1,57 +1,17 @@
 -- What CNodes hold, and what interrupts may signal.
-use Rattle.std.proofs.Common.{◌≡◌, ◌≢◌, ◌⊎◌, ◌+◌, ◌∙◌, ℕ, true, false, map, Some, None, option_map, refl, sym, ap, subst, inl, inr, arith}
-use Rattle.std.specs.List.{Contains, slice_get}
-use Rattle.std.proofs.lemmas.Option.{slice_get-map}
-use Rattle.adl_ast.specs.declared.composition.Role.{Role}
-use Rattle.adl_ast.specs.declared.composition.Role.TheVariants.{From, To}
-use Rattle.adl_meaning.specs.declared.connector.Connector.{Connector}
-use Rattle.adl_meaning.specs.declared.connector.Connector.TheVariants.{Rpc, Notification, SharedMemory, Mmio, Interrupt, Direct}
-use Rattle.adl_meaning.specs.declared.flat.Domain.{Domain}
-use Rattle.adl_meaning.specs.declared.flat.FlatConnection.{FlatConnection}
-use Rattle.adl_meaning.specs.declared.flat.FlatEnd.{FlatEnd}
+use Rattle.spec_laws.proofs.Common.{AsyncSend, AtOtherEnd, Authority, CNodeOf, Cap, Connector, Contains, Direct, DirectReason, Domain, EndpointOf, FlatConnection, FlatEnd, From, Handle, Handler, Held, Holds, Interrupt, IrqOf, IsAccess, IsConnected}
+use Rattle.spec_laws.proofs.Common.{IsIn, IsThere, LeadsTo, LockOf, Mmio, NONE, Node, None, Notification, NotificationOf, Object, ObjectKind, OfEnd, OfIrq, OfJoints, OfNotification, OwnLock, Role, Rpc, SharedMemory, SlotUse, Some, Spec, Tables, To}
+use Rattle.spec_laws.proofs.Common.{ap, arith, at_contains, at_entry, boot, boot_irq, boot_node, boot_slot, confers, connection_label, contains_at, domain_label, domain_uses, edge, end_rule, end_uses, false, from_ones, get_ones, gives, in_place, inl}
+use Rattle.spec_laws.proofs.Common.{inr, irq_at, is_at_device, joint, joint_by, kind_at, kind_confers, kind_of_object, kind_there, label_of, label_of_leaf, leaf_label, map, no_node, node_at, number_of, object, object_there, opposite, option_confers}
+use Rattle.spec_laws.proofs.Common.{option_map, owner_in, place, place_of, policy_tables, refl, rights_at, setting_of, slice_get, slice_get-map, slots_at, spec_of, subst, sym, true, use_cap, uses_at, ℕ, ◌+◌, ◌∙◌, ◌≡◌, ◌≢◌, ◌⊎◌}
 use Rattle.arch_policy.specs.Ends.{EndAt}
-use Rattle.arch_policy.specs.Gives.{gives, opposite}
-use Rattle.arch_policy.specs.Owners.{owner_in}
-use Rattle.arch_policy.specs.Reasons.{AtOtherEnd, DirectReason, LeadsTo}
-use Rattle.arch_policy.specs.Tables.{Tables as Policy, connection_label, domain_label, leaf_label, number_of}
-use Rattle.cap_model.specs.Edges.{edge}
-use Rattle.cap_model.specs.ObjectLabels.{label_of}
-use Rattle.cap_model.specs.declared.authority.Authority.{Authority}
-use Rattle.cap_model.specs.declared.authority.Authority.TheVariants.{AsyncSend, Handle}
-use Rattle.cap_model.specs.Auth.{Held, OfIrq as OfSignal}
-use Rattle.cap_model.specs.Confers.{confers, kind_confers, option_confers}
-use Rattle.cap_model.specs.Kinds.{kind_at, kind_of_object}
-use Rattle.cap_model.specs.State.{Node, boot, boot_irq, boot_node, boot_slot, irq_at, no_node, node_at}
-use Rattle.cap_model.specs.declared.cap.Cap.{Cap}
+use Rattle.arch_policy.specs.Tables.{Tables as Policy}
+use Rattle.cap_model.specs.Auth.{OfIrq as OfSignal}
 use Rattle.cap_model.specs.declared.kind.Kind.TheVariants as kinds
-use Rattle.cap_model.specs.declared.object.Object.{Object}
 use Rattle.cap_model.specs.declared.object.Object.TheVariants as objects
-use Rattle.cap_model.specs.declared.spec.Spec.{Spec}
 use Rattle.cap_model.specs.declared.state.Content.TheVariants.{Capability}
-use Rattle.cap_model.proofs.BootPlaces.{at_contains, at_entry, contains_at, slot_of}
-use Rattle.conn_rules.specs.Ends.{end_rule}
-use Rattle.conn_rules.specs.Row.{NONE}
-use Rattle.conn_rules.specs.declared.rule.ObjectKind.{ObjectKind}
-use Rattle.conn_rules.specs.declared.rule.ObjectKind.TheVariants.{OfNotification, OfIrq}
-use Rattle.cspace_layout.specs.declared.plan.SlotUse.{SlotUse}
-use Rattle.cspace_layout.specs.declared.plan.SlotUse.TheVariants.{OfEnd, Handler, OwnLock}
-use Rattle.cspace_layout.specs.Uses.{domain_uses, end_uses}
-use Rattle.cspace_layout.specs.Lookups.{setting_of}
-use Rattle.cam_base.specs.Gather.{IsIn}
-use Rattle.cam_base.proofs.Gathered.{from_ones, get_ones, in_place, place_of}
-use Rattle.reach_laws.specs.Flat.{is_at_device}
-use Rattle.reach_laws.specs.Pieces.{IsAccess, OfJoints}
-use Rattle.reach_laws.proofs.EndLabels.{label_of_leaf}
-use Rattle.reach_laws.specs.Arranged.{Holds}
-use Rattle.system_spec.proofs.There.{IsThere, kind_there, object_there}
+use Rattle.cap_model.proofs.BootPlaces.{slot_of}
 use Rattle.spec_laws.proofs.Uses.{uses_are}
-use Rattle.system_spec.specs.declared.part.What.TheVariants.{CNodeOf, EndpointOf, NotificationOf, LockOf, IrqOf}
-use Rattle.system_spec.specs.Made.{spec_of}
-use Rattle.system_spec.specs.Objects.{joint, joint_by, object, rights_at, slots_at, use_cap}
-use Rattle.system_spec.specs.Parts.{place}
-use Rattle.system_spec.specs.Tables.{Tables, uses_at}
-use Rattle.spec_laws.specs.Connected.{IsConnected}
-use Rattle.spec_laws.specs.Policy.{policy_tables}
 use Rattle.spec_laws.proofs.Devices.{DeviceOf, device_found, device_label}
 use Rattle.spec_laws.proofs.Rows.{OfSlot, IsHandling, IsSignalling, device_role, given_by, joint_kind, joint_leaves, joint_no_frames, joint_object, only_handle, row_law, slot_soft}
 use Rattle.spec_laws.proofs.CapsFit.{joint_is, rights_are}

@@ -1,22 +1,6 @@
 -- The ends at a leaf
-use Rattle.std.proofs.Common.{◌≡◌, ◌<◌, ◌&&◌, ℕ, Bool, true, false, cond, List, [], ◌∷◌, length, Some, refl, sym, ◌∙◌, ap, subst, inl, inr}
-use Rattle.std.specs.List.{slice_get}
-use Rattle.std.specs.Prelude.{◌==◌}
-use Rattle.std.proofs.lemmas.Bool.{and_parts, eq-eqb, eqb-true}
-use Rattle.adl_ast.specs.declared.component.Member.{Member}
-use Rattle.adl_meaning.specs.declared.flat.FlatConnection.{FlatConnection}
-use Rattle.adl_meaning.specs.declared.flat.FlatEnd.{FlatEnd}
-use Rattle.adl_meaning.specs.declared.flat.Leaf.{Leaf}
-use Rattle.cspace_layout.specs.declared.end_at.EndAt.{EndAt}
-use Rattle.cspace_layout.specs.LeafEnds.{end_here, joins, leaf_ends, member_ends}
-use Rattle.cspace_layout.specs.Members.{leaf_members, members_at, members_of_leaf}
-use Rattle.cam_base.specs.Gather.{IsIn, gather}
-use Rattle.cam_base.proofs.Gathered.{from_gather, get_ones, in_gather}
-use Rattle.cam_base.proofs.NumberedLists.{at_place}
-use Rattle.system_spec.specs.Tables.{Tables}
-use Rattle.vspace_layout.specs.Given.{ends}
-use Rattle.vspace_layout.specs.Threads.{ends_at, ends_in}
-use Rattle.spec_laws.specs.Spaced.{system}
+use Rattle.spec_laws.proofs.Common.{Bool, EndAt, FlatConnection, FlatEnd, IsIn, Leaf, List, Member, Some, Tables, [], and_parts, ap, at_place, cond, end_here, ends, ends_at, ends_in, eq-eqb, eqb-true, false, from_gather, gather, get_ones, in_gather}
+use Rattle.spec_laws.proofs.Common.{inl, inr, joins, leaf_ends, leaf_members, length, member_ends, members_at, members_of_leaf, refl, slice_get, subst, sym, system, true, ℕ, ◌&&◌, ◌<◌, ◌==◌, ◌∙◌, ◌∷◌, ◌≡◌}
 use Rattle.spec_laws.proofs.Once.{Once, once_gather, once_none, once_one}
 use Rattle.spec_laws.proofs.SlotLists.{some}
 

@@ -1,28 +1,10 @@
 -- The ends of leaves, the windows of a domain, and its threads, read both ways.
-use Rattle.std.proofs.Common.{◌≡◌, ◌∙◌, ℕ, Bool, true, false, cond, List, [], ◌∷◌, Option, Some, None, option_map, refl, sym, ap, subst, inl, inr}
-use Rattle.std.specs.List.{slice_get}
-use Rattle.std.specs.Option.{option_and_then, option_map_or}
-use Rattle.std.proofs.lemmas.Bool.{and_from, and_parts, eq-eqb, eqb-true}
+use Rattle.spec_laws.proofs.Common.{Bool, Connector, Domain, Flat, FlatConnection, FlatEnd, Given, IsFlat, IsIn, Leaf, List, Member, None, Option, Some, [], and_from, and_parts, ap, cond, end_here, end_of, end_window, ends, ends_at, ends_in, eq-eqb}
+use Rattle.spec_laws.proofs.Common.{eqb-true, false, from_flat_map, from_gather, from_ones, gather, get_ones, in_flat_map, in_gather, inl, inr, is_window, joins, leaf_ends, leaf_threads, leaf_windows, leaves_of, member_ends, members_at}
+use Rattle.spec_laws.proofs.Common.{option_and_then, option_map, option_map_or, refl, sees_memory, slice_get, subst, sym, thread, threads_of, true, windows_of, ℕ, ◌∙◌, ◌∷◌, ◌≡◌}
 use lib.Dec.{eqb}
-use Rattle.adl_ast.specs.declared.component.Member.{Member}
-use Rattle.adl_meaning.specs.declared.connector.Connector.{Connector}
-use Rattle.adl_meaning.specs.declared.flat.Domain.{Domain}
-use Rattle.adl_meaning.specs.declared.flat.Flat.{Flat}
-use Rattle.adl_meaning.specs.declared.flat.FlatConnection.{FlatConnection}
-use Rattle.adl_meaning.specs.declared.flat.FlatEnd.{FlatEnd}
-use Rattle.adl_meaning.specs.declared.flat.Leaf.{Leaf}
 use Rattle.arch_policy.specs.Ends.{EndAt}
 use Rattle.cspace_layout.specs.declared.end_at.EndAt.{EndAt as Joined}
-use Rattle.cspace_layout.specs.LeafEnds.{end_here, joins, leaf_ends, member_ends}
-use Rattle.cspace_layout.specs.Lookups.{end_of}
-use Rattle.cspace_layout.specs.Members.{members_at}
-use Rattle.cam_base.specs.Gather.{IsIn, gather}
-use Rattle.cam_base.proofs.Gathered.{from_gather, from_ones, get_ones, in_gather}
-use Rattle.cam_base.proofs.NumberedLists.{from_flat_map, in_flat_map}
-use Rattle.reach_laws.specs.Flat.{IsFlat}
-use Rattle.vspace_layout.specs.Given.{Given, ends, leaves_of}
-use Rattle.vspace_layout.specs.Regions.{end_window, is_window, leaf_windows, sees_memory, threads_of, windows_of}
-use Rattle.vspace_layout.specs.Threads.{ends_at, ends_in, leaf_threads, thread}
 
 abbrev pub joined : {flat : Flat} → EndAt flat → Joined
 joined x = record { connection = x.place; end = x.number }

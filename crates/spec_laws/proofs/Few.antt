@@ -1,30 +1,8 @@
 -- Objects and capabilities are few.
-use Rattle.std.proofs.Common.{◌≡◌, ◌≤◌, ◌+◌, ℕ, List, length, map, sym, ◌∙◌, Option, Some, None, arith}
-use Rattle.std.specs.List.{slice_get}
-use Rattle.std.specs.Option.{option_map_or}
-use Rattle.std.proofs.lemmas.List.{length-map}
-use Rattle.adl_meaning.specs.declared.flat.Domain.{Domain}
-use Rattle.cap_model.specs.declared.cap.Cap.{Cap}
-use Rattle.cap_model.specs.declared.object.Object.{Object}
+use Rattle.spec_laws.proofs.Common.{Cap, Domain, Entry, FrameInfo, FrameOf, IsSized, List, Mapping, None, Object, Option, Part, SlotUse, Some, TableOf, Tables, ThreadPlace, What, all_tables, arch, arith, as_many, cap_count, cap_sum, caps_of}
+use Rattle.spec_laws.proofs.Common.{domain_tables, entry, frame_object, gather_ones, layers, length, length-map, level_of, map, object, object_sum, option_map_or, page_mapping, page_table, pages_at, parts, place, shapes, slice_get, some, spec_of}
+use Rattle.spec_laws.proofs.Common.{sym, tables_at, tcb, threads_at, use_cap, uses_at, ℕ, ◌+◌, ◌∙◌, ◌≡◌, ◌≤◌}
 use Rattle.cap_model.specs.declared.object.Object.TheVariants as objects
-use Rattle.cap_model.specs.declared.spec.Entry.{Entry}
-use Rattle.capdl_write.specs.Writable.{caps_of, some}
-use Rattle.cspace_layout.specs.declared.plan.SlotUse.{SlotUse}
-use Rattle.cam_base.proofs.Gathered.{gather_ones}
-use Rattle.page_tables.proofs.Leveled.{as_many}
-use Rattle.page_tables.specs.declared.mapping.Mapping.{Mapping}
-use Rattle.page_tables.specs.Levels.{layers}
-use Rattle.page_tables.specs.Shapes.{shapes}
-use Rattle.system_spec.specs.declared.part.Part.{Part}
-use Rattle.system_spec.specs.declared.part.What.{What}
-use Rattle.system_spec.specs.declared.part.What.TheVariants.{TableOf, FrameOf}
-use Rattle.system_spec.specs.Made.{entry, spec_of}
-use Rattle.system_spec.specs.Objects.{frame_object, object, tcb, use_cap}
-use Rattle.system_spec.specs.Parts.{all_tables, domain_tables, level_of, page_mapping, page_table, parts, place, tables_at}
-use Rattle.system_spec.specs.Tables.{Tables, arch, pages_at, threads_at, uses_at}
-use Rattle.vspace_layout.specs.declared.spaces.FrameInfo.{FrameInfo}
-use Rattle.vspace_layout.specs.declared.spaces.ThreadPlace.{ThreadPlace}
-use Rattle.spec_laws.specs.Sized.{IsSized, cap_count, cap_sum, object_sum}
 use Rattle.spec_laws.proofs.Capping.{looked_up, of_levels}
 use Rattle.spec_laws.proofs.Counting.{Most, parts_most}
 use Rattle.spec_laws.proofs.TablesKept.{as_long, standing}

@@ -1,47 +1,13 @@
 -- What is found at an address of a space is what is mapped there
-use Rattle.std.proofs.Common.{◌≡◌, ◌<◌, ◌≤◌, ◌+◌, ◌*◌, ◌/◌, ◌%◌, ◌↔◌, ℕ, zero, suc, List, [], ◌∷◌, ◌++◌, map, take, drop, length, None, Some, refl, sym, ◌∙◌, ap, subst, inl, inr, arith}
-use Rattle.std.specs.List.{flat_map, range_with_len, slice_get}
-use Rattle.std.specs.Option.{option_map_or}
-use Rattle.adl_meaning.specs.declared.flat.Domain.{Domain}
-use Rattle.cap_model.specs.declared.cap.Cap.{Cap}
-use Rattle.cap_model.specs.declared.level.Arch.{Arch}
-use Rattle.cap_model.specs.declared.level.Arch.TheVariants.{Arm11, Aarch64}
-use Rattle.cap_model.specs.declared.object.Object.{Object}
-use Rattle.cam_base.specs.Gather.{IsIn, gather}
-use Rattle.cam_base.proofs.Gathered.{from_gather, get_ones, in_append, in_gather, in_place, place_of}
-use Rattle.cam_base.proofs.NumberedLists.{below, from_map, in_map, below_count}
-use Rattle.page_tables.specs.declared.mapping.Mapping.{Mapping}
-use Rattle.page_tables.specs.Shapes.{shapes}
-use Rattle.page_tables.specs.Walks.{Walk, root_span}
-use Rattle.page_tables.proofs.Walking.{found_before}
-use Rattle.source_images.specs.ByAddress.{section_pages}
-use Rattle.source_images.specs.declared.pages.SectionPage.{SectionPage}
-use Rattle.system_spec.specs.Made.{spec_of}
-use Rattle.system_spec.specs.Parts.{page_mapping}
-use Rattle.system_spec.specs.Tables.{Tables, arch, pages_at}
-use Rattle.vspace_layout.specs.declared.mapped.MappedPage.{MappedPage}
-use Rattle.vspace_layout.specs.declared.region.Content.{Content}
-use Rattle.vspace_layout.specs.declared.region.Content.TheVariants.{Stack, Buffer, Window}
-use Rattle.vspace_layout.specs.declared.region.Region.{Region}
-use Rattle.vspace_layout.specs.declared.spaces.Page.{Page}
-use Rattle.vspace_layout.specs.declared.spaces.Space.{Space}
-use Rattle.vspace_layout.specs.declared.spaces.Spaces.{Spaces}
+use Rattle.spec_laws.proofs.Common.{Aarch64, Arch, Arm11, Buffer, CanMap, Cap, Content, Domain, IsAt, IsIn, IsRegionPage, List, MappedPage, Mapping, None, Object, Page, PagesRise, Region, SectionPage, SectionsStand, Some, Space, Spaces, Stack}
+use Rattle.spec_laws.proofs.Common.{Tables, Walk, Window, [], ap, arch, arith, base, begins, below, below_count, drop, each_all, each_in, ends, ends_at, few_at, flat_map, found_before, from_gather, from_map, gather, get_ones, in_append, in_gather}
+use Rattle.spec_laws.proofs.Common.{in_map, in_place, inl, inr, leaf_threads, leaves_of, length, map, mapped_pages, memory_rights, number_shown, objects_from, option_map_or, page, page_mapping, page_of, pages_at, pages_in, pages_of_region, place_of}
+use Rattle.spec_laws.proofs.Common.{range_with_len, refl, region, region_page, region_part, regions, regions_in, rising, root_of, root_span, root_spans, section_page, section_pages, section_part, sections_stand, server, shapes, slice_get, space}
+use Rattle.spec_laws.proofs.Common.{spec_of, subst, suc, sym, system, take, thread, threads_of, windows_of, zero, ℕ, ◌%◌, ◌*◌, ◌++◌, ◌+◌, ◌/◌, ◌<◌, ◌↔◌, ◌∙◌, ◌∷◌, ◌≡◌, ◌≤◌}
 use Rattle.vspace_layout.specs.declared.thread.ThreadOf.{ThreadOf}
-use Rattle.vspace_layout.specs.Frames.{number_shown}
-use Rattle.vspace_layout.specs.Given.{base, ends, leaves_of}
-use Rattle.vspace_layout.specs.Laid.{page, space}
-use Rattle.vspace_layout.specs.MappedPages.{mapped_pages, page_of, pages_of_region, region_page, region_part, section_page, section_part}
-use Rattle.vspace_layout.specs.Regions.{pages_in, region, regions, regions_in, threads_of, windows_of}
-use Rattle.vspace_layout.specs.SpaceLaws.{PagesRise, SectionsStand}
-use Rattle.vspace_layout.specs.Threads.{domain_threads, ends_at, leaf_threads, server, thread}
-use Rattle.vspace_layout.proofs.Few.{few_at}
-use Rattle.vspace_layout.proofs.Rising.{each_all, each_in, rising}
-use Rattle.vspace_layout.proofs.Sections.{sections_stand}
-use Rattle.spec_laws.specs.CanMap.{CanMap}
-use Rattle.spec_laws.specs.Spaced.{IsAt, IsRegionPage, begins, memory_rights, objects_from, root_of, system}
+use Rattle.vspace_layout.specs.Threads.{domain_threads}
 use Rattle.spec_laws.proofs.Paging.{region_in}
 use Rattle.spec_laws.proofs.Rooted.{frames_from, from_root, tables_of_domain}
-use Rattle.vspace_layout.proofs.Spans.{root_spans}
 
 -- ---- regions end below what a root spans
 

@@ -1,26 +1,6 @@
 -- The tables of a source without faults are fit, and its layouts are limited.
-use Rattle.std.proofs.Common.{◌≡◌, None, refl, arith}
-use Rattle.adl_ast.specs.declared.source.Source.{Source}
-use Rattle.adl_meaning.specs.Flat.{flat_of}
-use Rattle.adl_meaning.specs.JoinFaults.{first_flat_fault}
-use Rattle.adl_meaning.specs.NameFaults.{AreNamesSound}
-use Rattle.adl_meaning.proofs.SoundNames.{one_assembly}
-use Rattle.adl_settings.specs.Settled.{settled_of}
-use Rattle.adl_settings.specs.SettingFaults.{first_setting_fault}
-use Rattle.adl_types.specs.TypeFaults.{first_type_fault}
-use Rattle.cspace_layout.specs.SlotFaults.{first_slot_fault}
-use Rattle.flat_laws.specs.ShortFiles.{AreFilesShort}
-use Rattle.flat_laws.proofs.Small.{flat_small}
-use Rattle.flat_laws.proofs.SoundSettings.{settings_sound}
-use Rattle.source_images.specs.Numbered.{AreNumbered, AreSound}
-use Rattle.source_images.specs.SpaceFaults.{first_space_fault}
-use Rattle.source_images.specs.declared.images.Images.{Images}
-use Rattle.spec_laws.specs.Fit.{IsFit}
-use Rattle.spec_laws.specs.Limited.{IsLimited}
-use Rattle.system_spec.specs.TablesFrom.{tables_from}
-use Rattle.vspace_layout.specs.Given.{given}
-use Rattle.vspace_layout.specs.PageLimits.{first_page_limit}
-use Rattle.vspace_layout.proofs.Sections.{sections_stand}
+use Rattle.spec_laws.proofs.Common.{AreFilesShort, AreNamesSound, AreNumbered, AreSound, Images, IsFit, IsLimited, None, Source, arith, first_flat_fault, first_page_limit, first_setting_fault, first_slot_fault, first_space_fault, first_type_fault}
+use Rattle.spec_laws.proofs.Common.{flat_of, flat_small, given, one_assembly, refl, sections_stand, settings_sound, settled_of, tables_from, ◌≡◌}
 use Rattle.spec_laws.proofs.Bounds.{can_build, can_lay, dotted, few_uses}
 use Rattle.spec_laws.proofs.FrameFits.{frames_kept}
 use Rattle.spec_laws.proofs.Interrupts.{one_line}

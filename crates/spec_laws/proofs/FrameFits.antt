@@ -1,35 +1,11 @@
 -- Each frame has the address of a page or none, and fills a part of it or nothing.
-use Rattle.std.proofs.Common.{◌≡◌, ◌<◌, ◌+◌, ◌-◌, ◌*◌, ◌%◌, ℕ, Bool, true, false, cond, List, [], map, Option, Some, None, option_map, refl, subst, inl, inr, ⊎_elim, arith}
-use Rattle.std.specs.Prelude.{leb, min, nat_lt, ◌==◌}
-use Rattle.std.specs.List.{range_with_len, slice_get}
-use Rattle.std.specs.Option.{option_map_or}
-use Rattle.std.proofs.lemmas.Bool.{and_from, eq-eqb, le-leb, lt-ltb}
-use Rattle.adl_meaning.specs.declared.flat.Domain.{Domain}
-use Rattle.adl_meaning.specs.declared.flat.FlatConnection.{FlatConnection}
-use Rattle.adl_meaning.specs.declared.flat.FlatEnd.{FlatEnd}
-use Rattle.adl_meaning.specs.declared.settled.Settled.{Settled}
-use Rattle.cap_model.specs.Kept.{keeps_fill, keeps_frame}
-use Rattle.cam_base.specs.Gather.{IsIn}
-use Rattle.cam_base.proofs.Gathered.{from_gather, in_append, in_place}
-use Rattle.cam_base.proofs.NumberedLists.{from_flat_map, from_map, from_range}
-use Rattle.source_images.specs.ByAddress.{by_address, name_of, page_at, pages_of, section_pages}
-use Rattle.source_images.specs.Images.{Placed, sections_of}
-use Rattle.source_images.specs.SectionPages.{fill_from, fill_of, page_count}
-use Rattle.source_images.specs.declared.pages.SectionPage.{SectionPage}
-use Rattle.sect_table.specs.declared.image.Section.{Section}
-use Rattle.vspace_layout.specs.declared.mapped.MappedPage.{MappedPage}
-use Rattle.vspace_layout.specs.declared.mapped.Shown.{Shown}
-use Rattle.vspace_layout.specs.declared.mapped.Shown.TheVariants.{Own, Memory}
+use Rattle.spec_laws.proofs.Common.{Bool, Buffer, Content, Domain, FlatConnection, FlatEnd, FrameInfo, Given, IsIn, List, MappedPage, Memory, None, Option, Own, Placed, Region, Section, SectionPage, Settled, Shown, Some, Stack, Window, [], and_from}
+use Rattle.spec_laws.proofs.Common.{arith, base, by_address, cond, connection_frames, device_frame, device_frames, eq-eqb, false, fill_from, fill_of, frame, frames, frames_at, from_flat_map, from_gather, from_map, from_range, in_append, in_place}
+use Rattle.spec_laws.proofs.Common.{inl, inr, is_first, is_shared, keeps_fill, keeps_frame, le-leb, leaves_of, leb, lt-ltb, map, mapped_pages, memory_paddr, memory_pages, memory_part, min, nat_lt, option_map, option_map_or, own_frame, own_frames}
+use Rattle.spec_laws.proofs.Common.{own_part, page_at, page_count, page_of, pages_of, pages_of_region, range_with_len, refl, region_page, region_part, regions, register_frames, register_part, registers, section_page, section_pages, section_part}
+use Rattle.spec_laws.proofs.Common.{sections_of, shared_frames, shared_part, slice_get, subst, true, ℕ, ⊎_elim, ◌%◌, ◌*◌, ◌+◌, ◌-◌, ◌<◌, ◌==◌, ◌≡◌}
+use Rattle.source_images.specs.ByAddress.{name_of}
 use Rattle.vspace_layout.specs.declared.owner.Owner.TheVariants.{OfConnection}
-use Rattle.vspace_layout.specs.declared.region.Content.{Content}
-use Rattle.vspace_layout.specs.declared.region.Content.TheVariants.{Stack, Buffer, Window}
-use Rattle.vspace_layout.specs.declared.region.Region.{Region}
-use Rattle.vspace_layout.specs.declared.spaces.FrameInfo.{FrameInfo}
-use Rattle.vspace_layout.specs.Frames.{connection_frames, device_frame, device_frames, frame, frames, frames_at, is_first, memory_part, own_frame, own_frames, own_part, register_frames, register_part, shared_frames, shared_part}
-use Rattle.vspace_layout.specs.Given.{Given, base, leaves_of}
-use Rattle.vspace_layout.specs.MappedPages.{mapped_pages, page_of, pages_of_region, region_page, region_part, section_page, section_part}
-use Rattle.vspace_layout.specs.Memory.{is_shared, memory_paddr, memory_pages, registers}
-use Rattle.vspace_layout.specs.Regions.{regions}
 
 abbrev Keeps : FrameInfo → Type 0
 Keeps f = keeps_frame f.paddr f.fill ≡ true

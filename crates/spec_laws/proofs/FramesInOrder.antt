@@ -1,44 +1,13 @@
 -- Own frames of domains stand by domain and address, behind them shared frames, and then registers of devices
-use Rattle.std.proofs.Common.{◌≡◌, ◌<◌, ◌≤◌, ◌⊎◌, ◌+◌, ◌/◌, ◌∙◌, ℕ, cond, true, false, true≢false, List, [], ◌∷◌, length, Option, Some, None, refl, sym, ap, subst, inl, inr, arith}
-use Rattle.std.proofs.lemmas.Bool.{cases_lt}
-use Rattle.std.proofs.lemmas.List.Quantifiers.{position-Some}
-use Rattle.std.proofs.lemmas.Option.{get_or_from_slice_get}
-use Rattle.std.specs.List.{slice_get}
-use Rattle.std.specs.Option.{option_map_or}
-use Rattle.adl_meaning.specs.declared.connector.Connector.TheVariants.{Mmio, SharedMemory}
-use Rattle.adl_meaning.specs.declared.flat.Domain.{Domain}
-use Rattle.adl_meaning.specs.declared.flat.FlatConnection.{FlatConnection}
-use Rattle.adl_meaning.specs.declared.flat.FlatEnd.{FlatEnd}
-use Rattle.cap_model.specs.declared.cap.Cap.{Cap}
-use Rattle.cap_model.specs.declared.object.Fill.{Fill}
+use Rattle.spec_laws.proofs.Common.{AreFramesInOrder, CanMap, Cap, Domain, Fill, FlatConnection, FlatEnd, FrameInfo, FrameOf, IsBefore, IsNamed, IsOwn, IsOwnAt, IsRegisterAt, IsSharedAt, List, MappedPage, Mmio, None, OneDevice, Option, Own, Owned}
+use Rattle.spec_laws.proofs.Common.{Part, SharedMemory, Some, Tables, [], ap, arith, at_place, before, below, cases_lt, cond, connection_frames, false, frame_owner, frame_parts, get_ones, get_or_from_slice_get, in_gather, in_together, inl, inr}
+use Rattle.spec_laws.proofs.Common.{is_shared, leads_to, length, mapped_pages, memory_number, memory_pages, name_at, number_shown, numbered, object_at, objects_stand, option_map_or, own_frames, own_number, own_part, own_port, owned, part, place}
+use Rattle.spec_laws.proofs.Common.{place_is, position-Some, refl, register_frames, registers, registers_in, root_of, same_port, sections, shared_frames, shared_part, slice_get, spec_of, subst, sym, system, true, true≢false, ℕ, ◌+◌, ◌/◌, ◌<◌, ◌∙◌}
+use Rattle.spec_laws.proofs.Common.{◌∷◌, ◌≡◌, ◌≤◌, ◌⊎◌}
 use Rattle.cap_model.specs.declared.object.Object.TheVariants as objects
-use Rattle.cap_model.specs.Lookup.{name_at, object_at}
-use Rattle.cam_base.specs.Gather.{before}
-use Rattle.cam_base.proofs.Gathered.{get_ones, in_gather}
-use Rattle.cam_base.proofs.NumberedLists.{at_place, below}
-use Rattle.system_spec.specs.declared.part.Owned.{Owned}
-use Rattle.system_spec.specs.declared.part.Part.{Part}
-use Rattle.system_spec.specs.declared.part.What.TheVariants.{FrameOf}
 use Rattle.system_spec.specs.declared.series.Series.TheVariants as series
-use Rattle.system_spec.specs.Parts.{frame_parts, numbered, owned, part, place, sections}
-use Rattle.system_spec.proofs.Objects.{in_together, objects_stand}
-use Rattle.system_spec.proofs.Standing.{place_is}
-use Rattle.vspace_layout.specs.declared.spaces.FrameInfo.{FrameInfo}
-use Rattle.spec_laws.specs.Slotted.{IsNamed}
 use Rattle.spec_laws.proofs.Locks.{part_there}
 use Rattle.spec_laws.proofs.Whats.{frame_what}
-use Rattle.system_spec.specs.Made.{spec_of}
-use Rattle.system_spec.specs.Tables.{Tables, frame_owner}
-use Rattle.vspace_layout.specs.declared.mapped.MappedPage.{MappedPage}
-use Rattle.vspace_layout.specs.declared.mapped.Shown.TheVariants.{Own}
-use Rattle.vspace_layout.specs.Frames.{connection_frames, memory_number, number_shown, own_frames, own_number, own_part, register_frames, shared_frames, shared_part}
-use Rattle.vspace_layout.specs.MappedPages.{mapped_pages}
-use Rattle.vspace_layout.specs.Memory.{is_shared, leads_to, memory_pages, registers, registers_in, same_port}
-use Rattle.vspace_layout.proofs.Standing.{own_port}
-use Rattle.spec_laws.specs.CanMap.{CanMap}
-use Rattle.spec_laws.specs.Framed.{IsOwn, OneDevice}
-use Rattle.spec_laws.specs.Ordered.{AreFramesInOrder, IsBefore, IsOwnAt, IsRegisterAt, IsSharedAt}
-use Rattle.spec_laws.specs.Spaced.{root_of, system}
 use Rattle.spec_laws.proofs.Blocks.{behind, inside}
 use Rattle.spec_laws.proofs.Finding.{found, rise}
 use Rattle.spec_laws.proofs.Framing.{FirstTo}

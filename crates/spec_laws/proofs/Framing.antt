@@ -1,54 +1,12 @@
 -- The frame of each page that is mapped
-use Rattle.std.proofs.Common.{◌≡◌, ◌<◌, ◌+◌, ◌*◌, ◌/◌, ◌⊎◌, ℕ, Bool, true, false, List, [], ◌∷◌, get_or, Option, Some, None, refl, sym, ◌∙◌, ap, subst, inl, inr, arith}
-use Rattle.std.specs.List.{position, range_with_len, slice_get}
-use Rattle.std.specs.Option.{option_and_then, option_map_or}
-use Rattle.std.specs.Prelude.{◌==◌}
-use Rattle.std.proofs.lemmas.Bool.{and_parts, eqb-true}
-use Rattle.std.proofs.lemmas.List.Quantifiers.{position-Some}
-use Rattle.std.proofs.lemmas.Option.{slice_get-get_or}
-use Rattle.adl_ast.specs.declared.composition.Role.{Role}
-use Rattle.adl_meaning.specs.declared.connector.Connector.{Connector}
-use Rattle.adl_meaning.specs.declared.connector.Connector.TheVariants.{Rpc, Notification, SharedMemory, Mmio, Interrupt, Direct}
-use Rattle.adl_meaning.specs.declared.flat.Domain.{Domain}
-use Rattle.adl_meaning.specs.declared.flat.FlatConnection.{FlatConnection}
-use Rattle.adl_meaning.specs.declared.flat.FlatEnd.{FlatEnd}
-use Rattle.adl_meaning.specs.declared.settled.EndSetting.{EndSetting}
-use Rattle.cap_model.specs.declared.object.Object.TheVariants.{Endpoint}
-use Rattle.cap_model.specs.Lookup.{object_at}
-use Rattle.cspace_layout.specs.declared.end_at.EndAt.{EndAt}
-use Rattle.cspace_layout.specs.Lookups.{setting_of}
-use Rattle.cam_base.specs.Gather.{IsIn}
-use Rattle.cam_base.proofs.Gathered.{from_gather, get_ones, in_append, in_gather, in_place}
-use Rattle.cam_base.proofs.NumberedLists.{below, from_map, below_count}
-use Rattle.source_images.specs.ByAddress.{section_pages}
-use Rattle.system_spec.specs.declared.part.Owned.{Owned}
-use Rattle.system_spec.specs.declared.part.Part.{Part}
-use Rattle.system_spec.specs.declared.part.What.TheVariants.{FrameOf}
+use Rattle.spec_laws.proofs.Common.{Bool, Buffer, CanMap, Connector, Content, Direct, Domain, EndAt, EndSetting, Endpoint, FlatConnection, FlatEnd, FrameInfo, FrameOf, Interrupt, IsIn, IsRegionPage, List, MappedPage, Memory, Mmio, None, Notification}
+use Rattle.spec_laws.proofs.Common.{OneDevice, Option, Own, Owned, Part, Region, Role, Rpc, SharedMemory, Shown, Some, Spaces, Stack, Tables, Window, [], and_parts, ap, arith, base, begins, below, below_count, eqb-true, false, first_to, frame}
+use Rattle.spec_laws.proofs.Common.{frame_object, frame_owner, frame_parts, frames, frames_stand, from_gather, from_map, get_ones, get_or, in_append, in_gather, in_place, in_together, inl, inr, is_shared, is_to, is_window, leads_to, leaves_of}
+use Rattle.spec_laws.proofs.Common.{mapped_pages, memory_number, memory_paddr, memory_pages, memory_place, number_shown, numbered, object_at, objects_stand, option_and_then, option_map_or, own_port, owned, page_of, pages_of_region, part, place}
+use Rattle.spec_laws.proofs.Common.{position, position-Some, position_found, range_with_len, refl, region_page, region_part, regions, registers, registers_in, same_port, section_page, section_pages, section_part, sections, setting_of, slice_get}
+use Rattle.spec_laws.proofs.Common.{slice_get-get_or, spec_of, subst, sym, system, to_place, true, ℕ, ◌*◌, ◌+◌, ◌/◌, ◌<◌, ◌==◌, ◌∙◌, ◌∷◌, ◌≡◌, ◌⊎◌}
 use Rattle.system_spec.specs.declared.series.Series.TheVariants as series
-use Rattle.system_spec.specs.Made.{spec_of}
-use Rattle.system_spec.specs.Objects.{frame_object}
-use Rattle.system_spec.specs.Parts.{frame_parts, numbered, owned, part, place, sections}
-use Rattle.system_spec.specs.Tables.{Tables, frame_owner}
-use Rattle.system_spec.proofs.Objects.{in_together, objects_stand}
-use Rattle.vspace_layout.specs.declared.mapped.MappedPage.{MappedPage}
-use Rattle.vspace_layout.specs.declared.mapped.Shown.{Shown}
-use Rattle.vspace_layout.specs.declared.mapped.Shown.TheVariants.{Memory, Own}
 use Rattle.vspace_layout.specs.declared.owner.Owner.TheVariants.{OfConnection, OfDomain, OfLeaf}
-use Rattle.vspace_layout.specs.declared.region.Content.{Content}
-use Rattle.vspace_layout.specs.declared.region.Content.TheVariants.{Stack, Buffer, Window}
-use Rattle.vspace_layout.specs.declared.region.Region.{Region}
-use Rattle.vspace_layout.specs.declared.spaces.FrameInfo.{FrameInfo}
-use Rattle.vspace_layout.specs.declared.spaces.Spaces.{Spaces}
-use Rattle.vspace_layout.specs.Frames.{frame, frames, memory_number, number_shown}
-use Rattle.vspace_layout.specs.Given.{base, leaves_of}
-use Rattle.vspace_layout.specs.MappedPages.{mapped_pages, page_of, pages_of_region, region_page, region_part, section_page, section_part}
-use Rattle.vspace_layout.specs.Memory.{first_to, is_shared, is_to, leads_to, memory_pages, memory_paddr, memory_place, registers, registers_in, same_port, to_place}
-use Rattle.vspace_layout.specs.Regions.{is_window, regions}
-use Rattle.vspace_layout.proofs.Standing.{frames_stand, own_port}
-use Rattle.vspace_layout.proofs.MemoryNumbers.{position_found}
-use Rattle.spec_laws.specs.CanMap.{CanMap}
-use Rattle.spec_laws.specs.Framed.{OneDevice}
-use Rattle.spec_laws.specs.Spaced.{IsRegionPage, begins, system}
 use Rattle.spec_laws.proofs.Paging.{window_is, window_of}
 
 -- ---- frames as objects

@@ -1,10 +1,5 @@
 -- How long gathered lists are, and what stands in them.
-use Rattle.std.proofs.Common.{◌≡◌, ◌<◌, ◌≤◌, ◌+◌, ◌*◌, ℕ, zero, suc, List, [], ◌∷◌, ◌++◌, length, Some, option_map, refl, arith}
-use Rattle.std.specs.Prelude.{sum}
-use Rattle.std.specs.List.{slice_get}
-use Rattle.std.proofs.lemmas.List.Sums.{sum_by-cons}
-use Rattle.cam_base.specs.Gather.{gather}
-use Rattle.cam_base.proofs.Gathered.{length_append}
+use Rattle.spec_laws.proofs.Common.{List, Some, [], arith, gather, length, length_append, option_map, refl, slice_get, suc, sum, sum_by-cons, zero, ℕ, ◌*◌, ◌++◌, ◌+◌, ◌<◌, ◌∷◌, ◌≡◌, ◌≤◌}
 
 -- what is gathered, where each element gives at most so many
 pub gather_most : {X Y : Type 0} (f : ℕ → X → List Y) (xs : List X) → ((k : ℕ) (x : X) → slice_get xs k ≡ Some x

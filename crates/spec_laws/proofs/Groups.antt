@@ -1,17 +1,8 @@
 -- The leaves of a domain: each once, and one at least.
-use Rattle.std.proofs.Common.{◌≡◌, ◌<◌, ◌≤◌, ◌+◌, ℕ, zero, suc, Bool, true, false, cond, List, [], ◌∷◌, length, map, Some, refl, ap, subst, arith}
-use Rattle.std.specs.List.{enumerate_from, filter, slice_get}
-use Rattle.adl_ast.specs.declared.source.Source.{Source}
+use Rattle.spec_laws.proofs.Common.{Bool, Domain, IsIn, List, Some, Source, [], ap, arith, cond, domains, enumerate_from, false, filter, flat_domain, flat_of, from_get_map, hierarchy_of, in_get, is_inside, leaves, length, map, place_in, refl}
+use Rattle.spec_laws.proofs.Common.{slice_get, subst, suc, true, zero, ℕ, ◌+◌, ◌<◌, ◌∷◌, ◌≡◌, ◌≤◌}
 use Rattle.adl_hierarchy.proofs.DomainNames.{domains_are, leaves_of_domain}
-use Rattle.adl_meaning.specs.declared.flat.Domain.{Domain}
-use Rattle.adl_meaning.specs.Domains.{domains}
-use Rattle.adl_meaning.specs.Flat.{flat_domain, flat_of, is_inside}
-use Rattle.adl_meaning.specs.Hierarchy.{hierarchy_of}
-use Rattle.cam_base.specs.Gather.{IsIn}
-use Rattle.adl_meaning.specs.Paths.{Placed, leaves}
-use Rattle.adl_hierarchy.proofs.Lists.{in_get}
-use Rattle.flat_laws.proofs.FlatEnds.{place_in}
-use Rattle.cam_base.proofs.NumberedLists.{from_get_map}
+use Rattle.adl_meaning.specs.Paths.{Placed}
 
 -- the numbers of the elements that pass, where the first has this one
 abbrev numbers : {X : Type 0} → (ℕ × X → Bool) → ℕ → List X → List ℕ

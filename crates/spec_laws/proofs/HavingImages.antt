@@ -1,37 +1,12 @@
 -- Each leaf of software has an image: its component stands in the source, and types list the component's name.
-use Rattle.std.proofs.Common.{◌≡◌, ◌∙◌, ℕ, Bool, cond, List, Option, Some, None, unwrap_or, refl, sym, ap, subst, arith}
-use Rattle.std.proofs.lemmas.Slice.Eq.{bytes_eq-Decides}
-use Rattle.std.specs.List.{enumerate_from, filter_map, position, slice_get}
-use Rattle.std.specs.Option.{option_and_then}
-use Rattle.std.specs.Str.{bytes_eq}
-use Rattle.adl_ast.specs.declared.component.Component.{Component}
-use Rattle.adl_ast.specs.declared.file.Ended.{Ended}
-use Rattle.adl_ast.specs.declared.file.Item.{Item}
+use Rattle.spec_laws.proofs.Common.{AreImagesOf, AreNamesSound, Body, Bool, Component, Contents, Ended, HaveImages, Images, IsIn, Item, ItemAt, Leaf, List, Name, None, Option, Some, Source, SourceFile, ap, arith, as_component, body_number, bytes_eq}
+use Rattle.spec_laws.proofs.Common.{bytes_eq-Decides, component_of, components, cond, enumerate_from, filter_map, flat_of, from_enumerate, from_filter_map, from_flat_map, from_get_map, from_map, get_map, hierarchy_of, image_number, in_filter_map}
+use Rattle.spec_laws.proofs.Common.{in_get, items_in, items_of, leaf_component, leaf_of, leaves, option_and_then, position, position_found, refl, slice_get, subst, sym, type_number, type_of, types, unwrap_or, ℕ, ◌∙◌, ◌≡◌}
 use Rattle.adl_ast.specs.declared.file.Item.TheVariants as items
-use Rattle.adl_ast.specs.declared.source.Source.{Source}
-use Rattle.adl_ast.specs.declared.source.SourceFile.{SourceFile}
-use Rattle.adl_hierarchy.proofs.Bodies.{body_number}
 use Rattle.adl_hierarchy.proofs.Places.{firsts_are}
-use Rattle.adl_meaning.specs.declared.flat.Leaf.{Leaf}
-use Rattle.adl_meaning.specs.declared.item_at.ItemAt.{ItemAt}
-use Rattle.adl_meaning.specs.Flat.{flat_of, leaf_of}
-use Rattle.adl_meaning.specs.Hierarchy.{Body, hierarchy_of}
-use Rattle.adl_meaning.specs.Items.{as_component, components, items_in, items_of}
-use Rattle.cam_base.specs.Gather.{IsIn}
-use Rattle.adl_meaning.specs.NameFaults.{AreNamesSound}
-use Rattle.adl_meaning.specs.Paths.{leaves}
-use Rattle.cam_io.specs.Contents.{Contents}
-use Rattle.adl_hierarchy.proofs.Lists.{in_get}
 use Rattle.cam_base.proofs.Gathered.{place_of as listed_at}
-use Rattle.cam_base.proofs.NumberedLists.{from_enumerate, from_filter_map, from_flat_map, from_map, get_map, in_filter_map, from_get_map}
-use Rattle.flat_laws.proofs.FlatLeaves.{leaf_component}
-use Rattle.source_images.specs.Images.{image_number}
-use Rattle.source_images.specs.declared.images.Images.{Images}
-use Rattle.source_images.specs.ImagesRead.{AreImagesOf}
-use Rattle.source_images.specs.Types.{Name, component_name, component_of, type_number, type_of, types}
+use Rattle.source_images.specs.Types.{component_name}
 use Rattle.spec_laws.proofs.StackPages.{soft_leaf}
-use Rattle.spec_laws.specs.HaveImages.{HaveImages}
-use Rattle.vspace_layout.proofs.MemoryNumbers.{position_found}
 
 -- ---- the component of a leaf has a name
 

@@ -1,15 +1,5 @@
 -- The images of a system, put together
-use Rattle.std.proofs.Common.{◌≡◌, suc, List, [], ◌∷◌, length, map, refl, ap}
-use Rattle.cap_model.specs.declared.spec.Entry.{Entry}
-use Rattle.system_spec.specs.declared.part.Part.{Part}
-use Rattle.system_spec.specs.Made.{entry, labels_of, part_label, part_name, spec_of}
-use Rattle.system_spec.specs.MapLines.{map_lines}
-use Rattle.system_spec.specs.Parts.{parts}
-use Rattle.system_spec.specs.Tables.{Tables}
-use Rattle.spec_laws.specs.CanMap.{CanMap}
-use Rattle.spec_laws.specs.Imaged.{AreImages}
-use Rattle.spec_laws.specs.Slotted.{CanSlot}
-use Rattle.spec_laws.specs.Spaced.{root_of}
+use Rattle.spec_laws.proofs.Common.{AreImages, CanMap, CanSlot, List, Tables, [], ap, entry, labels_of, length, map, map_lines, part_label, parts, refl, root_of, spec_of, suc, ◌∷◌, ◌≡◌}
 use Rattle.spec_laws.proofs.AllFrames.{all_frames}
 use Rattle.spec_laws.proofs.DomainLines.{domains_are}
 use Rattle.spec_laws.proofs.FramesInOrder.{frames_in_order}
@@ -22,6 +12,7 @@ use Rattle.spec_laws.proofs.Regioning.{regions_are}
 use Rattle.spec_laws.proofs.Roots.{roots_are}
 use Rattle.spec_laws.proofs.Showing.{memory_frames}
 use Rattle.spec_laws.proofs.Spaces.{pages_are}
+use Rattle.spec_laws.proofs.StandInOrder.{stand_in_order}
 use Rattle.spec_laws.proofs.Tabled.{tables_are}
 use Rattle.spec_laws.proofs.TablesInOrder.{tables_in_order}
 use Rattle.spec_laws.proofs.Threading.{threads_hold}
@@ -30,13 +21,9 @@ as_many : {X Y Z : Type 0} (f : X → Y) (g : X → Z) (xs : List X) → length 
 as_many f g [] = refl
 as_many f g (x ∷ xs) = ap suc (as_many f g xs)
 
-named : (t : Tables) (ps : List Part) → map (λ (e : Entry). e.name) (map (entry t) ps) ≡ map part_name ps
-named t [] = refl
-named t (p ∷ ps) = ap (λ z. part_name p ∷ z) (named t ps)
-
 pub images_are : (t : Tables) → CanMap t → CanSlot t → AreImages t (spec_of t) (root_of t) (labels_of t) (map_lines t)
 images_are t can slotted = record {
-  named = named t (parts t);
+  standing = stand_in_order t slotted;
   kinds = kinds_are t;
   domains = domains_are t;
   roots = roots_are t can;

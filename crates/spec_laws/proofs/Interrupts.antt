@@ -1,52 +1,18 @@
 -- An interrupt has an end at a device, and no two interrupts have one number.
-use Rattle.std.proofs.Common.{◌≡◌, ◌≤◌, ◌+◌, ◌∙◌, ℕ, true, ◌&&◌, cond, List, [], ◌∷◌, map, Option, Some, None, unwrap_or, refl, sym, ap, subst, arith, true≢false}
-use Rattle.std.specs.Prelude.{◌==◌, is_none, is_some, nat_le, option_map}
-use Rattle.std.specs.List.{count_by, slice_get}
-use Rattle.std.specs.Option.{option_and_then, option_map_or}
-use Rattle.std.proofs.lemmas.Bool.{and_from, cond_both, eq-eqb, le-leb, leb-true, or_right}
-use Rattle.std.proofs.lemmas.Bool.Decides.{leb_tells}
-use Rattle.std.proofs.lemmas.List.{map-append}
-use Rattle.std.proofs.lemmas.List.Sums.{sum_by-append, sum_by-cons}
-use Rattle.adl_ast.specs.declared.composition.Role.{Role}
-use Rattle.adl_ast.specs.declared.composition.Role.TheVariants.{From, To}
-use Rattle.adl_ast.specs.declared.source.Source.{Source}
+use Rattle.spec_laws.proofs.Common.{AreDotted, AreNamesSound, AreSettingsSound, FlatConnection, FlatEnd, Found, From, Interrupt, IsIn, List, None, Option, Role, Some, Source, To, [], alone, and_from, ap, arith, bad_at_end, bad_unless, bad_value}
+use Rattle.spec_laws.proofs.Common.{cond, cond_both, count_by, counted, device_place, end_rule, ends_typed, eq-eqb, first_type_fault, flat_of, found_on, founds_in, get_map, hierarchy_of, in_filter_map, in_flat_map, in_map, in_place, irq_from, irq_in}
+use Rattle.spec_laws.proofs.Common.{irq_number, irq_of, irq_twice_at, irqs_in, is_device_event, is_device_memory, is_kind_of, is_none, is_some, is_there, lacks_value, le-leb, leb-true, leb_tells, map, map-append, meaning, missing_at, nat_le, none_in}
+use Rattle.spec_laws.proofs.Common.{none_right, option_and_then, option_map_or, or_right, place_of, position_found, refl, setting_of, settled_of, slice_get, so, some_end, subst, sum_by-append, sum_by-cons, sym, true, true≢false, unwrap_or, ℕ, ◌&&◌}
+use Rattle.spec_laws.proofs.Common.{◌+◌, ◌==◌, ◌∙◌, ◌∷◌, ◌≡◌, ◌≤◌}
+use Rattle.std.specs.Prelude.{option_map}
 use Rattle.adl_hierarchy.proofs.Exports.{not_so}
-use Rattle.adl_hierarchy.proofs.Leading.{is_there}
-use Rattle.adl_hierarchy.specs.Leads.{AreDotted}
-use Rattle.adl_meaning.specs.declared.connector.Connector.TheVariants.{Interrupt}
-use Rattle.adl_meaning.specs.declared.flat.FlatConnection.{FlatConnection}
-use Rattle.adl_meaning.specs.declared.flat.FlatEnd.{FlatEnd}
-use Rattle.adl_meaning.specs.Flat.{flat_of}
-use Rattle.adl_meaning.specs.Hierarchy.{hierarchy_of}
-use Rattle.adl_meaning.specs.NameFaults.{AreNamesSound}
 use Rattle.adl_meaning.specs.Values.{Given}
-use Rattle.adl_settings.specs.Allowed.{irq_in}
-use Rattle.adl_settings.specs.BadValue.{bad_at_end}
-use Rattle.adl_settings.specs.EndMeaning.{irq_of}
-use Rattle.adl_settings.specs.IrqTwice.{irq_at, irq_from, irq_twice_at, irqs, irqs_in}
+use Rattle.adl_settings.specs.IrqTwice.{irq_at, irqs}
 use Rattle.adl_settings.specs.declared.twice.Irq.{Irq}
-use Rattle.adl_settings.specs.Joints.{found_on, founds_in, is_device_event, is_device_memory}
-use Rattle.adl_settings.specs.declared.found.Found.{Found}
-use Rattle.adl_settings.specs.Meant.{bad_unless, bad_value, meaning}
-use Rattle.adl_settings.specs.Missing.{lacks_value, missing_at}
 use Rattle.adl_settings.specs.Repeated.{is_repeated}
-use Rattle.adl_settings.specs.Settled.{settled_of}
-use Rattle.adl_types.specs.TypeFaults.{is_kind_of}
-use Rattle.adl_types.specs.TypeFaults.{first_type_fault}
-use Rattle.conn_rules.specs.Ends.{end_rule}
-use Rattle.flat_laws.proofs.AreTyped.{ends_typed}
-use Rattle.flat_laws.proofs.Counts.{alone, counted}
-use Rattle.flat_laws.proofs.SomeEnds.{some_end}
-use Rattle.flat_laws.proofs.SoundSettings.{AreSettingsSound}
-use Rattle.flat_laws.proofs.TypedEnds.{so}
-use Rattle.cspace_layout.specs.Lookups.{setting_of}
-use Rattle.cam_base.specs.Gather.{IsIn}
-use Rattle.cam_base.proofs.Gathered.{in_place, place_of}
-use Rattle.cam_base.proofs.NumberedLists.{get_map, in_filter_map, in_flat_map, in_map, none_in, none_right}
 use Rattle.spec_laws.proofs.SettledEnds.{end_found}
 use Rattle.spec_laws.proofs.SpaceBounds.{at_position}
-use Rattle.system_spec.specs.Tables.{device_place, irq_number, is_hardware}
-use Rattle.vspace_layout.proofs.MemoryNumbers.{position_found}
+use Rattle.system_spec.specs.Tables.{is_hardware}
 
 -- ---- the end at the device
 

@@ -1,39 +1,11 @@
 -- The labels of interrupts
-use Rattle.std.proofs.Common.{◌≡◌, ℕ, List, [], ◌∷◌, Option, Some, None, refl, sym, ◌∙◌, ap, subst, inl, inr, arith}
-use Rattle.std.specs.List.{slice_get}
-use Rattle.std.specs.Option.{option_map_or}
-use Rattle.adl_meaning.specs.declared.connector.Connector.{Connector}
-use Rattle.adl_meaning.specs.declared.connector.Connector.TheVariants.{Rpc, Notification, SharedMemory, Mmio, Interrupt, Direct}
-use Rattle.adl_meaning.specs.declared.flat.Domain.{Domain}
-use Rattle.adl_meaning.specs.declared.flat.FlatConnection.{FlatConnection}
-use Rattle.arch_policy.specs.declared.owner.Owner.{Owner}
-use Rattle.arch_policy.specs.declared.owner.Owner.TheVariants.{OfConnection, OfDomain}
+use Rattle.spec_laws.proofs.Common.{CNodeOf, CanMap, Connector, Direct, Domain, EndpointOf, FlatConnection, FrameInfo, FrameOf, Handler, Interrupt, IrqOf, IsIn, IsIrqOf, IsOf, List, LockOf, Mmio, None, Notification, NotificationOf, OfConnection}
+use Rattle.spec_laws.proofs.Common.{OfDomain, OfEnd, Option, OwnLock, Owned, Owner, PageTable, Part, Rpc, Series, SharedMemory, SlotUse, Some, TableOf, Tables, ThreadOf, ThreadPlace, What, [], all_tables, ap, arith, below, cnodes, domain_locks}
+use Rattle.spec_laws.proofs.Common.{domain_tcbs, endpoint, endpoint_by, endpoints, frame_object, frame_owner, frame_parts, from_flat_map, from_gather, in_place, inl, inr, irq, irq_by, irq_owner, irqs, labels_of, lock, locks, name_at, notification}
+use Rattle.spec_laws.proofs.Common.{notification_by, notifications, numbered, object, objects_stand, option_map_or, owned, part, parts, parts_are_there, place, place_is, refl, sections, single, slice_get, spec_of, subst, sym, table_part, table_parts}
+use Rattle.spec_laws.proofs.Common.{tcb, tcbs, threads_at, uses_at, ℕ, ◌∙◌, ◌∷◌, ◌≡◌}
 use Rattle.cap_model.specs.declared.object.Object.TheVariants as objects
-use Rattle.cap_model.specs.Lookup.{name_at}
-use Rattle.cspace_layout.specs.declared.plan.SlotUse.{SlotUse}
-use Rattle.cspace_layout.specs.declared.plan.SlotUse.TheVariants.{OfEnd, Handler, OwnLock}
-use Rattle.cam_base.specs.Gather.{IsIn}
-use Rattle.cam_base.proofs.Gathered.{from_gather, in_place}
-use Rattle.cam_base.proofs.NumberedLists.{below, from_flat_map}
-use Rattle.system_spec.specs.declared.part.Owned.{Owned}
-use Rattle.system_spec.specs.declared.part.PageTable.{PageTable}
-use Rattle.system_spec.specs.declared.part.Part.{Part}
-use Rattle.system_spec.specs.declared.part.What.{What}
-use Rattle.system_spec.specs.declared.part.What.TheVariants.{CNodeOf, ThreadOf, EndpointOf, NotificationOf, LockOf, IrqOf, TableOf, FrameOf}
-use Rattle.system_spec.specs.declared.series.Series.{Series}
 use Rattle.system_spec.specs.declared.series.Series.TheVariants as series
-use Rattle.system_spec.specs.Made.{labels_of, spec_of}
-use Rattle.system_spec.specs.Objects.{frame_object, object, tcb}
-use Rattle.system_spec.specs.Parts.{all_tables, cnodes, domain_locks, domain_tcbs, endpoint, endpoint_by, endpoints, frame_parts, irq, irq_by, irqs, lock, locks, notification, notification_by, notifications, numbered, owned, part, parts, place, sections, table_part, table_parts, tcbs}
-use Rattle.system_spec.specs.Tables.{Tables, frame_owner, irq_owner, threads_at, uses_at}
-use Rattle.system_spec.proofs.Objects.{objects_stand, parts_are_there}
-use Rattle.system_spec.proofs.Standing.{place_is}
-use Rattle.system_spec.proofs.There.{single}
-use Rattle.vspace_layout.specs.declared.spaces.FrameInfo.{FrameInfo}
-use Rattle.vspace_layout.specs.declared.spaces.ThreadPlace.{ThreadPlace}
-use Rattle.spec_laws.specs.CanMap.{CanMap}
-use Rattle.spec_laws.specs.Labelled.{IsOf}
-use Rattle.spec_laws.specs.Slotted.{IsIrqOf}
 use Rattle.spec_laws.proofs.Joints.{ntfn_number}
 use Rattle.spec_laws.proofs.Labels.{label_is}
 use Rattle.spec_laws.proofs.Locks.{part_there}

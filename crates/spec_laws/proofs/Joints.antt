@@ -1,34 +1,9 @@
 -- The labels of endpoints and notifications
-use Rattle.std.proofs.Common.{◌≡◌, ◌<◌, ◌⊎◌, ◌^◌, ℕ, List, [], ◌∷◌, decimal, drop, length, map, Option, Some, None, refl, sym, ◌∙◌, ap, subst, inl, inr, arith}
-use Rattle.std.specs.List.{slice_get}
-use Rattle.std.proofs.lemmas.Fmt.{decimal_injective}
-use Rattle.adl_meaning.specs.declared.connector.Connector.{Connector}
-use Rattle.adl_meaning.specs.declared.connector.Connector.TheVariants.{Rpc, Notification, SharedMemory, Mmio, Interrupt, Direct}
-use Rattle.adl_meaning.specs.declared.flat.FlatConnection.{FlatConnection}
-use Rattle.arch_policy.specs.declared.owner.Owner.{Owner}
-use Rattle.arch_policy.specs.declared.owner.Owner.TheVariants.{OfConnection}
-use Rattle.cap_model.specs.declared.level.Level.{Level}
-use Rattle.cap_model.specs.declared.level.Level.TheVariants.{Global, Upper, Directory, Table}
-use Rattle.cap_model.specs.declared.spec.Entry.{Entry}
-use Rattle.cap_model.specs.Lookup.{entry_name}
-use Rattle.cam_base.specs.Gather.{IsIn}
-use Rattle.cam_base.proofs.Gathered.{from_gather, in_place}
-use Rattle.cam_base.proofs.NumberedLists.{below, from_flat_map, from_get_map}
-use Rattle.system_spec.specs.declared.part.Owned.{Owned}
-use Rattle.system_spec.specs.declared.part.PageTable.{PageTable}
-use Rattle.system_spec.specs.declared.part.Part.{Part}
-use Rattle.system_spec.specs.declared.part.What.TheVariants.{EndpointOf, NotificationOf}
-use Rattle.system_spec.specs.declared.series.Series.{Series}
+use Rattle.spec_laws.proofs.Common.{CanMap, Connector, Direct, Directory, EndpointOf, Entry, FlatConnection, Global, Interrupt, IsIn, IsNamed, IsOf, Level, List, Mmio, None, Notification, NotificationOf, OfConnection, Option, Owned, Owner, PageTable}
+use Rattle.spec_laws.proofs.Common.{Part, Rpc, Series, SharedMemory, Some, Table, Tables, Upper, [], all_tables, ap, arith, below, decimal, decimal_injective, drop, endpoint, endpoint_by, endpoints, entry, entry_name, from_flat_map, from_gather}
+use Rattle.spec_laws.proofs.Common.{from_get_map, in_place, inl, inr, labels_of, length, level_series, map, name_of, notification, notification_by, notifications, numbered, part, part_name, parts, place_is, refl, sections, single, slice_get, spec_of}
+use Rattle.spec_laws.proofs.Common.{subst, sym, table_part, table_parts, ℕ, ◌<◌, ◌^◌, ◌∙◌, ◌∷◌, ◌≡◌, ◌⊎◌}
 use Rattle.system_spec.specs.declared.series.Series.TheVariants as series
-use Rattle.system_spec.specs.Made.{entry, labels_of, part_name, spec_of}
-use Rattle.system_spec.specs.Names.{level_series, name_of}
-use Rattle.system_spec.specs.Parts.{all_tables, endpoint, endpoint_by, endpoints, notification, notification_by, notifications, numbered, part, parts, sections, table_part, table_parts}
-use Rattle.system_spec.specs.Tables.{Tables}
-use Rattle.system_spec.proofs.Standing.{place_is}
-use Rattle.system_spec.proofs.There.{single}
-use Rattle.spec_laws.specs.CanMap.{CanMap}
-use Rattle.spec_laws.specs.Labelled.{IsOf}
-use Rattle.spec_laws.specs.Slotted.{IsNamed}
 use Rattle.spec_laws.proofs.Labels.{label_is}
 
 -- ---- which parts are named as endpoints and notifications

@@ -1,35 +1,14 @@
 -- The spec of laid-out tables keeps what every spec keeps.
-use Rattle.std.proofs.Common.{◌≡◌, ℕ, Bool, true, false, ◌&&◌, cond, List, [], ◌∷◌, refl, ◌∙◌, ap, Option, Some, None, inl, inr, arith}
-use Rattle.std.specs.Prelude.{leb, ◌==◌}
-use Rattle.std.specs.List.{find, list_all, slice_get}
-use Rattle.std.specs.Option.{option_map, option_map_or}
-use Rattle.std.proofs.lemmas.Bool.{and_from, le-leb}
-use Rattle.std.proofs.lemmas.List.{length-map}
-use Rattle.std.proofs.lemmas.List.Folds.{list_all-map}
-use Rattle.adl_meaning.specs.declared.flat.Domain.{Domain}
+use Rattle.spec_laws.proofs.Common.{Bool, CNodeOf, Domain, EndpointOf, Entry, FrameOf, IrqOf, IsFit, IsIn, IsKept, IsThere, List, LockOf, None, NotificationOf, Option, Page, Part, RW, Some, TableOf, Tables, ThreadOf, ThreadPlace, What, [], and_from}
+use Rattle.spec_laws.proofs.Common.{ap, arith, buffer_cap, cap, cond, entry, false, find, fits_as, frame_object, if_any, in_place, inl, inr, is_at, is_space_root, keeps, keeps_tcb, le-leb, leb, length-map, list_all, list_all-map, object}
+use Rattle.spec_laws.proofs.Common.{option_map_or, pages_at, parts, place, priority, refl, slice_get, spec_of, tcb, there, threads_at, true, ℕ, ◌&&◌, ◌==◌, ◌∙◌, ◌∷◌, ◌≡◌}
+use Rattle.std.specs.Option.{option_map}
 use Rattle.cap_model.specs.declared.kind.Kind.TheVariants as kinds
 use Rattle.cap_model.specs.declared.object.Object.TheVariants as objects
-use Rattle.cap_model.specs.declared.spec.Entry.{Entry}
-use Rattle.cap_model.specs.Kept.{IsKept, fits_as, if_any, keeps, keeps_tcb}
-use Rattle.cap_model.specs.Kinds.{is_at, is_space_root}
-use Rattle.conn_rules.specs.Row.{RW}
-use Rattle.cam_base.specs.Gather.{IsIn}
-use Rattle.cam_base.proofs.Gathered.{in_place}
-use Rattle.system_spec.specs.declared.part.Part.{Part}
-use Rattle.system_spec.specs.declared.part.What.{What}
-use Rattle.system_spec.specs.declared.part.What.TheVariants.{CNodeOf, ThreadOf, EndpointOf, NotificationOf, LockOf, IrqOf, TableOf, FrameOf}
-use Rattle.system_spec.specs.Made.{entry, spec_of}
-use Rattle.system_spec.specs.Objects.{buffer_cap, cap, frame_object, object, tcb}
-use Rattle.system_spec.specs.Parts.{parts, place}
-use Rattle.system_spec.specs.Tables.{Tables, pages_at, priority, threads_at}
-use Rattle.vspace_layout.specs.declared.spaces.Page.{Page}
-use Rattle.vspace_layout.specs.declared.spaces.ThreadPlace.{ThreadPlace}
-use Rattle.spec_laws.specs.Fit.{IsFit}
 use Rattle.spec_laws.proofs.CapsFit.{all_pass, cnode_kept, is_at_of}
 use Rattle.spec_laws.proofs.Lines.{lines_kept}
 use Rattle.spec_laws.proofs.TablesKept.{frame_fits, root_kept, tables_kept}
 use Rattle.spec_laws.proofs.Telling.{names_kept}
-use Rattle.system_spec.proofs.There.{IsThere, there}
 
 -- what is found stands in the list
 found_in : {X : Type 0} (test : X → Bool) (xs : List X) (x : X) → find test xs ≡ Some x → IsIn x xs

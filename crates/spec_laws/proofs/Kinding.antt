@@ -1,50 +1,16 @@
 -- Each object is of the kind that its name says
-use Rattle.std.proofs.Common.{◌≡◌, ◌∙◌, ◌+◌, ℕ, zero, suc, List, [], ◌∷◌, map, Some, refl, sym, ap, subst}
-use Rattle.std.specs.List.{slice_get}
-use Rattle.std.specs.Option.{option_map_or}
-use Rattle.std.proofs.lemmas.Option.{same_Some}
-use Rattle.adl_meaning.specs.declared.connector.Connector.{Connector}
-use Rattle.adl_meaning.specs.declared.connector.Connector.TheVariants.{Rpc, Notification as Notifies, SharedMemory, Mmio, Interrupt, Direct}
-use Rattle.adl_meaning.specs.declared.flat.Domain.{Domain}
-use Rattle.arch_policy.specs.declared.owner.Owner.{Owner}
-use Rattle.arch_policy.specs.declared.owner.Owner.TheVariants.{OfConnection, OfDomain}
+use Rattle.spec_laws.proofs.Common.{CNodeOf, Connector, Direct, Directory, Domain, Each, EndpointOf, FrameInfo, FrameOf, Global, Handler, Interrupt, IrqOf, IsIn, Layer, Level, List, LockOf, Mapping, Mmio, NotificationOf, Object, OfConnection}
+use Rattle.spec_laws.proofs.Common.{OfDomain, OfEnd, OwnLock, Owned, Owner, PageTable, Part, Rpc, Series, SharedMemory, SlotUse, Some, Table, TableOf, Tables, ThreadOf, ThreadPlace, Upper, [], addresses_same, all_tables, ap, arch, by_section, cnodes}
+use Rattle.spec_laws.proofs.Common.{domain_locks, domain_tables, domain_tcbs, each_append, endpoint, endpoint_by, endpoints, entry, entry_name, frame_object, frame_owner, frame_parts, from_gather, get_map, in_place, irq, irq_by, irq_owner, irqs}
+use Rattle.spec_laws.proofs.Common.{kind_of_object, layers, level_series, levels_of, levels_of_addresses, lock, locks, map, notification, notification_by, notifications, numbered, object, option_map_or, owned, page_mapping, page_table, pages_at}
+use Rattle.spec_laws.proofs.Common.{part, parts, place, refl, same_Some, shapes, single, sizes, slice_get, spec_of, subst, suc, sym, table_of, table_part, table_parts, tables_at, tcb, tcbs, threads_at, uses_at, zero, ℕ, ◌+◌, ◌∙◌, ◌∷◌, ◌≡◌}
+use Rattle.adl_meaning.specs.declared.connector.Connector.TheVariants.{Notification as Notifies}
 use Rattle.cap_model.specs.declared.kind.Kind.TheVariants as kinds
-use Rattle.cap_model.specs.declared.level.Level.{Level}
-use Rattle.cap_model.specs.declared.level.Level.TheVariants.{Global, Upper, Directory, Table}
-use Rattle.cap_model.specs.declared.object.Object.{Object}
 use Rattle.cap_model.specs.declared.object.Object.TheVariants as objects
-use Rattle.cap_model.specs.Kinds.{kind_of_object}
-use Rattle.cap_model.specs.Lookup.{entry_name}
-use Rattle.cap_model.proofs.Eaches.{Each}
-use Rattle.cam_base.specs.Gather.{IsIn}
-use Rattle.cam_base.proofs.Gathered.{from_gather, in_place}
-use Rattle.cam_base.proofs.NumberedLists.{get_map}
-use Rattle.cspace_layout.specs.declared.plan.SlotUse.{SlotUse}
-use Rattle.cspace_layout.specs.declared.plan.SlotUse.TheVariants.{OfEnd, Handler, OwnLock}
-use Rattle.page_tables.specs.declared.layer.Layer.{Layer}
-use Rattle.page_tables.specs.declared.mapping.Mapping.{Mapping}
-use Rattle.page_tables.specs.Counts.{levels_of}
-use Rattle.page_tables.specs.Levels.{layers, level_of, numbered as in_levels, sizes, table_of}
-use Rattle.page_tables.specs.Shapes.{shapes}
-use Rattle.page_tables.proofs.Counted.{levels_of_addresses}
+use Rattle.page_tables.specs.Levels.{level_of, numbered as in_levels}
 use Rattle.spec_laws.proofs.Names.{same_series}
 use Rattle.spec_laws.proofs.TablesKept.{moved, object_is, standing}
-use Rattle.system_spec.specs.declared.part.Owned.{Owned}
-use Rattle.system_spec.specs.declared.part.PageTable.{PageTable}
-use Rattle.system_spec.specs.declared.part.Part.{Part}
-use Rattle.system_spec.specs.declared.part.What.TheVariants.{CNodeOf, EndpointOf, FrameOf, IrqOf, LockOf, NotificationOf, TableOf, ThreadOf}
-use Rattle.system_spec.specs.declared.series.Series.{Series}
 use Rattle.system_spec.specs.declared.series.Series.TheVariants as series
-use Rattle.system_spec.specs.Made.{entry, spec_of}
-use Rattle.system_spec.specs.Names.{level_series}
-use Rattle.system_spec.specs.Objects.{frame_object, object, tcb}
-use Rattle.system_spec.specs.Parts.{all_tables, cnodes, domain_locks, domain_tables, domain_tcbs, endpoint, endpoint_by, endpoints, frame_parts, irq, irq_by, irqs, lock, locks, notification, notification_by, notifications, numbered, owned, page_mapping, page_table, part, parts, place, table_part, table_parts, tables_at, tcbs}
-use Rattle.system_spec.specs.Tables.{Tables, arch, frame_owner, irq_owner, pages_at, threads_at, uses_at}
-use Rattle.system_spec.proofs.Domains.{addresses_same}
-use Rattle.system_spec.proofs.There.{by_section, single}
-use Rattle.vspace_layout.proofs.Rising.{each_append}
-use Rattle.vspace_layout.specs.declared.spaces.FrameInfo.{FrameInfo}
-use Rattle.vspace_layout.specs.declared.spaces.ThreadPlace.{ThreadPlace}
 use Rattle.spec_laws.specs.Kinded.{SayKinds, kind_of}
 use Rattle.spec_laws.proofs.Locks.{each_map, part_there}
 

@@ -1,44 +1,13 @@
 -- The labels of objects
-use Rattle.std.proofs.Common.{◌≡◌, ◌<◌, ◌+◌, ℕ, List, [], ◌∷◌, Option, Some, None, refl, sym, ◌∙◌, ap, subst, inl, arith}
-use Rattle.std.specs.List.{slice_get}
-use Rattle.adl_meaning.specs.declared.connector.Connector.TheVariants.{Mmio, SharedMemory}
-use Rattle.adl_meaning.specs.declared.flat.Domain.{Domain}
-use Rattle.adl_meaning.specs.declared.flat.FlatConnection.{FlatConnection}
-use Rattle.adl_meaning.specs.declared.flat.FlatEnd.{FlatEnd}
-use Rattle.adl_meaning.specs.declared.flat.Leaf.{Leaf}
-use Rattle.arch_policy.specs.declared.owner.Owner.{Owner}
+use Rattle.spec_laws.proofs.Common.{AreDomainLabels, AreFrameLabels, CNodeOf, CanMap, CanSlot, Cap, Domain, EndAt, FlatConnection, FlatEnd, FrameInfo, FrameOf, IsAt, IsIn, IsNamed, IsOf, IsOwn, Leaf, List, LockOf, Mmio, None, Option, Owned, Owner}
+use Rattle.spec_laws.proofs.Common.{Part, SharedMemory, ShowsMemory, Some, Spaces, Tables, ThreadLine, [], ap, arch, arith, below, frame, frame_owner, frame_parts, frames_stand, get_map, get_ones, in_gather, in_together, inl, labels_of, map_lines}
+use Rattle.spec_laws.proofs.Common.{memory_number, number_shown, numbered, object_at, owned, part, part_label, parts, parts_are_there, place, refl, registers, registers_in, root_of, root_span, sections, shapes, slice_get, spec_of, stands, subst, sym}
+use Rattle.spec_laws.proofs.Common.{system, ℕ, ◌+◌, ◌<◌, ◌∙◌, ◌∷◌, ◌≡◌}
 use Rattle.arch_policy.specs.declared.owner.Owner.TheVariants as owners
-use Rattle.cap_model.specs.declared.cap.Cap.{Cap}
 use Rattle.cap_model.specs.declared.object.Object.TheVariants as objects
-use Rattle.cap_model.specs.Lookup.{object_at}
-use Rattle.cspace_layout.specs.declared.end_at.EndAt.{EndAt}
-use Rattle.cam_base.specs.Gather.{IsIn}
-use Rattle.cam_base.proofs.Gathered.{get_ones, in_gather}
-use Rattle.cam_base.proofs.NumberedLists.{below, get_map}
-use Rattle.page_tables.specs.Shapes.{shapes}
-use Rattle.page_tables.specs.Walks.{root_span}
-use Rattle.system_spec.specs.declared.map_line.MapLine.TheVariants.{ThreadLine}
-use Rattle.system_spec.specs.declared.part.Owned.{Owned}
-use Rattle.system_spec.specs.declared.part.Part.{Part}
-use Rattle.system_spec.specs.declared.part.What.TheVariants.{CNodeOf, FrameOf, LockOf, ThreadOf as OfThread}
+use Rattle.system_spec.specs.declared.part.What.TheVariants.{ThreadOf as OfThread}
 use Rattle.system_spec.specs.declared.series.Series.TheVariants as series
-use Rattle.system_spec.specs.Made.{labels_of, part_label, spec_of}
-use Rattle.system_spec.specs.MapLines.{map_lines}
-use Rattle.system_spec.specs.Parts.{frame_parts, numbered, owned, part, parts, place, sections}
-use Rattle.system_spec.specs.Tables.{Tables, arch, frame_owner}
-use Rattle.system_spec.proofs.Objects.{in_together, parts_are_there}
-use Rattle.system_spec.proofs.Standing.{stands}
 use Rattle.vspace_layout.specs.declared.owner.Owner.TheVariants.{OfDomain}
-use Rattle.vspace_layout.specs.declared.spaces.FrameInfo.{FrameInfo}
-use Rattle.vspace_layout.specs.declared.spaces.Spaces.{Spaces}
-use Rattle.vspace_layout.specs.Frames.{frame, memory_number, number_shown}
-use Rattle.vspace_layout.specs.Memory.{registers, registers_in}
-use Rattle.vspace_layout.proofs.Standing.{frames_stand}
-use Rattle.spec_laws.specs.CanMap.{CanMap}
-use Rattle.spec_laws.specs.Framed.{IsOwn, ShowsMemory}
-use Rattle.spec_laws.specs.Labelled.{AreDomainLabels, AreFrameLabels, IsOf}
-use Rattle.spec_laws.specs.Slotted.{CanSlot, IsNamed}
-use Rattle.spec_laws.specs.Spaced.{IsAt, root_of, system}
 use Rattle.spec_laws.proofs.Finding.{found}
 use Rattle.spec_laws.proofs.Framing.{IsMemoryFrame, memory_frame}
 use Rattle.spec_laws.proofs.Locks.{slot_is}

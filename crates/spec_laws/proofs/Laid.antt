@@ -1,60 +1,19 @@
 -- What is laid out is written in numbers of 64 bits and in plain texts.
-use Rattle.std.proofs.Common.{◌≡◌, ◌<◌, ◌≤◌, ◌+◌, ◌^◌, ℕ, true, false, ◌&&◌, not, List, [], ◌∷◌, ◌++◌, length, map, decimal, refl, sym, ◌∙◌, ap, subst, Option, Some, None, inl, inr, true≢false, arith}
-use Rattle.std.specs.Prelude.{◌==◌, leb}
-use Rattle.std.specs.List.{list_all, slice_get}
-use Rattle.std.specs.Option.{option_map, option_map_or}
-use Rattle.std.proofs.lemmas.Bool.{and_from, and_parts, eqb-true, false_from_ne_true, leb-true, lt-ltb, not_from_false}
-use Rattle.std.proofs.lemmas.Fmt.{length-decimal-le}
-use Rattle.std.proofs.lemmas.List.{length-append}
-use Rattle.std.proofs.lemmas.Option.{same_Some, slice_get_within}
-use Rattle.adl_ast.specs.declared.composition.Role.{Role}
-use Rattle.adl_ast.specs.declared.composition.Role.TheVariants.{From, To}
-use Rattle.adl_meaning.specs.declared.connector.Connector.{Connector}
-use Rattle.adl_meaning.specs.declared.flat.Domain.{Domain}
-use Rattle.adl_meaning.specs.declared.flat.FlatEnd.{FlatEnd}
-use Rattle.cam_base.specs.Names.{is_letter, is_name, is_word_byte}
-use Rattle.cap_model.specs.declared.cap.Cap.{Cap}
-use Rattle.cap_model.specs.declared.level.Arch.{Arch}
-use Rattle.cap_model.specs.declared.level.Arch.TheVariants.{Arm11, Aarch64}
-use Rattle.cap_model.specs.declared.object.Fill.{Fill}
-use Rattle.cap_model.specs.declared.object.Object.{Object}
+use Rattle.spec_laws.proofs.Common.{Aarch64, Arch, Arm11, CNodeOf, Cap, Connector, Domain, EndpointOf, Fill, FlatEnd, FrameInfo, FrameOf, From, Handler, IrqOf, IsFillWritten, IsFit, IsFrameWritten, IsIn, IsThere, IsThreadWritten, IsWritten, Layer}
+use Rattle.spec_laws.proofs.Common.{List, LockOf, Mapping, None, NotificationOf, Object, OfEnd, Option, OwnLock, Part, RW, Role, Series, Shape, SlotUse, Some, TableOf, Tables, ThreadOf, ThreadPlace, To, What, [], and_from, and_parts, ap, arch}
+use Rattle.spec_laws.proofs.Common.{are_slots, arith, buffer_cap, cap, decimal, end_of, eqb-true, false, false_from_ne_true, frame_at, frame_object, from_gather, from_map, if_any, in_place, inl, inr, is_fill, is_laid, is_letter, is_name, is_number}
+use Rattle.spec_laws.proofs.Common.{is_tcb, is_word, is_word_byte, layers, leaf_entry, leaf_name, leb, leb-true, length, length-append, length-decimal-le, list_all, lt-ltb, map, not, not_from_false, object, option_map_or, page_mapping, pages_at}
+use Rattle.spec_laws.proofs.Common.{part_name, place, prefix, refl, role_badge, same_Some, settled_badge, shape_of_layer, shapes, slice_get, slice_get_within, slot_of, slots_at, slots_below, slots_lead, subst, sym, table_of, tcb, threads_at, true}
+use Rattle.spec_laws.proofs.Common.{true≢false, use_cap, uses_at, ℕ, ◌&&◌, ◌++◌, ◌+◌, ◌<◌, ◌==◌, ◌^◌, ◌∙◌, ◌∷◌, ◌≡◌, ◌≤◌}
+use Rattle.std.specs.Option.{option_map}
 use Rattle.cap_model.specs.declared.object.Object.TheVariants as objects
-use Rattle.cap_model.specs.Kept.{if_any}
-use Rattle.capdl_write.specs.Writable.{are_slots, is_fill, is_laid, is_number, is_plain, is_tcb, is_word}
+use Rattle.capdl_write.specs.Writable.{is_plain}
 use Rattle.capdl_text.specs.TokenFaults.{is_left_out_word}
-use Rattle.conn_rules.specs.Row.{RW}
-use Rattle.cspace_layout.specs.declared.plan.SlotUse.{SlotUse}
-use Rattle.cspace_layout.specs.declared.plan.SlotUse.TheVariants.{OfEnd, Handler, OwnLock}
-use Rattle.cspace_layout.specs.Lookups.{end_of}
-use Rattle.cam_base.specs.Gather.{IsIn}
-use Rattle.cam_base.proofs.Gathered.{from_gather, in_place}
-use Rattle.cam_base.proofs.NumberedLists.{from_map}
-use Rattle.page_tables.proofs.Children.{slots_lead}
-use Rattle.page_tables.proofs.Rising.{slots_below, shape_of_layer}
-use Rattle.page_tables.specs.declared.layer.Layer.{Layer}
-use Rattle.page_tables.specs.declared.mapping.Mapping.{Mapping}
-use Rattle.page_tables.specs.declared.shape.Shape.{Shape}
-use Rattle.page_tables.specs.Levels.{layers, slot_of, table_of}
-use Rattle.page_tables.specs.Shapes.{shapes}
 use Rattle.cam_base.proofs.Naming.{is_name-numbered}
-use Rattle.system_spec.specs.declared.part.Part.{Part}
-use Rattle.system_spec.specs.declared.part.What.{What}
-use Rattle.system_spec.specs.declared.part.What.TheVariants.{CNodeOf, ThreadOf, EndpointOf, NotificationOf, LockOf, IrqOf, TableOf, FrameOf}
-use Rattle.system_spec.specs.declared.series.Series.{Series}
 use Rattle.system_spec.specs.declared.series.Series.TheVariants as series
-use Rattle.system_spec.specs.Made.{part_name}
-use Rattle.system_spec.specs.Names.{prefix}
-use Rattle.system_spec.specs.Objects.{buffer_cap, cap, frame_at, frame_object, object, role_badge, settled_badge, slots_at, tcb, use_cap}
-use Rattle.system_spec.specs.Parts.{page_mapping, place}
-use Rattle.system_spec.specs.Tables.{Tables, arch, leaf_entry, leaf_name, pages_at, threads_at, uses_at}
-use Rattle.vspace_layout.specs.declared.spaces.FrameInfo.{FrameInfo}
-use Rattle.vspace_layout.specs.declared.spaces.ThreadPlace.{ThreadPlace}
-use Rattle.spec_laws.specs.Fit.{IsFit}
-use Rattle.spec_laws.specs.Written.{IsFillWritten, IsFrameWritten, IsThreadWritten, IsWritten}
 use Rattle.spec_laws.proofs.CapsFit.{all_pass}
 use Rattle.spec_laws.proofs.Lengths.{AreShort}
 use Rattle.spec_laws.proofs.TablesKept.{from_tables, mappings, moved, object_is, standing}
-use Rattle.system_spec.proofs.There.{IsThere}
 use Rattle.capdl_text.proofs.Tokens.{word_or}
 
 -- ---- names

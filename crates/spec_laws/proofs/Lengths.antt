@@ -1,29 +1,14 @@
 -- How long the lines of a canonical text are, where names are short.
-use Rattle.std.proofs.Common.{◌≡◌, ◌<◌, ◌≤◌, ◌+◌, ◌*◌, ◌^◌, ℕ, zero, suc, Bool, true, false, ◌&&◌, not, List, [], ◌∷◌, ◌++◌, length, decimal, refl, sym, ap, Option, Some, None, inl, inr, arith}
-use Rattle.std.specs.Prelude.{◌/◌, ◌%◌, ◌==◌, codes, leb, nat_lt}
-use Rattle.std.specs.List.{flat_map}
-use Rattle.std.proofs.lemmas.Bool.{and_parts, cond_both, leb-true, ltb-true}
-use Rattle.std.proofs.lemmas.Fmt.{length-decimal-le}
+use Rattle.spec_laws.proofs.Common.{Aarch64, Arch, Arm11, Bool, CNode, Cap, Directory, Endpoint, Fill, Frame, Global, IsIn, Level, List, None, Object, Option, Pages, Rights, Some, Spec, Table, Tcb, Thread, Upper, [], and_parts, ap, arch_word}
+use Rattle.spec_laws.proofs.Common.{are_slots, arith, buffer_line, cap_end, caps_of, cond_both, decimal, elf_field, entry_line, entry_text, false, fill_field, flat_map, frame_line, has_slot, holder_text, if_any, inl, inr, irq_line, irq_text, is_laid}
+use Rattle.spec_laws.proofs.Common.{is_number, is_tcb, keeps, keeps_fill, leb, leb-true, length, length-decimal-le, length_append, level_word, ltb-true, name_at, named_line, nat_lt, not, object_line, paddr_field, params, refl, slots_text, some, suc}
+use Rattle.spec_laws.proofs.Common.{sym, tcb_line, tcb_text, true, zero, ℕ, ◌&&◌, ◌*◌, ◌++◌, ◌+◌, ◌<◌, ◌==◌, ◌^◌, ◌∷◌, ◌≡◌, ◌≤◌}
+use Rattle.std.specs.Prelude.{◌/◌, ◌%◌, codes}
 use Rattle.cam_base.specs.Hex.{glyph, hex_digits, hex_text}
 use Rattle.cam_base.specs.Texts.{◌⊹◌, together}
-use Rattle.cap_model.specs.Canonical.{arch_word, buffer_line, canonical, cap_end, elf_field, entry_line, entry_text, fill_field, frame_line, has_slot, holder_text, irq_line, irq_text, level_word, named_line, object_line, paddr_field, params, slot_line, slots_text, tcb_line, tcb_text}
-use Rattle.cap_model.specs.declared.cap.Cap.{Cap}
-use Rattle.cap_model.specs.declared.level.Arch.{Arch}
-use Rattle.cap_model.specs.declared.level.Arch.TheVariants.{Arm11, Aarch64}
-use Rattle.cap_model.specs.declared.level.Level.{Level}
-use Rattle.cap_model.specs.declared.level.Level.TheVariants.{Global, Upper, Directory, Table}
-use Rattle.cap_model.specs.declared.object.Fill.{Fill}
-use Rattle.cap_model.specs.declared.object.Object.{Object}
-use Rattle.cap_model.specs.declared.object.Object.TheVariants.{Endpoint, Notification, CNode, Thread, Frame, Pages, Irq}
-use Rattle.cap_model.specs.declared.object.Tcb.{Tcb}
-use Rattle.cap_model.specs.declared.rights.Rights.{Rights}
-use Rattle.cap_model.specs.declared.spec.Spec.{Spec}
-use Rattle.cap_model.specs.Kept.{if_any, keeps, keeps_fill}
-use Rattle.cap_model.specs.Lookup.{name_at}
+use Rattle.cap_model.specs.Canonical.{canonical, slot_line}
+use Rattle.cap_model.specs.declared.object.Object.TheVariants.{Notification, Irq}
 use Rattle.cap_model.specs.RightsWord.{grant_letter, has_rights, letter, read_letter, reply_letter, rights_word, write_letter}
-use Rattle.capdl_write.specs.Writable.{are_slots, caps_of, is_laid, is_number, is_tcb, some}
-use Rattle.cam_base.specs.Gather.{IsIn}
-use Rattle.cam_base.proofs.Gathered.{length_append}
 use Rattle.spec_laws.proofs.Totals.{length_flat_map, total, total_each}
 
 -- ---- texts in parts

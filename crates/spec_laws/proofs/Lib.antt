@@ -1,3 +1,4 @@
+pub mod Common
 pub mod AllFrames
 pub mod Blocks
 pub mod DomainLines
@@ -50,6 +51,7 @@ pub mod Maps
 pub mod Registers
 pub mod SourceSlots
 pub mod Stacks
+pub mod StandInOrder
 pub mod Names
 mod Sections
 pub mod Telling

@@ -1,27 +1,8 @@
 -- Interrupt lines rise by number, and each leads to an interrupt of its own.
-use Rattle.std.proofs.Common.{◌≡◌, ◌<◌, ◌≤◌, ℕ, suc, Bool, true, false, ◌&&◌, cond, List, [], ◌∷◌, ◌++◌, length, map, refl, sym, ◌∙◌, ap, subst, Some, inl, inr, ◌⊎◌, arith}
-use Rattle.std.proofs.lemmas.Option.{same_Some}
-use Rattle.std.specs.Prelude.{leb, nat_lt, ◌==◌}
-use Rattle.std.specs.List.{list_all, list_any, slice_get}
-use Rattle.std.proofs.lemmas.Bool.{and_from, and_parts, lt-ltb, ltb-true, leb-true, leb-false, eqb-true, false_from_ne_true, cases_order}
-use Rattle.adl_meaning.specs.declared.connector.Connector.{Connector}
-use Rattle.adl_meaning.specs.declared.connector.Connector.TheVariants.{Rpc, Notification, SharedMemory, Mmio, Interrupt, Direct}
-use Rattle.adl_meaning.specs.declared.flat.FlatConnection.{FlatConnection}
+use Rattle.spec_laws.proofs.Common.{Bool, Connector, Direct, FlatConnection, Interrupt, IrqOf, IsFit, IsIn, IsThere, List, Mmio, Notification, Part, Rpc, SharedMemory, Some, Tables, What, [], and_from, and_parts, ap, arith, by_number, cases_order}
+use Rattle.spec_laws.proofs.Common.{cond, differ, eqb-true, false, false_from_ne_true, from_gather, gather, has_part, inl, inr, irq_number, is_at, keeps_lines, leb, leb-false, leb-true, length, line_by, lines, list_all, list_any, lt-ltb, ltb-true}
+use Rattle.spec_laws.proofs.Common.{map, nat_lt, parts, place, put_line, refl, rise, same_Some, slice_get, spec_of, stands, subst, suc, sym, true, ℕ, ◌&&◌, ◌++◌, ◌<◌, ◌==◌, ◌∙◌, ◌∷◌, ◌≡◌, ◌≤◌, ◌⊎◌}
 use Rattle.cap_model.specs.declared.kind.Kind.TheVariants as kinds
-use Rattle.cap_model.specs.Kept.{differ, keeps_lines, rise}
-use Rattle.cap_model.specs.Kinds.{is_at}
-use Rattle.cam_base.specs.Gather.{IsIn, gather}
-use Rattle.cam_base.proofs.Gathered.{from_gather}
-use Rattle.system_spec.proofs.Standing.{stands}
-use Rattle.system_spec.specs.declared.part.Part.{Part}
-use Rattle.system_spec.specs.declared.part.What.{What}
-use Rattle.system_spec.specs.declared.part.What.TheVariants.{IrqOf}
-use Rattle.system_spec.specs.Made.{spec_of}
-use Rattle.system_spec.specs.Objects.{by_number, line_by, lines, put_line}
-use Rattle.system_spec.specs.Parts.{parts, place}
-use Rattle.system_spec.specs.Tables.{Tables, irq_number}
-use Rattle.spec_laws.specs.Fit.{IsFit}
-use Rattle.system_spec.proofs.There.{IsThere, has_part}
 use Rattle.spec_laws.proofs.CapsFit.{all_pass, is_at_of}
 
 abbrev Line : Type 0

@@ -1,8 +1,5 @@
 -- Lists: what stands in them, and numbers that rise.
-use Rattle.std.proofs.Common.{◌≡◌, ◌<◌, ◌≤◌, ◌+◌, ◌∙◌, ℕ, zero, suc, List, [], ◌∷◌, map, Some, refl, sym, ap, inl, arith}
-use Rattle.std.specs.List.{range_with_len, slice_get}
-use Rattle.cam_base.specs.Gather.{IsIn}
-use Rattle.page_tables.specs.Runs.{Rises}
+use Rattle.spec_laws.proofs.Common.{IsIn, List, Rises, Some, [], ap, arith, inl, map, range_with_len, refl, slice_get, suc, sym, zero, ℕ, ◌+◌, ◌<◌, ◌∙◌, ◌∷◌, ◌≡◌, ◌≤◌}
 
 pub in_range : (a n : ℕ) → 0 < n → IsIn a (range_with_len a n)
 in_range a zero l = absurd (omega (arith, l))

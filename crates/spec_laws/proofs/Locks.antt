@@ -1,49 +1,16 @@
 -- No two uses have one lock
-use Rattle.std.proofs.Common.{◌≡◌, ◌+◌, ℕ, zero, suc, List, [], ◌∷◌, map, Option, Some, None, refl, sym, ◌∙◌, ap, subst, inl, inr, arith}
-use Rattle.std.specs.List.{slice_get}
-use Rattle.std.specs.Option.{option_map_or}
-use Rattle.std.specs.Prelude.{slice_index_or}
-use Rattle.adl_meaning.specs.declared.connector.Connector.{Connector}
-use Rattle.adl_meaning.specs.declared.connector.Connector.TheVariants.{Rpc, Notification as Notifies, SharedMemory, Mmio, Interrupt, Direct}
-use Rattle.adl_meaning.specs.declared.flat.Domain.{Domain}
-use Rattle.adl_meaning.specs.declared.flat.FlatConnection.{FlatConnection}
-use Rattle.arch_policy.specs.declared.owner.Owner.TheVariants.{OfDomain}
-use Rattle.cap_model.specs.declared.cap.Cap.{Cap}
-use Rattle.cap_model.specs.declared.object.Object.{Object}
+use Rattle.spec_laws.proofs.Common.{CNodeOf, CanSlot, Cap, Connector, Direct, Domain, Each, EndpointOf, Entry, FlatConnection, FrameOf, Handler, Interrupt, IrqOf, IsIn, IsJoint, IsNamed, Layer, List, LockOf, Mmio, None, NotificationOf, Object}
+use Rattle.spec_laws.proofs.Common.{OfDomain, OfEnd, Option, OwnLock, OwnLocks, Owned, Part, Rpc, SharedMemory, SlotPlan, SlotUse, Slots, Some, Spec, TableOf, Tables, ThreadOf, What, [], ap, arch, arith, before, domain_locks, domain_uses}
+use Rattle.spec_laws.proofs.Common.{each_append, entry, entry_object, frame_object, from_gather, from_get_map, gather, in_gather, in_place, in_together, inl, inr, interrupt, irq_owner, layers, lock, locks, map, name_at, name_of, numbered, object}
+use Rattle.spec_laws.proofs.Common.{object_at, objects_stand, option_map_or, owned, page_mapping, pages_at, part, parts, place, place_is, place_of, plan_of, refl, sections, shapes, single, sizes, slice_get, slice_index_or, slots_at, spec_of, stands}
+use Rattle.spec_laws.proofs.Common.{subst, suc, sym, table_of, tables_at, tcb, threads_at, use_cap, uses_at, zero, ℕ, ◌+◌, ◌∙◌, ◌∷◌, ◌≡◌}
+use Rattle.adl_meaning.specs.declared.connector.Connector.TheVariants.{Notification as Notifies}
 use Rattle.cap_model.specs.declared.object.Object.TheVariants as objects
-use Rattle.cap_model.specs.declared.spec.Entry.{Entry}
-use Rattle.cap_model.specs.declared.spec.Spec.{Spec}
-use Rattle.cap_model.specs.Lookup.{entry_object, name_at, object_at}
-use Rattle.cspace_layout.specs.declared.plan.SlotPlan.{SlotPlan}
-use Rattle.cspace_layout.specs.declared.plan.SlotUse.{SlotUse}
-use Rattle.cspace_layout.specs.declared.plan.SlotUse.TheVariants.{OfEnd, Handler, OwnLock}
-use Rattle.cspace_layout.specs.declared.plan.Slots.{Slots}
-use Rattle.cspace_layout.specs.Uses.{domain_uses, plan_of}
-use Rattle.cam_base.specs.Gather.{IsIn, before, gather}
-use Rattle.cam_base.proofs.Gathered.{from_gather, in_gather, in_place, place_of}
-use Rattle.page_tables.specs.declared.layer.Layer.{Layer}
-use Rattle.page_tables.specs.Levels.{layers, numbered as in_levels, sizes, table_of}
-use Rattle.page_tables.specs.Shapes.{shapes}
-use Rattle.vspace_layout.proofs.Rising.{each_append}
-use Rattle.system_spec.specs.declared.part.Owned.{Owned}
-use Rattle.system_spec.specs.declared.part.Part.{Part}
-use Rattle.system_spec.specs.declared.part.What.{What}
-use Rattle.system_spec.specs.declared.part.What.TheVariants.{CNodeOf, ThreadOf, EndpointOf, NotificationOf, LockOf, IrqOf, TableOf, FrameOf}
+use Rattle.page_tables.specs.Levels.{numbered as in_levels}
 use Rattle.system_spec.specs.declared.series.Series.TheVariants as series
-use Rattle.system_spec.specs.Made.{entry, spec_of}
-use Rattle.system_spec.specs.Names.{name_of}
-use Rattle.system_spec.specs.Objects.{frame_object, object, slots_at, tcb, use_cap}
-use Rattle.system_spec.specs.Parts.{domain_locks, lock, locks, numbered, owned, page_mapping, part, parts, place, sections, tables_at}
-use Rattle.system_spec.specs.Tables.{Tables, arch, irq_owner, pages_at, threads_at, uses_at}
-use Rattle.system_spec.proofs.Objects.{in_together, objects_stand}
-use Rattle.system_spec.proofs.Standing.{place_is, stands}
-use Rattle.system_spec.proofs.There.{single}
-use Rattle.spec_laws.specs.Slotted.{CanSlot, IsJoint, IsNamed, OwnLocks, interrupt}
 use Rattle.spec_laws.proofs.SlotLists.{some}
 use Rattle.spec_laws.proofs.Numbering.{irq_part}
 use Rattle.spec_laws.proofs.Slotting.{cap_is, of_handler, of_use as from_use, uses_are}
-use Rattle.cam_base.proofs.NumberedLists.{from_get_map}
-use Rattle.cap_model.proofs.Eaches.{Each}
 
 -- ---- what is a CNode
 

@@ -1,58 +1,17 @@
 -- What the pages of a domain show, and whose frames they are.
-use Rattle.std.proofs.Common.{◌≡◌, ◌<◌, ◌+◌, ◌⊎◌, ◌∙◌, ℕ, Bool, true, false, [], ◌∷◌, map, Option, Some, None, refl, sym, ap, subst, inl, inr, arith}
-use Rattle.std.specs.List.{flat_map, position_or_len, range_with_len, slice_get}
-use Rattle.std.specs.Option.{option_and_then, option_map_or}
-use Rattle.std.proofs.lemmas.Bool.{and_parts, eqb-true}
-use Rattle.std.proofs.lemmas.Option.{slice_get_within}
+use Rattle.spec_laws.proofs.Common.{AtOtherEnd, Bool, Buffer, Connector, Domain, Fill, FlatConnection, FlatEnd, FrameInfo, FrameOf, From, Given, IsConnected, IsIn, IsThere, LeadsTo, MappedPage, Memory, Mmio, None, ObjectKind, OfDevice, OfFrames}
+use Rattle.spec_laws.proofs.Common.{Option, Own, Page, Read, Region, Role, SectionPage, SharedMemory, Some, Space, Stack, Tables, ThreadPlace, To, [], and_parts, ap, arith, base, end_rule, eqb-true, false, first_to, first_to_end, flat_map, frame}
+use Rattle.spec_laws.proofs.Common.{frame_owner, frames, frames_stand, from_flat_map, from_gather, from_map, from_ones, from_range, gather, get_ones, given_tables, gives, in_append, in_gather, in_map, in_place, in_right, inl, inr, is_at_device}
+use Rattle.spec_laws.proofs.Common.{is_shared, is_to, leads_to, leaf_label, leaves_of, map, mapped_pages, may_read, may_write, memory_number, memory_pages, number_of, number_shown, opposite, option_and_then, option_map_or, own_label, own_port, page}
+use Rattle.spec_laws.proofs.Common.{page_of, pages_at, pages_of_region, place_of, policy_tables, position_or_len, range_with_len, refl, region, region_part, region_start, regions, register_frame, registers, registers_in, same_port, section_page}
+use Rattle.spec_laws.proofs.Common.{section_pages, section_part, setting_of, slice_get, slice_get_within, space, subst, sym, thread_place, thread_regions, threads_at, threads_of, true, window_pages, window_region, windows_of, ℕ, ◌+◌, ◌<◌, ◌∙◌, ◌∷◌}
+use Rattle.spec_laws.proofs.Common.{◌≡◌, ◌⊎◌}
 use lib.Dec.{eqb}
-use Rattle.adl_ast.specs.declared.composition.Role.{Role}
-use Rattle.adl_ast.specs.declared.composition.Role.TheVariants.{From, To}
-use Rattle.adl_meaning.specs.declared.connector.Connector.{Connector}
-use Rattle.adl_meaning.specs.declared.connector.Connector.TheVariants.{SharedMemory, Mmio}
-use Rattle.adl_meaning.specs.declared.flat.Domain.{Domain}
-use Rattle.adl_meaning.specs.declared.flat.FlatConnection.{FlatConnection}
-use Rattle.adl_meaning.specs.declared.flat.FlatEnd.{FlatEnd}
 use Rattle.arch_policy.specs.declared.owner.Owner.TheVariants as owners
 use Rattle.arch_policy.specs.Ends.{EndAt}
-use Rattle.arch_policy.specs.Gives.{gives, opposite}
-use Rattle.arch_policy.specs.Reasons.{AtOtherEnd, LeadsTo}
-use Rattle.arch_policy.specs.Tables.{leaf_label, number_of}
-use Rattle.cap_model.specs.declared.authority.Authority.TheVariants.{Read}
-use Rattle.cap_model.specs.declared.object.Fill.{Fill}
-use Rattle.conn_rules.specs.Ends.{end_rule}
-use Rattle.conn_rules.specs.declared.rule.ObjectKind.{ObjectKind}
-use Rattle.conn_rules.specs.declared.rule.ObjectKind.TheVariants.{OfFrames, OfDevice}
 use Rattle.cspace_layout.specs.declared.end_at.EndAt.{EndAt as Joined}
-use Rattle.cspace_layout.specs.Lookups.{setting_of}
-use Rattle.cam_base.specs.Gather.{IsIn, gather}
-use Rattle.cam_base.proofs.Gathered.{from_gather, from_ones, get_ones, in_append, in_gather, in_place, in_right, place_of}
-use Rattle.cam_base.proofs.NumberedLists.{from_flat_map, from_map, from_range, in_map}
-use Rattle.source_images.specs.ByAddress.{section_pages}
-use Rattle.source_images.specs.declared.pages.SectionPage.{SectionPage}
-use Rattle.reach_laws.specs.Flat.{is_at_device}
-use Rattle.reach_laws.proofs.EndLabels.{own_label}
-use Rattle.system_spec.proofs.There.{IsThere}
-use Rattle.system_spec.specs.declared.part.What.TheVariants.{FrameOf}
-use Rattle.system_spec.specs.Tables.{Tables, frame_owner, pages_at, threads_at}
-use Rattle.vspace_layout.specs.declared.mapped.MappedPage.{MappedPage}
-use Rattle.vspace_layout.specs.declared.mapped.Shown.TheVariants.{Own, Memory}
 use Rattle.vspace_layout.specs.declared.owner.Owner.TheVariants.{OfDomain, OfConnection}
-use Rattle.vspace_layout.specs.declared.region.Content.TheVariants.{Stack, Buffer}
-use Rattle.vspace_layout.specs.declared.region.Region.{Region}
-use Rattle.vspace_layout.specs.declared.spaces.FrameInfo.{FrameInfo}
-use Rattle.vspace_layout.specs.declared.spaces.Page.{Page}
-use Rattle.vspace_layout.specs.declared.spaces.Space.{Space}
-use Rattle.vspace_layout.specs.declared.spaces.ThreadPlace.{ThreadPlace}
 use Rattle.vspace_layout.specs.declared.thread.ThreadOf.{ThreadOf}
-use Rattle.vspace_layout.specs.Frames.{frame, frames, memory_number, number_shown, register_frame}
-use Rattle.vspace_layout.specs.Given.{Given, base, leaves_of}
-use Rattle.vspace_layout.specs.Laid.{page, space, thread_place}
-use Rattle.vspace_layout.specs.MappedPages.{mapped_pages, may_read, may_write, page_of, pages_of_region, region_part, section_page, section_part}
-use Rattle.vspace_layout.specs.Memory.{first_to, first_to_end, is_shared, is_to, leads_to, memory_pages, registers, registers_in, same_port}
-use Rattle.vspace_layout.specs.Regions.{region, region_start, regions, thread_regions, threads_of, window_pages, window_region, windows_of}
-use Rattle.vspace_layout.proofs.Standing.{frames_stand, own_port}
-use Rattle.spec_laws.specs.Connected.{IsConnected}
-use Rattle.spec_laws.specs.Policy.{given_tables, policy_tables}
 use Rattle.spec_laws.proofs.SpaceBounds.{led_to}
 use Rattle.spec_laws.proofs.Devices.{first_found, position_found}
 use Rattle.spec_laws.proofs.Lists.{in_range}

@@ -1,33 +1,8 @@
 -- The tables of a source without faults keep what the laws of images ask, where each leaf of software has an image.
-use Rattle.std.proofs.Common.{◌≡◌, ◌<◌, ◌∙◌, length, None, Some, refl, sym, subst, inl, inr, ⊎_elim}
-use Rattle.std.specs.List.{slice_get}
-use Rattle.std.proofs.lemmas.Bool.{and_from, eq-eqb}
-use Rattle.std.specs.Prelude.{◌==◌}
+use Rattle.spec_laws.proofs.Common.{AreFilesShort, AreNamesSound, AreNumbered, AreSound, CanMap, FlatEnd, HaveImages, Images, Leaf, None, Some, Source, and_from, below, end_rule, end_setting, ends_typed, eq-eqb, first_flat_fault, first_page_limit}
+use Rattle.spec_laws.proofs.Common.{first_setting_fault, first_slot_fault, first_space_fault, first_type_fault, flat_of, get_map, given, hardware_fits, hierarchy_of, inl, inr, leaf_found, leaf_listed, leaf_members, leaf_owned, leaf_setting}
+use Rattle.spec_laws.proofs.Common.{leaves_found, length, members_at, members_of_leaf, one_assembly, refl, settings_sound, settled_of, slice_get, subst, sym, tables_from, ⊎_elim, ◌<◌, ◌==◌, ◌∙◌, ◌≡◌}
 use Rattle.adl_ast.specs.declared.component.Member.TheVariants as members
-use Rattle.adl_ast.specs.declared.source.Source.{Source}
-use Rattle.adl_meaning.specs.declared.flat.FlatEnd.{FlatEnd}
-use Rattle.adl_meaning.specs.declared.flat.Leaf.{Leaf}
-use Rattle.adl_meaning.specs.Flat.{flat_of}
-use Rattle.adl_meaning.specs.Hierarchy.{hierarchy_of}
-use Rattle.adl_meaning.specs.JoinFaults.{first_flat_fault}
-use Rattle.adl_meaning.specs.NameFaults.{AreNamesSound}
-use Rattle.adl_meaning.proofs.SoundNames.{one_assembly}
-use Rattle.adl_settings.specs.EndMeaning.{end_setting}
-use Rattle.adl_settings.specs.Settled.{leaf_found, leaf_setting, leaves_found, settled_of}
-use Rattle.adl_settings.specs.SettingFaults.{first_setting_fault}
-use Rattle.adl_types.specs.TypeFaults.{first_type_fault}
-use Rattle.cam_base.proofs.NumberedLists.{below, get_map}
-use Rattle.conn_rules.specs.Ends.{end_rule}
-use Rattle.cspace_layout.specs.SlotFaults.{first_slot_fault}
-use Rattle.flat_laws.specs.ShortFiles.{AreFilesShort}
-use Rattle.flat_laws.proofs.AreTyped.{ends_typed}
-use Rattle.flat_laws.proofs.FlatLeaves.{leaf_listed, leaf_owned}
-use Rattle.flat_laws.proofs.SoundSettings.{settings_sound}
-use Rattle.flat_laws.proofs.TypedEnds.{hardware_fits}
-use Rattle.cspace_layout.specs.Members.{leaf_members, members_at, members_of_leaf}
-use Rattle.source_images.specs.Numbered.{AreNumbered, AreSound}
-use Rattle.source_images.specs.SpaceFaults.{first_space_fault}
-use Rattle.source_images.specs.declared.images.Images.{Images}
 use Rattle.spec_laws.proofs.Bounds.{can_lay, dotted, registers_there}
 use Rattle.spec_laws.proofs.PageCounts.{few_pages}
 use Rattle.spec_laws.proofs.SettledEnds.{end_found}
@@ -35,11 +10,6 @@ use Rattle.spec_laws.proofs.SeenMemory.{has_domain, memory_seen}
 use Rattle.spec_laws.proofs.Groups.{leaves_once, leaves_some}
 use Rattle.spec_laws.proofs.Registers.{same_paddr}
 use Rattle.spec_laws.proofs.Stacks.{stacks_whole}
-use Rattle.spec_laws.specs.HaveImages.{HaveImages}
-use Rattle.spec_laws.specs.CanMap.{CanMap}
-use Rattle.system_spec.specs.TablesFrom.{tables_from}
-use Rattle.vspace_layout.specs.Given.{given}
-use Rattle.vspace_layout.specs.PageLimits.{first_page_limit}
 
 member_below : (s : Source) (e : FlatEnd) (leaf : Leaf) (m : _) → slice_get (flat_of s).leaves e.leaf ≡ Some leaf
     → slice_get (members_at s leaf.component) e.member ≡ Some m → e.member < length (leaf_members s (flat_of s) e.leaf)

@@ -1,8 +1,5 @@
 -- Members of lists that are made by ranges and by flat maps
-use Rattle.std.proofs.Common.{◌≡◌, ◌<◌, ◌+◌, ◌*◌, ◌/◌, ℕ, zero, suc, List, [], ◌∷◌, ◌++◌, Some, ◌∙◌, subst, arith}
-use Rattle.std.specs.List.{range_with_len, slice_get}
-use Rattle.std.specs.Prelude.{slice_index_or}
-use Rattle.cam_base.specs.Gather.{IsIn}
+use Rattle.spec_laws.proofs.Common.{IsIn, List, Some, [], arith, range_with_len, slice_get, slice_index_or, subst, suc, zero, ℕ, ◌*◌, ◌++◌, ◌+◌, ◌/◌, ◌<◌, ◌∙◌, ◌∷◌, ◌≡◌}
 use Rattle.cam_base.proofs.NumberedLists as lists
 
 pub in_range : (n i : ℕ) → i < n → IsIn i (range_with_len 0 n)

@@ -1,44 +1,12 @@
 -- The memory of connections: its pages, its address, and the registers of devices, in a source without faults.
-use Rattle.std.proofs.Common.{◌≡◌, ◌<◌, ◌≤◌, ◌+◌, ◌*◌, ◌/◌, ◌%◌, ◌^◌, ℕ, true, ◌&&◌, ◌||◌, cond, List, [], ◌∷◌, ◌++◌, codes, Option, Some, None, unwrap_or, refl, sym, ◌∙◌, ap, subst, arith}
-use Rattle.std.proofs.lemmas.Option.{same_Some}
-use Rattle.std.specs.Prelude.{◌==◌}
-use Rattle.std.specs.List.{slice_get}
-use Rattle.std.specs.Option.{option_and_then, option_map_or}
-use Rattle.std.proofs.lemmas.Bool.{and_parts, eqb-true, or_right}
-use Rattle.adl_ast.specs.declared.component.Interface.{Interface}
+use Rattle.spec_laws.proofs.Common.{AreDotted, AreNamesSound, AreSettingsSound, AreTyped, Connector, Direct, EndSetting, FlatConnection, FlatEnd, From, Hierarchy, Interface, Interrupt, Leaf, List, Mmio, None, Notification, Option, Role, Rpc, Settled}
+use Rattle.spec_laws.proofs.Common.{SharedMemory, Some, Source, To, [], and_parts, ap, arith, codes, cond, default_bytes, end_rule, end_setting, eqb-true, first_type_fault, flat_of, hierarchy_of, is_device_memory, is_kind_of, is_to, is_window, meant}
+use Rattle.spec_laws.proofs.Common.{members_at, memory_paddr, memory_pages, memory_place, option_and_then, option_map_or, or_right, position_found, refl, registers, registers_in, same_Some, same_kind, same_port, setting_of, settled_of, size_in}
+use Rattle.spec_laws.proofs.Common.{slice_get, some_end, subst, sym, to_place, true, unwrap_or, value_at, where_set, ℕ, ◌%◌, ◌&&◌, ◌*◌, ◌++◌, ◌+◌, ◌/◌, ◌<◌, ◌==◌, ◌^◌, ◌||◌, ◌∙◌, ◌∷◌, ◌≡◌, ◌≤◌}
 use Rattle.adl_ast.specs.declared.component.InterfaceKind.TheVariants as interfaces
 use Rattle.adl_ast.specs.declared.component.Member.TheVariants as members
-use Rattle.adl_ast.specs.declared.composition.Role.{Role}
-use Rattle.adl_ast.specs.declared.composition.Role.TheVariants.{From, To}
-use Rattle.adl_ast.specs.declared.source.Source.{Source}
-use Rattle.adl_hierarchy.specs.Leads.{AreDotted}
-use Rattle.adl_meaning.specs.declared.connector.Connector.{Connector}
-use Rattle.adl_meaning.specs.declared.connector.Connector.TheVariants.{Rpc, Notification, SharedMemory, Mmio, Interrupt, Direct}
-use Rattle.adl_meaning.specs.declared.flat.FlatConnection.{FlatConnection}
-use Rattle.adl_meaning.specs.declared.flat.FlatEnd.{FlatEnd}
-use Rattle.adl_meaning.specs.declared.flat.Leaf.{Leaf}
-use Rattle.adl_meaning.specs.declared.settled.EndSetting.{EndSetting}
-use Rattle.adl_meaning.specs.declared.settled.Settled.{Settled}
-use Rattle.adl_meaning.specs.Export.{same_kind}
-use Rattle.adl_meaning.specs.Flat.{flat_of}
-use Rattle.adl_meaning.specs.Hierarchy.{Hierarchy, hierarchy_of}
-use Rattle.adl_meaning.specs.NameFaults.{AreNamesSound}
-use Rattle.adl_meaning.specs.Values.{Given, value_at}
-use Rattle.adl_settings.specs.Allowed.{size_in}
-use Rattle.adl_settings.specs.EndMeaning.{default_bytes, end_setting}
-use Rattle.adl_settings.specs.Joints.{is_device_memory, is_shared}
-use Rattle.adl_settings.specs.Meant.{meant, where_set}
-use Rattle.adl_settings.specs.Settled.{settled_of}
-use Rattle.adl_types.specs.TypeFaults.{is_kind_of, first_type_fault}
-use Rattle.conn_rules.specs.Ends.{end_rule}
-use Rattle.flat_laws.specs.Typed.{AreTyped}
-use Rattle.flat_laws.proofs.SomeEnds.{some_end}
-use Rattle.flat_laws.proofs.SoundSettings.{AreSettingsSound}
-use Rattle.cspace_layout.specs.Lookups.{setting_of}
-use Rattle.cspace_layout.specs.Members.{members_at}
-use Rattle.vspace_layout.specs.Memory.{is_to, memory_paddr, memory_pages, memory_place, registers, registers_in, same_port, to_place}
-use Rattle.vspace_layout.specs.Regions.{is_window}
-use Rattle.vspace_layout.proofs.MemoryNumbers.{position_found}
+use Rattle.adl_meaning.specs.Values.{Given}
+use Rattle.adl_settings.specs.Joints.{is_shared}
 use Rattle.spec_laws.proofs.SettledEnds.{IsEndFound, end_found, setting_from}
 use Rattle.spec_laws.proofs.Sizes.{IsMeasured, measured, size_of_end}
 use Rattle.spec_laws.proofs.SpaceBounds.{HaveRegisters, at_position}

@@ -1,26 +1,7 @@
 -- The uses of slots name connections that there are.
-use Rattle.std.proofs.Common.{◌≡◌, ◌<◌, ℕ, Bool, true, false, cond, List, [], ◌∷◌, length, Some, sym, subst, inl, inr, ⊎_elim}
-use Rattle.std.specs.List.{slice_get}
-use Rattle.adl_ast.specs.declared.component.Member.{Member}
-use Rattle.adl_ast.specs.declared.composition.Role.{Role}
-use Rattle.adl_ast.specs.declared.composition.Role.TheVariants.{From, To}
-use Rattle.adl_ast.specs.declared.source.Source.{Source}
-use Rattle.adl_meaning.specs.declared.connector.Connector.{Connector}
-use Rattle.adl_meaning.specs.declared.connector.Connector.TheVariants.{Rpc, Notification, SharedMemory, Mmio, Interrupt, Direct}
-use Rattle.adl_meaning.specs.declared.flat.Domain.{Domain}
-use Rattle.adl_meaning.specs.declared.flat.Flat.{Flat}
-use Rattle.adl_meaning.specs.declared.flat.FlatConnection.{FlatConnection}
-use Rattle.adl_meaning.specs.declared.flat.FlatEnd.{FlatEnd}
-use Rattle.cspace_layout.specs.declared.plan.SlotPlan.{SlotPlan}
-use Rattle.cspace_layout.specs.declared.plan.SlotUse.{SlotUse}
-use Rattle.cspace_layout.specs.declared.plan.SlotUse.TheVariants.{OwnLock}
-use Rattle.cspace_layout.specs.Uses.{domain_uses, end_uses, joined_uses, leaf_uses, lock_uses, member_uses, plan_of, slots_of}
-use Rattle.cspace_layout.specs.LeafEnds.{joins}
-use Rattle.cspace_layout.specs.Members.{is_lock, leaf_members}
-use Rattle.cam_base.specs.Gather.{IsIn, gather}
-use Rattle.cam_base.proofs.Gathered.{from_gather, in_append, in_place}
-use Rattle.cam_base.proofs.NumberedLists.{below, from_get_map}
-use Rattle.system_spec.specs.Ready.{AreNamed, NamesOneOf}
+use Rattle.spec_laws.proofs.Common.{AreNamed, Bool, Connector, Direct, Domain, Flat, FlatConnection, FlatEnd, From, Interrupt, IsIn, List, Member, Mmio, NamesOneOf, Notification, OwnLock, Role, Rpc, SharedMemory, SlotPlan, SlotUse, Some, Source, To}
+use Rattle.spec_laws.proofs.Common.{[], below, cond, domain_uses, end_uses, false, from_gather, from_get_map, gather, in_append, in_place, inl, inr, is_lock, joined_uses, joins, leaf_members, leaf_uses, length, lock_uses, member_uses, plan_of}
+use Rattle.spec_laws.proofs.Common.{slice_get, slots_of, subst, sym, true, ℕ, ⊎_elim, ◌<◌, ◌∷◌, ◌≡◌}
 
 of_end : (connector : Connector) (role : Role) (k n count : ℕ) (u : SlotUse) → k < count → IsIn u (end_uses connector role k n)
     → NamesOneOf count u

@@ -1,11 +1,6 @@
 -- A name tells its series and its number.
-use Rattle.std.proofs.Common.{◌≡◌, ◌<◌, ◌^◌, ℕ, List, [], ◌∷◌, ◌++◌, cond, decimal, refl, sym, ◌∙◌, ap}
-use Rattle.std.specs.Prelude.{◌==◌}
-use Rattle.std.proofs.lemmas.Fmt.{decimal_injective}
-use Rattle.std.proofs.lemmas.List.{append_cancel_left}
-use Rattle.system_spec.specs.declared.series.Series.{Series}
+use Rattle.spec_laws.proofs.Common.{List, Series, [], ap, append_cancel_left, cond, decimal, decimal_injective, name_of, prefix, refl, sym, ℕ, ◌++◌, ◌<◌, ◌==◌, ◌^◌, ◌∙◌, ◌∷◌, ◌≡◌}
 use Rattle.system_spec.specs.declared.series.Series.TheVariants.{CNode, Tcb, Ep, Ntfn, Lock, Irq, Pgd, Pud, Pd, Pt, Frame}
-use Rattle.system_spec.specs.Names.{name_of, prefix}
 
 abbrev by_second : ℕ → Series
 by_second b = cond (b == 103) Pgd (cond (b == 117) Pud (cond (b == 100) Pd Pt))

@@ -1,34 +1,15 @@
 -- Numbers are sums: which lock, which interrupt and which thread has which
-use Rattle.std.proofs.Common.{◌≡◌, ◌+◌, ◌∙◌, ℕ, zero, suc, Bool, true, false, cond, List, [], ◌∷◌, ◌++◌, length, take, Some, refl, sym, ap, subst, inl, arith}
+use Rattle.spec_laws.proofs.Common.{Bool, Connector, Direct, Domain, FlatConnection, FlatEnd, From, Handler, Interrupt, IrqOf, IsIn, IsLockNumber, List, LockOf, Member, Mmio, OfDomain, OfEnd, OwnLock, Owned, Owner, Part, Role, Rpc, SharedMemory}
+use Rattle.spec_laws.proofs.Common.{SlotUse, Some, Tables, To, [], ap, arith, before, cond, domain_uses, end_uses, false, flat_map, flat_map-gather, gather, gather_same, gathered, in_gather, in_together, inl, interrupt, irq, irq_by, irq_owner, irqs}
+use Rattle.spec_laws.proofs.Common.{is_lock, joined_uses, joins, leaf_locks, leaf_members, leaf_uses, length, length_append, lock, lock_uses, locks, member_uses, numbered, owned, part, parts, refl, sections, slice_get, subst, suc, sym, take, true}
+use Rattle.spec_laws.proofs.Common.{uses_at, zero, ℕ, ◌++◌, ◌+◌, ◌∙◌, ◌∷◌, ◌≡◌}
 use Rattle.std.proofs.lemmas.List.Concat.{flat_map-append}
-use Rattle.std.specs.List.{flat_map, slice_get}
-use Rattle.adl_ast.specs.declared.component.Member.{Member}
-use Rattle.adl_ast.specs.declared.composition.Role.{Role}
-use Rattle.adl_ast.specs.declared.composition.Role.TheVariants.{From, To}
-use Rattle.adl_meaning.specs.declared.connector.Connector.{Connector}
-use Rattle.adl_meaning.specs.declared.connector.Connector.TheVariants.{Rpc, Notification as Notifies, SharedMemory, Mmio, Interrupt, Direct}
-use Rattle.adl_meaning.specs.declared.flat.Domain.{Domain}
-use Rattle.adl_meaning.specs.declared.flat.FlatConnection.{FlatConnection}
-use Rattle.adl_meaning.specs.declared.flat.FlatEnd.{FlatEnd}
-use Rattle.arch_policy.specs.declared.owner.Owner.{Owner}
-use Rattle.arch_policy.specs.declared.owner.Owner.TheVariants.{OfDomain}
-use Rattle.cam_base.specs.Gather.{IsIn, before, gather}
-use Rattle.cam_base.proofs.Gathered.{flat_map-gather, gather_same, gathered, in_gather, length_append}
-use Rattle.cspace_layout.specs.declared.plan.SlotUse.{SlotUse}
-use Rattle.cspace_layout.specs.declared.plan.SlotUse.TheVariants.{OfEnd, Handler, OwnLock}
-use Rattle.cspace_layout.specs.LeafEnds.{joins}
-use Rattle.cspace_layout.specs.Members.{is_lock, leaf_members}
-use Rattle.cspace_layout.specs.Uses.{domain_uses, end_uses, joined_uses, leaf_uses, lock_uses, member_uses}
-use Rattle.system_spec.specs.declared.part.Owned.{Owned}
-use Rattle.system_spec.specs.declared.part.Part.{Part}
-use Rattle.system_spec.specs.declared.part.What.TheVariants.{IrqOf, LockOf}
+use Rattle.adl_meaning.specs.declared.connector.Connector.TheVariants.{Notification as Notifies}
 use Rattle.system_spec.specs.declared.series.Series.TheVariants as series
-use Rattle.system_spec.specs.Parts.{domain_locks as parted_locks, irq, irq_by, irqs, lock, locks, numbered, owned, part, parts, sections}
+use Rattle.system_spec.specs.Parts.{domain_locks as parted_locks}
 use Rattle.system_spec.specs.Places.{has_irq}
-use Rattle.system_spec.specs.Tables.{Tables, irq_owner, uses_at}
-use Rattle.system_spec.proofs.Objects.{in_together}
 use Rattle.system_spec.proofs.Placing.{as_long}
-use Rattle.spec_laws.specs.Slotted.{IsLockNumber, domain_locks, interrupt, leaf_locks}
+use Rattle.spec_laws.specs.Slotted.{domain_locks}
 
 -- ---- sums
 
@@ -117,46 +98,48 @@ as_many d n (OfEnd k m) = refl
 as_many d n (Handler k m) = refl
 as_many d n (OwnLock leaf m) = refl
 
--- a lock as a part, under its number
-pub record LockPart (t : Tables) (d n leaf m : ℕ) : Type 0 where
-  pub number : ℕ
-  pub numbered : IsLockNumber t leaf m number
-  pub there : IsIn (part series.Lock number (OfDomain d) (LockOf d n)) (parts t)
+module _ (t : Tables) (uses_are : (d : ℕ) (x : Domain) → slice_get t.flat.domains d ≡ Some x
+    → uses_at t d ≡ domain_uses t.source t.flat x.leaves) (d n leaf m : ℕ) (x : Domain)
+    (h : slice_get t.flat.domains d ≡ Some x) (e : slice_get (uses_at t d) n ≡ Some (OwnLock leaf m)) where
+  -- the locks of the domains before, and those before it in its own
+  abbrev pub lock_number : ℕ
+  lock_number = before (parted_locks t) t.flat.domains d + before (lock d) (uses_at t d) n
 
-pub lock_part : (t : Tables) → ((d : ℕ) (x : Domain) → slice_get t.flat.domains d ≡ Some x
-    → uses_at t d ≡ domain_uses t.source t.flat x.leaves)
-    → (d n leaf m : ℕ) (x : Domain) → slice_get t.flat.domains d ≡ Some x → slice_get (uses_at t d) n ≡ Some (OwnLock leaf m)
-    → LockPart t d n leaf m
-lock_part t uses_are d n leaf m x h e =
-    let y = owned (OfDomain d) (LockOf d n) in
-    let us = uses_at t d in
-    let i = before (lock d) us n in
-    let N = before (parted_locks t) t.flat.domains d + i in
-    let inner : slice_get (gather (lock d) us) i ≡ Some y = gathered (lock d) us n (OwnLock leaf m) 0 y i e refl (omega arith) in
-    let at : slice_get (locks t) N ≡ Some y = gathered (parted_locks t) t.flat.domains d x i y N h inner refl in
-    let f : ℕ → Owned → List Part = λ n z. part series.Lock n z.owner z.what ∷ [] in
-    let p = part series.Lock N (OfDomain d) (LockOf d n) in
-    let listed : (e : ℕ) (z : Domain) → slice_get t.flat.domains e ≡ Some z
-    → gather (λ k u. lock_of u) (uses_at t e) ≡ domain_locks t z =
-    λ e z j. sym (as_gathered lock_of (uses_at t e)) ∙ ap (flat_map lock_of) (uses_are e z j) ∙ domain_has t z in
-    let sums = before_same (parted_locks t) (λ d z. domain_locks t z) t.flat.domains d
-    (λ e z j. as_long (lock e) (λ k u. lock_of u) (uses_at t e) (as_many e) ∙ ap length (listed e z j)) in
-    let own = before_same (lock d) (λ k u. lock_of u) us n (λ k u j. as_many d k u) in
-    let stands : slice_get (gather (λ k u. lock_of u) us) i ≡ Some (leaf, m) = gathered (λ k u. lock_of u) us n (OwnLock leaf m) 0
-    (leaf, m) i e refl (omega (arith, own)) in
-    record {
-      number = N;
-      numbered = record {
+  pub lock_numbered : IsLockNumber t leaf m lock_number
+  lock_numbered =
+      let us = uses_at t d in
+      let i = before (lock d) us n in
+      let listed : (e : ℕ) (z : Domain) → slice_get t.flat.domains e ≡ Some z
+      → gather (λ k u. lock_of u) (uses_at t e) ≡ domain_locks t z =
+      λ e z j. sym (as_gathered lock_of (uses_at t e)) ∙ ap (flat_map lock_of) (uses_are e z j) ∙ domain_has t z in
+      let sums = before_same (parted_locks t) (λ d z. domain_locks t z) t.flat.domains d
+      (λ e z j. as_long (lock e) (λ k u. lock_of u) (uses_at t e) (as_many e) ∙ ap length (listed e z j)) in
+      let own = before_same (lock d) (λ k u. lock_of u) us n (λ k u j. as_many d k u) in
+      let stands : slice_get (gather (λ k u. lock_of u) us) i ≡ Some (leaf, m) =
+      gathered (λ k u. lock_of u) us n (OwnLock leaf m) 0
+      (leaf, m) i e refl (omega (arith, own)) in
+      record {
         domain = d;
         leaves = x;
         here = h;
         place = i;
-        stands = ap (λ z. slice_get z i) (sym (listed d x h))
-            ∙ stands;
+        stands = ap (λ z. slice_get z i) (sym (listed d x h)) ∙ stands;
         is = omega (arith, sums);
-      };
-      there = in_together (sections t) 4 (numbered series.Lock (locks t)) p refl (in_gather f p (locks t) N y at (inl refl));
-    }
+      }
+
+  -- it is a part, under its number
+  pub lock_part : IsIn (part series.Lock lock_number (OfDomain d) (LockOf d n)) (parts t)
+  lock_part =
+      let y = owned (OfDomain d) (LockOf d n) in
+      let us = uses_at t d in
+      let i = before (lock d) us n in
+      let inner : slice_get (gather (lock d) us) i ≡ Some y = gathered (lock d) us n (OwnLock leaf m) 0 y i e refl
+      (omega arith) in
+      let at : slice_get (locks t) lock_number ≡ Some y = gathered (parted_locks t) t.flat.domains d x i y lock_number h inner
+      refl in
+      let f : ℕ → Owned → List Part = λ n z. part series.Lock n z.owner z.what ∷ [] in
+      let p = part series.Lock lock_number (OfDomain d) (LockOf d n) in
+      in_together (sections t) 4 (numbered series.Lock (locks t)) p refl (in_gather f p (locks t) lock_number y at (inl refl))
 
 -- ---- interrupts
 
@@ -168,13 +151,17 @@ as_interrupt k o SharedMemory = refl
 as_interrupt k o Mmio = refl
 as_interrupt k o Direct = refl
 
+pub irqs_before : (t : Tables) (k : ℕ) → before irq t.flat.connections k ≡ before interrupt t.flat.connections k
+irqs_before t k =
+    before_same irq interrupt t.flat.connections k (λ j x i. as_interrupt j (irq_owner j x) x.connector)
+
 pub irq_part : (t : Tables) (k : ℕ) (c : FlatConnection) → slice_get t.flat.connections k ≡ Some c → c.connector ≡ Interrupt
     → IsIn (part series.Irq (before interrupt t.flat.connections k) (irq_owner k c) (IrqOf k)) (parts t)
 irq_part t k c h e =
     let y = owned (irq_owner k c) (IrqOf k) in
     let cs = t.flat.connections in
     let P : Connector → Type 0 = λ m. slice_get (irq_by k (irq_owner k c) m) 0 ≡ Some y in
-    let sums = before_same irq interrupt cs k (λ j x i. as_interrupt j (irq_owner j x) x.connector) in
+    let sums = irqs_before t k in
     let at : slice_get (irqs t) (before interrupt cs k) ≡ Some y = gathered irq cs k c 0 y (before interrupt cs k) h
     (subst P (sym e) refl) (omega (arith, sums)) in
     let f : ℕ → Owned → List Part = λ n z. part series.Irq n z.owner z.what ∷ [] in

@@ -1,9 +1,5 @@
 -- Lists in which nothing stands twice
-use Rattle.std.proofs.Common.{◌≡◌, ℕ, zero, suc, List, [], ◌∷◌, ◌++◌, Some, refl, sym, subst, inl, inr, arith}
-use Rattle.std.specs.List.{flat_map, slice_get}
-use Rattle.cam_base.specs.Gather.{IsIn, gather}
-use Rattle.cam_base.proofs.Gathered.{from_gather, in_place, place_of, split_get}
-use Rattle.cam_base.proofs.NumberedLists.{from_flat_map}
+use Rattle.spec_laws.proofs.Common.{IsIn, List, Some, [], arith, flat_map, from_flat_map, from_gather, gather, in_place, inl, inr, place_of, refl, slice_get, split_get, subst, suc, sym, zero, ℕ, ◌++◌, ◌∷◌, ◌≡◌}
 
 abbrev pub Once : {X : Type 0} → List X → Type 0
 Once {X} xs = (i j : ℕ) (x : X) → slice_get xs i ≡ Some x → slice_get xs j ≡ Some x → i ≡ j

@@ -1,38 +1,8 @@
 -- Frames that no window shows are mapped once, and filled as their pages say
-use Rattle.std.proofs.Common.{◌≡◌, ◌<◌, ◌+◌, ◌*◌, ◌/◌, ℕ, Bool, List, length, Option, Some, None, refl, sym, ◌∙◌, ap, subst, arith}
-use Rattle.std.specs.List.{slice_get}
-use Rattle.adl_meaning.specs.declared.flat.Domain.{Domain}
-use Rattle.cap_model.specs.declared.cap.Cap.{Cap}
-use Rattle.cap_model.specs.declared.object.Fill.{Fill}
-use Rattle.cap_model.specs.declared.object.Object.TheVariants.{Frame}
-use Rattle.cap_model.specs.Lookup.{object_at}
-use Rattle.cspace_layout.specs.declared.end_at.EndAt.{EndAt}
-use Rattle.cam_base.specs.Gather.{IsIn, before}
-use Rattle.cam_base.proofs.Gathered.{in_left, in_place, place_of}
-use Rattle.cam_base.proofs.NumberedLists.{below, in_map}
-use Rattle.page_tables.specs.Shapes.{shapes}
-use Rattle.page_tables.specs.Walks.{root_span}
-use Rattle.source_images.specs.ByAddress.{section_pages}
-use Rattle.system_spec.specs.declared.part.What.TheVariants.{FrameOf}
-use Rattle.system_spec.specs.Made.{spec_of}
-use Rattle.system_spec.specs.Parts.{place}
-use Rattle.system_spec.specs.Tables.{Tables, arch}
-use Rattle.vspace_layout.specs.declared.mapped.MappedPage.{MappedPage}
-use Rattle.vspace_layout.specs.declared.mapped.Shown.{Shown}
-use Rattle.vspace_layout.specs.declared.mapped.Shown.TheVariants.{Memory, Own}
+use Rattle.spec_laws.proofs.Common.{AreOwnFrames, Bool, Buffer, CanMap, Cap, Content, Domain, EndAt, Fill, Frame, FrameInfo, FrameOf, IsAt, IsIn, IsOwn, IsRegionPage, IsSectionPage, List, MappedPage, Memory, None, Option, Own, Region, Shown, Some}
+use Rattle.spec_laws.proofs.Common.{Spaces, Stack, Tables, Window, ap, arch, arith, before, begins, below, frame, frames_stand, in_left, in_map, in_place, leaves_of, length, mapped_pages, number_shown, object_at, own_frame, own_frames, own_number}
+use Rattle.spec_laws.proofs.Common.{place, place_of, refl, region_page, root_of, root_span, section_page, section_pages, section_part, shapes, slice_get, spec_of, subst, sym, system, ℕ, ◌*◌, ◌+◌, ◌/◌, ◌<◌, ◌∙◌, ◌≡◌}
 use Rattle.vspace_layout.specs.declared.owner.Owner.TheVariants.{OfDomain}
-use Rattle.vspace_layout.specs.declared.region.Content.{Content}
-use Rattle.vspace_layout.specs.declared.region.Content.TheVariants.{Stack, Buffer, Window}
-use Rattle.vspace_layout.specs.declared.region.Region.{Region}
-use Rattle.vspace_layout.specs.declared.spaces.FrameInfo.{FrameInfo}
-use Rattle.vspace_layout.specs.declared.spaces.Spaces.{Spaces}
-use Rattle.vspace_layout.specs.Frames.{frame, number_shown, own_frame, own_frames, own_number}
-use Rattle.vspace_layout.specs.Given.{leaves_of}
-use Rattle.vspace_layout.specs.MappedPages.{mapped_pages, region_page, section_page, section_part}
-use Rattle.vspace_layout.proofs.Standing.{frames_stand}
-use Rattle.spec_laws.specs.CanMap.{CanMap}
-use Rattle.spec_laws.specs.Framed.{AreOwnFrames, IsOwn}
-use Rattle.spec_laws.specs.Spaced.{IsAt, IsRegionPage, IsSectionPage, begins, root_of, system}
 use Rattle.spec_laws.proofs.Blocks.{apart, inside}
 use Rattle.spec_laws.proofs.Finding.{Found, found}
 use Rattle.spec_laws.proofs.Framing.{frame_there, shows_at}

@@ -1,16 +1,7 @@
 -- How many pages and page tables there are, where no limit on them is passed.
-use Rattle.std.proofs.Common.{◌≡◌, ◌≤◌, ◌∙◌, [], ◌∷◌, ◌++◌, sym, ap, None}
-use Rattle.std.specs.Prelude.{sum, codes}
-use Rattle.std.specs.List.{flat_map}
-use Rattle.adl_ast.specs.declared.composition.Assembly.{Assembly}
-use Rattle.adl_meaning.specs.declared.item_at.ItemAt.{ItemAt}
-use Rattle.adl_meaning.specs.Items.{assemblies}
-use Rattle.adl_meaning.specs.SizeFaults.{limit_passed}
-use Rattle.adl_meaning.proofs.Least.{least-empty}
-use Rattle.adl_hierarchy.proofs.Limits.{not_passed}
-use Rattle.cam_base.proofs.NumberedLists.{none_left, none_right}
-use Rattle.vspace_layout.specs.Given.{Given}
-use Rattle.vspace_layout.specs.PageLimits.{first_page_limit, limits_passed, page_counts, page_faults, table_counts}
+use Rattle.spec_laws.proofs.Common.{Assembly, Given, ItemAt, None, [], ap, assemblies, first_page_limit, flat_map, least-empty, limit_passed, limits_passed, none_left, none_right, not_passed, page_counts, page_faults, sum, sym, table_counts, ◌++◌}
+use Rattle.spec_laws.proofs.Common.{◌∙◌, ◌∷◌, ◌≡◌, ◌≤◌}
+use Rattle.std.specs.Prelude.{codes}
 
 -- all domains together have at most so many pages, and so many page tables
 pub record AreFewPages (g : Given) : Type 0 where

@@ -1,32 +1,11 @@
 -- Pages lie below what the root spans, and where there is a thread there is a page.
-use Rattle.std.proofs.Common.{◌≡◌, ◌<◌, ◌≤◌, ◌*◌, ◌%◌, ℕ, List, [], ◌∷◌, length, map, Some, subst, arith}
-use Rattle.std.specs.Prelude.{sum}
-use Rattle.std.specs.List.{flat_map, slice_get}
-use Rattle.std.specs.Option.{option_map_or}
-use Rattle.cam_base.specs.Gather.{IsIn, gather}
-use Rattle.cam_base.proofs.Gathered.{from_ones, get_ones, in_place, length_append, place_of}
-use Rattle.cam_base.proofs.NumberedLists.{at_place, below}
-use Rattle.page_tables.specs.Shapes.{shapes}
-use Rattle.page_tables.specs.Walks.{root_span}
-use Rattle.vspace_layout.specs.declared.spaces.Page.{Page}
-use Rattle.vspace_layout.specs.declared.spaces.Space.{Space}
-use Rattle.vspace_layout.specs.declared.spaces.ThreadPlace.{ThreadPlace}
+use Rattle.spec_laws.proofs.Common.{CanLay, Given, IsIn, List, Page, SectionsStand, Some, Space, ThreadPlace, [], arith, at_place, base, below, few_at, few_regions, flat_map, from_ones, gather, get_ones, in_place, leaves_of, length}
+use Rattle.spec_laws.proofs.Common.{length-region_part, length_append, length_threads, map, mapped_pages, option_map_or, page, page_counts, place_of, region_part, regions, rising, root_span, root_spans, section_part, shapes, slice_get, spaces_of}
+use Rattle.spec_laws.proofs.Common.{subst, sum, thread_place, thread_regions, threads_of, window_region, windows_of, ℕ, ◌%◌, ◌*◌, ◌<◌, ◌∷◌, ◌≡◌, ◌≤◌}
 use Rattle.vspace_layout.specs.declared.thread.ThreadOf.{ThreadOf}
-use Rattle.vspace_layout.specs.CanLay.{CanLay}
-use Rattle.vspace_layout.specs.Given.{Given, arch, base, leaves_of}
-use Rattle.vspace_layout.specs.Laid.{page, spaces_of, thread_place}
-use Rattle.vspace_layout.specs.MappedPages.{mapped_pages, region_part, section_part}
-use Rattle.vspace_layout.specs.PageLimits.{page_counts}
-use Rattle.vspace_layout.specs.Regions.{regions, thread_regions, threads_of, window_region, windows_of}
-use Rattle.vspace_layout.specs.SpaceLaws.{SectionsStand}
-use Rattle.vspace_layout.proofs.Counting.{length-region_part}
-use Rattle.vspace_layout.proofs.Few.{few_at}
-use Rattle.vspace_layout.proofs.Fitting.{few_regions}
-use Rattle.vspace_layout.proofs.Rising.{rising}
-use Rattle.vspace_layout.proofs.Laying.{length_threads}
+use Rattle.vspace_layout.specs.Given.{arch}
 use Rattle.vspace_layout.proofs.Low.{page_low}
 use Rattle.spec_laws.proofs.SpaceBounds.{space_cases}
-use Rattle.vspace_layout.proofs.Spans.{root_spans}
 
 module _ (g : Given) (stand : (d : ℕ) → SectionsStand g d) where
   -- a page of a space: at a whole page, and below what the root spans

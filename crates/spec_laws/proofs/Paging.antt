@@ -1,42 +1,17 @@
 -- What is mapped in the space of a domain is what the source and its images say
-use Rattle.std.proofs.Common.{◌≡◌, ◌+◌, ◌*◌, ℕ, Bool, true, false, cond, List, [], ◌∷◌, map, Option, Some, None, refl, sym, ◌∙◌, ap, subst, inl, inr}
-use Rattle.std.specs.List.{range_with_len, slice_get}
-use Rattle.std.specs.Option.{option_and_then, option_map_or}
-use Rattle.std.specs.Prelude.{nat_eq, option_map}
-use Rattle.std.proofs.lemmas.Bool.{eq-eqb}
+use Rattle.spec_laws.proofs.Common.{AreSettled, Bool, Buffer, Connector, Content, Domain, EndAt, EndSetting, Fill, FlatConnection, FlatEnd, Image, IsIn, IsRegionPage, IsSectionPage, List, MappedPage, MapsPage, None, Option, Placed, Region, Section}
+use Rattle.spec_laws.proofs.Common.{SectionPage, Some, Stack, Tables, Window, [], ap, base, begins, below_count, by_address, cond, end_in, end_window, ends, ends_at, eq-eqb, false, fill_of, from_flat_map, from_gather, from_map, image_number}
+use Rattle.spec_laws.proofs.Common.{in_append, in_flat_map, in_gather, in_left, in_map, in_place, in_right, inl, inr, is_run, is_window, leaf_windows, leaves_of, map, mapped_pages, may_read, may_write, nat_eq, option_and_then, option_map_or, page_at}
+use Rattle.spec_laws.proofs.Common.{page_count, page_of, pages_of, pages_of_region, place_of, placed, range_with_len, refl, region_page, region_part, regions, section_page, section_pages, section_part, sections_if, sections_of, sees_memory}
+use Rattle.spec_laws.proofs.Common.{setting_of, slice_get, subst, sym, system, thread_regions, threads_of, true, window_region, windows_of, ℕ, ◌*◌, ◌+◌, ◌∙◌, ◌∷◌, ◌≡◌}
+use Rattle.std.specs.Prelude.{option_map}
 use Rattle.std.proofs.lemmas.List.Sorted.{IsPermutation-sym}
-use Rattle.adl_meaning.specs.declared.connector.Connector.{Connector}
-use Rattle.adl_meaning.specs.declared.flat.Domain.{Domain}
-use Rattle.adl_meaning.specs.declared.flat.FlatConnection.{FlatConnection}
-use Rattle.adl_meaning.specs.declared.flat.FlatEnd.{FlatEnd}
-use Rattle.adl_meaning.specs.declared.settled.EndSetting.{EndSetting}
-use Rattle.cap_model.specs.declared.object.Fill.{Fill}
-use Rattle.cspace_layout.specs.declared.end_at.EndAt.{EndAt}
-use Rattle.cspace_layout.specs.Lookups.{end_in, setting_of}
-use Rattle.cam_base.specs.Gather.{IsIn}
-use Rattle.cam_base.proofs.Gathered.{from_gather, in_append, in_gather, in_left, in_place, in_right, place_of}
-use Rattle.cam_base.proofs.NumberedLists.{from_flat_map, from_map, in_flat_map, in_map, below_count}
-use Rattle.source_images.specs.ByAddress.{by_address, name_of, page_at, pages_of, section_pages}
-use Rattle.source_images.specs.Images.{Placed, image_number, is_run, placed, runs, sections_if, sections_of}
-use Rattle.source_images.specs.SectionPages.{fill_of, page_count}
-use Rattle.source_images.specs.declared.pages.SectionPage.{SectionPage}
+use Rattle.source_images.specs.ByAddress.{name_of}
+use Rattle.source_images.specs.Images.{runs}
 use Rattle.source_images.proofs.Apart.{any_in, run_by}
 use Rattle.source_images.proofs.InOrder.{name_is, order_moves}
 use Rattle.source_images.proofs.SectionsTold.{comes_from}
 use Rattle.source_images.proofs.Sorting.{in_permutation}
-use Rattle.sect_table.specs.declared.image.Image.{Image}
-use Rattle.sect_table.specs.declared.image.Section.{Section}
-use Rattle.system_spec.specs.Tables.{Tables}
-use Rattle.vspace_layout.specs.declared.mapped.MappedPage.{MappedPage}
-use Rattle.vspace_layout.specs.declared.region.Content.{Content}
-use Rattle.vspace_layout.specs.declared.region.Content.TheVariants.{Stack, Buffer, Window}
-use Rattle.vspace_layout.specs.declared.region.Region.{Region}
-use Rattle.vspace_layout.specs.Given.{base, ends, leaves_of}
-use Rattle.vspace_layout.specs.MappedPages.{mapped_pages, may_read, may_write, page_of, pages_of_region, region_page, region_part, section_page, section_part}
-use Rattle.vspace_layout.specs.Regions.{end_window, is_window, leaf_windows, regions, sees_memory, thread_regions, threads_of, window_region, windows_of}
-use Rattle.vspace_layout.specs.Threads.{ends_at}
-use Rattle.spec_laws.specs.CanMap.{AreSettled}
-use Rattle.spec_laws.specs.Spaced.{IsRegionPage, IsSectionPage, MapsPage, begins, system}
 use Rattle.spec_laws.proofs.Members.{in_range}
 
 -- ---- a domain that has leaves is there

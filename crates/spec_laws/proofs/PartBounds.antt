@@ -1,49 +1,17 @@
 -- Where slots and spaces are within their limits, what is made of them can be built.
-use Rattle.std.proofs.Common.{◌≡◌, ◌<◌, ◌≤◌, ◌+◌, ◌*◌, ℕ, List, [], length, map, Option, Some, None, refl, sym, subst, arith}
-use Rattle.std.specs.Prelude.{sum}
-use Rattle.std.specs.List.{slice_get}
-use Rattle.std.specs.Option.{option_map_or}
-use Rattle.std.proofs.lemmas.List.{length-map}
-use Rattle.adl_meaning.specs.declared.connector.Connector.{Connector}
-use Rattle.adl_meaning.specs.declared.connector.Connector.TheVariants.{Rpc, Notification, SharedMemory, Mmio, Interrupt, Direct}
-use Rattle.adl_meaning.specs.declared.flat.Domain.{Domain}
-use Rattle.adl_meaning.specs.declared.flat.FlatConnection.{FlatConnection}
-use Rattle.arch_policy.specs.declared.owner.Owner.TheVariants.{OfDomain}
-use Rattle.cap_model.specs.declared.object.Object.{Object}
-use Rattle.cspace_layout.specs.declared.plan.SlotPlan.{SlotPlan}
-use Rattle.cspace_layout.specs.declared.plan.SlotUse.{SlotUse}
-use Rattle.cspace_layout.specs.declared.plan.SlotUse.TheVariants.{OfEnd, Handler, OwnLock}
-use Rattle.cspace_layout.specs.Uses.{slots_of}
+use Rattle.spec_laws.proofs.Common.{AreNamed, CNodeOf, CanLay, Connector, Direct, Domain, FlatConnection, FrameInfo, FrameOf, Given, Handler, Interrupt, IsBuildable, IsIn, List, Mmio, None, Notification, Object, OfDomain, OfEnd, Option, OwnLock}
+use Rattle.spec_laws.proofs.Common.{Page, PageTable, Rises, Rpc, SectionsStand, SharedMemory, SlotPlan, SlotUse, Some, Tables, ThreadOf, ThreadPlace, [], all_tables, arch, arith, as_many, cnodes, domain_locks, domain_tables, domain_tcbs, endpoint}
+use Rattle.spec_laws.proofs.Common.{endpoint_by, endpoints, few_tables, frame_owner, frame_parts, gather, gather_ones, irq, irq_by, irq_owner, irqs, layers, length, length-gather, length-map, level_of, lock, locks, map, notification, notification_by}
+use Rattle.spec_laws.proofs.Common.{notifications, numbered, option_map_or, owned, page_counts, page_mapping, page_table, pages_at, parts, refl, shapes, slice_get, slots_of, spaces_of, subst, sum, sym, table_part, table_parts, tables_at, tcbs}
+use Rattle.spec_laws.proofs.Common.{threads_at, uses_at, ℕ, ◌*◌, ◌+◌, ◌<◌, ◌≡◌, ◌≤◌}
 use Rattle.spec_laws.proofs.SlotBounds.{AreFewSlots, few_uses}
 use Rattle.flat_laws.specs.Small.{IsSmall}
-use Rattle.cam_base.specs.Gather.{IsIn, gather}
-use Rattle.cam_base.proofs.Gathered.{gather_ones}
-use Rattle.page_tables.specs.Levels.{layers}
-use Rattle.page_tables.specs.Runs.{Rises}
-use Rattle.page_tables.specs.Shapes.{shapes}
-use Rattle.page_tables.proofs.Counted.{few_tables}
-use Rattle.page_tables.proofs.Leveled.{as_many}
-use Rattle.vspace_layout.specs.declared.spaces.FrameInfo.{FrameInfo}
-use Rattle.vspace_layout.specs.declared.spaces.Page.{Page}
-use Rattle.vspace_layout.specs.declared.spaces.ThreadPlace.{ThreadPlace}
-use Rattle.vspace_layout.specs.CanLay.{CanLay}
-use Rattle.vspace_layout.specs.Given.{Given}
-use Rattle.vspace_layout.specs.Laid.{spaces_of}
-use Rattle.vspace_layout.specs.PageLimits.{page_counts}
-use Rattle.vspace_layout.specs.SpaceLaws.{SectionsStand}
-use Rattle.system_spec.specs.declared.part.PageTable.{PageTable}
-use Rattle.system_spec.specs.declared.part.What.TheVariants.{CNodeOf, FrameOf, ThreadOf}
 use Rattle.system_spec.specs.declared.series.Series.TheVariants as series
-use Rattle.system_spec.specs.Buildable.{IsBuildable}
 use Rattle.system_spec.specs.Few.{AreFew, table_count}
-use Rattle.system_spec.specs.Parts.{all_tables, cnodes, domain_locks, domain_tables, domain_tcbs, endpoint, endpoint_by, endpoints, frame_parts, irq, irq_by, irqs, level_of, lock, locks, notification, notification_by, notifications, numbered, owned, page_mapping, page_table, parts, table_part, table_parts, tables_at, tcbs}
-use Rattle.system_spec.specs.Ready.{AreNamed}
-use Rattle.system_spec.specs.Tables.{Tables, arch, irq_owner, frame_owner, pages_at, threads_at, uses_at}
 use Rattle.system_spec.proofs.Bounds.{length-eight, length-numbered}
 use Rattle.spec_laws.proofs.Gathers.{gather_most}
 use Rattle.spec_laws.proofs.NamedUses.{uses_named}
 use Rattle.spec_laws.proofs.SpaceBounds.{HaveRegisters, few_pages, few_threads, frames_most, frames_there, pages_rising}
-use Rattle.cam_base.proofs.NumberedLists.{length-gather}
 
 -- what the tables are laid out from
 abbrev from : Tables → Given

@@ -1,57 +1,18 @@
 -- What is laid out plainly can be written.
-use Rattle.std.proofs.Common.{◌≡◌, ◌<◌, ◌≤◌, ◌+◌, ◌*◌, ◌^◌, ℕ, Bool, true, false, cond, List, [], ◌∷◌, refl, sym, ◌∙◌, ap, subst, Option, Some, None, inl, inr, ◌⊎◌, arith}
-use Rattle.std.specs.Prelude.{◌%◌, ◌==◌, ◌&&◌, leb, not, sum, IsTrue}
-use Rattle.std.specs.List.{range_with_len, slice_get}
-use Rattle.std.specs.Option.{option_map, option_map_or}
-use Rattle.std.proofs.Math.Nat.{div-mul-le_self}
-use Rattle.std.proofs.lemmas.Bool.{and_parts, ltb-true}
-use Rattle.std.proofs.lemmas.Option.{same_Some, slice_get_within}
-use Rattle.adl_ast.specs.declared.source.Source.{Source}
-use Rattle.adl_meaning.specs.declared.flat.Domain.{Domain}
-use Rattle.adl_meaning.specs.declared.flat.Flat.{Flat}
-use Rattle.adl_meaning.specs.declared.flat.FlatConnection.{FlatConnection}
-use Rattle.adl_meaning.specs.declared.flat.FlatEnd.{FlatEnd}
-use Rattle.adl_meaning.specs.declared.flat.Leaf.{Leaf}
-use Rattle.adl_meaning.specs.declared.settled.Settled.{Settled}
-use Rattle.cam_base.specs.Names.{is_name}
-use Rattle.cap_model.specs.declared.object.Fill.{Fill}
-use Rattle.cam_base.specs.Gather.{IsIn, gather}
-use Rattle.cam_base.proofs.Gathered.{from_gather, from_ones, in_append, in_place}
-use Rattle.cam_base.proofs.NumberedLists.{from_flat_map, from_map, below_count}
-use Rattle.source_images.specs.ByAddress.{by_address, name_of, page_at, pages_of, put_section, section_pages}
-use Rattle.source_images.specs.Images.{Placed, arch_of, image_number, is_run, placed, sections_if, sections_of}
-use Rattle.source_images.specs.SectionPages.{fill_from, fill_of, page_count}
-use Rattle.source_images.specs.declared.images.Images.{Images}
-use Rattle.source_images.specs.declared.pages.SectionPage.{SectionPage}
+use Rattle.spec_laws.proofs.Common.{Bool, Buffer, CanLay, Content, Domain, Fill, Flat, FlatConnection, FlatEnd, FrameInfo, Given, Image, Images, IsFillWritten, IsFrameWritten, IsIn, IsPlain, IsThreadWritten, IsTrue, IsWritten, Leaf, List, MappedPage}
+use Rattle.spec_laws.proofs.Common.{Memory, None, Option, Own, Placed, Section, SectionPage, Settled, Shown, Some, Source, Space, Stack, Tables, ThreadPlace, Window, [], and_parts, ap, arch_of, arith, base, below_count, by_address, component_name}
+use Rattle.spec_laws.proofs.Common.{cond, connection_frames, device_frame, device_frames, div-mul-le_self, entry_in, false, few_at, fill_from, fill_of, frame, frames, frames_at, from_flat_map, from_gather, from_map, from_ones, gather, given}
+use Rattle.spec_laws.proofs.Common.{image_number, in_append, in_place, inl, inr, is_first, is_name, is_run, is_shared, leaf_name, leaves_of, leb, length_regions, ltb-true, mapped_pages, memory_paddr, memory_pages, memory_part, option_map_or}
+use Rattle.spec_laws.proofs.Common.{own_frame, own_frames, own_part, page_at, page_count, page_counts, page_of, pages_of, pages_of_region, pages_upto, placed, put_section, range_with_len, refl, region_page, region_part, region_start, regions}
+use Rattle.spec_laws.proofs.Common.{register_frames, register_part, registers, same_Some, section_page, section_pages, section_part, sections_if, sections_of, shared_frames, shared_part, slice_get, slice_get_within, space, start_same, subst, sum}
+use Rattle.spec_laws.proofs.Common.{sym, tables_from, thread_place, threads_at, threads_of, true, windows_of, ℕ, ◌*◌, ◌+◌, ◌<◌, ◌==◌, ◌^◌, ◌∙◌, ◌∷◌, ◌≡◌, ◌≤◌, ◌⊎◌}
+use Rattle.std.specs.Prelude.{◌%◌, ◌&&◌, not}
+use Rattle.std.specs.Option.{option_map}
+use Rattle.source_images.specs.ByAddress.{name_of}
 use Rattle.sect_table.specs.Sections.{ends_within, is_placed, is_sound}
-use Rattle.sect_table.specs.declared.image.Image.{Image}
-use Rattle.sect_table.specs.declared.image.Section.{Section}
-use Rattle.system_spec.specs.Tables.{Tables, component_name, entry_in, leaf_name, threads_at}
-use Rattle.system_spec.specs.TablesFrom.{tables_from}
-use Rattle.vspace_layout.proofs.Few.{few_at}
-use Rattle.vspace_layout.proofs.Fitting.{pages_upto}
-use Rattle.vspace_layout.proofs.Laying.{length_regions, start_same}
 use Rattle.vspace_layout.proofs.Starting.{low_base, stacks_fit}
-use Rattle.vspace_layout.specs.declared.mapped.MappedPage.{MappedPage}
-use Rattle.vspace_layout.specs.declared.mapped.Shown.{Shown}
-use Rattle.vspace_layout.specs.declared.mapped.Shown.TheVariants.{Own, Memory}
 use Rattle.vspace_layout.specs.declared.owner.Owner.TheVariants.{OfConnection, OfDomain}
-use Rattle.vspace_layout.specs.declared.region.Content.{Content}
-use Rattle.vspace_layout.specs.declared.region.Content.TheVariants.{Stack, Buffer, Window}
-use Rattle.vspace_layout.specs.declared.spaces.FrameInfo.{FrameInfo}
-use Rattle.vspace_layout.specs.declared.spaces.Space.{Space}
-use Rattle.vspace_layout.specs.declared.spaces.ThreadPlace.{ThreadPlace}
 use Rattle.vspace_layout.specs.declared.thread.ThreadOf.{ThreadOf}
-use Rattle.vspace_layout.specs.CanLay.{CanLay}
-use Rattle.vspace_layout.specs.Frames.{connection_frames, device_frame, device_frames, frame, frames, frames_at, is_first, memory_part, own_frame, own_frames, own_part, register_frames, register_part, shared_frames, shared_part}
-use Rattle.vspace_layout.specs.Given.{Given, base, given, leaves_of}
-use Rattle.vspace_layout.specs.Laid.{space, thread_place}
-use Rattle.vspace_layout.specs.MappedPages.{mapped_pages, page_of, pages_of_region, region_page, region_part, section_page, section_part}
-use Rattle.vspace_layout.specs.Memory.{is_shared, memory_paddr, memory_pages, registers}
-use Rattle.vspace_layout.specs.PageLimits.{page_counts}
-use Rattle.vspace_layout.specs.Regions.{region_start, regions, threads_of, windows_of}
-use Rattle.spec_laws.specs.Plain.{IsPlain}
-use Rattle.spec_laws.specs.Written.{IsFillWritten, IsFrameWritten, IsThreadWritten, IsWritten}
 
 -- ---- lists
 
@@ -142,7 +103,8 @@ module _ (g : Given) (plain : IsPlain g) where
       elim (in_append p (section_part g.images (leaves_of g.flat d)) (region_part g.settled (base g) (regions g d)) i) [
         | inl j ↦
             let q = from_map section_page p (section_pages g.images (leaves_of g.flat d)) j in
-            subst (λ (z : MappedPage). ShownFine z.shown) {x = section_page q.0} q.2 (section_pages_fine (leaves_of g.flat d) q.0 q.1)
+            subst (λ (z : MappedPage). ShownFine z.shown) {x = section_page q.0} q.2
+            (section_pages_fine (leaves_of g.flat d) q.0 q.1)
         | inr j ↦
             let n = from_gather (pages_of_region g.settled (base g) (regions g d)) p (regions g d) j in
             let start = region_start (base g) (regions g d) n.0 in

@@ -1,45 +1,21 @@
 -- The images that are read for a source are plain.
-use Rattle.std.proofs.Common.{◌≡◌, ◌<◌, ◌^◌, ◌∙◌, ℕ, Bool, true, false, ◌&&◌, ◌||◌, cond, List, [], ◌∷◌, codes, Option, Some, None, option_map, refl, sym, ap, subst, inl, inr}
-use Rattle.std.specs.Prelude.{nat_lt, ◌==◌}
-use Rattle.std.specs.List.{filter_map, slice_get, zip}
-use Rattle.std.specs.Option.{option_and_then}
-use Rattle.std.specs.Str.{bytes_eq}
-use Rattle.std.specs.Str.Parse.{digits_value}
-use Rattle.std.proofs.lemmas.Bool.{and_parts, ltb-true}
-use Rattle.adl_ast.specs.Forms.{item_line}
-use Rattle.adl_ast.specs.declared.file.Ended.{Ended}
-use Rattle.adl_ast.specs.declared.file.Item.{Item}
+use Rattle.spec_laws.proofs.Common.{Aarch64, AreFilesShort, AreImagesOf, Arm11, Bool, Contents, Ended, Image, Images, IsImagePlain, IsIn, IsOne, Item, ItemAt, Leaf, List, Name, None, Option, Some, Source, SourceFile, [], and_parts, ap, bytes_eq}
+use Rattle.spec_laws.proofs.Common.{codes, component_of, cond, digits_value, false, file_item, filter_map, flat_of, from_filter_map, in_get, inl, inr, is_name, item_component, item_line, ltb-true, map_some, nat_lt, option_and_then, option_map, refl}
+use Rattle.spec_laws.proofs.Common.{slice_get, subst, sym, true, type_of, types, zip, ℕ, ◌&&◌, ◌<◌, ◌==◌, ◌^◌, ◌||◌, ◌∙◌, ◌∷◌, ◌≡◌}
 use Rattle.adl_ast.specs.declared.file.Item.TheVariants as items
-use Rattle.adl_ast.specs.declared.source.Source.{Source}
-use Rattle.adl_ast.specs.declared.source.SourceFile.{SourceFile}
-use Rattle.adl_meaning.specs.declared.flat.Leaf.{Leaf}
-use Rattle.adl_meaning.specs.declared.item_at.ItemAt.{ItemAt}
-use Rattle.adl_meaning.specs.Flat.{flat_of}
 use Rattle.adl_meaning.specs.Lists.{firsts_after}
-use Rattle.cam_base.specs.Gather.{IsIn}
-use Rattle.cam_base.specs.Names.{is_name}
 use Rattle.cam_base.specs.Numbers.{fits, is_decimal, is_hexadecimal, number_value}
-use Rattle.cam_io.specs.Contents.{Contents}
-use Rattle.cap_model.specs.declared.level.Arch.TheVariants.{Arm11, Aarch64}
-use Rattle.adl_hierarchy.proofs.Lists.{in_get}
-use Rattle.cam_base.proofs.NumberedLists.{from_filter_map, map_some}
-use Rattle.flat_laws.specs.ShortFiles.{AreFilesShort}
-use Rattle.source_images.specs.declared.images.Images.{Images}
 use Rattle.sect_table.specs.Headers.{header, header_of}
 use Rattle.sect_table.specs.Tables.{image, image_in}
 use Rattle.sect_table.specs.declared.image.Header.{Header}
-use Rattle.sect_table.specs.declared.image.Image.{Image}
 use Rattle.source_images.specs.Found.{Found, absent, found_of, table, too_long}
-use Rattle.source_images.specs.ImagesRead.{AreImagesOf}
 use Rattle.source_images.specs.TableImages as tables
 use Rattle.source_images.specs.TableImages.{images_in}
-use Rattle.source_images.specs.Types.{Name, component_name, component_of, type_of, types}
+use Rattle.source_images.specs.Types.{component_name}
 use Rattle.source_images.proofs.Soundness.{images_sound}
-use Rattle.spec_laws.specs.Plain.{IsImagePlain}
 use Rattle.cam_base.specs.Fields.{spaced_fields}
 use Rattle.cam_base.specs.Lines.{Line, lines}
 use Rattle.spec_laws.proofs.ComponentNames.{component_named}
-use Rattle.adl_hierarchy.proofs.Spelled.{file_item, item_component, IsOne}
 
 -- ---- types are names
 

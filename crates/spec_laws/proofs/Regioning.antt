@@ -1,51 +1,16 @@
 -- The regions of spaces, and the lines of windows
-use Rattle.std.proofs.Common.{◌≡◌, ◌+◌, ◌*◌, ◌/◌, ◌%◌, ℕ, zero, suc, Bool, true, false, cond, List, [], ◌∷◌, ◌++◌, length, map, Option, Some, refl, sym, ◌∙◌, ap, subst, inl, inr, arith}
-use Rattle.std.specs.List.{find, flat_map, slice_get}
-use Rattle.std.specs.Option.{option_map_or}
-use Rattle.std.specs.Prelude.{◌==◌, option_map}
-use Rattle.std.proofs.lemmas.Bool.{eq-eqb, eqb-true}
-use Rattle.adl_meaning.specs.declared.flat.Domain.{Domain}
-use Rattle.adl_meaning.specs.declared.flat.FlatConnection.{FlatConnection}
-use Rattle.adl_meaning.specs.declared.settled.LeafSetting.{LeafSetting}
-use Rattle.adl_meaning.specs.declared.settled.Settled.{Settled}
-use Rattle.cap_model.specs.declared.cap.Cap.{Cap}
+use Rattle.spec_laws.proofs.Common.{Bool, Buffer, CanMap, Cap, Domain, DomainLine, EndAt, FlatConnection, FrameOf, Handler, IsAt, IsIn, IsRegionPage, LeafSetting, List, MapLine, MappedPage, OfEnd, Option, OwnLock, Page, RW, Region, Settled, SlotUse}
+use Rattle.spec_laws.proofs.Common.{Some, Space, Spaces, Tables, Tcb, ThreadLine, ThreadPlace, WindowLine, [], ap, arith, begins, cap, cond, domain_lines, domain_slots, domain_threads, domain_windows, ends, eq-eqb, eqb-true, false, find, flat_map}
+use Rattle.spec_laws.proofs.Common.{frame_at, from_gather, from_ones, gather, get_map, get_ones, in_append, in_gather, in_place, in_right, inl, inr, leaves_of, length, map, map_lines, mapped_pages, memory_pages, number_shown, object_at}
+use Rattle.spec_laws.proofs.Common.{option_map_or, page, pages_at, place, place_of, refl, region, region_page, root_of, single, slice_get, slot_line, slot_lines, space, spec_of, subst, suc, sym, system, tcb, thread_line, thread_lines, thread_place}
+use Rattle.spec_laws.proofs.Common.{thread_regions, threads_at, threads_of, true, use_cap, uses_at, window_at, window_line, window_lines, window_region, windows_at, windows_of, zero, ℕ, ◌%◌, ◌*◌, ◌++◌, ◌+◌, ◌/◌, ◌==◌, ◌∙◌, ◌∷◌, ◌≡◌}
+use Rattle.std.specs.Prelude.{option_map}
 use Rattle.cap_model.specs.declared.object.Object.TheVariants as objects
-use Rattle.cap_model.specs.declared.object.Tcb.{Tcb}
-use Rattle.cap_model.specs.Lookup.{object_at}
-use Rattle.conn_rules.specs.Row.{RW}
-use Rattle.cspace_layout.specs.declared.plan.SlotUse.{SlotUse}
-use Rattle.cspace_layout.specs.declared.plan.SlotUse.TheVariants.{OfEnd, Handler, OwnLock}
-use Rattle.cspace_layout.specs.declared.end_at.EndAt.{EndAt}
-use Rattle.cam_base.specs.Gather.{IsIn, gather}
-use Rattle.cam_base.proofs.Gathered.{from_gather, from_ones, get_ones, in_append, in_gather, in_place, in_right, place_of}
-use Rattle.cam_base.proofs.NumberedLists.{get_map}
-use Rattle.system_spec.specs.declared.map_line.MapLine.{MapLine}
-use Rattle.system_spec.specs.declared.map_line.MapLine.TheVariants.{DomainLine, ThreadLine, WindowLine}
-use Rattle.system_spec.specs.declared.part.What.TheVariants.{FrameOf, ThreadOf as OfThread}
-use Rattle.system_spec.specs.Made.{spec_of}
-use Rattle.system_spec.specs.MapLines.{domain_lines, domain_slots, domain_threads, domain_windows, map_lines, slot_line, slot_lines, thread_line, thread_lines, window_line, window_lines}
-use Rattle.system_spec.specs.Objects.{cap, frame_at, tcb, use_cap}
-use Rattle.system_spec.specs.Parts.{place}
-use Rattle.system_spec.specs.Tables.{Tables, pages_at, threads_at, uses_at, windows_at}
-use Rattle.system_spec.proofs.There.{single}
-use Rattle.vspace_layout.specs.declared.mapped.MappedPage.{MappedPage}
-use Rattle.vspace_layout.specs.declared.region.Content.TheVariants.{Buffer}
-use Rattle.vspace_layout.specs.declared.region.Region.{Region}
-use Rattle.vspace_layout.specs.declared.spaces.Page.{Page}
-use Rattle.vspace_layout.specs.declared.spaces.Space.{Space}
-use Rattle.vspace_layout.specs.declared.spaces.Spaces.{Spaces}
-use Rattle.vspace_layout.specs.declared.spaces.ThreadPlace.{ThreadPlace}
+use Rattle.system_spec.specs.declared.part.What.TheVariants.{ThreadOf as OfThread}
 use Rattle.vspace_layout.specs.declared.spaces.Window.{Window}
 use Rattle.vspace_layout.specs.declared.thread.ThreadOf.{ThreadOf}
-use Rattle.vspace_layout.specs.Frames.{number_shown}
-use Rattle.vspace_layout.specs.Given.{ends, leaves_of}
-use Rattle.vspace_layout.specs.Laid.{page, space, thread_place, window_at}
-use Rattle.vspace_layout.specs.MappedPages.{mapped_pages, region_page}
-use Rattle.vspace_layout.specs.Memory.{memory_pages}
-use Rattle.vspace_layout.specs.Regions.{domain_windows as windows_in, region, thread_regions, threads_of, window_region, windows_of}
-use Rattle.spec_laws.specs.CanMap.{CanMap}
+use Rattle.vspace_layout.specs.Regions.{domain_windows as windows_in}
 use Rattle.spec_laws.specs.Regioned.{AreRegions, HasRegions, IsWindowLine, SaysWindow}
-use Rattle.spec_laws.specs.Spaced.{IsAt, IsRegionPage, begins, root_of, system}
 use Rattle.spec_laws.proofs.Finding.{pages_are, rise}
 use Rattle.spec_laws.proofs.Paging.{has_domain, region_in, window_is}
 use Rattle.spec_laws.proofs.Rooted.{frames_from}

@@ -1,35 +1,13 @@
 -- Connections to one dataport of a device find its registers at one address.
-use Rattle.std.proofs.Common.{◌≡◌, ◌∙◌, ℕ, ◌&&◌, cond, ◌++◌, codes, Option, Some, None, unwrap_or, sym, ap}
-use Rattle.std.proofs.lemmas.Option.{same_Some}
-use Rattle.std.specs.List.{slice_get}
-use Rattle.std.specs.Option.{option_and_then, option_map_or}
-use Rattle.adl_ast.specs.declared.component.Interface.{Interface}
+use Rattle.spec_laws.proofs.Common.{AreSettingsSound, AreTyped, Connector, EndSetting, FlatConnection, FlatEnd, Hierarchy, Interface, Leaf, Mmio, None, Option, Settled, Some, Source, ap, codes, cond, default_bytes, end_setting, flat_of, hierarchy_of}
+use Rattle.spec_laws.proofs.Common.{meaning, meant, members_at, memory_paddr, memory_place, option_and_then, option_map_or, paddr_in, registers, same_Some, same_kind, setting_of, settled_of, size_in, slice_get, sym, to_place, unwrap_or, value_at}
+use Rattle.spec_laws.proofs.Common.{where_set, ℕ, ◌&&◌, ◌++◌, ◌∙◌, ◌≡◌}
 use Rattle.adl_ast.specs.declared.component.InterfaceKind.TheVariants as interfaces
 use Rattle.adl_ast.specs.declared.component.Member.TheVariants as members
-use Rattle.adl_ast.specs.declared.source.Source.{Source}
-use Rattle.adl_meaning.specs.declared.connector.Connector.{Connector}
-use Rattle.adl_meaning.specs.declared.connector.Connector.TheVariants.{Mmio}
-use Rattle.adl_meaning.specs.declared.flat.FlatConnection.{FlatConnection}
-use Rattle.adl_meaning.specs.declared.flat.FlatEnd.{FlatEnd}
-use Rattle.adl_meaning.specs.declared.flat.Leaf.{Leaf}
-use Rattle.adl_meaning.specs.declared.settled.EndSetting.{EndSetting}
-use Rattle.adl_meaning.specs.declared.settled.Settled.{Settled}
-use Rattle.adl_meaning.specs.Export.{same_kind}
-use Rattle.adl_meaning.specs.Flat.{flat_of}
-use Rattle.adl_meaning.specs.Hierarchy.{Hierarchy, hierarchy_of}
-use Rattle.adl_meaning.specs.Values.{Given, value_at}
-use Rattle.adl_settings.specs.Allowed.{paddr_in, size_in}
-use Rattle.adl_settings.specs.EndMeaning.{default_bytes, end_setting}
+use Rattle.adl_meaning.specs.Values.{Given}
 use Rattle.adl_settings.specs.Joints.{is_shared}
-use Rattle.adl_settings.specs.Meant.{meaning, meant, where_set}
-use Rattle.adl_settings.specs.Settled.{settled_of}
-use Rattle.flat_laws.specs.Typed.{AreTyped}
-use Rattle.flat_laws.proofs.SoundSettings.{AreSettingsSound}
-use Rattle.cspace_layout.specs.Lookups.{setting_of}
-use Rattle.cspace_layout.specs.Members.{members_at}
 use Rattle.spec_laws.proofs.SettledEnds.{IsEndFound, end_found}
 use Rattle.spec_laws.proofs.MemorySizes.{from_registers, interface_same}
-use Rattle.vspace_layout.specs.Memory.{memory_paddr, memory_place, registers, to_place}
 
 paddr_by : (settled : Settled) (k n : ℕ) (c : FlatConnection) (e : EndSetting) → c.connector ≡ Mmio → to_place c.ends ≡ Some n
     → setting_of settled k n ≡ Some e → memory_paddr settled k c ≡ e.paddr

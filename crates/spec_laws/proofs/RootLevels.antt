@@ -1,28 +1,8 @@
 -- The root of a space stands first among its tables, and is the only one of its level
-use Rattle.std.proofs.Common.{◌≡◌, ◌<◌, ◌≤◌, ◌+◌, ◌^◌, ℕ, zero, suc, Bool, true, false, cond, List, [], ◌∷◌, ◌++◌, map, take, length, Some, refl, sym, ◌∙◌, ap, subst, arith}
-use Rattle.std.specs.List.{count_by, slice_get}
-use Rattle.std.specs.Prelude.{◌==◌}
-use Rattle.std.proofs.lemmas.List.Sums.{sum_by-append, sum_by-cons}
-use Rattle.cap_model.specs.declared.cap.Cap.{Cap}
-use Rattle.cap_model.specs.declared.level.Arch.{Arch}
-use Rattle.cap_model.specs.declared.level.Arch.TheVariants.{Arm11, Aarch64}
-use Rattle.cap_model.specs.declared.level.Level.{Level}
-use Rattle.cap_model.specs.declared.level.Level.TheVariants.{Global, Upper, Directory, Table}
-use Rattle.cap_model.specs.declared.object.Object.{Object}
-use Rattle.cap_model.specs.declared.object.Object.TheVariants.{Pages}
-use Rattle.cap_model.specs.Levels.{is_root_level}
-use Rattle.cam_base.specs.Gather.{IsIn, before, gather}
-use Rattle.cam_base.proofs.Gathered.{length_append}
-use Rattle.page_tables.specs.declared.layer.Layer.{Layer}
-use Rattle.page_tables.specs.declared.mapping.Mapping.{Mapping}
-use Rattle.page_tables.specs.declared.shape.Shape.{Shape}
-use Rattle.page_tables.specs.Levels.{layer, numbered, sizes, table_of, tables_of, upper, uppers}
-use Rattle.page_tables.specs.Runs.{put_front, runs, under}
-use Rattle.page_tables.specs.Shapes.{shape, shapes, span}
-use Rattle.page_tables.specs.Walks.{root_span}
-use Rattle.page_tables.proofs.Rooting.{one_root, root_first, upper_below}
-use Rattle.system_spec.specs.Names.{level_series, root_series}
-use Rattle.system_spec.specs.Parts.{is_of, level_number, level_of, page_table, page_tables}
+use Rattle.spec_laws.proofs.Common.{Aarch64, Arch, Arm11, Bool, Cap, Directory, Global, IsIn, Layer, Level, List, Mapping, Object, Pages, Shape, Some, Table, Upper, [], ap, arith, before, cond, count_by, false, gather, is_of, is_root_level, layer}
+use Rattle.spec_laws.proofs.Common.{length, length_append, level_number, level_of, level_series, map, one_root, page_table, page_tables, put_front, refl, root_first, root_series, root_span, runs, shape, shapes, sizes, slice_get, span, subst, suc}
+use Rattle.spec_laws.proofs.Common.{sum_by-append, sum_by-cons, sym, table_of, tables_of, take, true, under, upper, upper_below, uppers, zero, ℕ, ◌++◌, ◌+◌, ◌<◌, ◌==◌, ◌^◌, ◌∙◌, ◌∷◌, ◌≡◌, ◌≤◌}
+use Rattle.page_tables.specs.Levels.{numbered}
 
 abbrev pub root_level : Arch → Level
 root_level Arm11 = Directory

@@ -1,24 +1,8 @@
 -- The objects from a domain's root on begin with the page tables of its space
-use Rattle.std.proofs.Common.{◌≡◌, ◌+◌, ℕ, List, [], ◌∷◌, ◌++◌, map, drop, length, Some, refl, sym, ◌∙◌, ap, inl, arith}
-use Rattle.std.specs.List.{slice_get}
-use Rattle.adl_meaning.specs.declared.flat.Domain.{Domain}
-use Rattle.cap_model.specs.declared.object.Object.{Object}
-use Rattle.cap_model.specs.declared.object.Object.TheVariants.{Endpoint}
-use Rattle.cap_model.specs.declared.spec.Entry.{Entry}
-use Rattle.cam_base.specs.Gather.{IsIn, before}
-use Rattle.cam_base.proofs.Gathered.{gathered, get_ones, in_gather}
-use Rattle.cam_base.proofs.NumberedLists.{at_place, begins_with, below, get_drop, get_map}
-use Rattle.system_spec.specs.declared.part.PageTable.{PageTable}
-use Rattle.system_spec.specs.declared.part.Part.{Part}
-use Rattle.system_spec.specs.declared.part.What.TheVariants.{FrameOf, TableOf}
-use Rattle.system_spec.specs.Made.{entry, spec_of}
-use Rattle.system_spec.specs.Parts.{all_tables, domain_tables, level_of, page_table, parts, place, sections, table_part, table_parts, tables_at}
-use Rattle.system_spec.specs.Tables.{Tables}
-use Rattle.system_spec.proofs.Objects.{in_together}
-use Rattle.system_spec.proofs.Standing.{stands}
-use Rattle.spec_laws.specs.Spaced.{objects_from, root_of}
+use Rattle.spec_laws.proofs.Common.{Domain, Endpoint, Entry, FrameOf, IsIn, List, Object, PageTable, Part, Some, TableOf, Tables, [], all_tables, ap, arith, at_place, before, begins_with, below, domain_tables, drop, entry, gathered, get_drop}
+use Rattle.spec_laws.proofs.Common.{get_map, get_ones, in_gather, in_together, inl, length, level_of, map, objects_from, page_table, parts, place, refl, root_of, sections, slice_get, spec_of, stands, sym, table_part, table_parts, tables_at}
+use Rattle.spec_laws.proofs.Common.{tables_counted, ℕ, ◌++◌, ◌+◌, ◌∙◌, ◌∷◌, ◌≡◌}
 use Rattle.spec_laws.proofs.Members.{index_is}
-use Rattle.system_spec.proofs.Domains.{tables_counted}
 
 -- frame 0
 abbrev pub frames_from : Tables → ℕ

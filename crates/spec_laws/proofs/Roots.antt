@@ -1,28 +1,7 @@
 -- Each domain has a root of its own
-use Rattle.std.proofs.Common.{◌≡◌, ◌<◌, ◌+◌, ℕ, List, [], ◌∷◌, map, Some, refl, sym, ◌∙◌, ap, subst, arith}
-use Rattle.std.specs.List.{count_by, slice_get}
-use Rattle.adl_meaning.specs.declared.flat.Domain.{Domain}
-use Rattle.arch_policy.specs.declared.owner.Owner.TheVariants.{OfDomain}
-use Rattle.cap_model.specs.declared.object.Object.{Object}
-use Rattle.cap_model.specs.declared.object.Object.TheVariants.{Endpoint, Pages}
-use Rattle.cap_model.specs.Lookup.{name_at, object_at}
-use Rattle.cam_base.specs.Gather.{IsIn, before}
-use Rattle.cam_base.proofs.NumberedLists.{below, from_map, in_map}
-use Rattle.page_tables.specs.declared.mapping.Mapping.{Mapping}
-use Rattle.page_tables.specs.Shapes.{shapes}
-use Rattle.page_tables.specs.Walks.{root_span}
-use Rattle.system_spec.specs.declared.part.Part.{Part}
-use Rattle.system_spec.specs.declared.part.What.TheVariants.{TableOf}
-use Rattle.system_spec.specs.Made.{spec_of}
-use Rattle.system_spec.specs.Names.{level_series, name_of, root_series}
-use Rattle.system_spec.specs.Objects.{object}
-use Rattle.system_spec.specs.Parts.{all_tables, domain_tables, is_of, level_of, of_level, page_mapping, page_table, parts, place, table_part}
-use Rattle.system_spec.specs.Tables.{Tables, arch, pages_at}
-use Rattle.system_spec.proofs.Objects.{objects_stand}
-use Rattle.system_spec.proofs.Standing.{stands}
-use Rattle.spec_laws.specs.CanMap.{CanMap}
-use Rattle.spec_laws.specs.Imaged.{AreRoots}
-use Rattle.spec_laws.specs.Spaced.{IsRootOf, root_of}
+use Rattle.spec_laws.proofs.Common.{AreRoots, CanMap, Domain, Endpoint, IsIn, IsRootOf, List, Mapping, Object, OfDomain, Pages, Part, Some, TableOf, Tables, [], all_tables, ap, arch, arith, before, below, count_by, domain_tables, from_map, in_map}
+use Rattle.spec_laws.proofs.Common.{is_of, level_of, level_series, map, name_at, name_of, object, object_at, objects_stand, of_level, page_mapping, page_table, pages_at, parts, place, refl, root_of, root_series, root_span, shapes, slice_get, spec_of}
+use Rattle.spec_laws.proofs.Common.{stands, subst, sym, table_part, ℕ, ◌+◌, ◌<◌, ◌∙◌, ◌∷◌, ◌≡◌}
 use Rattle.spec_laws.proofs.Finding.{maps_below, some_map}
 use Rattle.spec_laws.proofs.Members.{index_is}
 use Rattle.spec_laws.proofs.Rooted.{frames_from, table_in, tables_of_domain}

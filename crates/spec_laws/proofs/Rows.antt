@@ -1,30 +1,12 @@
 -- What ends are given over the objects of their connections, by the table and by the rights of their capabilities.
-use Rattle.std.proofs.Common.{◌≡◌, ◌⊎◌, ◌∙◌, ◌&&◌, ◌||◌, not, Bool, true, false, Option, refl, sym, inl, inr, true≢false}
-use Rattle.std.proofs.lemmas.Bool.{and_parts, or_cases}
-use Rattle.adl_ast.specs.declared.composition.Role.{Role}
-use Rattle.adl_ast.specs.declared.composition.Role.TheVariants.{From, To}
-use Rattle.adl_meaning.specs.declared.connector.Connector.{Connector}
-use Rattle.adl_meaning.specs.declared.connector.Connector.TheVariants.{Rpc, Notification, SharedMemory, Mmio, Interrupt, Direct}
-use Rattle.adl_meaning.specs.declared.settled.EndSetting.{EndSetting}
-use Rattle.cap_model.specs.Authorities.{number_of}
-use Rattle.cap_model.specs.declared.authority.Authority.{Authority}
-use Rattle.cap_model.specs.declared.authority.Authority.TheVariants.{AsyncSend, Read, Write, Handle}
-use Rattle.cap_model.specs.Confers.{kind_confers}
-use Rattle.cap_model.specs.declared.kind.Kind.{Kind}
+use Rattle.spec_laws.proofs.Common.{AsyncSend, Authority, Bool, Connector, Direct, EndSetting, From, Handle, Interrupt, Kind, Mmio, NONE, Notification, ObjectKind, OfDevice, OfEndpoint, OfFrames, OfIrq, OfNotification, Option, Read, Role, Rpc}
+use Rattle.spec_laws.proofs.Common.{SharedMemory, To, Write, and_parts, end_rights, end_rule, false, gives, has_label, inl, inr, is_object, is_window, kind_confers, not, or_cases, plain_kind, refl, same_object, sym, true, true≢false, ◌&&◌, ◌==◌}
+use Rattle.spec_laws.proofs.Common.{◌||◌, ◌∙◌, ◌≡◌, ◌⊎◌}
+use Rattle.authorities.specs.Authorities.{number_of}
 use Rattle.cap_model.specs.declared.kind.Kind.TheVariants as kinds
-use Rattle.conn_rules.specs.Ends.{end_rule}
-use Rattle.conn_rules.specs.Row.{NONE}
-use Rattle.conn_rules.specs.declared.rule.ObjectKind.{ObjectKind}
-use Rattle.conn_rules.specs.declared.rule.ObjectKind.TheVariants.{OfEndpoint, OfNotification, OfFrames, OfDevice, OfIrq}
-use Rattle.std.specs.Prelude.{◌==◌}
-use Rattle.arch_policy.specs.Gives.{gives, leaves, same_object}
-use Rattle.arch_policy.specs.Owners.{has_label}
-use Rattle.arch_policy.proofs.Same.{is_object}
+use Rattle.arch_policy.specs.Gives.{leaves}
 use Rattle.arch_policy.proofs.Given.{at_authority, at_end, implied, implies, over_all, over_object}
 use Rattle.reach_laws.proofs.Given.{fits, fitted}
-use Rattle.reach_laws.specs.Plain.{plain_kind}
-use Rattle.system_spec.specs.Objects.{end_rights}
-use Rattle.vspace_layout.specs.Regions.{is_window}
 use Rattle.spec_laws.proofs.Used.{has_slot}
 
 -- the object that the capability of an end leads to

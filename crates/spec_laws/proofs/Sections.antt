@@ -1,28 +1,11 @@
 -- In each section the series and the number of a part tell its place.
-use Rattle.std.proofs.Common.{◌≡◌, ◌<◌, ◌≤◌, ◌+◌, ◌^◌, ℕ, zero, suc, Bool, true, List, [], ◌∷◌, length, take, cond, refl, sym, ◌∙◌, ap, subst, inl, inr, Some, arith}
-use Rattle.std.specs.Prelude.{◌==◌}
-use Rattle.std.specs.List.{count_by, flat_map, slice_get}
-use Rattle.std.proofs.lemmas.Bool.{cases_order, eq-eqb}
-use Rattle.std.proofs.lemmas.List.{length-take-le}
-use Rattle.std.proofs.lemmas.List.Sums.{count_by-le-length, sum_by-cons}
-use Rattle.std.proofs.lemmas.Option.{same_Some, slice_get_within}
-use Rattle.adl_meaning.specs.declared.connector.Connector.{Connector}
-use Rattle.adl_meaning.specs.declared.connector.Connector.TheVariants.{Rpc, Notification, SharedMemory, Mmio, Interrupt, Direct}
-use Rattle.arch_policy.specs.declared.owner.Owner.TheVariants.{OfConnection}
-use Rattle.cap_model.specs.declared.level.Level.{Level}
-use Rattle.cap_model.specs.declared.level.Level.TheVariants.{Global, Upper, Directory, Table}
-use Rattle.cam_base.specs.Gather.{before}
-use Rattle.cam_base.proofs.Gathered.{from_ones, from_place, gather_ones, length_append, split_get}
+use Rattle.spec_laws.proofs.Common.{Bool, Connector, Direct, Directory, EndpointOf, FlatConnection, Global, Interrupt, Level, List, Mmio, Notification, NotificationOf, OfConnection, Owned, PageTable, Part, Rpc, Series, SharedMemory, Some, Table}
+use Rattle.spec_laws.proofs.Common.{Tables, Upper, [], all_tables, ap, arith, before, cases_order, cnodes, cond, count_by, count_by-le-length, endpoint, endpoint_by, endpoints, eq-eqb, flat_map, frame_parts, from_ones, from_place, gather_ones, inl}
+use Rattle.spec_laws.proofs.Common.{inr, irqs, is_of, length, length-take-le, length_append, level_number, level_series, locks, notification, notification_by, notifications, numbered, of_level, part, parts, rank, refl, same_Some, sections, slice_get}
+use Rattle.spec_laws.proofs.Common.{slice_get_within, split_get, subst, suc, sum_by-cons, sym, table_part, table_parts, take, tcbs, true, zero, ℕ, ◌+◌, ◌<◌, ◌==◌, ◌∙◌, ◌∷◌, ◌≡◌, ◌≤◌}
 use Rattle.cam_base.proofs.NumberedLists.{single}
-use Rattle.system_spec.specs.declared.part.Owned.{Owned}
-use Rattle.system_spec.specs.declared.part.PageTable.{PageTable}
-use Rattle.system_spec.specs.declared.part.Part.{Part}
-use Rattle.system_spec.specs.declared.part.What.TheVariants.{EndpointOf, NotificationOf}
-use Rattle.system_spec.specs.declared.series.Series.{Series}
 use Rattle.system_spec.specs.declared.series.Series.TheVariants as series
-use Rattle.system_spec.specs.Names.{level_series}
-use Rattle.system_spec.specs.Parts.{all_tables, cnodes, endpoint, endpoint_by, endpoints, frame_parts, irqs, is_of, level_number, locks, notification, notification_by, notifications, numbered, of_level, part, parts, sections, table_part, table_parts, tcbs}
-use Rattle.system_spec.specs.Tables.{Tables}
+use Rattle.spec_laws.proofs.Blocks.{behind}
 
 -- ---- each section
 
@@ -30,103 +13,117 @@ use Rattle.system_spec.specs.Tables.{Tables}
 pub record Told (s : List Part) (rank : Series → ℕ) (n : ℕ) (bound : ℕ) : Type 0 where
   pub series : (j : ℕ) (p : Part) → slice_get s j ≡ Some p → rank p.series ≡ n
   pub number : (j : ℕ) (p : Part) → slice_get s j ≡ Some p → p.number < bound
-  pub place : (i j : ℕ) (p q : Part) → slice_get s i ≡ Some p → slice_get s j ≡ Some q → p.series ≡ q.series
-      → p.number ≡ q.number → i ≡ j
+  pub rising : (i j : ℕ) (p q : Part) → slice_get s i ≡ Some p → slice_get s j ≡ Some q → i < j → p.series ≡ q.series
+      → p.number < q.number
 
-abbrev pub rank : Series → ℕ
-rank series.CNode = 0
-rank series.Tcb = 1
-rank series.Ep = 2
-rank series.Ntfn = 3
-rank series.Lock = 4
-rank series.Irq = 5
-rank series.Pgd = 6
-rank series.Pud = 6
-rank series.Pd = 6
-rank series.Pt = 6
-rank series.Frame = 7
+-- so one series and number stand at one place
+pub told_place : (s : List Part) (rank : Series → ℕ) (n bound : ℕ) → Told s rank n bound → (i j : ℕ) (p q : Part)
+    → slice_get s i ≡ Some p → slice_get s j ≡ Some q → p.series ≡ q.series → p.number ≡ q.number → i ≡ j
+told_place s rank n bound told i j p q e f same number = elim (cases_order i j) [
+  | inl is ↦ is
+  | inr (inl less) ↦ let l = told.rising i j p q e f less same in absurd (omega (arith, l, number))
+  | inr (inr more) ↦ let l = told.rising j i q p f e more (sym same) in absurd (omega (arith, l, number))
+]
 
 told_numbered : (s : Series) (xs : List Owned) (bound : ℕ) → length xs ≤ bound → Told (numbered s xs) rank (rank s) bound
 told_numbered s xs bound few = record {
   series = λ j p e. ap (λ (z : Part). rank z.series) (sym (at j p e).2);
-  number = λ j p e. let o = at j p e in let l = slice_get_within xs j o.0 o.1 in let same : p.number ≡ j =
-      ap (λ (z : Part). z.number) (sym o.2) in omega (arith, l, same, few);
-  place = λ i j p q e f same number. ap (λ (z : Part). z.number) (at i p e).2 ∙ number
-      ∙ sym (ap (λ (z : Part). z.number) (at j q f).2);
+  number = λ j p e. let o = at j p e in let l = slice_get_within xs j o.0 o.1 in let same = number_is j p e in
+      omega (arith, l, same, few);
+  rising = λ i j p q e f less same. let m = number_is i p e in let n = number_is j q f in omega (arith, m, n, less);
 }
   where
     at : (j : ℕ) (p : Part) → slice_get (numbered s xs) j ≡ Some p → (x : Owned) × (slice_get xs j ≡ Some x)
         × (part s j x.owner x.what ≡ p)
     at j p e = from_ones (λ n (x : Owned). part s n x.owner x.what) xs j p e
 
--- where the parts of connections stand, each of which has its connection's number
-pub record OfConnections (s : List Part) (name : Series) (count : ℕ) (sum : ℕ → ℕ) (j : ℕ) (p : Part) : Type 0 where
-  pub series : name ≡ p.series
-  pub number : p.number < count
-  pub place : j ≡ sum p.number
+    number_is : (j : ℕ) (p : Part) → slice_get (numbered s xs) j ≡ Some p → p.number ≡ j
+    number_is j p e = ap (λ (z : Part). z.number) (sym (at j p e).2)
 
-endpoint_at : (t : Tables) (j : ℕ) (p : Part) → slice_get (endpoints t) j ≡ Some p
-    → OfConnections (endpoints t) series.Ep (length t.flat.connections) (before endpoint t.flat.connections) j p
+-- where the parts of connections stand, each of which has its connection's number and is its only one of the kind
+pub record OfConnections (t : Tables) (f : ℕ → FlatConnection → List Part) (name : Series) (j : ℕ) (p : Part) : Type 0 where
+  pub series : name ≡ p.series
+  pub connection : FlatConnection
+  pub here : slice_get t.flat.connections p.number ≡ Some connection
+  pub one : length (f p.number connection) ≡ 1
+  pub place : j ≡ before f t.flat.connections p.number
+
+-- the one part of connection k
+one_part : (t : Tables) (f : ℕ → FlatConnection → List Part) (name : Series) (k i j : ℕ) (c : FlatConnection) (x p : Part)
+    → slice_get t.flat.connections k ≡ Some c → f k c ≡ x ∷ [] → slice_get (x ∷ []) i ≡ Some p
+    → j ≡ before f t.flat.connections k + i → x.series ≡ name → x.number ≡ k → OfConnections t f name j p
+one_part t f name k i j c x p here is h at series number =
+    let s = single x p i h in
+    let first = s.0 in
+    let n : k ≡ p.number = sym number ∙ ap (λ (q : Part). q.number) s.1 in
+    let stands : j ≡ before f t.flat.connections k = omega (arith, at, first) in
+    let P : ℕ → Type 0 = λ m. length (f m c) ≡ 1 in
+    record {
+      series = sym series ∙ ap (λ (q : Part). q.series) s.1;
+      connection = c;
+      here = subst (λ m. slice_get t.flat.connections m ≡ Some c) n here;
+      one = subst P n (ap length is);
+      place = stands ∙ ap (before f t.flat.connections) n;
+    }
+
+endpoint_at : (t : Tables) (j : ℕ) (p : Part) → slice_get (endpoints t) j ≡ Some p → OfConnections t endpoint series.Ep j p
 endpoint_at t j p e =
     let g = from_place endpoint t.flat.connections j p e in
-    by_kind g.item.connector g.place g.number g.stands g.sum (slice_get_within t.flat.connections g.place g.item g.here)
+    by_kind g.item.connector g.place g.number g.item g.here refl g.stands g.sum
   where
-    by_kind : (c : Connector) (k i : ℕ) → slice_get (endpoint_by k c) i ≡ Some p → j ≡ before endpoint t.flat.connections k + i
-        → k < length t.flat.connections
-        → OfConnections (endpoints t) series.Ep (length t.flat.connections) (before endpoint t.flat.connections) j p
-    by_kind Rpc k i h a l =
-        let s = single (part series.Ep k (OfConnection k) (EndpointOf k)) p i h in
-        let z = s.0 in
-        let n : k ≡ p.number = ap (λ (q : Part). q.number) s.1 in
-        let at : j ≡ before endpoint t.flat.connections k = omega (arith, a, z) in
-        record {
-          series = ap (λ (q : Part). q.series) s.1;
-          number = omega (arith, l, n);
-          place = at ∙ ap (before endpoint t.flat.connections) n;
-        }
-    by_kind Notification k i h a l = cc
-    by_kind SharedMemory k i h a l = cc
-    by_kind Mmio k i h a l = cc
-    by_kind Interrupt k i h a l = cc
-    by_kind Direct k i h a l = cc
+    by_kind : (m : Connector) (k i : ℕ) (c : FlatConnection) → slice_get t.flat.connections k ≡ Some c
+        → endpoint k c ≡ endpoint_by k m → slice_get (endpoint_by k m) i ≡ Some p
+        → j ≡ before endpoint t.flat.connections k + i → OfConnections t endpoint series.Ep j p
+    by_kind Rpc k i c here is h a =
+        one_part t endpoint series.Ep k i j c (part series.Ep k (OfConnection k) (EndpointOf k)) p here is h a refl refl
+    by_kind Notification k i c here is h a = cc
+    by_kind SharedMemory k i c here is h a = cc
+    by_kind Mmio k i c here is h a = cc
+    by_kind Interrupt k i c here is h a = cc
+    by_kind Direct k i c here is h a = cc
 
 notification_at : (t : Tables) (j : ℕ) (p : Part) → slice_get (notifications t) j ≡ Some p
-    → OfConnections (notifications t) series.Ntfn (length t.flat.connections) (before notification t.flat.connections) j p
+    → OfConnections t notification series.Ntfn j p
 notification_at t j p e =
     let g = from_place notification t.flat.connections j p e in
-    by_kind g.item.connector g.place g.number g.stands g.sum (slice_get_within t.flat.connections g.place g.item g.here)
+    by_kind g.item.connector g.place g.number g.item g.here refl g.stands g.sum
   where
-    here : (k i : ℕ) → slice_get (part series.Ntfn k (OfConnection k) (NotificationOf k) ∷ []) i ≡ Some p
-        → j ≡ before notification t.flat.connections k + i → k < length t.flat.connections
-        → OfConnections (notifications t) series.Ntfn (length t.flat.connections) (before notification t.flat.connections) j p
-    here k i h a l =
-        let s = single (part series.Ntfn k (OfConnection k) (NotificationOf k)) p i h in
-        let z = s.0 in
-        let n : k ≡ p.number = ap (λ (q : Part). q.number) s.1 in
-        let at : j ≡ before notification t.flat.connections k = omega (arith, a, z) in
-        record {
-          series = ap (λ (q : Part). q.series) s.1;
-          number = omega (arith, l, n);
-          place = at ∙ ap (before notification t.flat.connections) n;
-        }
+    by_kind : (m : Connector) (k i : ℕ) (c : FlatConnection) → slice_get t.flat.connections k ≡ Some c
+        → notification k c ≡ notification_by k m → slice_get (notification_by k m) i ≡ Some p
+        → j ≡ before notification t.flat.connections k + i → OfConnections t notification series.Ntfn j p
+    by_kind Notification k i c here is h a =
+        one_part t notification series.Ntfn k i j c (part series.Ntfn k (OfConnection k) (NotificationOf k)) p here is h a
+        refl refl
+    by_kind Interrupt k i c here is h a =
+        one_part t notification series.Ntfn k i j c (part series.Ntfn k (OfConnection k) (NotificationOf k)) p here is h a
+        refl refl
+    by_kind Rpc k i c here is h a = cc
+    by_kind SharedMemory k i c here is h a = cc
+    by_kind Mmio k i c here is h a = cc
+    by_kind Direct k i c here is h a = cc
 
-    by_kind : (c : Connector) (k i : ℕ) → slice_get (notification_by k c) i ≡ Some p
-        → j ≡ before notification t.flat.connections k + i → k < length t.flat.connections
-        → OfConnections (notifications t) series.Ntfn (length t.flat.connections) (before notification t.flat.connections) j p
-    by_kind Notification k i h a l = here k i h a l
-    by_kind Interrupt k i h a l = here k i h a l
-    by_kind Rpc k i h a l = cc
-    by_kind SharedMemory k i h a l = cc
-    by_kind Mmio k i h a l = cc
-    by_kind Direct k i h a l = cc
-
-told_connections : (s : List Part) (name : Series) (count : ℕ) (sum : ℕ → ℕ) (bound : ℕ) → count ≤ bound
-    → ((j : ℕ) (p : Part) → slice_get s j ≡ Some p → OfConnections s name count sum j p) → Told s rank (rank name) bound
-told_connections s name count sum bound few at = record {
+told_connections : (t : Tables) (s : List Part) (f : ℕ → FlatConnection → List Part) (name : Series) (bound : ℕ)
+    → length t.flat.connections ≤ bound → ((j : ℕ) (p : Part) → slice_get s j ≡ Some p → OfConnections t f name j p)
+    → Told s rank (rank name) bound
+told_connections t s f name bound few at = record {
   series = λ j p e. ap rank (sym (at j p e).series);
-  number = λ j p e. let l = (at j p e).number in omega (arith, l, few);
-  place = λ i j p q e f same number. (at i p e).place ∙ ap sum number ∙ sym (at j q f).place;
+  number = λ j p e. let o = at j p e in let l = slice_get_within t.flat.connections p.number o.connection o.here in
+      omega (arith, l, few);
+  rising = λ i j p q e g less same. rise p q i j (at i p e) (at j q g) less;
 }
+  where
+    rise : (p q : Part) (i j : ℕ) → OfConnections t f name i p → OfConnections t f name j q → i < j → p.number < q.number
+    rise p q i j a b less = elim (cases_order p.number q.number) [
+      | inl is ↦
+          let same : i ≡ j = a.place ∙ ap (before f t.flat.connections) is ∙ sym b.place in absurd (omega (arith, same, less))
+      | inr (inl l) ↦ l
+      | inr (inr more) ↦
+          let over = behind f t.flat.connections q.number p.number b.connection b.here more in
+          let one = b.one in
+          let first = a.place in
+          let second = b.place in
+          absurd (omega (arith, over, one, first, second, less))
+    ]
 
 -- ---- page tables
 
@@ -172,11 +169,11 @@ told_tables : (all : List PageTable) (bound : ℕ) → length all ≤ bound → 
 told_tables all bound few = record {
   series = λ j p e. let o = at j p e in ap (λ (z : Part). rank z.series) (sym o.2) ∙ table_rank o.0.level;
   number = λ j p e. let o = at j p e in number o.0 j p o.1 (ap (λ (z : Part). z.number) o.2);
-  place = λ i j p q e f s n. let o = at i p e in let w = at j q f in
-      place o.0 w.0 i j o.1 w.1
+  rising = λ i j p q e f less s. let o = at i p e in let w = at j q f in
+      rise p q o.0 w.0 i j o.1 w.1
       (sym (unfold_back o.0.level) ∙ ap level_back (ap (λ (z : Part). z.series) o.2 ∙ s ∙ sym (ap (λ (z : Part). z.series) w.2))
       ∙ unfold_back w.0.level)
-      (ap (λ (z : Part). z.number) o.2 ∙ n ∙ sym (ap (λ (z : Part). z.number) w.2));
+      (ap (λ (z : Part). z.number) o.2) (ap (λ (z : Part). z.number) w.2) less;
 }
   where
     at : (j : ℕ) (p : Part) → slice_get (table_parts all) j ≡ Some p → (x : PageTable) × (slice_get all j ≡ Some x)
@@ -190,20 +187,16 @@ told_tables all bound few = record {
         let k = length-take-le j all (omega (arith, l)) in
         omega (arith, l, c, k, n, few)
 
-    place : (x y : PageTable) (i j : ℕ) → slice_get all i ≡ Some x → slice_get all j ≡ Some y
-        → level_number x.level ≡ level_number y.level → of_level x.level all i ≡ of_level y.level all j → i ≡ j
-    place x y i j e f level n =
+    rise : (p q : Part) (x y : PageTable) (i j : ℕ) → slice_get all i ≡ Some x → slice_get all j ≡ Some y
+        → level_number x.level ≡ level_number y.level → of_level x.level all i ≡ p.number → of_level y.level all j ≡ q.number
+        → i < j → p.number < q.number
+    rise p q x y i j e f level m n less =
         let test : ℕ → PageTable → Bool = λ k z. level_number z.level == k in
         let k = level_number x.level in
         let here : test k x ≡ true = eq-eqb (level_number x.level) k refl in
-        let there : test k y ≡ true = eq-eqb (level_number y.level) k (sym level) in
-        let same : count_by (test k) (take i all) ≡ count_by (test k) (take j all) = n ∙ ap (λ m. count_by (test m) (take j all))
-        (sym level) in
-        elim (cases_order i j) [
-          | inl s ↦ s
-          | inr (inl less) ↦ let c = count_rises (test k) all i j x e here less in absurd (omega (arith, c, same))
-          | inr (inr more) ↦ let c = count_rises (test k) all j i y f there more in absurd (omega (arith, c, same))
-        ]
+        let more : count_by (test k) (take i all) < count_by (test k) (take j all) = count_rises (test k) all i j x e here less in
+        let same : count_by (test k) (take j all) ≡ q.number = ap (λ z. count_by (test z) (take j all)) level ∙ n in
+        omega (arith, more, same, m)
 
 -- ---- all sections
 
@@ -221,46 +214,43 @@ section_within (r ∷ ss) (suc n) s e =
     let long = length_append r (flat_map (λ z. z) ss) in
     omega (arith, ih, long)
 
-few_owned : (t : Tables) (n : ℕ) (s : Series) (xs : List Owned) → length (parts t) < 2 ^ 32
-    → slice_get (sections t) n ≡ Some (numbered s xs) → length xs ≤ 2 ^ 32
-few_owned t n s xs few e =
-    let l = section_within (sections t) n (numbered s xs) e in
-    let m : length (numbered s xs) ≡ length xs = gather_ones (λ k (x : Owned). part s k x.owner x.what) xs in
-    omega (arith, few, l, m)
+module _ (t : Tables) (bound : ℕ) (few : length t.flat.connections ≤ bound) (all : length (parts t) ≤ bound) where
+  few_owned : (n : ℕ) (s : Series) (xs : List Owned) → slice_get (sections t) n ≡ Some (numbered s xs) → length xs ≤ bound
+  few_owned n s xs e =
+      let l = section_within (sections t) n (numbered s xs) e in
+      let m : length (numbered s xs) ≡ length xs = gather_ones (λ k (x : Owned). part s k x.owner x.what) xs in
+      omega (arith, all, l, m)
 
-few_tables : (t : Tables) → length (parts t) < 2 ^ 32 → length (all_tables t) ≤ 2 ^ 32
-few_tables t few =
-    let l = section_within (sections t) 6 (table_parts (all_tables t)) refl in
-    let m : length (table_parts (all_tables t)) ≡ length (all_tables t) =
-    gather_ones (λ k (x : PageTable). table_part (all_tables t) k x) (all_tables t) in
-    omega (arith, few, l, m)
+  few_tables : length (all_tables t) ≤ bound
+  few_tables =
+      let l = section_within (sections t) 6 (table_parts (all_tables t)) refl in
+      let m : length (table_parts (all_tables t)) ≡ length (all_tables t) =
+      gather_ones (λ k (x : PageTable). table_part (all_tables t) k x) (all_tables t) in
+      omega (arith, all, l, m)
 
-abbrev Tells : ℕ → List Part → Type 0
-Tells n s = Told s rank n (2 ^ 32)
+  abbrev Tells : ℕ → List Part → Type 0
+  Tells n s = Told s rank n bound
 
-pub told : (t : Tables) → length t.flat.connections < 2 ^ 32 → length (parts t) < 2 ^ 32 → (n : ℕ) (s : List Part)
-    → slice_get (sections t) n ≡ Some s → Tells n s
-told t few all zero s e = subst (Tells 0) (same_Some _ _ e) (told_numbered series.CNode (cnodes t.flat.domains) (2 ^ 32)
-    (few_owned t 0 series.CNode (cnodes t.flat.domains) all refl))
-told t few all (suc zero) s e =
-    subst (Tells 1) (same_Some _ _ e) (told_numbered series.Tcb (tcbs t) (2 ^ 32) (few_owned t 1 series.Tcb (tcbs t) all refl))
-told t few all (suc (suc zero)) s e =
-    subst (Tells 2) (same_Some _ _ e) (told_connections (endpoints t) series.Ep (length t.flat.connections)
-    (before endpoint t.flat.connections) (2 ^ 32) (omega (arith, few)) (endpoint_at t))
-told t few all (suc (suc (suc zero))) s e =
-    subst (Tells 3) (same_Some _ _ e) (told_connections (notifications t) series.Ntfn (length t.flat.connections)
-    (before notification t.flat.connections) (2 ^ 32) (omega (arith, few)) (notification_at t))
-told t few all (suc (suc (suc (suc zero)))) s e =
-    subst (Tells 4) (same_Some _ _ e) (told_numbered series.Lock (locks t) (2 ^ 32)
-    (few_owned t 4 series.Lock (locks t) all refl))
-told t few all (suc (suc (suc (suc (suc zero))))) s e =
-    subst (Tells 5) (same_Some _ _ e) (told_numbered series.Irq (irqs t) (2 ^ 32) (few_owned t 5 series.Irq (irqs t) all refl))
-told t few all (suc (suc (suc (suc (suc (suc zero)))))) s e =
-    subst (Tells 6) (same_Some _ _ e) (told_tables (all_tables t) (2 ^ 32) (few_tables t all))
-told t few all (suc (suc (suc (suc (suc (suc (suc zero))))))) s e =
-    subst (Tells 7) (same_Some _ _ e) (told_numbered series.Frame (frame_parts t.spaces.frames) (2 ^ 32)
-    (few_owned t 7 series.Frame (frame_parts t.spaces.frames) all refl))
-told t few all (suc (suc (suc (suc (suc (suc (suc (suc n)))))))) s e = cc
+  owned_told : (n : ℕ) (name : Series) (xs : List Owned) → slice_get (sections t) n ≡ Some (numbered name xs) → rank name ≡ n
+      → (s : List Part) → numbered name xs ≡ s → Tells n s
+  owned_told n name xs here is s same =
+      subst (Tells n) same (subst (λ k. Tells k (numbered name xs)) is (told_numbered name xs bound (few_owned n name xs here)))
+
+  pub told : (n : ℕ) (s : List Part) → slice_get (sections t) n ≡ Some s → Tells n s
+  told zero s e = owned_told 0 series.CNode (cnodes t.flat.domains) refl refl s (same_Some _ _ e)
+  told (suc zero) s e = owned_told 1 series.Tcb (tcbs t) refl refl s (same_Some _ _ e)
+  told (suc (suc zero)) s e =
+      subst (Tells 2) (same_Some _ _ e) (told_connections t (endpoints t) endpoint series.Ep bound few (endpoint_at t))
+  told (suc (suc (suc zero))) s e =
+      subst (Tells 3) (same_Some _ _ e) (told_connections t (notifications t) notification series.Ntfn bound few
+      (notification_at t))
+  told (suc (suc (suc (suc zero)))) s e = owned_told 4 series.Lock (locks t) refl refl s (same_Some _ _ e)
+  told (suc (suc (suc (suc (suc zero))))) s e = owned_told 5 series.Irq (irqs t) refl refl s (same_Some _ _ e)
+  told (suc (suc (suc (suc (suc (suc zero)))))) s e =
+      subst (Tells 6) (same_Some _ _ e) (told_tables (all_tables t) bound few_tables)
+  told (suc (suc (suc (suc (suc (suc (suc zero))))))) s e =
+      owned_told 7 series.Frame (frame_parts t.spaces.frames) refl refl s (same_Some _ _ e)
+  told (suc (suc (suc (suc (suc (suc (suc (suc n)))))))) s e = cc
 
 -- what stands at place m of all stands in a section, behind those before it
 pub record InSection {X : Type 0} (ss : List (List X)) (m : ℕ) (y : X) : Type 0 where

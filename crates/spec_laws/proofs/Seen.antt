@@ -1,34 +1,11 @@
 -- Frames are no more than pages: own frames are pages of their own, and memory is seen through a window.
-use Rattle.std.proofs.Common.{◌≡◌, ◌≤◌, ◌+◌, ◌*◌, ℕ, suc, Bool, true, false, cond, List, [], ◌∷◌, length, map, refl, sym, ◌∙◌, ap, Option, Some, None, inl, inr, arith}
-use Rattle.std.specs.Prelude.{◌==◌, sum}
-use Rattle.std.specs.List.{flat_map, range_with_len, slice_get}
-use Rattle.std.specs.Option.{option_map_or}
-use Rattle.std.proofs.lemmas.Bool.{eq-eqb, eqb-true, false_from_ne_true}
+use Rattle.spec_laws.proofs.Common.{Bool, Buffer, Connector, Content, Direct, Domain, EndAt, FlatConnection, FlatEnd, Given, HasMemory, Interrupt, IsIn, IsSeen, List, MappedPage, Memory, Mmio, None, Notification, Option, Own, Region, Rpc, Settled}
+use Rattle.spec_laws.proofs.Common.{SharedMemory, Shown, Some, Stack, Window, [], ap, arith, base, cond, connection_frames, device_frame, eq-eqb, eqb-true, false, false_from_ne_true, first_to_end, flat_map, frame, frames, frames_at, from_map, gather}
+use Rattle.spec_laws.proofs.Common.{in_gather, inl, inr, is_first, is_shared, leaves_of, length, length_append, map, mapped_pages, memory_paddr, memory_pages, memory_part, option_map_or, own_frame, own_frames, own_part, page_counts, page_of}
+use Rattle.spec_laws.proofs.Common.{pages_from, pages_of_region, range_with_len, refl, region_page, region_part, region_start, regions, register_frames, register_part, registers_in, section_part, shared_frames, shared_part, slice_get, suc, sum, sym}
+use Rattle.spec_laws.proofs.Common.{thread_regions, threads_of, true, window_pages, window_region, windows_of, ℕ, ◌*◌, ◌+◌, ◌==◌, ◌∙◌, ◌∷◌, ◌≡◌, ◌≤◌}
 use Rattle.std.proofs.lemmas.List.FromFn.{length-map-range_with_len}
-use Rattle.adl_meaning.specs.declared.connector.Connector.{Connector}
-use Rattle.adl_meaning.specs.declared.connector.Connector.TheVariants.{Rpc, Notification, SharedMemory, Mmio, Interrupt, Direct}
-use Rattle.adl_meaning.specs.declared.flat.Domain.{Domain}
-use Rattle.adl_meaning.specs.declared.flat.FlatConnection.{FlatConnection}
-use Rattle.adl_meaning.specs.declared.flat.FlatEnd.{FlatEnd}
-use Rattle.adl_meaning.specs.declared.settled.Settled.{Settled}
-use Rattle.cspace_layout.specs.declared.end_at.EndAt.{EndAt}
-use Rattle.cam_base.specs.Gather.{IsIn, gather}
-use Rattle.cam_base.proofs.Gathered.{in_gather, length_append}
-use Rattle.cam_base.proofs.NumberedLists.{from_map}
-use Rattle.vspace_layout.specs.declared.mapped.MappedPage.{MappedPage}
-use Rattle.vspace_layout.specs.declared.mapped.Shown.{Shown}
-use Rattle.vspace_layout.specs.declared.mapped.Shown.TheVariants.{Own, Memory}
 use Rattle.vspace_layout.specs.declared.owner.Owner.TheVariants.{OfConnection}
-use Rattle.vspace_layout.specs.declared.region.Content.{Content}
-use Rattle.vspace_layout.specs.declared.region.Content.TheVariants.{Stack, Buffer, Window}
-use Rattle.vspace_layout.specs.declared.region.Region.{Region}
-use Rattle.vspace_layout.specs.Frames.{connection_frames, device_frame, frame, frames, frames_at, is_first, memory_part, own_frame, own_frames, own_part, register_frames, register_part, shared_frames, shared_part}
-use Rattle.vspace_layout.specs.Given.{Given, base, leaves_of}
-use Rattle.vspace_layout.specs.MappedPages.{mapped_pages, page_of, pages_from, pages_of_region, region_page, region_part, section_part}
-use Rattle.vspace_layout.specs.Memory.{first_to_end, is_shared, memory_paddr, memory_pages, registers_in}
-use Rattle.vspace_layout.specs.PageLimits.{page_counts}
-use Rattle.vspace_layout.specs.Regions.{region_start, regions, thread_regions, threads_of, window_pages, window_region, windows_of}
-use Rattle.spec_laws.specs.Limited.{HasMemory, IsSeen}
 use Rattle.spec_laws.proofs.Totals.{length_gather, length_is, sum_ones, total, total_append, total_gather, total_map, total_most, total_one, totals, totals_add, totals_each, totals_flat, totals_most, totals_same, totals_swap}
 
 -- ---- pages

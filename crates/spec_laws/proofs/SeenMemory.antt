@@ -1,43 +1,9 @@
 -- The memory of each connection is seen in the domain of its first `from` end.
-use Rattle.std.proofs.Common.{◌≡◌, ℕ, true, false, cond, [], ◌∷◌, Some, None, option_map, refl, sym, ◌∙◌, ap, subst, inl, inr}
-use Rattle.std.specs.Prelude.{◌==◌}
-use Rattle.std.specs.List.{slice_get}
-use Rattle.std.specs.Option.{option_and_then, option_map_or}
-use Rattle.std.proofs.lemmas.Bool.{and_from, eq-eqb}
-use Rattle.adl_ast.specs.declared.component.Member.{Member}
+use Rattle.spec_laws.proofs.Common.{AreDotted, AreNamesSound, Connector, Domain, EndAt, FlatConnection, FlatEnd, From, HasMemory, Images, IsIn, IsSeen, Leaf, Member, None, Some, Source, [], and_from, ap, cond, domain_number, domain_of, end_here}
+use Rattle.spec_laws.proofs.Common.{end_in, end_rule, end_window, ends, ends_at, ends_in, ends_of, ends_typed, eq-eqb, false, first_type_fault, flat_of, from_get_map, gather, get_ones, given, hardware_fits, hierarchy_of, in_flat_map, in_gather, inl}
+use Rattle.spec_laws.proofs.Common.{inr, is_hardware, is_window, joins, leaf_ends, leaf_listed, leaf_of, leaf_windows, leaves, leaves_of, member_ends, members_at, option_and_then, option_map, option_map_or, refl, sees_memory, settled_of, slice_get}
+use Rattle.spec_laws.proofs.Common.{some_end, subst, sym, true, ℕ, ◌==◌, ◌∙◌, ◌∷◌, ◌≡◌}
 use Rattle.adl_ast.specs.declared.component.Member.TheVariants as members
-use Rattle.adl_ast.specs.declared.composition.Role.TheVariants.{From}
-use Rattle.adl_ast.specs.declared.source.Source.{Source}
-use Rattle.adl_hierarchy.specs.Leads.{AreDotted}
-use Rattle.adl_meaning.specs.declared.connector.Connector.{Connector}
-use Rattle.adl_meaning.specs.declared.flat.Domain.{Domain}
-use Rattle.adl_meaning.specs.declared.flat.FlatConnection.{FlatConnection}
-use Rattle.adl_meaning.specs.declared.flat.FlatEnd.{FlatEnd}
-use Rattle.adl_meaning.specs.declared.flat.Leaf.{Leaf}
-use Rattle.adl_meaning.specs.Domains.{domain_of, is_hardware}
-use Rattle.adl_meaning.specs.Flat.{domain_number, flat_of, leaf_of}
-use Rattle.adl_meaning.specs.Hierarchy.{hierarchy_of}
-use Rattle.adl_meaning.specs.NameFaults.{AreNamesSound}
-use Rattle.adl_meaning.specs.Paths.{leaves}
-use Rattle.adl_settings.specs.Settled.{settled_of}
-use Rattle.adl_types.specs.TypeFaults.{first_type_fault}
-use Rattle.conn_rules.specs.Ends.{end_rule}
-use Rattle.flat_laws.proofs.AreTyped.{ends_typed}
-use Rattle.flat_laws.proofs.FlatLeaves.{leaf_listed}
-use Rattle.flat_laws.proofs.SomeEnds.{some_end}
-use Rattle.flat_laws.proofs.TypedEnds.{hardware_fits}
-use Rattle.cspace_layout.specs.declared.end_at.EndAt.{EndAt}
-use Rattle.cspace_layout.specs.LeafEnds.{end_here, ends_of, joins, leaf_ends, member_ends}
-use Rattle.cspace_layout.specs.Lookups.{end_in}
-use Rattle.cspace_layout.specs.Members.{members_at}
-use Rattle.cam_base.specs.Gather.{IsIn, gather}
-use Rattle.cam_base.proofs.Gathered.{get_ones, in_gather}
-use Rattle.cam_base.proofs.NumberedLists.{in_flat_map, from_get_map}
-use Rattle.source_images.specs.declared.images.Images.{Images}
-use Rattle.spec_laws.specs.Limited.{HasMemory, IsSeen}
-use Rattle.vspace_layout.specs.Given.{ends, given, leaves_of}
-use Rattle.vspace_layout.specs.Regions.{end_window, is_window, leaf_windows, sees_memory}
-use Rattle.vspace_layout.specs.Threads.{ends_at, ends_in}
 
 -- ---- `from` ends are of software
 

@@ -1,32 +1,9 @@
 -- The settings of an end by its numbers, with what they are found at: where no fault of types or settings stands, its values
 -- are allowed, none is missing, and interface and leaf are as the connector table has them.
-use Rattle.std.proofs.Common.{◌≡◌, ◌∙◌, ℕ, true, [], Option, Some, None, refl, ap}
-use Rattle.std.specs.List.{slice_get}
-use Rattle.std.specs.Option.{option_and_then}
+use Rattle.spec_laws.proofs.Common.{AreSettingsSound, AreTyped, EndSetting, EndSettings, FlatConnection, FlatEnd, Found, IsIn, Joint, None, Option, Some, Source, [], ap, bad_at_end, bad_in_connection, end_rule, end_setting, end_settings, flat_of}
+use Rattle.spec_laws.proofs.Common.{found_at, found_on, founds_in, from_get_map, get_map, hierarchy_of, in_get, is_kind_of, members_at, missing_at, missing_in, none_in, option_and_then, refl, setting_of, settled_of, slice_get, true, ℕ, ◌∙◌, ◌≡◌}
 use Rattle.adl_ast.specs.declared.component.Member.TheVariants as members
-use Rattle.adl_ast.specs.declared.source.Source.{Source}
-use Rattle.adl_meaning.specs.declared.flat.FlatConnection.{FlatConnection}
-use Rattle.adl_meaning.specs.declared.flat.FlatEnd.{FlatEnd}
-use Rattle.adl_meaning.specs.declared.settled.EndSetting.{EndSetting}
-use Rattle.adl_meaning.specs.declared.settled.EndSettings.{EndSettings}
-use Rattle.adl_meaning.specs.Flat.{flat_of}
-use Rattle.adl_meaning.specs.Hierarchy.{hierarchy_of}
-use Rattle.cam_base.specs.Gather.{IsIn}
-use Rattle.adl_settings.specs.BadValue.{bad_at_end, bad_in_connection}
-use Rattle.adl_settings.specs.EndMeaning.{end_setting}
-use Rattle.adl_settings.specs.Joints.{Joint, found_at, found_on, founds_in}
-use Rattle.adl_settings.specs.declared.found.Found.{Found}
-use Rattle.adl_settings.specs.Missing.{missing_at, missing_in}
-use Rattle.adl_settings.specs.Settled.{end_settings, settled_of}
-use Rattle.adl_types.specs.TypeFaults.{is_kind_of}
-use Rattle.adl_hierarchy.proofs.Lists.{in_get}
-use Rattle.cam_base.proofs.NumberedLists.{get_map, none_in, from_get_map}
-use Rattle.conn_rules.specs.Ends.{end_rule}
-use Rattle.flat_laws.specs.Typed.{AreTyped}
-use Rattle.flat_laws.proofs.SoundSettings.{AreSettingsSound}
 use Rattle.flat_laws.proofs.SettledEnds.{found_there}
-use Rattle.cspace_layout.specs.Lookups.{setting_of}
-use Rattle.cspace_layout.specs.Members.{members_at}
 
 -- each settled setting is that of some end
 pub setting_from : (s : Source) (k n : ℕ) (e : EndSetting) → setting_of (settled_of s) k n ≡ Some e

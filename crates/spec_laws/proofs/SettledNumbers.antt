@@ -1,36 +1,12 @@
 -- Settled priorities, badges and interrupts are small numbers.
-use Rattle.std.proofs.Common.{◌≡◌, ◌<◌, ◌≤◌, ◌+◌, ◌^◌, ◌∙◌, ℕ, suc, ◌&&◌, List, [], ◌∷◌, length, Option, Some, None, unwrap_or, refl, sym, ap, subst, inl, inr, arith}
-use Rattle.std.specs.Prelude.{nat_le}
-use Rattle.std.specs.List.{slice_get}
-use Rattle.std.specs.Option.{option_and_then, option_map_or}
-use Rattle.std.specs.Str.Parse.{digits_value}
-use Rattle.std.proofs.lemmas.Bool.{and_parts, cond_both, leb-true}
-use Rattle.adl_ast.specs.declared.component.Interface.{Interface}
-use Rattle.adl_ast.specs.declared.composition.Role.{Role}
-use Rattle.adl_ast.specs.declared.composition.Role.TheVariants.{From, To}
-use Rattle.adl_ast.specs.declared.source.Source.{Source}
+use Rattle.spec_laws.proofs.Common.{EndSetting, EndSettings, FlatConnection, FlatEnd, Found, From, Interface, IsIn, Joint, Leaf, LeafFound, LeafSetting, List, None, Option, Role, Some, Source, To, [], and_parts, ap, arith, badge_in, badge_kind}
+use Rattle.spec_laws.proofs.Common.{badge_of, behind, cond_both, device_place, digits_value, end_setting, end_settings, flat_of, found_at, found_on, founds_in, from_filter_map, from_get_map, has_badge, hierarchy_of, in_get, inl, inr, interface_at}
+use Rattle.spec_laws.proofs.Common.{irq_in, irq_number, irq_of, is_badge_text, joint_at, joint_of, leaf_setting, leaves_found, leb-true, length, map_some, meaning, meant, nat_le, number_in, option_and_then, option_map_or, positioned}
+use Rattle.spec_laws.proofs.Common.{positioned_after, priority_in, refl, setting_of, settled_badge, settled_of, slice_get, subst, suc, sym, unwrap_or, within, ℕ, ◌&&◌, ◌+◌, ◌<◌, ◌^◌, ◌∙◌, ◌∷◌, ◌≡◌, ◌≤◌}
 use Rattle.adl_ast.specs.declared.value.ValueKind.{ValueKind, Number, Text}
-use Rattle.adl_meaning.specs.declared.flat.FlatConnection.{FlatConnection}
-use Rattle.adl_meaning.specs.declared.flat.FlatEnd.{FlatEnd}
-use Rattle.adl_meaning.specs.declared.flat.Leaf.{Leaf}
-use Rattle.adl_meaning.specs.declared.settled.EndSetting.{EndSetting}
-use Rattle.adl_meaning.specs.declared.settled.EndSettings.{EndSettings}
-use Rattle.adl_meaning.specs.declared.settled.LeafSetting.{LeafSetting}
-use Rattle.adl_meaning.specs.Flat.{flat_of}
-use Rattle.adl_meaning.specs.Hierarchy.{hierarchy_of}
-use Rattle.cam_base.specs.Gather.{IsIn}
 use Rattle.adl_meaning.specs.Values.{Given}
-use Rattle.adl_settings.specs.Allowed.{badge_in, badge_kind, irq_in, is_badge_text, number_in, priority_in, within}
-use Rattle.adl_settings.specs.EndMeaning.{badge_at, badge_of, end_setting, irq_of}
-use Rattle.adl_settings.specs.Joints.{Joint, behind, found_at, found_of, found_on, founds_in, has_badge, interface_at, joint_at, joint_of, positioned, positioned_after}
-use Rattle.adl_settings.specs.declared.found.Found.{Found}
-use Rattle.adl_settings.specs.Meant.{meaning, meant}
-use Rattle.adl_settings.specs.Settled.{LeafFound, end_settings, leaf_setting, leaves_found, settled_of}
-use Rattle.adl_hierarchy.proofs.Lists.{in_get}
-use Rattle.cam_base.proofs.NumberedLists.{from_filter_map, map_some, from_get_map}
-use Rattle.cspace_layout.specs.Lookups.{setting_of}
-use Rattle.system_spec.specs.Objects.{settled_badge}
-use Rattle.system_spec.specs.Tables.{device_place, irq_number}
+use Rattle.adl_settings.specs.EndMeaning.{badge_at}
+use Rattle.adl_settings.specs.Joints.{found_of}
 use Rattle.spec_laws.proofs.SettledEnds.{setting_from}
 
 within_most : (greatest n : ℕ) → unwrap_or (within 0 greatest n) 0 ≤ greatest

@@ -1,38 +1,11 @@
 -- The frames that windows show, and all others
-use Rattle.std.proofs.Common.{◌≡◌, ◌<◌, ◌+◌, ◌*◌, ◌/◌, ◌⊎◌, ℕ, false, ◌&&◌, cond, List, [], length, map, Option, Some, None, refl, sym, ◌∙◌, ap, subst, inl, inr, arith}
-use Rattle.std.specs.List.{position, range_with_len, slice_get}
-use Rattle.std.specs.Option.{option_map_or}
-use Rattle.std.specs.Prelude.{◌==◌}
-use Rattle.std.proofs.lemmas.Bool.{eq-eqb}
-use Rattle.adl_meaning.specs.declared.connector.Connector.TheVariants.{Mmio, SharedMemory}
-use Rattle.adl_meaning.specs.declared.flat.Domain.{Domain}
-use Rattle.adl_meaning.specs.declared.flat.Flat.{Flat}
-use Rattle.adl_meaning.specs.declared.flat.FlatConnection.{FlatConnection}
-use Rattle.adl_meaning.specs.declared.flat.FlatEnd.{FlatEnd}
-use Rattle.cap_model.specs.declared.cap.Cap.{Cap}
-use Rattle.cap_model.specs.declared.object.Object.TheVariants.{Frame}
-use Rattle.cap_model.specs.Lookup.{object_at}
-use Rattle.cam_base.specs.Gather.{before}
-use Rattle.cam_base.proofs.Gathered.{in_place, place_of}
-use Rattle.system_spec.specs.declared.part.What.TheVariants.{FrameOf}
-use Rattle.system_spec.specs.Made.{spec_of}
-use Rattle.system_spec.specs.Objects.{frame_object}
-use Rattle.system_spec.specs.Parts.{place}
-use Rattle.system_spec.specs.Tables.{Tables}
+use Rattle.spec_laws.proofs.Common.{AreMemoryFrames, CanMap, Cap, Domain, Flat, FlatConnection, FlatEnd, Frame, FrameInfo, FrameOf, List, Mmio, None, OneDevice, OneMemory, Option, Region, SharedMemory, ShowsMemory, Some, Spaces, Tables, Window, []}
+use Rattle.spec_laws.proofs.Common.{ap, arith, before, begins, cond, connection_frames, ends, eq-eqb, false, first_to, frame, frame_object, frames_at, in_place, inl, inr, is_shared, leaves_of, length, map, mapped_pages, memory_before, memory_number}
+use Rattle.spec_laws.proofs.Common.{memory_paddr, memory_pages, object_at, option_map_or, own_part, place, place_of, position, range_with_len, refl, region_page, regions, regions_in, register_frame, register_frames, registers, registers_before}
+use Rattle.spec_laws.proofs.Common.{registers_in, root_of, shared_frames, shared_part, slice_get, spec_of, subst, sym, system, ℕ, ◌&&◌, ◌*◌, ◌+◌, ◌/◌, ◌<◌, ◌==◌, ◌∙◌, ◌≡◌, ◌⊎◌}
 use Rattle.vspace_layout.specs.declared.owner.Owner.TheVariants.{OfConnection}
-use Rattle.vspace_layout.specs.declared.region.Content.TheVariants.{Window}
-use Rattle.vspace_layout.specs.declared.region.Region.{Region}
-use Rattle.vspace_layout.specs.declared.spaces.FrameInfo.{FrameInfo}
-use Rattle.vspace_layout.specs.declared.spaces.Spaces.{Spaces}
-use Rattle.vspace_layout.specs.Frames.{connection_frames, frame, frames_at, memory_before, memory_number, own_part, register_frame, register_frames, registers_before, shared_frames, shared_part}
-use Rattle.vspace_layout.specs.Given.{ends, leaves_of}
-use Rattle.vspace_layout.specs.MappedPages.{mapped_pages, region_page}
-use Rattle.vspace_layout.specs.Memory.{first_to, is_shared, memory_pages, memory_paddr, registers, registers_in}
-use Rattle.vspace_layout.specs.Regions.{domain_windows, regions, regions_in}
+use Rattle.vspace_layout.specs.Regions.{domain_windows}
 use Rattle.vspace_layout.specs.Threads.{domain_threads}
-use Rattle.spec_laws.specs.CanMap.{CanMap}
-use Rattle.spec_laws.specs.Framed.{AreMemoryFrames, OneDevice, OneMemory, ShowsMemory}
-use Rattle.spec_laws.specs.Spaced.{begins, root_of, system}
 use Rattle.spec_laws.proofs.Blocks.{apart, as_long, inside}
 use Rattle.spec_laws.proofs.Framing.{FirstTo, IsMemoryFrame, first_is, frame_there, memory_frame, memory_of, registers_there}
 use Rattle.spec_laws.proofs.Paging.{has_domain, region_in}

@@ -1,22 +1,10 @@
 -- The sizes of memory and the addresses of registers that settings give: whole pages, within their bounds.
-use Rattle.std.proofs.Common.{◌≡◌, ◌≤◌, ◌+◌, ◌*◌, ◌/◌, ◌%◌, ◌^◌, ℕ, Bool, true, false, ◌&&◌, ◌||◌, cond, [], Option, Some, None, option_map, unwrap_or, refl, sym, ◌∙◌, ap, subst, arith}
-use Rattle.std.specs.Prelude.{nat_le, is_some, ◌==◌}
-use Rattle.std.specs.Option.{option_and_then}
-use Rattle.std.proofs.lemmas.Bool.{and_parts, cond_both, eqb-true, leb-true}
-use Rattle.adl_ast.specs.declared.component.Interface.{Interface}
-use Rattle.adl_ast.specs.declared.value.Value.{Value}
-use Rattle.adl_hierarchy.proofs.Leading.{is_there}
-use Rattle.adl_meaning.specs.declared.settled.EndSetting.{EndSetting}
-use Rattle.adl_meaning.specs.Export.{default_size}
+use Rattle.spec_laws.proofs.Common.{Bool, EndSetting, Found, Interface, None, Option, Some, Value, [], and_parts, ap, arith, bad_at_end, bad_value, bytes_of, cond, cond_both, default_bytes, default_size, end_setting, eqb-true, false}
+use Rattle.spec_laws.proofs.Common.{is_device_memory, is_some, is_there, leb-true, meaning, meant, nat_le, none_left, none_right, number_in, option_and_then, option_map, paddr_in, paddr_of, refl, size_in, sized, so, subst, sym, true, unwrap_or}
+use Rattle.spec_laws.proofs.Common.{whole_pages, ℕ, ◌%◌, ◌&&◌, ◌*◌, ◌+◌, ◌/◌, ◌==◌, ◌^◌, ◌||◌, ◌∙◌, ◌≡◌, ◌≤◌}
 use Rattle.adl_meaning.specs.Values.{Given}
-use Rattle.adl_settings.specs.Allowed.{number_in, paddr_in, placed, size_in, sized, whole_pages}
-use Rattle.adl_settings.specs.BadValue.{bad_at_end}
-use Rattle.adl_settings.specs.EndMeaning.{bytes_of, default_bytes, end_setting, paddr_of}
-use Rattle.adl_settings.specs.Joints.{is_device_memory, is_shared}
-use Rattle.adl_settings.specs.declared.found.Found.{Found}
-use Rattle.adl_settings.specs.Meant.{bad_value, meaning, meant}
-use Rattle.cam_base.proofs.NumberedLists.{none_left, none_right}
-use Rattle.flat_laws.proofs.TypedEnds.{so}
+use Rattle.adl_settings.specs.Allowed.{placed}
+use Rattle.adl_settings.specs.Joints.{is_shared}
 
 -- one page at least, and at most 65,536
 pub record IsSize (bytes : ℕ) : Type 0 where

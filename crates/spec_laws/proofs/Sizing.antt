@@ -1,42 +1,15 @@
 -- What is laid out within the limits is sized.
-use Rattle.std.proofs.Common.{◌≡◌, ◌≤◌, ◌+◌, ◌*◌, ℕ, List, [], ◌∷◌, ◌++◌, length, map, refl, sym, ◌∙◌, ap, Some, inl, inr, arith}
-use Rattle.std.specs.Prelude.{sum}
-use Rattle.std.specs.List.{flat_map, slice_get}
-use Rattle.std.specs.Option.{option_map_or}
-use Rattle.adl_ast.specs.declared.source.Source.{Source}
-use Rattle.adl_meaning.specs.declared.flat.Domain.{Domain}
-use Rattle.adl_meaning.specs.declared.flat.Flat.{Flat}
-use Rattle.adl_meaning.specs.declared.settled.Settled.{Settled}
-use Rattle.cspace_layout.specs.declared.plan.SlotPlan.{SlotPlan}
-use Rattle.cspace_layout.specs.SlotFaults.{counts}
-use Rattle.cspace_layout.specs.Uses.{domain_uses, plan_of, slots_of}
-use Rattle.cam_base.specs.Gather.{IsIn, gather}
-use Rattle.cam_base.proofs.Gathered.{gather_ones, get_ones, length_append}
-use Rattle.cam_base.proofs.NumberedLists.{map_ones}
+use Rattle.spec_laws.proofs.Common.{Domain, Flat, Given, Images, IsIn, IsLimited, IsSized, List, MappedPage, Page, Settled, SlotPlan, Some, Source, Space, Tables, [], all_tables, ap, arch, arith, base, counts, domain_uses, flat_map, gather}
+use Rattle.spec_laws.proofs.Common.{gather_ones, get_ones, given, inl, inr, leaves_of, length, length-region_part, length_append, map, map_ones, mapped_pages, option_map_or, page, page_counts, pages_append, pages_at, pages_in, plan_of, refl}
+use Rattle.spec_laws.proofs.Common.{region_part, regions, section_part, shapes, slice_get, slots_of, space, stack_pages, sum, sym, table_counts, tables_at, tables_counted, tables_from, tables_needed, thread_count, thread_place, thread_regions}
+use Rattle.spec_laws.proofs.Common.{threads_at, threads_of, use_count, uses_at, window_region, windows_of, ℕ, ◌*◌, ◌++◌, ◌+◌, ◌∙◌, ◌∷◌, ◌≡◌, ◌≤◌}
 use Rattle.page_tables.specs.Counts.{table_count}
-use Rattle.page_tables.specs.Shapes.{shapes}
-use Rattle.source_images.specs.declared.images.Images.{Images}
-use Rattle.system_spec.specs.Parts.{all_tables, tables_at}
-use Rattle.system_spec.specs.Tables.{Tables, arch, pages_at, threads_at, uses_at}
-use Rattle.system_spec.specs.TablesFrom.{tables_from}
-use Rattle.vspace_layout.proofs.Counting.{length-region_part}
-use Rattle.vspace_layout.specs.declared.mapped.MappedPage.{MappedPage}
-use Rattle.vspace_layout.specs.declared.spaces.Page.{Page}
-use Rattle.vspace_layout.specs.declared.spaces.Space.{Space}
 use Rattle.vspace_layout.specs.declared.thread.ThreadOf.{ThreadOf}
-use Rattle.vspace_layout.specs.Given.{Given, base, given, leaves_of}
-use Rattle.vspace_layout.specs.Laid.{page, space, thread_place}
-use Rattle.vspace_layout.specs.MappedPages.{mapped_pages, region_part, section_part}
-use Rattle.vspace_layout.specs.PageLimits.{page_counts, table_counts, tables_needed}
-use Rattle.vspace_layout.specs.Regions.{pages_in, regions, stack_pages, thread_regions, threads_of, window_region, windows_of}
-use Rattle.vspace_layout.proofs.Fitting.{pages_append}
-use Rattle.spec_laws.specs.Limited.{IsLimited}
-use Rattle.spec_laws.specs.Sized.{IsSized, page_count, thread_count, use_count}
+use Rattle.spec_laws.specs.Sized.{page_count}
 use Rattle.spec_laws.proofs.Few.{all_tables_are}
 use Rattle.spec_laws.proofs.Seen.{frames_few}
 use Rattle.spec_laws.proofs.Totals.{sum_map, sum_ones, total_map, totals_flat, totals_most, totals_same, totals_times}
 use Rattle.spec_laws.proofs.Uses.{uses_are}
-use Rattle.system_spec.proofs.Domains.{tables_counted}
 
 -- ---- stacks
 

@@ -1,20 +1,8 @@
 -- How many slots there are, where no limit on slots is passed.
-use Rattle.std.proofs.Common.{◌≡◌, ◌≤◌, ◌∙◌, ℕ, zero, suc, List, [], ◌∷◌, ◌++◌, length, map, sym, ap, Some, None, arith}
-use Rattle.std.proofs.Math.Nat.{le-max_left, le-max_right}
-use Rattle.std.specs.Prelude.{sum, codes}
-use Rattle.std.specs.List.{flat_map, slice_get}
-use Rattle.adl_ast.specs.declared.composition.Assembly.{Assembly}
-use Rattle.adl_ast.specs.declared.source.Source.{Source}
-use Rattle.adl_meaning.specs.declared.flat.Flat.{Flat}
-use Rattle.adl_meaning.specs.declared.item_at.ItemAt.{ItemAt}
-use Rattle.adl_meaning.specs.Items.{assemblies}
-use Rattle.adl_meaning.specs.SizeFaults.{limit_passed}
-use Rattle.adl_meaning.proofs.Least.{least-empty}
-use Rattle.adl_hierarchy.proofs.Limits.{not_passed}
-use Rattle.cam_base.proofs.NumberedLists.{none_left, none_right}
-use Rattle.cspace_layout.specs.declared.plan.SlotPlan.{SlotPlan}
-use Rattle.cspace_layout.specs.SlotFaults.{counts, first_slot_fault, greatest, limits_passed, slot_faults}
-use Rattle.cspace_layout.specs.Uses.{slots_of}
+use Rattle.spec_laws.proofs.Common.{Assembly, Flat, ItemAt, List, None, SlotPlan, Some, Source, [], ap, arith, assemblies, counts, first_slot_fault, flat_map, greatest, le-max_left, le-max_right, least-empty, length, limit_passed, map, none_left}
+use Rattle.spec_laws.proofs.Common.{none_right, not_passed, slice_get, slot_faults, slots_of, suc, sum, sym, zero, ℕ, ◌++◌, ◌∙◌, ◌∷◌, ◌≡◌, ◌≤◌}
+use Rattle.std.specs.Prelude.{codes}
+use Rattle.cspace_layout.specs.SlotFaults.{limits_passed}
 
 -- a domain has slots for at most so many uses, and all together for so many
 pub record AreFewSlots (s : Source) (flat : Flat) : Type 0 where

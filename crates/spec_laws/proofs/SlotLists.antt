@@ -1,8 +1,5 @@
 -- Interrupt lines by number have what they are made of
-use Rattle.std.proofs.Common.{◌≡◌, ℕ, Bool, true, false, cond, List, [], ◌∷◌, Option, Some, inl, inr}
-use Rattle.std.specs.Prelude.{leb}
-use Rattle.cam_base.specs.Gather.{IsIn}
-use Rattle.system_spec.specs.Objects.{by_number, put_line}
+use Rattle.spec_laws.proofs.Common.{Bool, IsIn, List, Option, Some, [], by_number, cond, false, inl, inr, leb, put_line, true, ℕ, ◌∷◌, ◌≡◌}
 
 put_has : (x y : ℕ × ℕ) (xs : List (ℕ × ℕ)) → IsIn y (x ∷ xs) → IsIn y (put_line x xs)
 put_has x y [] i = i

@@ -1,34 +1,11 @@
 -- The slots of a system are those of its source
-use Rattle.std.proofs.Common.{◌≡◌, ◌+◌, ℕ, List, [], ◌∷◌, ◌++◌, length, Option, Some, refl, sym, ◌∙◌, ap, subst, inl, inr, arith}
-use Rattle.std.specs.List.{slice_get}
-use Rattle.std.specs.Option.{option_and_then, option_map_or}
-use Rattle.adl_meaning.specs.declared.connector.Connector.{Connector}
-use Rattle.adl_meaning.specs.declared.connector.Connector.TheVariants.{Rpc, Notification as Notifies, SharedMemory, Mmio, Interrupt, Direct}
-use Rattle.adl_meaning.specs.declared.flat.Domain.{Domain}
-use Rattle.adl_meaning.specs.declared.flat.FlatConnection.{FlatConnection}
-use Rattle.adl_meaning.specs.declared.settled.EndSetting.{EndSetting}
-use Rattle.cap_model.specs.declared.cap.Cap.{Cap}
-use Rattle.cap_model.specs.declared.object.Object.{Object}
+use Rattle.spec_laws.proofs.Common.{CanSlot, Cap, Connector, Direct, Domain, DomainLine, EndSetting, FlatConnection, Handler, HasSlots, Interrupt, IrqOf, IsIn, IsIrqLine, IsIrqOf, IsLineOf, IsSlotLine, IsUsed, List, MapLine, Mmio, Object, OfEnd}
+use Rattle.spec_laws.proofs.Common.{Option, OwnLock, Rpc, SharedMemory, SlotUse, Some, Spec, Tables, ThreadPlace, [], ap, arith, bits_for, domain_lines, domain_slots, domain_threads, domain_windows, from_gather, gather, in_append, in_gather, in_left}
+use Rattle.spec_laws.proofs.Common.{in_right, inl, inr, irq_number, length, line_by, lines, map_lines, option_and_then, option_map_or, place, refl, setting_of, single, slice_get, slot_line, slot_lines, slots_at, spec_of, subst, sym, thread_line}
+use Rattle.spec_laws.proofs.Common.{thread_lines, threads_at, use_cap, uses_at, window_line, window_lines, windows_at, ℕ, ◌++◌, ◌+◌, ◌∙◌, ◌∷◌, ◌≡◌}
+use Rattle.adl_meaning.specs.declared.connector.Connector.TheVariants.{Notification as Notifies}
 use Rattle.cap_model.specs.declared.object.Object.TheVariants as objects
-use Rattle.cap_model.specs.declared.spec.Spec.{Spec}
-use Rattle.cspace_layout.specs.Lookups.{setting_of}
-use Rattle.cspace_layout.specs.declared.plan.SlotUse.{SlotUse}
-use Rattle.cspace_layout.specs.declared.plan.SlotUse.TheVariants.{OfEnd, Handler, OwnLock}
-use Rattle.cam_base.specs.Gather.{IsIn, gather}
-use Rattle.cam_base.proofs.Gathered.{from_gather, in_append, in_gather, in_left, in_right}
-use Rattle.vspace_layout.specs.declared.spaces.ThreadPlace.{ThreadPlace}
 use Rattle.vspace_layout.specs.declared.spaces.Window.{Window}
-use Rattle.system_spec.specs.declared.map_line.MapLine.{MapLine}
-use Rattle.system_spec.specs.declared.map_line.MapLine.TheVariants.{DomainLine}
-use Rattle.system_spec.specs.declared.part.What.TheVariants.{IrqOf}
-use Rattle.system_spec.specs.Bits.{bits_for}
-use Rattle.system_spec.specs.Made.{spec_of}
-use Rattle.system_spec.specs.MapLines.{domain_lines, domain_slots, domain_threads, domain_windows, map_lines, slot_line, slot_lines, thread_line, thread_lines, window_line, window_lines}
-use Rattle.system_spec.specs.Objects.{line_by, lines, slots_at, use_cap}
-use Rattle.system_spec.specs.Parts.{place}
-use Rattle.system_spec.specs.Tables.{Tables, irq_number, threads_at, uses_at, windows_at}
-use Rattle.system_spec.proofs.There.{single}
-use Rattle.spec_laws.specs.Slotted.{CanSlot, HasSlots, IsIrqLine, IsIrqOf, IsLineOf, IsSlotLine, IsUsed}
 use Rattle.spec_laws.proofs.SlotLists.{from_order, some}
 use Rattle.spec_laws.proofs.Slotting.{cnode_object, irq_is, slotted, uses_are}
 

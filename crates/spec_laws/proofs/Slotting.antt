@@ -1,46 +1,14 @@
 -- CNodes have the capabilities of their uses
-use Rattle.std.proofs.Common.{◌≡◌, ◌<◌, ◌+◌, ◌^◌, ℕ, Bool, true, false, cond, List, [], ◌∷◌, length, Some, refl, sym, ◌∙◌, ap, subst, inl, inr, ◌⊎◌, arith}
-use Rattle.std.specs.List.{slice_get}
-use Rattle.std.specs.Option.{option_and_then, option_map_or}
-use Rattle.adl_ast.specs.declared.component.Member.{Member}
-use Rattle.adl_ast.specs.declared.composition.Role.{Role}
-use Rattle.adl_ast.specs.declared.composition.Role.TheVariants.{From, To}
-use Rattle.adl_meaning.specs.declared.connector.Connector.{Connector}
-use Rattle.adl_meaning.specs.declared.connector.Connector.TheVariants.{Rpc, Notification as Notifies, SharedMemory, Mmio, Interrupt, Direct}
-use Rattle.adl_meaning.specs.declared.flat.Domain.{Domain}
-use Rattle.adl_meaning.specs.declared.flat.FlatConnection.{FlatConnection}
-use Rattle.adl_meaning.specs.declared.flat.FlatEnd.{FlatEnd}
-use Rattle.adl_meaning.specs.declared.settled.EndSetting.{EndSetting}
-use Rattle.arch_policy.specs.declared.owner.Owner.TheVariants.{OfDomain, OfConnection}
-use Rattle.cap_model.specs.declared.cap.Cap.{Cap}
-use Rattle.cap_model.specs.declared.object.Object.TheVariants.{CNode}
-use Rattle.cap_model.specs.declared.spec.Spec.{Spec}
-use Rattle.cap_model.specs.Lookup.{name_at, object_at}
+use Rattle.spec_laws.proofs.Common.{Bool, CNode, CNodeOf, CanSlot, Cap, Connector, Direct, Domain, EndSetting, EndpointOf, FlatConnection, FlatEnd, From, Handler, Interrupt, IrqOf, IsBadge, IsCNodeOf, IsCapOf, IsEndCap, IsHandlerCap, IsIn, IsIrqOf}
+use Rattle.spec_laws.proofs.Common.{IsJoint, IsLockCap, IsNamed, List, LockOf, Member, Mmio, NONE, NotificationOf, OfConnection, OfDomain, OfEnd, OwnLock, Role, Rpc, SharedMemory, SlotPlan, SlotUse, Slots, Some, Spec, Tables, To, [], ap, arith}
+use Rattle.spec_laws.proofs.Common.{badge_at, before, bits_for, cond, domain_uses, end_rights, end_uses, false, first_rights, from_gather, gather, gather_ones, get_map, in_append, in_gather, in_place, inl, inr, interrupt, irq_number, irq_owner}
+use Rattle.spec_laws.proofs.Common.{is_lock, joined_uses, joins, joint_by, leaf_members, leaf_uses, least, length, line_by, lines, lock_uses, member_uses, name_at, notification_by, object_at, objects_stand, option_and_then, option_map_or, part}
+use Rattle.spec_laws.proofs.Common.{parts_are_there, place, plan_of, refl, rights_at, role_badge, rows_of, setting_of, settled_badge, slice_get, slots_at, spec_of, subst, sym, true, use_cap, uses_at, ℕ, ◌+◌, ◌<◌, ◌^◌, ◌∙◌, ◌∷◌, ◌≡◌, ◌⊎◌}
+use Rattle.adl_meaning.specs.declared.connector.Connector.TheVariants.{Notification as Notifies}
 use Rattle.conn_rules.specs.declared.rule.RuleRow.{RuleRow}
-use Rattle.conn_rules.specs.Row.{NONE, rows_of}
-use Rattle.cspace_layout.specs.declared.plan.SlotPlan.{SlotPlan}
-use Rattle.cspace_layout.specs.declared.plan.SlotUse.{SlotUse}
-use Rattle.cspace_layout.specs.declared.plan.SlotUse.TheVariants.{OfEnd, Handler, OwnLock}
-use Rattle.cspace_layout.specs.declared.plan.Slots.{Slots}
-use Rattle.cspace_layout.specs.Uses.{domain_uses, end_uses, joined_uses, leaf_uses, lock_uses, member_uses, plan_of}
-use Rattle.cspace_layout.specs.LeafEnds.{joins}
-use Rattle.cspace_layout.specs.Lookups.{setting_of}
-use Rattle.cspace_layout.specs.Members.{is_lock, leaf_members}
-use Rattle.cam_base.specs.Gather.{IsIn, before, gather}
-use Rattle.cam_base.proofs.Gathered.{from_gather, gather_ones, in_append, in_gather, in_place}
-use Rattle.cam_base.proofs.NumberedLists.{get_map}
-use Rattle.system_spec.specs.declared.part.What.TheVariants.{CNodeOf, EndpointOf, IrqOf, LockOf, NotificationOf}
 use Rattle.system_spec.specs.declared.series.Series.TheVariants as series
-use Rattle.system_spec.specs.Bits.{bits_for}
-use Rattle.system_spec.specs.Made.{spec_of}
-use Rattle.system_spec.specs.Objects.{badge_at, end_rights, first_rights, joint_by, line_by, lines, rights_at, role_badge, settled_badge, slots_at, use_cap}
-use Rattle.system_spec.specs.Parts.{notification_by, part, place}
-use Rattle.system_spec.specs.Tables.{Tables, irq_number, irq_owner, uses_at}
-use Rattle.system_spec.proofs.LeastBits.{least}
-use Rattle.system_spec.proofs.Objects.{objects_stand, parts_are_there}
-use Rattle.spec_laws.specs.Slotted.{CanSlot, IsBadge, IsCNodeOf, IsCapOf, IsEndCap, IsHandlerCap, IsIrqOf, IsJoint, IsLockCap, IsNamed, interrupt}
 use Rattle.spec_laws.proofs.CapsFit.{end_is as end_there, joint_is}
-use Rattle.spec_laws.proofs.Numbering.{irq_part, lock_part}
+use Rattle.spec_laws.proofs.Numbering.{irq_part, lock_number, lock_numbered, lock_part}
 use Rattle.spec_laws.proofs.SlotLists.{order_has}
 
 -- ---- where uses come from
@@ -271,13 +239,14 @@ module _ (t : Tables) (can : CanSlot t) where
   lock_is : (d n leaf m : ℕ) (x : Domain) → slice_get t.flat.domains d ≡ Some x
       → slice_get (uses_at t d) n ≡ Some (OwnLock leaf m) → IsLockCap t spec leaf m (use_cap t d n (OwnLock leaf m))
   lock_is d n leaf m x h e =
-      let w = lock_part t uses_are d n leaf m x h e in
-      let p = part series.Lock w.number (OfDomain d) (LockOf d n) in
+      let number = lock_number t uses_are d n leaf m x h e in
+      let p = part series.Lock number (OfDomain d) (LockOf d n) in
+      let there = lock_part t uses_are d n leaf m x h e in
       record {
-        number = w.number;
-        numbered = w.numbered;
-        named = (objects_stand t).name p w.there;
-        is = (objects_stand t).object p w.there;
+        number = number;
+        numbered = lock_numbered t uses_are d n leaf m x h e;
+        named = (objects_stand t).name p there;
+        is = (objects_stand t).object p there;
         rights = refl;
         badge = refl;
       }

@@ -1,28 +1,9 @@
 -- The tables of a source without faults are connected.
-use Rattle.std.proofs.Common.{◌≡◌, None, refl}
-use Rattle.adl_ast.specs.declared.source.Source.{Source}
-use Rattle.adl_meaning.specs.Flat.{flat_of}
-use Rattle.adl_meaning.specs.JoinFaults.{first_flat_fault}
-use Rattle.adl_meaning.specs.NameFaults.{AreNamesSound}
-use Rattle.adl_settings.specs.Settled.{settled_of}
-use Rattle.adl_settings.specs.SettingFaults.{first_setting_fault}
-use Rattle.adl_types.specs.TypeFaults.{first_type_fault}
-use Rattle.cspace_layout.specs.SlotFaults.{first_slot_fault}
-use Rattle.flat_laws.specs.ShortFiles.{AreFilesShort}
-use Rattle.flat_laws.proofs.AreTyped.{ends_typed}
-use Rattle.flat_laws.proofs.SoundSettings.{settings_sound}
-use Rattle.source_images.specs.Numbered.{AreNumbered, AreSound}
-use Rattle.source_images.specs.SpaceFaults.{first_space_fault}
-use Rattle.source_images.specs.declared.images.Images.{Images}
+use Rattle.spec_laws.proofs.Common.{AreFilesShort, AreNamesSound, AreNumbered, AreSound, Images, IsConnected, None, Source, ends_typed, first_flat_fault, first_page_limit, first_setting_fault, first_slot_fault, first_space_fault, first_type_fault}
+use Rattle.spec_laws.proofs.Common.{flat_of, given, refl, rising, sections_stand, settings_sound, settled_of, tables_from, ◌≡◌}
 use Rattle.spec_laws.proofs.Bounds.{dotted, registers_there}
 use Rattle.spec_laws.proofs.MemorySizes.{memory_some}
 use Rattle.spec_laws.proofs.SourceDevices.{devices_flat}
-use Rattle.spec_laws.specs.Connected.{IsConnected}
-use Rattle.system_spec.specs.TablesFrom.{tables_from}
-use Rattle.vspace_layout.specs.Given.{given}
-use Rattle.vspace_layout.specs.PageLimits.{first_page_limit}
-use Rattle.vspace_layout.proofs.Rising.{rising}
-use Rattle.vspace_layout.proofs.Sections.{sections_stand}
 
 pub tables_are_connected : (s : Source) (images : Images) → AreFilesShort s → AreNamesSound s → first_type_fault s ≡ None
     → first_flat_fault s ≡ None → first_setting_fault s ≡ None

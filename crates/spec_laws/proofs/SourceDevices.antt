@@ -1,35 +1,12 @@
 -- The flat system of a source in which no fault of names or types stands has its devices where the connector table has them.
-use Rattle.std.proofs.Common.{◌≡◌, ◌<◌, ℕ, true, false, cond, length, Some, None, refl, sym, ◌∙◌, ap, subst, true≢false, arith}
-use Rattle.adl_meaning.specs.Prelude.{AreNamesSound, End, From, Role, Source, Strung, To, connections, domain_number, domain_of, flat_connection}
-use Rattle.adl_meaning.specs.declared.connector.Connector.{Connector}
-use Rattle.adl_meaning.specs.declared.connector.Connector.TheVariants.{Direct, Interrupt, Mmio, Notification, Rpc, SharedMemory}
-use Rattle.adl_meaning.specs.declared.flat.FlatConnection.{FlatConnection}
-use Rattle.adl_meaning.specs.declared.flat.FlatEnd.{FlatEnd}
-use Rattle.adl_meaning.specs.declared.flat.Leaf.{Leaf}
-use Rattle.adl_meaning.specs.Prelude.{flat_end, flat_ends, flat_of, hierarchy_of, is_hardware, leaf_of, leaves, slice_get}
-use Rattle.std.specs.Prelude.{nat_le}
-use Rattle.std.proofs.lemmas.Bool.{and_parts}
-use Rattle.std.proofs.lemmas.Bool.Decides.{leb_tells}
-use Rattle.std.proofs.lemmas.Option.{slice_get_within}
+use Rattle.spec_laws.proofs.Common.{AreDotted, Connector, Direct, FlatConnection, FlatEnd, HasDevice, Interrupt, IsFlat, IsIn, Leaf, Mmio, None, Notification, Rpc, SharedMemory, Some, allowed, allows, alone, and_parts, ap, arith, at_place, cond}
+use Rattle.spec_laws.proofs.Common.{count_of, end_rule, ends_typed, false, first_type_fault, from_get_map, hardware_fits, in_get, is_at_device, leaf_listed, leaf_owned, leb_tells, length, nat_le, refl, same_role, same_role_self, slice_get_within}
+use Rattle.spec_laws.proofs.Common.{some_end, strung_of, subst, sym, true, true≢false, ℕ, ◌<◌, ◌∙◌, ◌≡◌}
+use Rattle.adl_meaning.specs.Prelude.{AreNamesSound, End, From, Role, Source, Strung, To, connections, domain_number, domain_of, flat_connection, flat_end, flat_ends, flat_of, hierarchy_of, is_hardware, leaf_of, leaves, slice_get}
 use Rattle.adl_ast.specs.declared.component.Member.TheVariants as members
 use Rattle.adl_hierarchy.proofs.Joining.{all_joined, end_numbers_kept, ends_kept}
-use Rattle.adl_hierarchy.specs.Leads.{AreDotted}
-use Rattle.cam_base.specs.Gather.{IsIn}
-use Rattle.adl_types.specs.TypeFaults.{count_of, first_type_fault}
 use Rattle.adl_types.proofs.Typed.{well_typed}
 use Rattle.arch_policy.specs.Ends.{EndAt}
-use Rattle.arch_policy.proofs.Same.{same_role_self}
-use Rattle.adl_hierarchy.proofs.Lists.{in_get}
-use Rattle.conn_rules.specs.Ends.{allows, end_rule}
-use Rattle.conn_rules.specs.Row.{same_role}
-use Rattle.flat_laws.proofs.AreTyped.{ends_typed}
-use Rattle.flat_laws.proofs.Counts.{alone}
-use Rattle.flat_laws.proofs.FlatEnds.{strung_of}
-use Rattle.flat_laws.proofs.FlatLeaves.{leaf_listed, leaf_owned}
-use Rattle.flat_laws.proofs.SomeEnds.{allowed, some_end}
-use Rattle.flat_laws.proofs.TypedEnds.{hardware_fits}
-use Rattle.reach_laws.specs.Flat.{HasDevice, IsFlat, is_at_device}
-use Rattle.cam_base.proofs.NumberedLists.{at_place, from_get_map}
 
 -- ---- of the table
 

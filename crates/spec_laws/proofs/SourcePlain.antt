@@ -1,28 +1,12 @@
 -- The layouts of a source without faults are plain, where the images of its programs are.
-use Rattle.std.proofs.Common.{◌≡◌, None, Some, ℕ, sym, subst}
-use Rattle.std.specs.List.{slice_get}
-use Rattle.adl_ast.specs.declared.source.Source.{Source}
-use Rattle.adl_meaning.specs.Flat.{flat_of}
-use Rattle.adl_meaning.specs.Hierarchy.{hierarchy_of}
-use Rattle.adl_meaning.specs.JoinFaults.{first_flat_fault}
-use Rattle.adl_meaning.specs.NameFaults.{AreNamesSound}
-use Rattle.adl_settings.specs.Settled.{settled_of}
-use Rattle.flat_laws.specs.ShortFiles.{AreFilesShort}
+use Rattle.spec_laws.proofs.Common.{AreFilesShort, AreNamesSound, HasProgram, Image, Images, IsImagePlain, IsIn, IsPlain, None, Some, Source, ends, first_flat_fault, flat_of, from_flat_map, given, hierarchy_of, leaf_owned, leaf_threads, leaves_of}
+use Rattle.spec_laws.proofs.Common.{settled_of, slice_get, subst, sym, threads_of, ℕ, ◌≡◌}
 use Rattle.flat_laws.proofs.AreWithin.{flat_is_within}
-use Rattle.flat_laws.proofs.FlatLeaves.{leaf_owned}
 use Rattle.flat_laws.proofs.ShortTrees.{short_few}
-use Rattle.cam_base.specs.Gather.{IsIn}
-use Rattle.cam_base.proofs.NumberedLists.{from_flat_map}
-use Rattle.source_images.specs.declared.images.Images.{Images}
-use Rattle.sect_table.specs.declared.image.Image.{Image}
 use Rattle.spec_laws.proofs.ComponentNames.{leaves_named}
 use Rattle.spec_laws.proofs.SettledNumbers.{badges_small, numbers_small}
 use Rattle.spec_laws.proofs.StackPages.{domain_there, thread_leaf}
-use Rattle.spec_laws.specs.Plain.{HasProgram, IsImagePlain, IsPlain}
 use Rattle.vspace_layout.specs.declared.thread.ThreadOf.{ThreadOf}
-use Rattle.vspace_layout.specs.Given.{ends, given, leaves_of}
-use Rattle.vspace_layout.specs.Regions.{threads_of}
-use Rattle.vspace_layout.specs.Threads.{leaf_threads}
 
 programs_there : (s : Source) (images : Images) → AreFilesShort s → AreNamesSound s → (d : ℕ) (x : ThreadOf)
     → IsIn x (threads_of (given s (flat_of s) (settled_of s) images) d)

@@ -1,27 +1,10 @@
 -- The tables of a source without faults keep what the laws of slots ask.
-use Rattle.std.proofs.Common.{◌≡◌, ◌<◌, ◌^◌, ℕ, length, None, Some, refl, arith}
-use Rattle.std.specs.List.{slice_get}
-use Rattle.adl_ast.specs.declared.source.Source.{Source}
-use Rattle.adl_meaning.specs.declared.flat.Domain.{Domain}
-use Rattle.adl_meaning.specs.Flat.{flat_of}
-use Rattle.adl_meaning.specs.NameFaults.{AreNamesSound}
-use Rattle.adl_settings.specs.EndMeaning.{end_setting}
-use Rattle.adl_settings.specs.Settled.{settled_of}
-use Rattle.adl_settings.specs.SettingFaults.{first_setting_fault}
-use Rattle.adl_types.specs.TypeFaults.{first_type_fault}
-use Rattle.cam_base.proofs.NumberedLists.{get_map}
-use Rattle.cspace_layout.specs.SlotFaults.{first_slot_fault}
-use Rattle.cspace_layout.specs.Uses.{domain_uses, plan_of}
-use Rattle.flat_laws.specs.ShortFiles.{AreFilesShort}
-use Rattle.flat_laws.proofs.AreTyped.{ends_typed}
-use Rattle.flat_laws.proofs.SoundSettings.{settings_sound}
+use Rattle.spec_laws.proofs.Common.{AreFilesShort, AreNamesSound, CanSlot, Domain, Images, None, Some, Source, arith, domain_uses, end_setting, ends_typed, first_setting_fault, first_slot_fault, first_type_fault, flat_of, get_map, length, plan_of}
+use Rattle.spec_laws.proofs.Common.{refl, settings_sound, settled_of, slice_get, tables_from, ℕ, ◌<◌, ◌^◌, ◌≡◌}
 use Rattle.spec_laws.proofs.SlotBounds as slots
-use Rattle.source_images.specs.declared.images.Images.{Images}
 use Rattle.spec_laws.proofs.Bounds.{dotted, few_uses}
 use Rattle.spec_laws.proofs.SettledEnds.{end_found}
 use Rattle.spec_laws.proofs.Interrupts.{device_there}
-use Rattle.spec_laws.specs.Slotted.{CanSlot}
-use Rattle.system_spec.specs.TablesFrom.{tables_from}
 
 uses_few : (s : Source) → AreNamesSound s → first_slot_fault s (flat_of s) ≡ None → (d : ℕ) (x : Domain)
     → slice_get (flat_of s).domains d ≡ Some x → length (domain_uses s (flat_of s) x.leaves) < 2 ^ 16

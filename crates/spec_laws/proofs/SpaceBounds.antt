@@ -1,42 +1,10 @@
 -- Where no limit on pages is passed, each space has few threads and pages, and each page shows one of the frames.
-use Rattle.std.proofs.Common.{◌≡◌, ◌<◌, ◌≤◌, ◌+◌, ◌*◌, ℕ, Bool, true, false, List, [], ◌∷◌, length, map, Option, Some, None, option_map, refl, sym, ◌∙◌, ap, subst, arith}
-use Rattle.std.specs.Prelude.{sum}
-use Rattle.std.specs.List.{flat_map, position, slice_get}
-use Rattle.std.specs.Option.{option_map_or}
-use Rattle.std.proofs.lemmas.List.Quantifiers.{position-Some}
-use Rattle.std.proofs.lemmas.Option.{get_or_from_slice_get}
-use Rattle.adl_meaning.specs.declared.connector.Connector.{Connector}
-use Rattle.adl_meaning.specs.declared.connector.Connector.TheVariants.{Rpc, Notification, SharedMemory, Mmio, Interrupt, Direct}
-use Rattle.adl_meaning.specs.declared.flat.Domain.{Domain}
-use Rattle.adl_meaning.specs.declared.flat.Flat.{Flat}
-use Rattle.adl_meaning.specs.declared.flat.FlatConnection.{FlatConnection}
-use Rattle.adl_meaning.specs.declared.flat.FlatEnd.{FlatEnd}
-use Rattle.adl_meaning.specs.declared.settled.Settled.{Settled}
-use Rattle.cspace_layout.specs.declared.end_at.EndAt.{EndAt}
-use Rattle.cam_base.specs.Gather.{IsIn, gather}
-use Rattle.cam_base.proofs.Gathered.{from_ones, gather_ones, in_place, length_append, place_of}
-use Rattle.cam_base.proofs.NumberedLists.{at_place, below, map_ones}
-use Rattle.page_tables.specs.Runs.{Rises}
-use Rattle.vspace_layout.specs.declared.mapped.MappedPage.{MappedPage}
-use Rattle.vspace_layout.specs.declared.mapped.Shown.{Shown}
-use Rattle.vspace_layout.specs.declared.mapped.Shown.TheVariants.{Own, Memory}
-use Rattle.vspace_layout.specs.declared.spaces.Page.{Page}
-use Rattle.vspace_layout.specs.declared.spaces.Space.{Space}
+use Rattle.spec_laws.proofs.Common.{Bool, CanLay, Connector, Direct, Domain, EndAt, Flat, FlatConnection, FlatEnd, Given, Interrupt, IsIn, List, MappedPage, Memory, MemoryFits, Mmio, None, Notification, Option, Own, Page, Rises, Rpc, SectionsStand}
+use Rattle.spec_laws.proofs.Common.{Settled, SharedMemory, Shown, Some, Space, [], ap, arith, at_place, below, false, few_at, flat_map, frames, frames_stand, from_ones, gather, gather_ones, get_or_from_slice_get, in_place, is_shared, is_window}
+use Rattle.spec_laws.proofs.Common.{leads_to, length, length_append, length_threads, map, map_ones, mapped_pages, memory_number, memory_pages, memory_part, number_shown, option_map, option_map_or, own_few, own_part, own_port, page, page_counts}
+use Rattle.spec_laws.proofs.Common.{place_of, position, position-Some, position_found, refl, register_part, registers, registers_few, rising, same_port, shared_few, shared_part, slice_get, space, spaces_of, subst, sum, sym, thread_place}
+use Rattle.spec_laws.proofs.Common.{thread_regions, threads_of, true, window_at, window_pages, window_region, windows_of, ℕ, ◌*◌, ◌+◌, ◌<◌, ◌∙◌, ◌∷◌, ◌≡◌, ◌≤◌}
 use Rattle.vspace_layout.specs.declared.spaces.Window.{Window}
-use Rattle.vspace_layout.specs.CanLay.{CanLay, MemoryFits}
-use Rattle.vspace_layout.specs.Frames.{frames, memory_number, memory_part, number_shown, own_part, register_part, shared_part}
-use Rattle.vspace_layout.specs.Given.{Given}
-use Rattle.vspace_layout.specs.Laid.{page, space, spaces_of, thread_place, window_at}
-use Rattle.vspace_layout.specs.MappedPages.{mapped_pages}
-use Rattle.vspace_layout.specs.Memory.{is_shared, leads_to, memory_pages, registers, same_port}
-use Rattle.vspace_layout.specs.PageLimits.{page_counts}
-use Rattle.vspace_layout.specs.Regions.{is_window, thread_regions, threads_of, window_pages, window_region, windows_of}
-use Rattle.vspace_layout.specs.SpaceLaws.{SectionsStand}
-use Rattle.vspace_layout.proofs.Few.{few_at, own_few, registers_few, shared_few}
-use Rattle.vspace_layout.proofs.Rising.{rising}
-use Rattle.vspace_layout.proofs.Standing.{frames_stand, own_port}
-use Rattle.vspace_layout.proofs.Laying.{length_threads}
-use Rattle.vspace_layout.proofs.MemoryNumbers.{position_found}
 use Rattle.spec_laws.proofs.Gathers.{ones_at, part_of_sum}
 use Rattle.spec_laws.proofs.Windows.{IsSeen, ShowsHere, pages_show, seen, seen_pages}
 

@@ -1,21 +1,6 @@
 -- What stands at the addresses of a space is what is mapped there
-use Rattle.std.proofs.Common.{◌≡◌, ◌<◌, ◌+◌, ◌*◌, ◌/◌, ℕ, zero, suc, Bool, List, [], ◌∷◌, map, Some, refl, sym, ◌∙◌, ap, subst, arith}
-use Rattle.std.specs.List.{slice_get}
-use Rattle.adl_meaning.specs.declared.flat.Domain.{Domain}
-use Rattle.cap_model.specs.declared.cap.Cap.{Cap}
-use Rattle.cam_base.proofs.Gathered.{in_place, place_of}
-use Rattle.page_tables.specs.Runs.{Rises}
-use Rattle.cap_model.specs.Lookup.{object_at}
-use Rattle.cam_base.proofs.NumberedLists.{get_map}
-use Rattle.system_spec.specs.declared.part.What.TheVariants.{FrameOf}
-use Rattle.system_spec.specs.Made.{spec_of}
-use Rattle.system_spec.specs.Parts.{place}
-use Rattle.system_spec.specs.Tables.{Tables}
-use Rattle.vspace_layout.specs.declared.mapped.MappedPage.{MappedPage}
-use Rattle.vspace_layout.specs.Frames.{number_shown}
-use Rattle.vspace_layout.specs.MappedPages.{mapped_pages}
-use Rattle.spec_laws.specs.CanMap.{CanMap}
-use Rattle.spec_laws.specs.Spaced.{ArePagesOf, IsAt, MapsPage, memory_rights, root_of, system}
+use Rattle.spec_laws.proofs.Common.{ArePagesOf, Bool, CanMap, Cap, Domain, FrameOf, IsAt, List, MappedPage, MapsPage, Rises, Some, Tables, [], ap, arith, get_map, in_place, map, mapped_pages, memory_rights, number_shown, object_at, place, place_of}
+use Rattle.spec_laws.proofs.Common.{refl, root_of, slice_get, spec_of, subst, suc, sym, system, zero, ℕ, ◌*◌, ◌+◌, ◌/◌, ◌<◌, ◌∙◌, ◌∷◌, ◌≡◌}
 use Rattle.spec_laws.proofs.Finding.{Found, finds, found, page_cap, rise, within}
 use Rattle.spec_laws.proofs.Framing.{frame_of_page}
 use Rattle.spec_laws.proofs.Members.{whole}

@@ -1,42 +1,14 @@
 -- Each thread's stack has a page, where no fault of settings stands.
-use Rattle.std.proofs.Common.{◌≡◌, ◌≤◌, ◌+◌, ◌*◌, ◌/◌, ℕ, Bool, true, false, ◌&&◌, cond, [], ◌∷◌, ◌++◌, Option, Some, None, option_map, unwrap_or, refl, sym, ◌∙◌, ap, subst, inl, inr, arith}
-use Rattle.std.specs.Prelude.{is_some, nat_le}
-use Rattle.std.specs.List.{flat_map, slice_get}
-use Rattle.std.specs.Option.{option_and_then, option_map_or}
-use Rattle.std.proofs.lemmas.Bool.{and_parts, leb-true}
-use Rattle.adl_ast.specs.declared.source.Source.{Source}
-use Rattle.adl_ast.specs.declared.value.Value.{Value}
-use Rattle.adl_hierarchy.proofs.Leading.{is_there}
-use Rattle.adl_meaning.specs.declared.flat.Domain.{Domain}
-use Rattle.adl_meaning.specs.declared.flat.Leaf.{Leaf}
-use Rattle.adl_meaning.specs.Domains.{domain_of, is_hardware}
-use Rattle.adl_meaning.specs.Flat.{domain_number, flat_of, leaf_of}
-use Rattle.adl_meaning.specs.Hierarchy.{hierarchy_of}
-use Rattle.adl_meaning.specs.Paths.{leaves}
+use Rattle.spec_laws.proofs.Common.{Bool, Domain, EndAt, Given, Images, IsIn, Leaf, LeafFound, None, Option, Some, Source, Value, [], and_parts, ap, arith, bad_in_connection, bad_in_leaf, bad_value, bad_values, cond, domain_number, domain_of, ends}
+use Rattle.spec_laws.proofs.Common.{ends_at, false, first_setting_fault, flat_map, flat_of, founds_in, from_flat_map, from_get_map, get_map, given, hierarchy_of, in_get, inl, inr, irqs_twice, is_hardware, is_some, is_there, leaf_found, leaf_of}
+use Rattle.spec_laws.proofs.Common.{leaf_owned, leaf_setting, leaf_threads, least-empty, leaves, leaves_found, leaves_of, leb-true, meant, missing_values, nat_le, none_in, none_left, none_right, number_in, option_and_then, option_map, option_map_or}
+use Rattle.spec_laws.proofs.Common.{priority_in, refl, server, serves, setting_faults, settled_of, slice_get, so, stack_in, stack_pages, subst, sym, thread, threads_of, true, unwrap_or, value_faults, whole_pages, within, ℕ, ◌&&◌, ◌*◌, ◌++◌, ◌+◌, ◌/◌}
+use Rattle.spec_laws.proofs.Common.{◌∙◌, ◌∷◌, ◌≡◌, ◌≤◌}
 use Rattle.adl_meaning.specs.Values.{Given as Value_given}
-use Rattle.adl_meaning.proofs.Least.{least-empty}
-use Rattle.adl_settings.specs.Allowed.{number_in, priority_in, stack_in, whole_pages, within}
 use Rattle.adl_settings.specs.BadgeTwice.{badges_twice}
-use Rattle.adl_settings.specs.BadValue.{bad_in_connection, bad_in_leaf, bad_values}
 use Rattle.adl_settings.specs.DeviceOverlap.{overlaps}
-use Rattle.adl_settings.specs.IrqTwice.{irqs_twice}
-use Rattle.adl_settings.specs.Joints.{founds_in}
-use Rattle.adl_settings.specs.Meant.{bad_value, meant}
-use Rattle.adl_settings.specs.Missing.{missing_values}
-use Rattle.adl_settings.specs.SettingFaults.{first_setting_fault, setting_faults, value_faults}
 use Rattle.adl_settings.specs.SettingTwice.{settings_twice}
-use Rattle.adl_settings.specs.Settled.{LeafFound, leaf_found, leaf_setting, leaves_found, settled_of}
-use Rattle.adl_hierarchy.proofs.Lists.{in_get}
-use Rattle.cam_base.proofs.NumberedLists.{from_flat_map, get_map, none_in, none_left, none_right, from_get_map}
-use Rattle.flat_laws.proofs.FlatLeaves.{leaf_owned}
-use Rattle.flat_laws.proofs.TypedEnds.{so}
-use Rattle.cspace_layout.specs.declared.end_at.EndAt.{EndAt}
-use Rattle.cam_base.specs.Gather.{IsIn}
-use Rattle.source_images.specs.declared.images.Images.{Images}
 use Rattle.vspace_layout.specs.declared.thread.ThreadOf.{ThreadOf}
-use Rattle.vspace_layout.specs.Given.{Given, ends, given, leaves_of}
-use Rattle.vspace_layout.specs.Regions.{stack_pages, threads_of}
-use Rattle.vspace_layout.specs.Threads.{ends_at, leaf_threads, server, serves, thread}
 
 -- ---- threads are of leaves of their domain
 

@@ -1,18 +1,7 @@
 -- Settled stacks are whole pages.
-use Rattle.std.proofs.Common.{◌≡◌, ◌%◌, ℕ, Bool, true, false, ◌&&◌, cond, Option, Some, None, option_map, unwrap_or, subst, arith}
-use Rattle.std.specs.Prelude.{nat_le}
-use Rattle.std.specs.List.{slice_get}
-use Rattle.std.specs.Option.{option_and_then}
-use Rattle.std.proofs.lemmas.Bool.{cond_both}
-use Rattle.adl_ast.specs.declared.source.Source.{Source}
-use Rattle.adl_meaning.specs.declared.settled.LeafSetting.{LeafSetting}
-use Rattle.adl_meaning.specs.Flat.{flat_of}
-use Rattle.adl_meaning.specs.Hierarchy.{hierarchy_of}
+use Rattle.spec_laws.proofs.Common.{Bool, LeafFound, LeafSetting, None, Option, Some, Source, arith, cond, cond_both, false, flat_of, from_get_map, hierarchy_of, leaf_setting, leaves_found, meant, nat_le, number_in, option_and_then, option_map}
+use Rattle.spec_laws.proofs.Common.{settled_of, slice_get, stack_in, subst, true, unwrap_or, whole_pages, within, ℕ, ◌%◌, ◌&&◌, ◌≡◌}
 use Rattle.adl_meaning.specs.Values.{Given}
-use Rattle.adl_settings.specs.Allowed.{number_in, stack_in, whole_pages, within}
-use Rattle.adl_settings.specs.Meant.{meant}
-use Rattle.adl_settings.specs.Settled.{LeafFound, leaf_setting, leaves_found, settled_of}
-use Rattle.cam_base.proofs.NumberedLists.{from_get_map}
 
 sized_whole : (n : ℕ) → unwrap_or (option_map whole_pages (within 1 16777216 n)) 0 % 4096 ≡ 0
 sized_whole n = by_test (nat_le 1 n && nat_le n 16777216)

@@ -1,39 +1,14 @@
 -- A space has a table of a level for an address exactly where a page is mapped under it, and tables have their domain's label
-use Rattle.std.proofs.Common.{◌≡◌, ◌<◌, ◌+◌, ◌*◌, ◌/◌, ◌∙◌, ◌↔◌, ℕ, zero, suc, List, [], ◌∷◌, ◌++◌, map, drop, length, Some, refl, sym, ap, subst, inl, inr, append_assoc, arith}
-use Rattle.std.proofs.Math.Nat.{div-div-eq-div-mul, mul-div_cancel, mul-one, mul_assoc}
-use Rattle.std.specs.List.{slice_get}
-use Rattle.adl_meaning.specs.declared.flat.Domain.{Domain}
+use Rattle.spec_laws.proofs.Common.{AreShapes, AreStacked, AreTableLabels, AreTables, AreTablesOf, Arrives, CanMap, Domain, IsIn, IsOf, List, Mapping, Object, Shape, Some, TableOf, Tables, [], above, all_tables, ap, append_assoc, arch, arith}
+use Rattle.spec_laws.proofs.Common.{arrives, as_many, at_place, before, below, div-div-eq-div-mul, domain_tables, drop, from_gather, from_map, head_of, heads, in_gather, in_map, in_place, in_runs, inl, inr, labels_of, layers, length, level_of, map}
+use Rattle.spec_laws.proofs.Common.{mapped_pages, mul-div_cancel, mul-one, mul_assoc, objects_from, one_table, page_table, place, place_of, refl, root_of, root_span, runs, shapes, shapes_fit, shapes_stack, sizes, slice_get, span, span_some, spec_of}
+use Rattle.spec_laws.proofs.Common.{subst, suc, sym, system, table_of, table_part, tables_at, tables_counted, tables_exact, upper, upper_below, uppers, zero, ℕ, ◌*◌, ◌++◌, ◌+◌, ◌/◌, ◌<◌, ◌↔◌, ◌∙◌, ◌∷◌, ◌≡◌}
 use Rattle.arch_policy.specs.declared.owner.Owner.TheVariants as owners
-use Rattle.cap_model.specs.declared.object.Object.{Object}
-use Rattle.cam_base.specs.Gather.{IsIn, before}
-use Rattle.cam_base.proofs.Gathered.{from_gather, in_gather, in_place, place_of}
-use Rattle.cam_base.proofs.NumberedLists.{at_place, below, from_map, in_map}
-use Rattle.page_tables.specs.declared.mapping.Mapping.{Mapping}
-use Rattle.page_tables.specs.declared.shape.Shape.{Shape}
-use Rattle.page_tables.specs.Fits.{AreShapes}
-use Rattle.page_tables.specs.Levels.{layers, numbered, sizes, table_of, upper, uppers}
-use Rattle.page_tables.specs.Runs.{head_of, heads, runs}
-use Rattle.page_tables.specs.Shapes.{AreStacked, shapes, span}
-use Rattle.page_tables.specs.Walks.{Arrives, root_span}
-use Rattle.page_tables.proofs.Fitting.{shapes_fit, shapes_stack, span_some}
-use Rattle.page_tables.proofs.Leveled.{as_many}
-use Rattle.page_tables.proofs.Rooting.{upper_below}
-use Rattle.page_tables.proofs.Running.{in_runs, one_table, tables_exact}
-use Rattle.page_tables.proofs.Walking.{above, arrives}
-use Rattle.system_spec.specs.declared.part.What.TheVariants.{TableOf}
-use Rattle.system_spec.specs.Made.{labels_of, spec_of}
-use Rattle.system_spec.specs.Parts.{all_tables, domain_tables, level_of, page_table, place, table_part, tables_at}
-use Rattle.system_spec.specs.Tables.{Tables, arch}
-use Rattle.vspace_layout.specs.MappedPages.{mapped_pages}
-use Rattle.spec_laws.specs.CanMap.{CanMap}
-use Rattle.spec_laws.specs.Imaged.{AreTables}
-use Rattle.spec_laws.specs.Labelled.{AreTableLabels, IsOf}
-use Rattle.spec_laws.specs.Spaced.{AreTablesOf, objects_from, root_of, system}
+use Rattle.page_tables.specs.Levels.{numbered}
 use Rattle.spec_laws.proofs.Finding.{from_maps, in_maps, mapping, maps, maps_below, some_map}
 use Rattle.spec_laws.proofs.Labels.{label_is, moved}
 use Rattle.spec_laws.proofs.Paging.{is_mapped, mapped_is}
 use Rattle.spec_laws.proofs.Rooted.{frames_from, from_root, table_in, tables_of_domain}
-use Rattle.system_spec.proofs.Domains.{tables_counted}
 
 -- ---- levels above others
 

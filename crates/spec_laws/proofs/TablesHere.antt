@@ -1,39 +1,10 @@
 -- What the page tables of a domain hold: tables of the same domain, and its pages; and that each of its pages is held.
-use Rattle.std.proofs.Common.{◌≡◌, ◌+◌, ◌⊎◌, ◌∙◌, ◌^◌, ℕ, List, [], ◌∷◌, map, Option, Some, None, refl, sym, ap, subst, inl, inr, arith}
-use Rattle.std.specs.List.{Contains, slice_get}
-use Rattle.std.proofs.lemmas.Option.{slice_get_within}
-use Rattle.adl_meaning.specs.declared.flat.Domain.{Domain}
-use Rattle.arch_policy.specs.Tables.{domain_label}
-use Rattle.cap_model.specs.ObjectLabels.{label_of}
+use Rattle.spec_laws.proofs.Common.{Aarch64, Arch, Arm11, Cap, Contains, Directory, Domain, FrameOf, Global, InTable, IsIn, IsThere, Level, List, Mapping, None, Object, Option, Page, Shape, Some, Table, TableOf, Tables, Upper, [], ap, arch, arith}
+use Rattle.spec_laws.proofs.Common.{at_contains, at_place, contains_at, domain_label, from_map, in_map, in_place, in_tables, inl, inr, label_of, linked_none, map, object, object_at, object_there, page_mapping, page_rights, pages_at, place, place_of}
+use Rattle.spec_laws.proofs.Common.{policy_tables, refl, shape, shapes, slice_get, slice_get_within, slot_of, slots_lead, spec_of, subst, sym, tables_at, tables_of, ℕ, ◌+◌, ◌^◌, ◌∙◌, ◌∷◌, ◌≡◌, ◌⊎◌}
 use Rattle.cap_model.specs.Auth.{table_of as slots_of}
-use Rattle.cap_model.specs.Lookup.{object_at}
-use Rattle.cap_model.specs.declared.cap.Cap.{Cap}
-use Rattle.cap_model.specs.declared.level.Arch.{Arch}
-use Rattle.cap_model.specs.declared.level.Arch.TheVariants.{Arm11, Aarch64}
-use Rattle.cap_model.specs.declared.level.Level.{Level}
-use Rattle.cap_model.specs.declared.level.Level.TheVariants.{Global, Upper, Directory, Table}
-use Rattle.cap_model.specs.declared.object.Object.{Object}
 use Rattle.cap_model.specs.declared.object.Object.TheVariants as objects
-use Rattle.cap_model.proofs.BootPlaces.{at_contains, contains_at}
-use Rattle.cam_base.specs.Gather.{IsIn}
-use Rattle.cam_base.proofs.Gathered.{in_place, place_of}
-use Rattle.cam_base.proofs.NumberedLists.{at_place, from_map, in_map}
-use Rattle.page_tables.specs.declared.mapping.Mapping.{Mapping}
-use Rattle.page_tables.specs.declared.shape.Shape.{Shape}
-use Rattle.page_tables.specs.Levels.{slot_of, tables_of}
-use Rattle.page_tables.specs.Shapes.{shape, shapes}
-use Rattle.page_tables.proofs.Children.{linked_none, slots_lead}
-use Rattle.page_tables.proofs.Leveled.{in_tables}
-use Rattle.reach_laws.specs.Windows.{InTable}
 use Rattle.spec_laws.proofs.TablesKept.{moved, object_is, stands_there, standing}
-use Rattle.system_spec.proofs.There.{IsThere, object_there}
-use Rattle.system_spec.specs.declared.part.What.TheVariants.{FrameOf, TableOf}
-use Rattle.system_spec.specs.Made.{spec_of}
-use Rattle.system_spec.specs.Objects.{object}
-use Rattle.system_spec.specs.Parts.{page_mapping, page_rights, place, tables_at}
-use Rattle.system_spec.specs.Tables.{Tables, arch, pages_at}
-use Rattle.vspace_layout.specs.declared.spaces.Page.{Page}
-use Rattle.spec_laws.specs.Policy.{policy_tables}
 use Rattle.spec_laws.proofs.Whose.{IsAt, label_there, labels, object_stands, of_pages}
 
 module _ (t : Tables) where

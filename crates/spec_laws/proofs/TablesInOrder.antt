@@ -1,54 +1,15 @@
 -- Each page table is one that some page needs, and tables of a level stand by domain and address
-use Rattle.std.proofs.Common.{◌≡◌, ◌<◌, ◌≤◌, ◌+◌, ◌-◌, ◌/◌, ◌∙◌, ℕ, zero, suc, Bool, true, false, cond, take, List, [], ◌∷◌, ◌++◌, map, drop, length, Option, Some, None, refl, sym, ap, subst, inl, inr, append_assoc, arith}
-use Rattle.std.proofs.Math.Nat.{mul-le-mul_right}
-use Rattle.std.proofs.lemmas.Bool.{cases_lt, eq-eqb, eqb-true}
-use Rattle.std.specs.List.{count_by, slice_get}
-use Rattle.std.specs.Option.{option_map_or}
-use Rattle.adl_meaning.specs.declared.flat.Domain.{Domain}
-use Rattle.cap_model.specs.declared.cap.Cap.{Cap}
+use Rattle.spec_laws.proofs.Common.{AreShapes, AreStacked, AreTablesInOrder, Arrives, Ascends, Bool, CNodeOf, CanMap, Cap, Directory, Domain, EndpointOf, FrameInfo, FrameOf, Global, IrqOf, IsBefore, IsIn, IsNamed, IsTableFor, IsTableOfSpace, IsThere}
+use Rattle.spec_laws.proofs.Common.{Level, List, LockOf, MappedPage, Mapping, None, NotificationOf, Object, Option, Page, PageTable, Rises, Shape, Some, Table, TableOf, Tables, ThreadOf, ThreadPlace, Upper, What, [], above, all_tables, ap}
+use Rattle.spec_laws.proofs.Common.{append_assoc, arch, arith, arrives, as_many, at_place, before, below, cases_lt, cond, count_by, domain_tables, drop, eq-eqb, eqb-true, false, first_of, frame_object, from_ones, from_place, from_runs, gather}
+use Rattle.spec_laws.proofs.Common.{gather_ones, gathered, get_ones, head_of, heads, in_place, inl, inr, is_of, kind_of_object, layers, length, level_number, level_of, level_series, map, mapped_pages, mul-le-mul_right, name_at, name_of, object}
+use Rattle.spec_laws.proofs.Common.{object_at, object_there, objects_from, objects_stand, of_level, one_table, option_map_or, page_mapping, page_table, parts, place, place_is, refl, root_of, root_span, runs, shapes, shapes_fit, shapes_stack, sizes}
+use Rattle.spec_laws.proofs.Common.{slice_get, span, span_some, spec_of, subst, suc, sym, system, table_of, table_part, tables_at, tables_counted, tables_rise, take, tcb, threads_at, true, upper, upper_below, uppers, zero, ℕ, ◌++◌, ◌+◌, ◌-◌, ◌/◌}
+use Rattle.spec_laws.proofs.Common.{◌<◌, ◌∙◌, ◌∷◌, ◌≡◌, ◌≤◌}
 use Rattle.cap_model.specs.declared.kind.Kind.TheVariants as kinds
-use Rattle.cap_model.specs.declared.level.Level.{Level}
-use Rattle.cap_model.specs.declared.level.Level.TheVariants.{Directory, Global, Table, Upper}
-use Rattle.cap_model.specs.declared.object.Object.{Object}
 use Rattle.cap_model.specs.declared.object.Object.TheVariants as objects
-use Rattle.cap_model.specs.Kinds.{kind_of_object}
-use Rattle.cap_model.specs.Lookup.{name_at, object_at}
-use Rattle.cam_base.specs.Gather.{IsIn, before, gather}
-use Rattle.cam_base.proofs.Gathered.{from_ones, from_place, gather_ones, gathered, get_ones, in_place}
-use Rattle.cam_base.proofs.NumberedLists.{at_place, below}
-use Rattle.page_tables.specs.declared.mapping.Mapping.{Mapping}
-use Rattle.page_tables.specs.declared.shape.Shape.{Shape}
-use Rattle.page_tables.specs.Fits.{AreShapes}
-use Rattle.page_tables.specs.Levels.{layers, numbered, sizes, table_of, upper, uppers}
-use Rattle.page_tables.specs.Runs.{Ascends, Rises, head_of, heads, runs}
-use Rattle.page_tables.specs.Shapes.{AreStacked, shapes, span}
-use Rattle.page_tables.specs.Walks.{Arrives, root_span}
-use Rattle.page_tables.proofs.Fitting.{shapes_fit, shapes_stack, span_some}
-use Rattle.page_tables.proofs.Leveled.{as_many}
-use Rattle.page_tables.proofs.Rooting.{upper_below}
-use Rattle.page_tables.proofs.Running.{from_runs, one_table, tables_rise}
-use Rattle.page_tables.proofs.Walking.{above, arrives}
-use Rattle.system_spec.specs.declared.part.PageTable.{PageTable}
-use Rattle.system_spec.specs.declared.part.What.{What}
-use Rattle.system_spec.specs.declared.part.What.TheVariants.{CNodeOf, EndpointOf, FrameOf, IrqOf, LockOf, NotificationOf, TableOf, ThreadOf}
-use Rattle.system_spec.specs.Made.{spec_of}
-use Rattle.system_spec.specs.Objects.{frame_object, object, tcb}
-use Rattle.system_spec.specs.Parts.{all_tables, domain_tables, first_of, is_of, level_number, level_of, of_level, page_mapping, page_table, parts, place, table_part, tables_at}
-use Rattle.system_spec.specs.Names.{level_series, name_of}
-use Rattle.system_spec.specs.Tables.{Tables, arch, threads_at}
-use Rattle.system_spec.proofs.Domains.{tables_counted}
-use Rattle.system_spec.proofs.Objects.{objects_stand}
-use Rattle.system_spec.proofs.Standing.{place_is}
-use Rattle.system_spec.proofs.There.{IsThere, object_there, there as part_is_there}
-use Rattle.vspace_layout.specs.declared.mapped.MappedPage.{MappedPage}
-use Rattle.vspace_layout.specs.declared.spaces.FrameInfo.{FrameInfo}
-use Rattle.vspace_layout.specs.declared.spaces.Page.{Page}
-use Rattle.vspace_layout.specs.declared.spaces.ThreadPlace.{ThreadPlace}
-use Rattle.vspace_layout.specs.MappedPages.{mapped_pages}
-use Rattle.spec_laws.specs.CanMap.{CanMap}
-use Rattle.spec_laws.specs.Ordered.{AreTablesInOrder, IsBefore, IsTableOfSpace}
-use Rattle.spec_laws.specs.Slotted.{IsNamed}
-use Rattle.spec_laws.specs.Spaced.{IsTableFor, objects_from, root_of, system}
+use Rattle.page_tables.specs.Levels.{numbered}
+use Rattle.system_spec.proofs.There.{there as part_is_there}
 use Rattle.spec_laws.proofs.Blocks.{behind}
 use Rattle.spec_laws.proofs.Finding.{laid_page, maps, maps_below, pages_are, rise, some_map}
 use Rattle.spec_laws.proofs.Kinding.{series_kind, table_kind}

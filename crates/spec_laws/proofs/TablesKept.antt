@@ -1,48 +1,15 @@
 -- Page tables hold frames and tables of the next level, each in a slot of its own, and the root of a space stands first.
-use Rattle.std.proofs.Common.{◌≡◌, ◌<◌, ◌+◌, ◌^◌, ℕ, Bool, true, false, ◌&&◌, List, [], ◌∷◌, length, map, refl, sym, ◌∙◌, ap, subst, Some, inl, inr, arith}
-use Rattle.std.specs.Prelude.{nat_lt, ◌/◌, ◌%◌}
-use Rattle.std.specs.List.{list_all, slice_get}
-use Rattle.std.specs.Option.{option_map_or}
-use Rattle.std.proofs.Math.Nat.{div-add-mod}
-use Rattle.std.proofs.lemmas.Bool.{and_from, lt-ltb, eq-eqb}
-use Rattle.std.proofs.lemmas.Option.{get_or_from_slice_get, slice_get_within}
-use Rattle.adl_meaning.specs.declared.flat.Domain.{Domain}
-use Rattle.cap_model.specs.declared.cap.Cap.{Cap}
+use Rattle.spec_laws.proofs.Common.{Aarch64, Arch, Arm11, Bool, Cap, Directory, Domain, FrameOf, Global, IsChild, IsFit, IsIn, IsThere, Layer, Level, List, Mapping, NONE, Object, Page, Rights, Rises, Some, Table, TableOf, Tables, Upper, [], and_from}
+use Rattle.spec_laws.proofs.Common.{ap, arch, arith, at_place, cap, child, div-add-mod, eq-eqb, false, fits_as, frame_object, from_map, get_or_from_slice_get, in_append, in_place, inl, inr, is_root_object, is_space_root, keeps, keeps_table}
+use Rattle.spec_laws.proofs.Common.{kept_rise, kind_number, kind_of_object, kind_rights, layers, length, list_all, lt-ltb, map, nat_lt, object, object_there, option_map_or, page_mapping, page_rights, pages_at, place, refl, rise, root_first}
+use Rattle.spec_laws.proofs.Common.{root_span, shape, shape_of_layer, shapes, shapes_are_sized, size, sizes, slice_get, slice_get_within, slot_of, slots_below, slots_lead, spec_of, subst, sym, table_of, tables_at, tables_counted, tables_of, true, ℕ}
+use Rattle.spec_laws.proofs.Common.{◌&&◌, ◌+◌, ◌<◌, ◌^◌, ◌∙◌, ◌∷◌, ◌≡◌}
+use Rattle.std.specs.Prelude.{◌/◌, ◌%◌}
 use Rattle.cap_model.specs.declared.kind.Kind.TheVariants as kinds
-use Rattle.cap_model.specs.declared.level.Arch.{Arch}
-use Rattle.cap_model.specs.declared.level.Arch.TheVariants.{Arm11, Aarch64}
-use Rattle.cap_model.specs.declared.level.Level.{Level}
-use Rattle.cap_model.specs.declared.level.Level.TheVariants.{Global, Upper, Directory, Table}
-use Rattle.cap_model.specs.declared.object.Object.{Object}
 use Rattle.cap_model.specs.declared.object.Object.TheVariants as objects
-use Rattle.cap_model.specs.declared.rights.Rights.{Rights}
-use Rattle.cap_model.specs.Kept.{fits_as, keeps, keeps_table, rise, within}
-use Rattle.cap_model.specs.Kinds.{is_root_object, is_space_root, kind_number, kind_of_object, kind_rights}
-use Rattle.cap_model.specs.Levels.{child, size}
-use Rattle.conn_rules.specs.Row.{NONE}
-use Rattle.cam_base.specs.Gather.{IsIn}
-use Rattle.cam_base.proofs.Gathered.{in_append, in_place}
-use Rattle.cam_base.proofs.NumberedLists.{at_place, from_map}
-use Rattle.page_tables.proofs.Children.{slots_lead}
-use Rattle.page_tables.proofs.Fitting.{shapes_are_sized}
-use Rattle.page_tables.proofs.Rising.{kept_rise, slots_below, shape_of_layer}
-use Rattle.page_tables.proofs.Rooting.{root_first}
-use Rattle.page_tables.specs.declared.layer.Layer.{Layer}
-use Rattle.page_tables.specs.declared.mapping.Mapping.{Mapping}
-use Rattle.page_tables.specs.Levels.{IsChild, layers, numbered, sizes, slot_of, table_of, tables_of}
-use Rattle.page_tables.specs.Runs.{Rises}
-use Rattle.page_tables.specs.Shapes.{shape, shapes}
-use Rattle.page_tables.specs.Walks.{root_span}
-use Rattle.system_spec.specs.declared.part.What.TheVariants.{FrameOf, TableOf}
-use Rattle.system_spec.specs.Made.{spec_of}
-use Rattle.system_spec.specs.Objects.{cap, frame_object, object}
-use Rattle.system_spec.specs.Parts.{page_mapping, page_rights, place, tables_at}
-use Rattle.system_spec.specs.Tables.{Tables, arch, pages_at}
-use Rattle.vspace_layout.specs.declared.spaces.Page.{Page}
-use Rattle.spec_laws.specs.Fit.{IsFit}
-use Rattle.system_spec.proofs.There.{IsThere, object_there}
+use Rattle.cap_model.specs.Kept.{within}
+use Rattle.page_tables.specs.Levels.{numbered}
 use Rattle.spec_laws.proofs.CapsFit.{all_pass, fits_as_of}
-use Rattle.system_spec.proofs.Domains.{tables_counted}
 
 -- ---- what tables are
 

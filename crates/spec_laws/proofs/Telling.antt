@@ -1,20 +1,8 @@
 -- No two parts have one name.
-use Rattle.std.proofs.Common.{◌≡◌, ◌<◌, ◌+◌, ◌^◌, ℕ, zero, suc, Bool, true, false, not, List, [], ◌∷◌, length, map, take, refl, sym, ◌∙◌, ap, subst, Some, arith}
-use Rattle.std.proofs.lemmas.Option.{same_Some}
-use Rattle.std.specs.List.{flat_map, list_any, slice_get}
-use Rattle.std.specs.Str.{bytes_eq}
-use Rattle.std.proofs.lemmas.Bool.{and_from, or_from, not_from_false, false_from_ne_true}
-use Rattle.std.proofs.lemmas.Slice.Eq.{bytes_eq-Decides}
-use Rattle.cap_model.specs.declared.spec.Entry.{Entry}
-use Rattle.cap_model.specs.Kept.{differ, names_differ}
-use Rattle.cam_base.specs.Gather.{IsIn}
-use Rattle.cam_base.proofs.Gathered.{place_of}
-use Rattle.system_spec.specs.declared.part.Part.{Part}
-use Rattle.system_spec.specs.Made.{entry, part_name, spec_of}
-use Rattle.system_spec.specs.Parts.{parts, sections}
-use Rattle.system_spec.specs.Tables.{Tables}
+use Rattle.spec_laws.proofs.Common.{Bool, Entry, IsIn, List, Part, Some, Tables, [], and_from, ap, arith, bytes_eq, bytes_eq-Decides, differ, entry, false, false_from_ne_true, flat_map, length, list_any, map, names_differ, not, not_from_false}
+use Rattle.spec_laws.proofs.Common.{or_from, part_name, parts, place_of, rank, refl, same_Some, sections, slice_get, spec_of, subst, suc, sym, take, true, zero, ℕ, ◌+◌, ◌<◌, ◌^◌, ◌∙◌, ◌∷◌, ◌≡◌}
 use Rattle.spec_laws.proofs.Names.{same_number, same_series}
-use Rattle.spec_laws.proofs.Sections.{in_section, rank, told}
+use Rattle.spec_laws.proofs.Sections.{Told, in_section, told, told_place}
 
 -- ---- a list with no two equal
 
@@ -37,14 +25,17 @@ apart {X} same (x ∷ xs) h =
 -- ---- names
 
 module _ (t : Tables) (few : length t.flat.connections < 2 ^ 32) (all : length (parts t) < 2 ^ 32) where
+  section_told : (n : ℕ) (s : List Part) → slice_get (sections t) n ≡ Some s → Told s rank n (2 ^ 32)
+  section_told = told t (2 ^ 32) (omega (arith, few)) (omega (arith, all))
+
   -- parts' names tell their places
   pub names_tell : (m n : ℕ) (p q : Part) → slice_get (parts t) m ≡ Some p → slice_get (parts t) n ≡ Some q
       → part_name p ≡ part_name q → m ≡ n
   names_tell m n p q e f same =
       let a = in_section (sections t) m p e in
       let b = in_section (sections t) n q f in
-      let ta = told t few all a.section a.list a.is in
-      let tb = told t few all b.section b.list b.is in
+      let ta = section_told a.section a.list a.is in
+      let tb = section_told b.section b.list b.is in
       let s = same_series p.series q.series p.number q.number same in
       let la = ta.number a.place p a.stands in
       let lb = tb.number b.place q b.stands in
@@ -52,7 +43,8 @@ module _ (t : Tables) (few : length t.flat.connections < 2 ^ 32) (all : length (
       let section : b.section ≡ a.section = sym (tb.series b.place q b.stands) ∙ ap rank (sym s) ∙ ta.series a.place p a.stands in
       let list : b.list ≡ a.list = same_Some _ _ (sym b.is ∙ ap (λ z. slice_get (sections t) z) section ∙ a.is) in
       let place : a.place ≡ b.place =
-      ta.place a.place b.place p q a.stands (subst (λ (z : List Part). slice_get z b.place ≡ Some q) list b.stands) s k in
+      told_place a.list rank a.section (2 ^ 32) ta a.place b.place p q a.stands
+      (subst (λ (z : List Part). slice_get z b.place ≡ Some q) list b.stands) s k in
       a.sum ∙ ap (λ z. length (flat_map (λ z. z) (take z (sections t))) + a.place) (sym section)
       ∙ ap (λ z. length (flat_map (λ z. z) (take b.section (sections t))) + z) place ∙ sym b.sum
 
@@ -61,7 +53,7 @@ module _ (t : Tables) (few : length t.flat.connections < 2 ^ 32) (all : length (
   number_few p i =
       let m = place_of p (parts t) i in
       let a = in_section (sections t) m.0 p m.1 in
-      (told t few all a.section a.list a.is).number a.place p a.stands
+      (section_told a.section a.list a.is).number a.place p a.stands
 
   names_apart : differ bytes_eq (map part_name (parts t)) ≡ true
   names_apart = apart bytes_eq (map part_name (parts t)) (λ m n x y e f s.

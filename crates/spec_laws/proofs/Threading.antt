@@ -1,41 +1,12 @@
 -- Thread lines and threads are one to one
-use Rattle.std.proofs.Common.{◌≡◌, ℕ, List, [], Option, Some, None, refl, sym, ◌∙◌, ap, subst, arith}
-use Rattle.std.specs.List.{slice_get}
-use Rattle.std.specs.Option.{option_map_or}
-use Rattle.adl_meaning.specs.declared.flat.Domain.{Domain}
-use Rattle.adl_meaning.specs.declared.flat.Leaf.{Leaf}
-use Rattle.adl_meaning.specs.declared.settled.LeafSetting.{LeafSetting}
-use Rattle.arch_policy.specs.declared.owner.Owner.TheVariants.{OfDomain}
+use Rattle.spec_laws.proofs.Common.{AreThreads, AreThreadsNumbered, CNodeOf, CanMap, Domain, EndAt, HasThread, Image, IsIn, IsThreadOf, Leaf, LeafSetting, List, None, OfDomain, Option, Part, Some, Space, Spaces, Tables, Tcb, ThreadLine, ThreadPlace}
+use Rattle.spec_laws.proofs.Common.{[], ap, arith, at_place, component_name, ends, entry_in, from_ones, in_place, leaves_of, map_lines, name_at, object_at, objects_stand, option_map_or, part, parts, place, place_is, place_of, refl, root_of}
+use Rattle.spec_laws.proofs.Common.{slice_get, space, spec_of, stands, subst, sym, system, tcb, thread, thread_place, threads_at, threads_of, ℕ, ◌∙◌, ◌≡◌}
 use Rattle.cap_model.specs.declared.object.Object.TheVariants as objects
-use Rattle.cap_model.specs.declared.object.Tcb.{Tcb}
-use Rattle.cap_model.specs.Lookup.{name_at, object_at}
-use Rattle.cspace_layout.specs.declared.end_at.EndAt.{EndAt}
-use Rattle.cam_base.specs.Gather.{IsIn}
-use Rattle.cam_base.proofs.Gathered.{from_ones, in_place, place_of}
-use Rattle.cam_base.proofs.NumberedLists.{at_place}
-use Rattle.sect_table.specs.declared.image.Image.{Image}
-use Rattle.system_spec.specs.declared.map_line.MapLine.TheVariants.{ThreadLine}
-use Rattle.system_spec.specs.declared.part.Part.{Part}
-use Rattle.system_spec.specs.declared.part.What.TheVariants.{CNodeOf, ThreadOf as OfThread}
+use Rattle.system_spec.specs.declared.part.What.TheVariants.{ThreadOf as OfThread}
 use Rattle.system_spec.specs.declared.series.Series.TheVariants as series
-use Rattle.system_spec.specs.Made.{spec_of}
-use Rattle.system_spec.specs.MapLines.{map_lines}
-use Rattle.system_spec.specs.Objects.{tcb}
-use Rattle.system_spec.specs.Parts.{part, parts, place}
-use Rattle.system_spec.specs.Tables.{Tables, component_name, entry_in, threads_at}
-use Rattle.system_spec.proofs.Objects.{objects_stand}
-use Rattle.system_spec.proofs.Standing.{place_is, stands}
-use Rattle.vspace_layout.specs.declared.spaces.Space.{Space}
-use Rattle.vspace_layout.specs.declared.spaces.Spaces.{Spaces}
-use Rattle.vspace_layout.specs.declared.spaces.ThreadPlace.{ThreadPlace}
 use Rattle.vspace_layout.specs.declared.thread.ThreadOf.{ThreadOf}
-use Rattle.vspace_layout.specs.Given.{ends, leaves_of}
-use Rattle.vspace_layout.specs.Laid.{space, thread_place}
-use Rattle.vspace_layout.specs.Regions.{threads_of}
-use Rattle.vspace_layout.specs.Threads.{domain_threads as threads_in, thread}
-use Rattle.spec_laws.specs.CanMap.{CanMap}
-use Rattle.spec_laws.specs.Spaced.{root_of, system}
-use Rattle.spec_laws.specs.Threaded.{AreThreads, AreThreadsNumbered, HasThread, IsThreadOf}
+use Rattle.vspace_layout.specs.Threads.{domain_threads as threads_in}
 use Rattle.spec_laws.proofs.Locks.{part_there}
 use Rattle.spec_laws.proofs.Paging.{has_domain}
 use Rattle.spec_laws.proofs.SlotLists.{some}

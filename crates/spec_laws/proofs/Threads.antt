@@ -1,51 +1,14 @@
 -- Threads and their lines
-use Rattle.std.proofs.Common.{◌≡◌, ◌+◌, ℕ, Bool, true, false, cond, List, [], ◌∷◌, ◌++◌, length, Option, Some, None, refl, sym, ◌∙◌, ap, subst, inl, inr, arith}
-use Rattle.std.specs.List.{flat_map, slice_get}
-use Rattle.std.specs.Option.{option_map_or}
-use Rattle.adl_ast.specs.declared.composition.Role.{Role}
-use Rattle.adl_ast.specs.declared.composition.Role.TheVariants.{From, To}
-use Rattle.adl_meaning.specs.declared.connector.Connector.{Connector}
-use Rattle.adl_meaning.specs.declared.connector.Connector.TheVariants.{Rpc, Notification, SharedMemory, Mmio, Interrupt, Direct}
-use Rattle.adl_meaning.specs.declared.flat.Domain.{Domain}
-use Rattle.adl_meaning.specs.declared.flat.FlatConnection.{FlatConnection}
-use Rattle.adl_meaning.specs.declared.flat.FlatEnd.{FlatEnd}
-use Rattle.adl_meaning.specs.declared.flat.Leaf.{Leaf}
-use Rattle.arch_policy.specs.declared.owner.Owner.TheVariants.{OfDomain}
+use Rattle.spec_laws.proofs.Common.{Bool, CanMap, Connector, Direct, Domain, DomainLine, EndAt, FlatConnection, FlatEnd, From, Handler, HasThread, Interrupt, IsIn, Leaf, List, MapLine, Mmio, None, Notification, OfDomain, OfEnd, Option, OwnLock}
+use Rattle.spec_laws.proofs.Common.{Owned, Part, Role, Rpc, Serves, SharedMemory, SlotUse, Some, Space, Spaces, Tables, ThreadLine, ThreadPlace, To, [], ap, arith, before, cond, domain_lines, domain_slots, domain_tcbs, domain_threads, domain_windows}
+use Rattle.spec_laws.proofs.Common.{end_rule, ends, ends_at, false, flat_map, from_flat_map, from_gather, from_ones, gather, gather_ones, gathered, get_ones, in_append, in_flat_map, in_gather, in_left, in_right, in_together, inl, inr, is_called}
+use Rattle.spec_laws.proofs.Common.{leaf_members, leaf_threads, leaves_of, length, map_lines, numbered, object_at, objects_stand, option_map_or, owned, part, parts, place, refl, sections, server, serves, single, slice_get, slot_line, slot_lines}
+use Rattle.spec_laws.proofs.Common.{space, spec_of, subst, sym, system, tcb, tcbs, thread, thread_line, thread_lines, thread_place, threads_at, threads_of, true, use_cap, uses_at, window_line, window_lines, windows_at, ℕ, ◌++◌, ◌+◌, ◌∙◌, ◌∷◌, ◌≡◌}
 use Rattle.cap_model.specs.declared.object.Object.TheVariants as objects
-use Rattle.cap_model.specs.Lookup.{object_at}
-use Rattle.conn_rules.specs.Ends.{end_rule}
-use Rattle.cspace_layout.specs.declared.plan.SlotUse.{SlotUse}
-use Rattle.cspace_layout.specs.declared.plan.SlotUse.TheVariants.{OfEnd, Handler, OwnLock}
-use Rattle.cspace_layout.specs.declared.end_at.EndAt.{EndAt}
-use Rattle.cspace_layout.specs.Members.{leaf_members}
-use Rattle.cam_base.specs.Gather.{IsIn, before, gather}
-use Rattle.cam_base.proofs.Gathered.{from_gather, from_ones, gather_ones, gathered, get_ones, in_append, in_gather, in_left, in_right}
-use Rattle.cam_base.proofs.NumberedLists.{from_flat_map, in_flat_map}
-use Rattle.system_spec.specs.declared.map_line.MapLine.{MapLine}
-use Rattle.system_spec.specs.declared.map_line.MapLine.TheVariants.{DomainLine, ThreadLine}
-use Rattle.system_spec.specs.declared.part.Owned.{Owned}
-use Rattle.system_spec.specs.declared.part.Part.{Part}
 use Rattle.system_spec.specs.declared.part.What.TheVariants.{ThreadOf as OfThread}
 use Rattle.system_spec.specs.declared.series.Series.TheVariants as series
-use Rattle.system_spec.specs.Made.{spec_of}
-use Rattle.system_spec.specs.MapLines.{domain_lines, domain_slots, domain_threads, domain_windows, map_lines, slot_line, slot_lines, thread_line, thread_lines, window_line, window_lines}
-use Rattle.system_spec.specs.Objects.{tcb, use_cap}
-use Rattle.system_spec.specs.Parts.{domain_tcbs, numbered, owned, part, parts, place, sections, tcbs}
-use Rattle.system_spec.specs.Tables.{Tables, threads_at, uses_at, windows_at}
-use Rattle.system_spec.proofs.Objects.{in_together, objects_stand}
-use Rattle.system_spec.proofs.There.{single}
-use Rattle.vspace_layout.specs.declared.spaces.Space.{Space}
-use Rattle.vspace_layout.specs.declared.spaces.Spaces.{Spaces}
-use Rattle.vspace_layout.specs.declared.spaces.ThreadPlace.{ThreadPlace}
 use Rattle.vspace_layout.specs.declared.spaces.Window.{Window}
 use Rattle.vspace_layout.specs.declared.thread.ThreadOf.{ThreadOf}
-use Rattle.vspace_layout.specs.Given.{ends, leaves_of}
-use Rattle.vspace_layout.specs.Laid.{space, thread_place}
-use Rattle.vspace_layout.specs.Regions.{threads_of}
-use Rattle.vspace_layout.specs.Threads.{ends_at, is_called, leaf_threads, server, serves, thread}
-use Rattle.spec_laws.specs.CanMap.{CanMap}
-use Rattle.spec_laws.specs.Spaced.{system}
-use Rattle.spec_laws.specs.Threaded.{HasThread, Serves}
 use Rattle.spec_laws.proofs.CapsFit.{end_is as end_there}
 use Rattle.spec_laws.proofs.Numbering.{before_same}
 use Rattle.spec_laws.proofs.EndsAt.{end_of_leaf, ends_are, in_leaf_ends, once_leaf}

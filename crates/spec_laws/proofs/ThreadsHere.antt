@@ -1,47 +1,11 @@
 -- What threads have is of their own domains.
-use Rattle.std.proofs.Common.{◌≡◌, ◌+◌, ◌*◌, ◌∙◌, ℕ, zero, suc, List, [], ◌∷◌, map, Option, Some, None, option_map, refl, sym, ap, subst, inl, inr, arith}
-use Rattle.std.specs.Prelude.{◌==◌}
-use Rattle.std.specs.List.{find, flat_map, slice_get}
-use Rattle.std.specs.Option.{option_map_or}
-use Rattle.std.proofs.lemmas.Bool.{eqb-true}
-use Rattle.adl_meaning.specs.declared.flat.Domain.{Domain}
-use Rattle.arch_policy.specs.Tables.{domain_label, number_of}
-use Rattle.cap_model.specs.ObjectLabels.{label_of}
-use Rattle.cap_model.specs.declared.authority.Authority.{Authority}
-use Rattle.cap_model.specs.Auth.{buffer_of}
-use Rattle.cap_model.specs.Lookup.{object_at}
-use Rattle.cap_model.specs.State.{boot_thread, no_thread}
-use Rattle.cap_model.specs.declared.cap.Cap.{Cap}
-use Rattle.cap_model.specs.declared.object.Object.{Object}
+use Rattle.spec_laws.proofs.Common.{Authority, Buffer, CNodeOf, Cap, Domain, FrameOf, Given, IsConnected, IsIn, IsThere, List, MappedPage, None, Object, OfThreads, Option, Own, Page, RW, Region, Some, TableOf, Tables, Tcb, ThreadOf, ThreadPlace, []}
+use Rattle.spec_laws.proofs.Common.{ap, arith, at_entry, base, boot_thread, buffer_cap, buffer_of, buffer_start, cap, domain_label, eqb-true, find, flat_map, found, frame_at, get_behind, get_front, inl, inr, label_of, map, mapped_pages, no_thread}
+use Rattle.spec_laws.proofs.Common.{number_of, number_shown, object, object_at, option_map, option_map_or, page, page_of, pages_at, place, place_of, policy_tables, refl, region, region_start, regions, slice_get, spec_of, subst, suc, sym, tcb}
+use Rattle.spec_laws.proofs.Common.{thread_regions, threads_at, threads_of, window_region, windows_of, zero, ℕ, ◌*◌, ◌+◌, ◌==◌, ◌∙◌, ◌∷◌, ◌≡◌}
 use Rattle.cap_model.specs.declared.object.Object.TheVariants as objects
-use Rattle.cap_model.specs.declared.object.Tcb.{Tcb}
 use Rattle.cap_model.specs.declared.state.ThreadState.{ThreadState}
-use Rattle.cap_model.proofs.BootPlaces.{at_entry}
-use Rattle.cam_base.specs.Gather.{IsIn}
-use Rattle.cam_base.proofs.Gathered.{get_behind, get_front, place_of}
-use Rattle.cam_base.proofs.NumberedLists.{found}
-use Rattle.reach_laws.specs.Pieces.{OfThreads}
-use Rattle.system_spec.proofs.There.{IsThere}
-use Rattle.system_spec.specs.declared.part.What.TheVariants.{CNodeOf, FrameOf, TableOf, ThreadOf}
-use Rattle.system_spec.specs.Made.{spec_of}
-use Rattle.system_spec.specs.Objects.{buffer_cap, cap, frame_at, object, tcb}
-use Rattle.system_spec.specs.Parts.{place}
-use Rattle.system_spec.specs.Tables.{Tables, pages_at, threads_at}
-use Rattle.conn_rules.specs.Row.{RW}
-use Rattle.vspace_layout.specs.declared.mapped.MappedPage.{MappedPage}
-use Rattle.vspace_layout.specs.declared.mapped.Shown.TheVariants.{Own}
-use Rattle.vspace_layout.specs.declared.region.Content.TheVariants.{Buffer}
-use Rattle.vspace_layout.specs.declared.region.Region.{Region}
-use Rattle.vspace_layout.specs.declared.spaces.Page.{Page}
-use Rattle.vspace_layout.specs.declared.spaces.ThreadPlace.{ThreadPlace}
 use Rattle.vspace_layout.specs.declared.thread.ThreadOf.{ThreadOf as Described}
-use Rattle.vspace_layout.specs.Frames.{number_shown}
-use Rattle.vspace_layout.specs.Given.{Given, base}
-use Rattle.vspace_layout.specs.Laid.{page}
-use Rattle.vspace_layout.specs.MappedPages.{mapped_pages, page_of}
-use Rattle.vspace_layout.specs.Regions.{buffer_start, region, region_start, regions, thread_regions, threads_of, window_region, windows_of}
-use Rattle.spec_laws.specs.Connected.{IsConnected}
-use Rattle.spec_laws.specs.Policy.{policy_tables}
 use Rattle.spec_laws.proofs.Lists.{rises_tell}
 use Rattle.spec_laws.proofs.Mapped.{first_page, from_pages, from_threads, in_pages, laid, own_frame}
 use Rattle.spec_laws.proofs.TablesHere.{root_there}

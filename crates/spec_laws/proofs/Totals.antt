@@ -1,11 +1,5 @@
 -- Sums over what is gathered.
-use Rattle.std.proofs.Common.{◌≡◌, ◌≤◌, ◌+◌, ◌*◌, ℕ, suc, List, [], ◌∷◌, ◌++◌, length, map, refl, sym, ◌∙◌, ap, inl, inr, Some, arith}
-use Rattle.std.specs.Prelude.{sum}
-use Rattle.std.specs.List.{flat_map, slice_get}
-use Rattle.std.proofs.Math.Nat.{mul-add, mul-suc}
-use Rattle.std.proofs.lemmas.List.Sums.{sum_by-cons}
-use Rattle.cam_base.specs.Gather.{IsIn, gather}
-use Rattle.cam_base.proofs.Gathered.{length_append}
+use Rattle.spec_laws.proofs.Common.{IsIn, List, Some, [], ap, arith, flat_map, gather, inl, inr, length, length_append, map, mul-add, mul-suc, refl, slice_get, suc, sum, sum_by-cons, sym, ℕ, ◌*◌, ◌++◌, ◌+◌, ◌∙◌, ◌∷◌, ◌≡◌, ◌≤◌}
 
 -- of what each element counts
 abbrev pub total : {X : Type 0} → (X → ℕ) → List X → ℕ

@@ -1,27 +1,10 @@
 -- The uses of a domain are those of the ends that join its leaves, and its locks.
-use Rattle.std.proofs.Common.{◌≡◌, ◌∙◌, ℕ, Bool, true, false, cond, List, [], ◌∷◌, refl, sym, ap, subst, Option, Some, inl, inr, ◌⊎◌, true≢false}
-use Rattle.std.specs.List.{slice_get}
-use Rattle.std.proofs.lemmas.Bool.{eqb-true, eq-eqb, and_parts, and_from}
+use Rattle.spec_laws.proofs.Common.{Bool, Connector, Direct, Flat, FlatConnection, FlatEnd, From, Handler, Interrupt, IsIn, Leaf, List, Member, Mmio, Notification, OfEnd, Option, OwnLock, Role, Rpc, SharedMemory, SlotUse, Some, Source, To, []}
+use Rattle.spec_laws.proofs.Common.{and_from, and_parts, ap, cond, domain_uses, end_uses, eq-eqb, eqb-true, false, from_gather, gather, in_append, in_gather, in_left, in_place, in_right, inl, inr, is_lock, joined_uses, joins, leaf_members, leaf_uses}
+use Rattle.spec_laws.proofs.Common.{lock_uses, member_uses, members_at, members_of_leaf, place_of, refl, slice_get, subst, sym, true, true≢false, ℕ, ◌∙◌, ◌∷◌, ◌≡◌, ◌⊎◌}
 use lib.Dec.{eqb}
 use Rattle.adl_ast.specs.declared.component.Lock.{Lock}
-use Rattle.adl_ast.specs.declared.component.Member.{Member}
 use Rattle.adl_ast.specs.declared.component.Member.TheVariants as members
-use Rattle.adl_ast.specs.declared.source.Source.{Source}
-use Rattle.adl_meaning.specs.declared.connector.Connector.{Connector}
-use Rattle.adl_meaning.specs.declared.connector.Connector.TheVariants.{Rpc, Notification, SharedMemory, Mmio, Interrupt, Direct}
-use Rattle.adl_ast.specs.declared.composition.Role.{Role}
-use Rattle.adl_ast.specs.declared.composition.Role.TheVariants.{From, To}
-use Rattle.adl_meaning.specs.declared.flat.Flat.{Flat}
-use Rattle.adl_meaning.specs.declared.flat.FlatConnection.{FlatConnection}
-use Rattle.adl_meaning.specs.declared.flat.FlatEnd.{FlatEnd}
-use Rattle.adl_meaning.specs.declared.flat.Leaf.{Leaf}
-use Rattle.cspace_layout.specs.declared.plan.SlotUse.{SlotUse}
-use Rattle.cspace_layout.specs.declared.plan.SlotUse.TheVariants.{OfEnd, Handler, OwnLock}
-use Rattle.cspace_layout.specs.LeafEnds.{joins}
-use Rattle.cspace_layout.specs.Members.{is_lock, leaf_members, members_at, members_of_leaf}
-use Rattle.cspace_layout.specs.Uses.{end_uses, joined_uses, member_uses, lock_uses, leaf_uses, domain_uses}
-use Rattle.cam_base.specs.Gather.{IsIn, gather}
-use Rattle.cam_base.proofs.Gathered.{from_gather, in_gather, in_append, in_left, in_right, place_of, in_place}
 use Rattle.arch_policy.proofs.Listed.{lock_of_member}
 
 pub record UseOf (cs : List FlatConnection) (leaf : ℕ) (u : SlotUse) : Type 0 where

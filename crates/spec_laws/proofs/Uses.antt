@@ -1,27 +1,7 @@
 -- What the slots of a domain lead to: ends of connections that have a slot, interrupts, and locks.
-use Rattle.std.proofs.Common.{◌≡◌, ℕ, Bool, true, false, cond, List, [], ◌∷◌, refl, ◌∙◌, ap, subst, Some, inl, inr}
-use Rattle.std.specs.List.{slice_get}
-use Rattle.std.specs.Option.{option_map_or}
-use Rattle.adl_ast.specs.declared.component.Member.{Member}
-use Rattle.adl_ast.specs.declared.composition.Role.{Role}
-use Rattle.adl_ast.specs.declared.composition.Role.TheVariants.{From, To}
-use Rattle.adl_ast.specs.declared.source.Source.{Source}
-use Rattle.adl_meaning.specs.declared.connector.Connector.{Connector}
-use Rattle.adl_meaning.specs.declared.connector.Connector.TheVariants.{Rpc, Notification, SharedMemory, Mmio, Interrupt, Direct}
-use Rattle.adl_meaning.specs.declared.flat.Domain.{Domain}
-use Rattle.adl_meaning.specs.declared.flat.Flat.{Flat}
-use Rattle.adl_meaning.specs.declared.flat.FlatConnection.{FlatConnection}
-use Rattle.adl_meaning.specs.declared.flat.FlatEnd.{FlatEnd}
-use Rattle.cspace_layout.specs.declared.plan.SlotPlan.{SlotPlan}
-use Rattle.cspace_layout.specs.declared.plan.SlotUse.{SlotUse}
-use Rattle.cspace_layout.specs.declared.plan.SlotUse.TheVariants.{OfEnd, Handler, OwnLock}
-use Rattle.cspace_layout.specs.Uses.{end_uses, joined_uses, member_uses, lock_uses, leaf_uses, domain_uses, plan_of, slots_of}
-use Rattle.cspace_layout.specs.LeafEnds.{joins}
-use Rattle.cspace_layout.specs.Members.{is_lock, leaf_members}
-use Rattle.cam_base.specs.Gather.{IsIn, gather}
-use Rattle.cam_base.proofs.Gathered.{from_gather, in_append, in_place}
-use Rattle.cam_base.proofs.NumberedLists.{get_map}
-use Rattle.system_spec.specs.Tables.{Tables, uses_at}
+use Rattle.spec_laws.proofs.Common.{Bool, Connector, Direct, Domain, Flat, FlatConnection, FlatEnd, From, Handler, Interrupt, IsIn, List, Member, Mmio, Notification, OfEnd, OwnLock, Role, Rpc, SharedMemory, SlotPlan, SlotUse, Some, Source, Tables}
+use Rattle.spec_laws.proofs.Common.{To, [], ap, cond, domain_uses, end_uses, false, from_gather, gather, get_map, in_append, in_place, inl, inr, is_lock, joined_uses, joins, leaf_members, leaf_uses, lock_uses, member_uses, option_map_or, plan_of}
+use Rattle.spec_laws.proofs.Common.{refl, slice_get, slots_of, subst, true, uses_at, ℕ, ◌∙◌, ◌∷◌, ◌≡◌}
 
 -- ends of this connector and role have a slot of their own
 abbrev pub HasSlot : Connector → Role → Type 0

@@ -1,24 +1,9 @@
 -- Which part an object is of
-use Rattle.std.proofs.Common.{◌≡◌, ◌+◌, ℕ, List, [], ◌∷◌, map, Option, Some, None, refl, subst}
-use Rattle.std.specs.List.{slice_get}
-use Rattle.std.specs.Option.{option_map_or}
-use Rattle.cap_model.specs.declared.object.Fill.{Fill}
-use Rattle.cap_model.specs.declared.object.Object.{Object}
+use Rattle.spec_laws.proofs.Common.{CNodeOf, Each, EndpointOf, Fill, FrameInfo, FrameOf, IrqOf, Layer, List, LockOf, None, NotificationOf, Object, Option, Some, TableOf, Tables, Tcb, ThreadOf, ThreadPlace, What, [], arch, each_append, frame_object}
+use Rattle.spec_laws.proofs.Common.{layers, map, object, option_map_or, page_mapping, pages_at, place, refl, shapes, sizes, slice_get, subst, table_of, tables_at, tcb, threads_at, ℕ, ◌+◌, ◌∷◌, ◌≡◌}
 use Rattle.cap_model.specs.declared.object.Object.TheVariants as objects
-use Rattle.cap_model.specs.declared.object.Tcb.{Tcb}
-use Rattle.page_tables.specs.declared.layer.Layer.{Layer}
-use Rattle.page_tables.specs.Levels.{layers, numbered as in_levels, sizes, table_of}
-use Rattle.page_tables.specs.Shapes.{shapes}
-use Rattle.vspace_layout.proofs.Rising.{each_append}
-use Rattle.vspace_layout.specs.declared.spaces.FrameInfo.{FrameInfo}
-use Rattle.vspace_layout.specs.declared.spaces.ThreadPlace.{ThreadPlace}
-use Rattle.system_spec.specs.declared.part.What.{What}
-use Rattle.system_spec.specs.declared.part.What.TheVariants.{CNodeOf, ThreadOf, EndpointOf, NotificationOf, LockOf, IrqOf, TableOf, FrameOf}
-use Rattle.system_spec.specs.Objects.{frame_object, object, tcb}
-use Rattle.system_spec.specs.Parts.{page_mapping, place, tables_at}
-use Rattle.system_spec.specs.Tables.{Tables, arch, pages_at, threads_at}
+use Rattle.page_tables.specs.Levels.{numbered as in_levels}
 use Rattle.spec_laws.proofs.Locks.{at_index, each_map}
-use Rattle.cap_model.proofs.Eaches.{Each}
 
 abbrev pub IsTable : Object → Type 0
 IsTable (objects.Pages level slots) = Unit {0}

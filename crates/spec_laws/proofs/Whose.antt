@@ -1,45 +1,14 @@
 -- What stands at a place of the spec, and whose label it has.
-use Rattle.std.proofs.Common.{◌≡◌, ◌⊎◌, ◌+◌, ℕ, zero, suc, List, [], ◌∷◌, get_or, map, refl, sym, ◌∙◌, ap, subst, inl, inr, Option, Some, None, arith}
-use Rattle.std.specs.List.{slice_get, slice_index}
-use Rattle.std.specs.Option.{option_map_or}
-use Rattle.adl_meaning.specs.declared.connector.Connector.{Connector}
-use Rattle.adl_meaning.specs.declared.connector.Connector.TheVariants.{Rpc, Notification, SharedMemory, Mmio, Interrupt, Direct}
-use Rattle.adl_meaning.specs.declared.flat.Domain.{Domain}
-use Rattle.adl_meaning.specs.declared.flat.FlatConnection.{FlatConnection}
-use Rattle.arch_policy.specs.declared.owner.Owner.{Owner}
-use Rattle.arch_policy.specs.declared.owner.Owner.TheVariants.{OfDomain, OfConnection, OfLeaf}
-use Rattle.arch_policy.specs.Tables.{number_of}
-use Rattle.cap_model.specs.ObjectLabels.{label_of}
-use Rattle.cap_model.specs.declared.object.Object.{Object}
+use Rattle.spec_laws.proofs.Common.{CNodeOf, Connector, Direct, Domain, EndpointOf, Entry, FlatConnection, FrameInfo, FrameOf, Handler, Interrupt, IrqOf, IsIn, IsThere, Layer, List, LockOf, Mmio, None, Notification, NotificationOf, Object}
+use Rattle.spec_laws.proofs.Common.{OfConnection, OfDomain, OfEnd, OfLeaf, Option, OwnLock, Owned, Owner, PageTable, Part, Rpc, Series, SharedMemory, SlotUse, Some, Spec, TableOf, Tables, ThreadOf, ThreadPlace, What, [], all_tables, ap, arch, arith}
+use Rattle.spec_laws.proofs.Common.{by_section, cnodes, domain_locks, domain_tcbs, endpoint, endpoint_by, endpoints, entry, entry_at, entry_object, frame_object, frame_owner, frame_parts, from_gather, from_get_map, from_map, from_ones, get_or}
+use Rattle.spec_laws.proofs.Common.{has_part, in_append, in_place, inl, inr, irq, irq_by, irq_owner, irqs, label_of, labels_of, layers, lock, locks, map, notification, notification_by, notifications, number_of, numbered, object, object_at}
+use Rattle.spec_laws.proofs.Common.{option_map_or, owned, page_mapping, pages_at, part, part_label, parts, place, place_is, place_of, refl, shapes, single, sizes, slice_get, slice_index, spec_of, stands, subst, suc, sym, table_of, table_part}
+use Rattle.spec_laws.proofs.Common.{table_parts, tcb, tcbs, there, threads_at, uses_at, zero, ℕ, ◌+◌, ◌∙◌, ◌∷◌, ◌≡◌, ◌⊎◌}
 use Rattle.cap_model.specs.declared.object.Object.TheVariants as objects
-use Rattle.cap_model.specs.declared.spec.Entry.{Entry}
-use Rattle.cap_model.specs.declared.spec.Spec.{Spec}
-use Rattle.cap_model.specs.Lookup.{entry_object, object_at}
-use Rattle.cap_model.proofs.BootPlaces.{entry_at}
-use Rattle.cspace_layout.specs.declared.plan.SlotUse.{SlotUse}
-use Rattle.cspace_layout.specs.declared.plan.SlotUse.TheVariants.{OfEnd, Handler, OwnLock}
-use Rattle.cam_base.specs.Gather.{IsIn}
-use Rattle.cam_base.proofs.Gathered.{from_gather, from_ones, in_append, in_place, place_of}
-use Rattle.cam_base.proofs.NumberedLists.{from_map, from_get_map}
-use Rattle.page_tables.specs.declared.layer.Layer.{Layer}
-use Rattle.page_tables.specs.Levels.{layers, numbered as tables_numbered, sizes, table_of}
-use Rattle.page_tables.specs.Shapes.{shapes}
+use Rattle.page_tables.specs.Levels.{numbered as tables_numbered}
 use Rattle.spec_laws.proofs.TablesKept.{moved, object_is, standing}
-use Rattle.system_spec.proofs.There.{IsThere, by_section, has_part, single, there}
-use Rattle.system_spec.proofs.Standing.{place_is, stands}
-use Rattle.system_spec.specs.declared.part.Owned.{Owned}
-use Rattle.system_spec.specs.declared.part.PageTable.{PageTable}
-use Rattle.system_spec.specs.declared.part.Part.{Part}
-use Rattle.system_spec.specs.declared.part.What.{What}
-use Rattle.system_spec.specs.declared.part.What.TheVariants.{CNodeOf, ThreadOf, EndpointOf, NotificationOf, LockOf, IrqOf, TableOf, FrameOf}
-use Rattle.system_spec.specs.declared.series.Series.{Series}
 use Rattle.system_spec.specs.declared.series.Series.TheVariants as series
-use Rattle.system_spec.specs.Made.{entry, labels_of, part_label, spec_of}
-use Rattle.system_spec.specs.Objects.{frame_object, object, tcb}
-use Rattle.system_spec.specs.Parts.{all_tables, cnodes, domain_locks, domain_tcbs, endpoint, endpoint_by, endpoints, frame_parts, irq, irq_by, irqs, lock, locks, notification, notification_by, notifications, numbered, owned, page_mapping, part, parts, place, table_part, table_parts, tcbs}
-use Rattle.system_spec.specs.Tables.{Tables, arch, frame_owner, irq_owner, pages_at, threads_at, uses_at}
-use Rattle.vspace_layout.specs.declared.spaces.FrameInfo.{FrameInfo}
-use Rattle.vspace_layout.specs.declared.spaces.ThreadPlace.{ThreadPlace}
 
 -- ---- whose a part is
 

@@ -1,27 +1,9 @@
 -- The ends that see memory, and the pages of a space that show it.
-use Rattle.std.proofs.Common.{◌≡◌, ◌<◌, ℕ, Bool, true, false, cond, List, [], ◌∷◌, map, Option, Some, None, option_map, refl, ap, subst, inl, inr, ⊎_elim, arith}
-use Rattle.std.specs.List.{flat_map, range_with_len, slice_get}
-use Rattle.std.specs.Option.{option_and_then, option_map_or}
-use Rattle.adl_meaning.specs.declared.connector.Connector.{Connector}
-use Rattle.adl_meaning.specs.declared.flat.FlatConnection.{FlatConnection}
-use Rattle.adl_meaning.specs.declared.flat.FlatEnd.{FlatEnd}
-use Rattle.cspace_layout.specs.declared.end_at.EndAt.{EndAt}
-use Rattle.cspace_layout.specs.Lookups.{end_in}
-use Rattle.cam_base.specs.Gather.{IsIn}
-use Rattle.cam_base.proofs.Gathered.{from_gather, in_append, in_place}
-use Rattle.cam_base.proofs.NumberedLists.{from_flat_map, from_map, from_range}
-use Rattle.source_images.specs.ByAddress.{section_pages}
-use Rattle.source_images.specs.declared.pages.SectionPage.{SectionPage}
-use Rattle.vspace_layout.specs.declared.mapped.MappedPage.{MappedPage}
-use Rattle.vspace_layout.specs.declared.mapped.Shown.{Shown}
-use Rattle.vspace_layout.specs.declared.mapped.Shown.TheVariants.{Own, Memory}
-use Rattle.vspace_layout.specs.declared.region.Region.{Region}
+use Rattle.spec_laws.proofs.Common.{Bool, Connector, EndAt, FlatConnection, FlatEnd, Given, IsIn, List, MappedPage, Memory, None, Option, Own, Region, SectionPage, Shown, Some, [], ap, arith, base, cond, end_in, end_window, ends, ends_at, false}
+use Rattle.spec_laws.proofs.Common.{flat_map, from_flat_map, from_gather, from_map, from_range, in_append, in_place, inl, inr, is_window, leaf_windows, leaves_of, map, mapped_pages, memory_pages, option_and_then, option_map, option_map_or, page_of}
+use Rattle.spec_laws.proofs.Common.{pages_of_region, range_with_len, refl, region_part, regions, section_page, section_pages, section_part, sees_memory, slice_get, subst, thread_regions, threads_of, true, window_pages, window_region, windows_of, ℕ}
+use Rattle.spec_laws.proofs.Common.{⊎_elim, ◌<◌, ◌∷◌, ◌≡◌}
 use Rattle.vspace_layout.specs.declared.thread.ThreadOf.{ThreadOf}
-use Rattle.vspace_layout.specs.Given.{Given, base, ends, leaves_of}
-use Rattle.vspace_layout.specs.MappedPages.{mapped_pages, page_of, pages_of_region, region_part, section_page, section_part}
-use Rattle.vspace_layout.specs.Memory.{memory_pages}
-use Rattle.vspace_layout.specs.Regions.{end_window, is_window, leaf_windows, regions, sees_memory, thread_regions, threads_of, window_pages, window_region, windows_of}
-use Rattle.vspace_layout.specs.Threads.{ends_at}
 
 -- an end that sees memory is one of a connection, and has a window there
 pub record IsSeen (g : Given) (e : EndAt) : Type 0 where

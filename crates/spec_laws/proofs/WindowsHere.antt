@@ -1,45 +1,12 @@
 -- Page tables hold pages of windows alone that lead to other labels, and a page of each window.
-use Rattle.std.proofs.Common.{◌≡◌, ◌≢◌, ◌<◌, ◌∙◌, ℕ, Bool, true, false, Some, refl, sym, ap, subst, inl, inr, arith}
-use Rattle.std.specs.List.{slice_get}
-use Rattle.std.specs.Option.{option_map_or}
-use Rattle.adl_meaning.specs.declared.connector.Connector.TheVariants.{Mmio}
-use Rattle.adl_meaning.specs.declared.flat.Domain.{Domain}
-use Rattle.adl_meaning.specs.declared.flat.FlatConnection.{FlatConnection}
-use Rattle.adl_ast.specs.declared.composition.Role.TheVariants.{From}
+use Rattle.spec_laws.proofs.Common.{AtOtherEnd, Bool, Cap, Domain, FlatConnection, FrameOf, From, HasPage, HasWindows, InTable, IsConnected, IsIn, IsWindow, LeadsTo, MappedPage, Mmio, ObjectKind, OfDevice, OfFrames, Page, Read, Some, TableOf, Tables}
+use Rattle.spec_laws.proofs.Common.{ap, arith, base, domain_label, false, frame_object, gives, in_place, inl, inr, is_at_device, is_window, kind_at, kind_of_object, kind_there, label_of, leaf_label, mapped_pages, may_read, may_write, memory_number}
+use Rattle.spec_laws.proofs.Common.{memory_pages, number_of, number_shown, object, opposite, option_map_or, page, page_mapping, page_of, page_rights, place, place_of, policy_tables, refl, region_start, regions, setting_of, slice_get, spec_of, subst}
+use Rattle.spec_laws.proofs.Common.{sym, true, window_pages, window_region, window_rights, ℕ, ◌<◌, ◌∙◌, ◌≡◌, ◌≢◌}
 use Rattle.arch_policy.specs.Ends.{EndAt}
-use Rattle.arch_policy.specs.Gives.{gives, opposite}
-use Rattle.arch_policy.specs.Reasons.{AtOtherEnd, LeadsTo}
-use Rattle.arch_policy.specs.Tables.{domain_label, leaf_label, number_of}
-use Rattle.cap_model.specs.ObjectLabels.{label_of}
-use Rattle.cap_model.specs.declared.authority.Authority.TheVariants.{Read}
-use Rattle.cap_model.specs.Kinds.{kind_at, kind_of_object}
-use Rattle.cap_model.specs.declared.cap.Cap.{Cap}
 use Rattle.cap_model.specs.declared.kind.Kind.TheVariants as kinds
 use Rattle.cap_model.specs.declared.object.Object.TheVariants as objects
-use Rattle.conn_rules.specs.declared.rule.ObjectKind.{ObjectKind}
-use Rattle.conn_rules.specs.declared.rule.ObjectKind.TheVariants.{OfFrames, OfDevice}
 use Rattle.cspace_layout.specs.declared.end_at.EndAt.{EndAt as Joined}
-use Rattle.cspace_layout.specs.Lookups.{setting_of}
-use Rattle.cam_base.specs.Gather.{IsIn}
-use Rattle.cam_base.proofs.Gathered.{in_place, place_of}
-use Rattle.reach_laws.specs.Flat.{is_at_device}
-use Rattle.reach_laws.specs.Windows.{HasPage, HasWindows, InTable, IsWindow, window_rights}
-use Rattle.system_spec.proofs.There.{kind_there}
-use Rattle.system_spec.specs.declared.part.What.TheVariants.{FrameOf, TableOf}
-use Rattle.system_spec.specs.Made.{spec_of}
-use Rattle.system_spec.specs.Objects.{frame_object, object}
-use Rattle.system_spec.specs.Parts.{page_mapping, page_rights, place}
-use Rattle.system_spec.specs.Tables.{Tables}
-use Rattle.vspace_layout.specs.declared.mapped.MappedPage.{MappedPage}
-use Rattle.vspace_layout.specs.declared.spaces.Page.{Page}
-use Rattle.vspace_layout.specs.Frames.{memory_number, number_shown}
-use Rattle.vspace_layout.specs.Given.{base}
-use Rattle.vspace_layout.specs.Laid.{page}
-use Rattle.vspace_layout.specs.MappedPages.{mapped_pages, may_read, may_write, page_of}
-use Rattle.vspace_layout.specs.Memory.{memory_pages}
-use Rattle.vspace_layout.specs.Regions.{is_window, region_start, regions, window_pages, window_region}
-use Rattle.spec_laws.specs.Connected.{IsConnected}
-use Rattle.spec_laws.specs.Policy.{policy_tables}
 use Rattle.spec_laws.proofs.EndsHere.{from_windows, in_windows, joined, leaves_are}
 use Rattle.spec_laws.proofs.EdgeJoints.{in_its_domain, leaf_of_domain, one_end}
 use Rattle.spec_laws.proofs.Mapped.{IsPage, OfWindow, Sees, first_page, from_mapped, from_pages, hard_to, in_pages, laid, own_frame, sees_device, sees_shared, window_there}

@@ -1,38 +1,11 @@
 -- The spec of laid-out tables can be written and read back.
-use Rattle.std.proofs.Common.{◌≡◌, ◌<◌, ◌≤◌, ◌+◌, ◌*◌, ◌^◌, ℕ, Bool, true, false, cond, List, [], ◌∷◌, length, map, refl, sym, ◌∙◌, ap, subst, Option, Some, None, arith}
-use Rattle.std.specs.Prelude.{leb}
-use Rattle.std.specs.List.{flat_map, slice_get}
-use Rattle.std.specs.Option.{option_map, option_map_or}
-use Rattle.std.proofs.lemmas.Bool.{le-ltb}
-use Rattle.std.proofs.lemmas.List.{length-map}
-use Rattle.std.proofs.lemmas.List.Folds.{list_all-map}
-use Rattle.std.proofs.lemmas.Option.{slice_get-map}
-use Rattle.adl_meaning.specs.declared.connector.Connector.{Connector}
-use Rattle.adl_meaning.specs.declared.connector.Connector.TheVariants.{Rpc, Notification, SharedMemory, Mmio, Interrupt, Direct}
-use Rattle.adl_meaning.specs.declared.flat.FlatConnection.{FlatConnection}
-use Rattle.cap_model.specs.Canonical.{canonical, entry_line, entry_text, irq_line}
-use Rattle.cap_model.specs.declared.object.Object.{Object}
+use Rattle.spec_laws.proofs.Common.{Bool, Connector, Direct, Entry, FlatConnection, FrameInfo, FrameOf, Interrupt, IsFit, IsIn, IsSized, IsWritable, IsWritten, List, Mmio, None, Notification, Object, Option, Part, Rpc, SharedMemory, Some, TableOf}
+use Rattle.spec_laws.proofs.Common.{Tables, ThreadPlace, What, [], ap, arch, arith, by_number, canonical, cap_count, caps_of, cond, entry, entry_line, entry_name, entry_text, false, flat_map, frame_object, gather, in_place, irq_line, irq_number}
+use Rattle.spec_laws.proofs.Common.{is_laid, is_number, is_word, layers, le-ltb, leb, length, length-map, line_by, lines, list_all-map, map, name_at, object, option_map_or, page_mapping, pages_at, part_name, parts, place, put_line, refl, shapes}
+use Rattle.spec_laws.proofs.Common.{slice_get, slice_get-map, spec_of, subst, sym, table_of, tables_at, tcb, there, thread_count, threads_at, true, ℕ, ◌*◌, ◌+◌, ◌<◌, ◌^◌, ◌∙◌, ◌∷◌, ◌≡◌, ◌≤◌}
+use Rattle.std.specs.Option.{option_map}
 use Rattle.cap_model.specs.declared.object.Object.TheVariants as objects
-use Rattle.cap_model.specs.declared.spec.Entry.{Entry}
-use Rattle.cap_model.specs.Lookup.{entry_name, name_at}
-use Rattle.capdl_write.specs.Writable.{IsWritable, caps_of, is_laid, is_number, is_word}
 use Rattle.capdl_text.specs.Texts.{is_long, most_bytes}
-use Rattle.cam_base.specs.Gather.{IsIn, gather}
-use Rattle.cam_base.proofs.Gathered.{in_place}
-use Rattle.page_tables.specs.Levels.{layers, table_of}
-use Rattle.page_tables.specs.Shapes.{shapes}
-use Rattle.system_spec.specs.declared.part.Part.{Part}
-use Rattle.system_spec.specs.declared.part.What.{What}
-use Rattle.system_spec.specs.declared.part.What.TheVariants.{TableOf, FrameOf}
-use Rattle.system_spec.specs.Made.{entry, part_name, spec_of}
-use Rattle.system_spec.specs.Objects.{by_number, frame_object, line_by, lines, object, put_line, tcb}
-use Rattle.system_spec.specs.Parts.{page_mapping, parts, place, tables_at}
-use Rattle.system_spec.specs.Tables.{Tables, arch, irq_number, pages_at, threads_at}
-use Rattle.vspace_layout.specs.declared.spaces.FrameInfo.{FrameInfo}
-use Rattle.vspace_layout.specs.declared.spaces.ThreadPlace.{ThreadPlace}
-use Rattle.spec_laws.specs.Fit.{IsFit}
-use Rattle.spec_laws.specs.Sized.{IsSized, cap_count, thread_count}
-use Rattle.spec_laws.specs.Written.{IsWritten}
 use Rattle.spec_laws.proofs.CapsFit.{all_pass}
 use Rattle.spec_laws.proofs.Capping.{looked_up}
 use Rattle.spec_laws.proofs.Counting.{Most, parts_most}
@@ -43,7 +16,6 @@ use Rattle.spec_laws.proofs.Lengths.{canonical_short, extra, holder_short, irq_s
 use Rattle.spec_laws.proofs.Lines.{lined}
 use Rattle.spec_laws.proofs.TablesKept.{as_long, from_tables, standing}
 use Rattle.spec_laws.proofs.Telling.{number_few}
-use Rattle.system_spec.proofs.There.{there}
 use Rattle.spec_laws.proofs.Totals.{length_flat_map, length_gather, sum_map, total, total_add, total_const, total_each, total_map, total_most, total_times, totals, totals_const, totals_each}
 
 -- ---- how many lines

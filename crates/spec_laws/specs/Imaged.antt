@@ -1,15 +1,13 @@
 -- The images of a compiled system, told of its spec, the labels of its objects, and its map: its objects in their order and of
 -- the kinds that their names say, the roots of its spaces, threads, regions, the pages that are mapped, page tables, frames, and
 -- labels. Addresses are sums, what is mapped is a set, and what stands before what is an order.
-use Rattle.std.specs.Prelude.{◌≡◌, ◌↔◌, ℕ, List, map, Some, slice_get}
+use Rattle.std.specs.Prelude.{◌≡◌, ◌↔◌, ℕ, List, Some, slice_get}
 use Rattle.adl_meaning.specs.declared.flat.Domain.{Domain}
 use Rattle.cap_model.specs.declared.object_labels.Labels.{Labels}
 use Rattle.cap_model.specs.declared.spec.Spec.{Spec}
 use Rattle.cam_base.specs.Gather.{IsIn}
 use Rattle.system_spec.specs.declared.map_line.MapLine.{MapLine}
 use Rattle.system_spec.specs.declared.map_line.MapLine.TheVariants.{DomainLine}
-use Rattle.system_spec.specs.Made.{part_name}
-use Rattle.system_spec.specs.Parts.{parts}
 use Rattle.system_spec.specs.Tables.{Tables}
 use Rattle.spec_laws.specs.Framed.{AreFrames}
 use Rattle.spec_laws.specs.Kinded.{SayKinds}
@@ -17,6 +15,7 @@ use Rattle.spec_laws.specs.Labelled.{AreLabels, AreTableLabels}
 use Rattle.spec_laws.specs.Ordered.{AreFramesInOrder, AreTablesInOrder}
 use Rattle.spec_laws.specs.Regioned.{AreRegions}
 use Rattle.spec_laws.specs.Spaced.{ArePagesOf, AreTablesOf, IsRootOf}
+use Rattle.spec_laws.specs.Standing.{StandInOrder}
 use Rattle.spec_laws.specs.Threaded.{AreThreads}
 
 -- each domain has a root of its own
@@ -32,7 +31,7 @@ pub record AreTables (t : Tables) (spec : Spec) (root : ℕ → ℕ) (labels : L
 
 -- the spaces of the domains have these roots
 pub record AreImages (t : Tables) (spec : Spec) (root : ℕ → ℕ) (labels : Labels) (lines : List MapLine) : Type 0 where
-  pub named : map (λ e. e.name) spec.entries ≡ map part_name (parts t)
+  pub standing : StandInOrder t spec
   pub kinds : SayKinds spec
   pub domains : (d : ℕ) → IsIn (DomainLine d) lines ↔ ((x : Domain) × (slice_get t.flat.domains d ≡ Some x))
   pub roots : AreRoots t spec root

@@ -7,6 +7,7 @@ pub mod Ordered
 pub mod Regioned
 pub mod Slotted
 pub mod Spaced
+pub mod Standing
 pub mod Threaded
 pub mod Connected
 pub mod Policy

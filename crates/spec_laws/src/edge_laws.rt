@@ -5,7 +5,7 @@ ghost use Rattle.arch_policy.specs.Reasons.{IsReasoned};
 ghost use Rattle.arch_policy.specs.Tables.{AreApart};
 ghost use Rattle.cap_model.specs.Edges.{edge};
 ghost use Rattle.cap_model.specs.Tables.{Has};
-ghost use Rattle.cap_model.specs.declared.authority.Authority.{Authority};
+ghost use Rattle.authorities.specs.declared.authority.Authority.{Authority};
 ghost use Rattle.cap_model.specs.declared.edge.Edge.{Edge};
 ghost use Rattle.cap_machine.specs.Runs.{Reaches, Run};
 ghost use Rattle.cap_machine.specs.StepTable.{StepTo};

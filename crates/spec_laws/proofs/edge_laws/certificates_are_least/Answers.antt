@@ -1,8 +1,7 @@
+use Rattle.spec_laws.proofs.Common.{policy_tables, spec_of}
 use Rattle.reach_laws.proofs.LeastCertificates.{least}
 use Rattle.spec_laws.proofs.Connections.{laid_out}
 use Rattle.spec_laws.proofs.Whose.{labels}
-use Rattle.spec_laws.specs.Policy.{policy_tables}
-use Rattle.system_spec.specs.Made.{spec_of}
 use Rattle.spec_laws.proofs.edge_laws.certificates_are_least.Goals as goal
 
 pub returns : goal.returns

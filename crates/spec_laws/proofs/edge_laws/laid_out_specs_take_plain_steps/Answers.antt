@@ -1,6 +1,6 @@
+use Rattle.spec_laws.proofs.Common.{spec_of}
 use Rattle.reach_laws.proofs.PlainSteps.{steps_plain}
 use Rattle.spec_laws.proofs.Connections.{holds_plain}
-use Rattle.system_spec.specs.Made.{spec_of}
 use Rattle.spec_laws.proofs.edge_laws.laid_out_specs_take_plain_steps.Goals as goal
 
 pub returns : goal.returns

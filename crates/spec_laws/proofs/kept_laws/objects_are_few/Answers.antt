@@ -1,4 +1,4 @@
-use Rattle.std.proofs.Common.{arith}
+use Rattle.spec_laws.proofs.Common.{arith}
 use Rattle.spec_laws.proofs.Few.{caps_few, caps_within, objects_few, objects_within}
 use Rattle.spec_laws.proofs.kept_laws.objects_are_few.Goals as goal
 
