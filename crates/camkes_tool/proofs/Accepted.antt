@@ -1,45 +1,15 @@
 -- Of files that hold the texts that are written of a build, `check` says yes.
-use Rattle.std.proofs.Common.{◌≡◌, ◌≤◌, ◌⊎◌, ◌∙◌, ℕ, cond, List, Option, Some, None, Ok, Err, length, true, inl, inr, sym, ap, subst, arith}
-use Rattle.std.proofs.lemmas.Option.{same_Some}
+use Rattle.camkes_tool.proofs.Common.{Answer, Build, Check, Command, Contents, Edge, Err, Fault, Fits, HoldTexts, Holds, HoldsAsRead, InputFault, IsCert, IsCertText, IsChecked, IsInput, IsLabelling, IsPolicy, IsPolicyText, IsReadAs, IsStatus}
+use Rattle.camkes_tool.proofs.Common.{IsStatusOfTexts, IsSystem, IsTold, IsTrioValid, List, None, NoneRose, Ok, Option, Outcome, Policy, Rose, Sink, Some, Spec, Tells, Text, ap, arith, as_read, canonical, cert_read, cert_text, cond, first_cert_fault}
+use Rattle.camkes_tool.proofs.Common.{inl, inr, is_well, is_yes, length, policy_read, policy_text, same_Some, spec_back, subst, sym, tell_text, trio_valid, true, ℕ, ◌∙◌, ◌≡◌, ◌≤◌, ◌⊎◌}
 use Rattle.std.proofs.lemmas.Bool.{ltb-false}
 use Rattle.std.specs.FinMap.{get}
-use Rattle.arch_compile.specs.declared.building.Build.{Build}
-use Rattle.cap_model.specs.declared.edge.Edge.{Edge}
-use Rattle.cap_model.specs.declared.policy.Policy.{Policy}
-use Rattle.build_laws.proofs.CertBack.{cert_read}
-use Rattle.build_laws.proofs.HeldAsRead.{as_read}
-use Rattle.build_laws.proofs.PolicyBack.{policy_read}
-use Rattle.build_laws.proofs.SpecBack.{spec_back}
-use Rattle.build_laws.proofs.TrioValid.{trio_valid}
-use Rattle.build_laws.specs.AsRead.{HoldsAsRead, IsReadAs}
 use Rattle.build_laws.specs.ReadBack.{AreReadBack}
-use Rattle.build_laws.specs.TriosValid.{IsTrioValid}
 use Rattle.cam_base.specs.declared.error.Refused.TheVariants as refused
-use Rattle.cam_io.specs.Causes.{Rose}
-use Rattle.cam_io.specs.Contents.{Contents}
-use Rattle.cam_io.specs.Sinks.{Sink}
-use Rattle.cap_model.specs.Canonical.{canonical}
-use Rattle.cap_model.specs.declared.spec.Spec.{Spec}
 use Rattle.capdl_text.proofs.Unique.{no_fault_of_text}
-use Rattle.capdl_text.specs.Texts.{Text}
-use Rattle.command_words.specs.Words.{read_words}
-use Rattle.command_words.specs.declared.command.Command.TheVariants.{Check}
 use Rattle.camkes_tool.proofs.Accepting.{labels_stand, none_some}
-use Rattle.policy_text.specs.Labelled.{IsLabelling}
-use Rattle.policy_text.specs.PolicyLines.{cert_text, policy_text}
-use Rattle.policy_text.specs.PolicyTexts.{IsCertText, IsPolicyText, first_cert_fault}
-use Rattle.text_commands.specs.Codes.{tell_text}
-use Rattle.text_commands.specs.Commands.{IsCert, IsChecked, IsPolicy, IsSystem}
-use Rattle.text_commands.specs.Inputs.{Holds, IsInput, IsTold}
-use Rattle.text_commands.specs.Outcomes.{is_well, is_yes}
-use Rattle.text_commands.specs.declared.fault.InputError.TheVariants.{Fault, NoMemory, ReadFault}
-use Rattle.text_commands.specs.declared.fault.InputFault.{InputFault}
-use Rattle.text_commands.specs.declared.outcome.Outcome.{Outcome}
+use Rattle.text_commands.specs.declared.fault.InputError.TheVariants.{NoMemory, ReadFault}
 use Rattle.camkes_tool.proofs.Statuses.{exact_status}
-use Rattle.camkes_tool.specs.Answers.{Fits, Tells}
-use Rattle.camkes_tool.specs.Statuses.{IsStatus, IsStatusOfTexts, NoneRose}
-use Rattle.camkes_tool.specs.Theorem.{HoldTexts}
-use Rattle.camkes_tool.specs.declared.answer.Answer.{Answer}
 
 module _ (m : Contents) (old new : List ℕ → ℕ) where
   -- ---- inputs
@@ -158,11 +128,11 @@ module _ (m : Contents) (old new : List ℕ → ℕ) where
     status_is status (inr (inl (fault, file, asked, e))) = absurd (all_right fault file asked)
     status_is status (inr (inr six)) = inr six
 
-pub texts_accepted : (contents : Contents) (before now : List ℕ → ℕ) (cdl policy cert : List ℕ) (words : List (List ℕ))
+pub texts_accepted : (contents : Contents) (before now : List ℕ → ℕ) (cdl policy cert : List ℕ) (asked : Option Command)
     (answer : Answer) (status : ℕ) (old new : Sink) (m n : ℕ)
-    → read_words words ≡ Some (Check cdl policy cert) → HoldTexts contents cdl policy cert → NoneRose before now → ¬ Rose m n
-    → Fits words contents before now answer → Tells answer status old new m n → (status ≡ 0) ⊎ (status ≡ 6)
-texts_accepted contents before now cdl policy cert words answer status old new m n asked holds none kept fits tells =
+    → asked ≡ Some (Check cdl policy cert) → HoldTexts contents cdl policy cert → NoneRose before now → ¬ Rose m n
+    → Fits asked contents before now answer → Tells answer status old new m n → (status ≡ 0) ⊎ (status ≡ 6)
+texts_accepted contents before now cdl policy cert asked answer status old new m n is holds none kept fits tells =
     let b = holds.build in
     let root = holds.root in
     let sources = holds.sources in
@@ -171,7 +141,7 @@ texts_accepted contents before now cdl policy cert words answer status old new m
       policy = policy_read root sources b holds.system.made;
       cert = cert_read root sources b holds.system.made;
     } in
-    let exact = exact_status contents words before now answer status old new m n fits tells none kept in
+    let exact = exact_status contents asked before now answer status old new m n fits tells none kept in
     status_is contents before now cdl policy cert b back (as_read root sources b holds.system.made)
     (trio_valid root sources b holds.system.made) holds.system.capdl holds.system.allowed holds.certificate status
-    (subst (λ z. IsStatus contents before now z status) asked exact)
+    (subst (λ z. IsStatus contents before now z status) is exact)

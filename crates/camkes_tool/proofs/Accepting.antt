@@ -1,11 +1,8 @@
 -- Where each object is given a label, no object is without one.
-use Rattle.std.proofs.Common.{◌≡◌, ℕ, List, [], ◌∷◌, Option, Some, None, Err, map, refl}
-use Rattle.build_laws.specs.TriosValid.{IsTrioValid}
-use Rattle.arch_compile.specs.declared.building.Build.{Build}
+use Rattle.camkes_tool.proofs.Common.{Build, Err, IsLabelling, IsTrioValid, List, None, Option, Some, [], first_unlabelled, map, object_label, refl, ℕ, ◌∷◌, ◌≡◌}
 use Rattle.cam_base.specs.declared.text_fault.TextFault.{TextFault}
 use Rattle.cam_base.specs.declared.error.Refused.TheVariants as refused
 use Rattle.cap_model.specs.declared.spec.Entry.{Entry}
-use Rattle.policy_text.specs.Labelled.{IsLabelling, first_unlabelled, object_label}
 
 none_unlabelled : (label : List ℕ → Option ℕ) (entries : List Entry) (labels : List ℕ)
     → map (λ n. Some n) labels ≡ map (λ (e : Entry). label e.name) entries → first_unlabelled label entries ≡ None

@@ -1,18 +1,9 @@
 -- What `list` and `explain` leave is what the source assigns over its hierarchy.
-use Rattle.std.proofs.Common.{◌≡◌, ◌≢◌, ◌⊎◌, ◌∙◌, ℕ, List, Option, Some, refl, inl, inr, sym, subst}
-use Rattle.cam_io.specs.Contents.{Contents}
-use Rattle.cam_io.specs.Reading.{InAll}
-use Rattle.cam_io.specs.Sinks.{Sink}
-use Rattle.command_words.specs.declared.command.Command.{Command}
-use Rattle.command_words.specs.declared.command.Command.TheVariants.{Explain, List as ListOf}
+use Rattle.camkes_tool.proofs.Common.{Answer, Command, Compiled, Contents, Explain, Explained, Faulted, Fits, FitsExplained, FitsListed, Generated, InAll, IsAnswerWritten, IsExplained, IsListWritten, IsListed, List, Listed, NoMemory, Option}
+use Rattle.camkes_tool.proofs.Common.{ReadFault, Refused, Sink, Some, Tells, Told, Usage, inl, inr, listing_text, refl, status_of, subst, sym, ℕ, ◌∙◌, ◌≡◌, ◌≢◌, ◌⊎◌}
+use Rattle.command_words.specs.declared.command.Command.TheVariants.{List as ListOf}
 use Rattle.source_commands.proofs.OverTree.{answers_whether, lists_assigned}
-use Rattle.source_commands.specs.Explained.{IsExplained}
-use Rattle.source_commands.specs.Listed.{IsListed, listing_text}
 use Rattle.camkes_tool.proofs.Written.{whole_status, zero_not_five}
-use Rattle.camkes_tool.specs.Answers.{FitsAsked, FitsExplained, FitsListed, Tells, status_of}
-use Rattle.camkes_tool.specs.Theorem.{IsAnswerWritten, IsListWritten}
-use Rattle.camkes_tool.specs.declared.answer.Answer.{Answer}
-use Rattle.camkes_tool.specs.declared.answer.Answer.TheVariants.{Compiled, Listed, Explained, Told, Generated, Faulted, Refused, Usage, ReadFault, NoMemory}
 
 module _ (told : Contents → Type 0) (some : (c : Contents) × told c) (before now : List ℕ → ℕ) (status : ℕ) (old new : Sink)
     (m n : ℕ) where
@@ -35,10 +26,10 @@ module _ (told : Contents → Type 0) (some : (c : Contents) × told c) (before 
     list_written Usage fits tells = absurd (fits some.0 some.1)
 
     pub listed_written : (asked : Option Command) (answer : Answer) → asked ≡ Some (ListOf root)
-        → InAll told (λ c. FitsAsked asked c before now answer) → Tells answer status old new m n
+        → InAll told (λ c. Fits asked c before now answer) → Tells answer status old new m n
         → IsListWritten told root old new
     listed_written asked answer is fits tells =
-        list_written answer (λ c t. subst (λ z. FitsAsked z c before now answer) is (fits c t)) tells
+        list_written answer (λ c t. subst (λ z. Fits z c before now answer) is (fits c t)) tells
 
   module _ (root from authority to : List ℕ) (ends : (status ≡ 0) ⊎ (status ≡ 3)) where
     not_five : status ≡ 5 → ⊥
@@ -74,7 +65,7 @@ module _ (told : Contents → Type 0) (some : (c : Contents) × told c) (before 
     answer_written Usage fits tells = absurd (fits some.0 some.1)
 
     pub explained_written : (asked : Option Command) (answer : Answer) → asked ≡ Some (Explain root from authority to)
-        → InAll told (λ c. FitsAsked asked c before now answer) → Tells answer status old new m n
+        → InAll told (λ c. Fits asked c before now answer) → Tells answer status old new m n
         → IsAnswerWritten told root from authority to status old new
     explained_written asked answer is fits tells =
-        answer_written answer (λ c t. subst (λ z. FitsAsked z c before now answer) is (fits c t)) tells
+        answer_written answer (λ c t. subst (λ z. Fits z c before now answer) is (fits c t)) tells

@@ -1,18 +1,8 @@
 -- Only `audit` and `plan` leave a choice.
-use Rattle.std.proofs.Common.{◌≡◌, ℕ, List, Option, Some, None, Result, Ok, true, false, inl, inr, refl, ap, subst}
-use Rattle.cam_io.specs.Contents.{Contents}
-use Rattle.command_words.specs.Words.{read_words}
-use Rattle.command_words.specs.declared.command.Command.{Command}
-use Rattle.command_words.specs.declared.command.Command.TheVariants.{Compile, Check, List as ListOf, Explain, Replay, Generate, Audit, Certify, Sections, Plan}
-use Rattle.camkes_tool.specs.Generated.{IsGenerated}
-use Rattle.source_commands.specs.Explained.{IsExplained}
-use Rattle.source_commands.specs.Listed.{IsListed}
-use Rattle.text_commands.specs.Commands.{IsCertified, IsChecked, IsRun, IsTabled}
-use Rattle.text_commands.specs.declared.fault.InputError.{InputError}
-use Rattle.text_commands.specs.declared.outcome.Outcome.{Outcome}
-use Rattle.camkes_tool.specs.Answers.{Fits, FitsAsked, FitsExplained, FitsGenerated, FitsListed, FitsCompiled, FitsTexts, IsUsage, MayChoose, is_chosen, leaves_choice}
-use Rattle.camkes_tool.specs.declared.answer.Answer.{Answer}
-use Rattle.camkes_tool.specs.declared.answer.Answer.TheVariants.{Compiled, Listed, Explained, Told, Generated, Faulted, Refused, Usage, ReadFault, NoMemory}
+use Rattle.camkes_tool.proofs.Common.{Answer, Audit, Certify, Check, Command, Compile, Compiled, Contents, Explain, Explained, Faulted, Fits, FitsCompiled, FitsExplained, FitsGenerated, FitsListed, FitsTexts, Generate, Generated, InputError}
+use Rattle.camkes_tool.proofs.Common.{IsCertified, IsChecked, IsExplained, IsGenerated, IsListed, IsRun, IsTabled, IsUsage, List, Listed, MayChoose, NoMemory, None, Ok, Option, Outcome, Plan, ReadFault, Refused, Replay, Result, Sections, Some, Told}
+use Rattle.camkes_tool.proofs.Common.{Usage, ap, false, inl, inr, is_chosen, leaves_choice, refl, subst, true, ℕ, ◌≡◌}
+use Rattle.command_words.specs.declared.command.Command.TheVariants.{List as ListOf}
 
 unchosen : (a : Answer) → ((o : Outcome) → a ≡ Told o → leaves_choice o ≡ false) → is_chosen a ≡ false
 unchosen (Told o) none = none o refl
@@ -82,7 +72,7 @@ module _ (m : Contents) (old new : List ℕ → ℕ) where
     both : {X : Type 0} → is_chosen a ≡ false → is_chosen a ≡ true → X
     both unmade made = absurd cc
 
-    chosen_by : (asked : Option Command) → FitsAsked asked m old new a → is_chosen a ≡ true → MayChoose asked
+    pub chosen_by : (asked : Option Command) → Fits asked m old new a → is_chosen a ≡ true → MayChoose asked
     chosen_by None x is = both (of_usage x) is
     chosen_by (Some (Compile root base)) x is = both (of_root root base x) is
     chosen_by (Some (Check cdl policy cert)) x is =
@@ -97,7 +87,3 @@ module _ (m : Contents) (old new : List ℕ → ℕ) where
         both (of_texts (IsCertified m old new cdl policy) (certified_none cdl policy) x) is
     chosen_by (Some (Sections elf)) x is = both (of_texts (IsTabled m old new elf) (tabled_none elf) x) is
     chosen_by (Some (Plan cdl untypeds)) x is = tt
-
-pub chosen_words : (m : Contents) (words : List (List ℕ)) (old new : List ℕ → ℕ) (a : Answer) → Fits words m old new a
-    → is_chosen a ≡ true → MayChoose (read_words words)
-chosen_words m words old new a x is = chosen_by m old new a (read_words words) x is

@@ -1,13 +1,8 @@
 -- What is learned for a command, where it and its words are known by equations.
-use Rattle.std.proofs.Common.{◌≡◌, ◌∙◌, ℕ, List, [], ◌∷◌, Some, ap, subst, sym}
+use Rattle.camkes_tool.proofs.Common.{AlikeAsRead, AlikeInCommand, AlikeInInputs, Audit, Certify, Check, Command, Compile, Contents, Explain, LearnsOnly, List, Plan, Replay, Sections, Some, [], ap, subst, sym, ℕ, ◌∙◌, ◌∷◌, ◌≡◌}
 use Rattle.adl_import.specs.Loaded.{AlikeInSource}
 use Rattle.arch_compile.specs.Compiled.{AlikeInBuild}
-use Rattle.cam_io.specs.Contents.{Contents}
-use Rattle.cam_io.specs.Reading.{LearnsOnly}
-use Rattle.command_words.specs.declared.command.Command.{Command}
-use Rattle.command_words.specs.declared.command.Command.TheVariants.{Compile, Check, List as ListOf, Explain, Replay, Audit, Certify, Sections, Plan}
-use Rattle.text_commands.specs.Inputs.{AlikeAsRead, AlikeInInputs}
-use Rattle.camkes_tool.specs.Learning.{AlikeInCommand}
+use Rattle.command_words.specs.declared.command.Command.TheVariants.{List as ListOf}
 
 pub two_same : (a b x y : List ℕ) → a ≡ x → b ≡ y → ◌≡◌ {A = List (List ℕ)} (a ∷ b ∷ []) (x ∷ y ∷ [])
 two_same a b x y p q = ap (λ z. z ∷ b ∷ []) p ∙ ap (λ z. x ∷ z ∷ []) q

@@ -1,9 +1,7 @@
 -- Acts leave the other channels as they were.
-use Rattle.std.proofs.Common.{◌≡◌, ◌≢◌, ◌∙◌, refl, sym, ap, subst, inl, inr, ℕ, ◌==◌, Bool, true, false, cond, List, [], ◌∷◌, ◌++◌, Option, Some, None, arith, take}
+use Rattle.camkes_tool.proofs.Common.{Act, Begin, Bool, CutShort, IsAsBefore, List, None, Option, Sink, Some, Write, [], after, ap, arith, at, cond, false, inl, inr, refl, subst, sym, take, true, ℕ, ◌++◌, ◌==◌, ◌∙◌, ◌∷◌, ◌≡◌, ◌≢◌}
 use Rattle.std.proofs.lemmas.Bool.Decides.{nat_tests}
-use Rattle.cam_io.specs.Sinks.{Sink, appended, with_begun, more, named}
-use Rattle.cam_io.specs.Scripts.{Act, Begin, Write, after, CutShort}
-use Rattle.camkes_tool.specs.Channels.{at, IsAsBefore}
+use Rattle.cam_io.specs.Sinks.{appended, with_begun, more, named}
 
 pub same_channel : (k : ℕ) (s : Sink) → IsAsBefore k s s
 same_channel k s = record { begun = refl; name = refl; text = refl }

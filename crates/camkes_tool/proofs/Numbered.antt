@@ -1,9 +1,7 @@
 -- What is listed for numbers in a row, one further.
-use Rattle.std.proofs.Common.{◌≡◌, ◌∙◌, ◌+◌, ◌++◌, ℕ, List, [], ◌∷◌, arith, sym, ap}
+use Rattle.camkes_tool.proofs.Common.{List, [], ap, append-nil, append_assoc, arith, flat_map, map-id, range_with_len, sym, ℕ, ◌++◌, ◌+◌, ◌∙◌, ◌∷◌, ◌≡◌}
 use Rattle.cam_base.specs.Texts.{together}
-use Rattle.std.specs.List.{flat_map, range_with_len}
 use Rattle.std.proofs.lemmas.Grind.{flat_map-append}
-use Rattle.std.proofs.lemmas.List.{append-nil, append_assoc, map-id}
 use Rattle.std.proofs.lemmas.List.FromFn.{map-range_with_len_more}
 
 range_with_len_more : (n : ℕ) → range_with_len 0 (n + 1) ≡ range_with_len 0 n ++ n ∷ []

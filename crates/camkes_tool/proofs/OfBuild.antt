@@ -1,47 +1,27 @@
 -- Where the capDL and the policy that are read are written of a build, an audit has the edges that are listed of its source, and
 -- the least certificate is the build's.
-use Rattle.std.proofs.Common.{◌≡◌, ◌∙◌, ℕ, List, Ok, sym, ap, subst}
-use Rattle.std.proofs.lemmas.Option.{same_Some}
+use Rattle.camkes_tool.proofs.Common.{Build, Contents, Edge, HoldBuild, HoldSystem, IsListText, IsPolicyText, IsReadAs, LabelNames, List, Policy, Spec, Text, ap, apart_lines, build_sound, canonical, object_labels, policy_read, policy_text}
+use Rattle.camkes_tool.proofs.Common.{read_labels, same_Some, spec_back, subst, sym, ℕ, ◌∙◌, ◌≡◌}
 use Rattle.std.specs.Cmp.Derive.{one_truth}
-use Rattle.arch_compile.specs.declared.building.Build.{Build}
 use Rattle.cap_model.proofs.TableMembers.{one_table}
 use Rattle.cap_model.specs.Tables.{IsSorted, has}
-use Rattle.cap_model.specs.declared.edge.Edge.{Edge}
 use Rattle.cap_model.specs.declared.object_labels.Labels.{Labels}
-use Rattle.cap_model.specs.declared.policy.Policy.{Policy}
-use Rattle.build_laws.proofs.HeldAsRead.{read_labels}
 use Rattle.build_laws.proofs.ListFaults.{none_listed}
-use Rattle.build_laws.proofs.PolicyBack.{policy_read}
 use Rattle.build_laws.proofs.PolicyReached.{policy_reached}
-use Rattle.build_laws.proofs.SpecBack.{spec_back}
-use Rattle.build_laws.specs.AsRead.{IsReadAs}
-use Rattle.arch_compile.proofs.Soundness.{build_sound}
-use Rattle.arch_compile.specs.Sound.{object_labels}
-use Rattle.cam_io.specs.Contents.{Contents}
 use Rattle.cap_audit.specs.Reports.{IsReport}
 use Rattle.cap_machine.specs.declared.step.Step.{Step}
-use Rattle.cap_model.specs.Canonical.{canonical}
-use Rattle.cap_model.specs.declared.spec.Spec.{Spec}
-use Rattle.capdl_text.specs.Texts.{Text}
-use Rattle.policy_text.specs.EdgeLines.{Labels as Names, apart_lines}
 use Rattle.least_cert.proofs.LeastKeeps.{least_valid, valid_keeps}
 use Rattle.least_cert.specs.LeastCertificate.{IsLeast}
-use Rattle.policy_text.specs.Labelled.{IsLabelling}
-use Rattle.policy_text.specs.PolicyLines.{policy_text}
-use Rattle.policy_text.specs.PolicyTexts.{IsPolicyText}
-use Rattle.text_commands.specs.Inputs.{Holds}
-use Rattle.camkes_tool.specs.Theorem.{HoldBuild, IsListText}
 
 module _ (m : Contents) (cdl policy root : List ℕ) (sources : Contents) (b : Build)
     (holds : HoldBuild m cdl policy root sources b)
-    (spec : Spec) (allowed : Policy) (labels : Labels) (capdl : (bytes : List ℕ) × Holds m cdl bytes × Text bytes spec)
-    (text : (bytes : List ℕ) × Holds m policy bytes × IsPolicyText bytes allowed)
-    (labelled : IsLabelling spec allowed (Ok labels)) where
+    (spec : Spec) (allowed : Policy) (labels : Labels) (held : HoldSystem m cdl policy spec allowed labels) where
   read : IsReadAs b spec allowed labels
   read = record {
-    capdl = subst (λ z. Text z spec) (same_Some capdl.0 (canonical b.spec) (sym capdl.1 ∙ holds.capdl)) capdl.2;
-    policy_is = subst (λ z. IsPolicyText z allowed) (same_Some text.0 (policy_text b.policy) (sym text.1 ∙ holds.allowed)) text.2;
-    labelled = labelled;
+    capdl = subst (λ z. Text z spec) (same_Some held.capdl.0 (canonical b.spec) (sym held.capdl.1 ∙ holds.capdl)) held.capdl.2;
+    policy_is = subst (λ z. IsPolicyText z allowed) (same_Some held.text.0 (policy_text b.policy)
+        (sym held.text.1 ∙ holds.allowed)) held.text.2;
+    labelled = held.labelled;
   }
 
   of_own : (P : Spec → List ℕ → Type 0) → P spec labels.by_object → P b.spec (object_labels b).by_object
@@ -62,7 +42,7 @@ module _ (m : Contents) (cdl policy root : List ℕ) (sources : Contents) (b : B
       (λ h. (own e.from e.authority e.to).1 ((mine.reached e.from e.authority e.to).0 h))
       (λ h. (mine.reached e.from e.authority e.to).1 ((own e.from e.authority e.to).0 h)))
 
-  pub report_listed : (edges : List Edge) (steps : List Step) (names : Names) → names ≡ allowed.labels → IsSorted edges
+  pub report_listed : (edges : List Edge) (steps : List Step) (names : LabelNames) → names ≡ allowed.labels → IsSorted edges
       → IsReport spec labels.by_object edges steps
       → IsListText root sources (apart_lines names edges)
   report_listed edges steps names named sorted report =

@@ -1,42 +1,19 @@
 -- For the same words and contents there is one answer, aside from failed reads and want of memory.
-use Rattle.std.proofs.Common.{◌≡◌, ◌∙◌, ◌≤◌, ◌∷◌, [], ℕ, cond, List, Option, Some, None, Result, Ok, Err, false, refl, sym, ap, subst, inl, inr, arith, string_bytes}
+use Rattle.camkes_tool.proofs.Common.{Answer, AreNamedBy, AreOne, AreOneButChoice, Audit, Begin, Build, BuildError, Certify, Check, Command, Compile, Compiled, Contents, Err, Explain, Explained, Faulted, Fits, FitsCompiled, FitsExplained}
+use Rattle.camkes_tool.proofs.Common.{FitsGenerated, FitsListed, FitsTexts, Generate, Generated, InputError, IsAudited, IsCertified, IsChecked, IsExplained, IsGenerated, IsListed, IsPlanned, IsRun, IsTabled, List, Listed, Listing, NoMemory, None, Ok}
+use Rattle.camkes_tool.proofs.Common.{Option, Outcome, Plan, ReadFault, Refused, Replay, Result, Sections, Sink, Some, Summary, Tells, TextNames, Told, Usage, Write, [], after, answer_but_choice, ap, arith, audited_one, build_first, build_summary}
+use Rattle.camkes_tool.proofs.Common.{builds_same, but_choice, canonical, cert_text, certified_one, checked_one, cond, false, inl, inr, is_chosen, is_well, leaves_choice, one_explained, one_first, one_listing, planned_one, policy_text, ran_one, refl}
+use Rattle.camkes_tool.proofs.Common.{script, status_of, string_bytes, subst, sym, tabled_one, text_of, texts_script, yields, ℕ, ◌∙◌, ◌∷◌, ◌≡◌, ◌≤◌}
 use Rattle.cam_base.specs.declared.place.Fault.{Fault}
-use Rattle.cam_io.specs.Contents.{Contents}
-use Rattle.cam_io.specs.Scripts.{Begin, Write, after}
-use Rattle.cam_io.specs.Sinks.{Sink}
-use Rattle.arch_compile.proofs.OneAnswer.{build_first, builds_same, one_first}
-use Rattle.arch_compile.specs.declared.building.Build.{Build}
 use Rattle.arch_compile.specs.Maps.{build_map}
-use Rattle.arch_compile.specs.BuildTexts.{AreNamedBy, build_summary, texts_script}
-use Rattle.arch_compile.specs.declared.names.TextNames.{TextNames}
-use Rattle.cap_model.specs.Canonical.{canonical}
-use Rattle.policy_text.specs.PolicyLines.{cert_text, policy_text}
-use Rattle.arch_compile.specs.declared.summary.Summary.{Summary}
-use Rattle.command_words.specs.Words.{read_words}
-use Rattle.command_words.specs.declared.command.Command.{Command}
-use Rattle.command_words.specs.declared.command.Command.TheVariants.{Compile, Check, List as ListOf, Explain, Replay, Generate, Audit, Certify, Sections, Plan}
+use Rattle.command_words.specs.declared.command.Command.TheVariants.{List as ListOf}
 use Rattle.front_end.specs.Refusals as refusals
-use Rattle.front_end.specs.declared.error.BuildError.{BuildError}
 use Rattle.front_end.specs.declared.error.BuildError.TheVariants as build
 use Rattle.camkes_tool.proofs.OneGenerated.{one_generated}
-use Rattle.camkes_tool.specs.Generated.{IsGenerated}
 use Rattle.explain.specs.declared.answer.Answer.{Answer as Reply}
-use Rattle.source_commands.proofs.OneAnswer.{one_explained, one_listing}
-use Rattle.source_commands.specs.Explained.{IsExplained}
-use Rattle.source_commands.specs.Listed.{IsListed}
-use Rattle.source_commands.specs.declared.listing.Listing.{Listing}
-use Rattle.text_commands.proofs.OneAnswer.{audited_one, certified_one, checked_one, planned_one, ran_one, tabled_one}
-use Rattle.text_commands.specs.Commands.{IsAudited, IsCertified, IsChecked, IsPlanned, IsRun, IsTabled}
-use Rattle.text_commands.specs.OneAnswer.{AreOneButChoice, answer_but_choice, but_choice}
 use Rattle.text_commands.specs.OneAnswer as texts
-use Rattle.text_commands.specs.Outcomes.{is_well, text_of}
-use Rattle.text_commands.specs.declared.fault.InputError.{InputError}
 use Rattle.text_commands.specs.declared.fault.InputError.TheVariants as input
-use Rattle.text_commands.specs.declared.outcome.Outcome.{Outcome}
 use Rattle.text_commands.specs.declared.outcome.Outcome.TheVariants.{Audited, Certified, Checked, Planned, Ran, Tabled}
-use Rattle.camkes_tool.specs.Answers.{AreOne, Fits, FitsAsked, FitsExplained, FitsGenerated, FitsListed, FitsCompiled, FitsTexts, Tells, is_chosen, leaves_choice, script, status_of, yields}
-use Rattle.camkes_tool.specs.declared.answer.Answer.{Answer}
-use Rattle.camkes_tool.specs.declared.answer.Answer.TheVariants.{Compiled, Listed, Explained, Told, Generated, Faulted, Refused, Usage, ReadFault, NoMemory}
 
 same_answer : (a : Answer) → AreOne a a
 same_answer a = record { status = refl; script = λ is. refl; compiled = refl; faulted = refl; refused = refl; found = refl }
@@ -111,7 +88,7 @@ module _ (m : Contents) (root base : List ℕ) (old new later last : List ℕ �
   one_of_root (Faulted a f) NoMemory p q x y = absurd cc
 
 one_usage : (m : Contents) (old new later last : List ℕ → ℕ) (a b : Answer) → yields a ≡ false → yields b ≡ false
-    → FitsAsked None m old new a → FitsAsked None m later last b → AreOne a b
+    → Fits None m old new a → Fits None m later last b → AreOne a b
 one_usage m old new later last Usage Usage p q x y = same_answer Usage
 one_usage m old new later last Usage (Compiled b t) p q x y = absurd y
 one_usage m old new later last Usage (Listed o) p q x y = absurd y
@@ -344,8 +321,8 @@ one_of_generated Here There one (Faulted a a') NoMemory p q x y = absurd cc
 
 -- ---- every command
 
-one_asked : (m : Contents) (asked : Option Command) (old new later last : List ℕ → ℕ) (a b : Answer) → yields a ≡ false
-    → yields b ≡ false → FitsAsked asked m old new a → FitsAsked asked m later last b → AreOne a b
+pub one_asked : (m : Contents) (asked : Option Command) (old new later last : List ℕ → ℕ) (a b : Answer) → yields a ≡ false
+    → yields b ≡ false → Fits asked m old new a → Fits asked m later last b → AreOne a b
 one_asked m None old new later last a b p q x y = one_usage m old new later last a b p q x y
 one_asked m (Some (Compile root base)) old new later last a b p q x y = one_of_root m root base old new later last a b p q x y
 one_asked m (Some (Check cdl policy cert)) old new later last a b p q x y =
@@ -374,10 +351,6 @@ one_asked m (Some (Plan cdl untypeds)) old new later last a b p q x y =
     one_of_texts (IsPlanned m old new cdl untypeds) (IsPlanned m later last cdl untypeds)
     (planned_one m old new later last cdl untypeds) a b p q x y
 
-pub one_answer : (m : Contents) (words : List (List ℕ)) (old new later last : List ℕ → ℕ) (a b : Answer) → yields a ≡ false
-    → yields b ≡ false → Fits words m old new a → Fits words m later last b → AreOne a b
-one_answer m words old new later last a b p q x y = one_asked m (read_words words) old new later last a b p q x y
-
 -- ---- calls
 
 -- what is told with a status up to 3 is told whole, and doesn't yield
@@ -405,13 +378,13 @@ whole a status old new before now tells l = elim tells.told [
   | inr t ↦ let five = t.0 in absurd (omega arith)
 ]
 
-pub one_call : (m : Contents) (words : List (List ℕ)) (old new later last : List ℕ → ℕ) (a b : Answer) (first second : ℕ)
+pub one_call : (m : Contents) (asked : Option Command) (old new later last : List ℕ → ℕ) (a b : Answer) (first second : ℕ)
     (sink left right : Sink) (before now before' now' : ℕ)
-    → Fits words m old new a → Tells a first sink left before now → first ≤ 3 → Fits words m later last b
+    → Fits asked m old new a → Tells a first sink left before now → first ≤ 3 → Fits asked m later last b
     → Tells b second sink right before' now' → second ≤ 3
     → (first ≡ second) × (is_chosen a ≡ false → left ≡ right)
-one_call m words old new later last a b first second sink left right before now before' now' x t l y u k =
+one_call m asked old new later last a b first second sink left right before now before' now' x t l y u k =
     let one = whole a first sink left before now t l in
     let two = whole b second sink right before' now' u k in
-    let same = one_answer m words old new later last a b one.stays two.stays x y in
+    let same = one_asked m asked old new later last a b one.stays two.stays x y in
     (one.status ∙ same.status ∙ sym two.status, λ none. one.done ∙ ap (after sink) (same.script none) ∙ sym two.done)

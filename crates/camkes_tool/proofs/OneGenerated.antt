@@ -1,15 +1,9 @@
 -- What generating answers is one, aside from want of memory.
-use Rattle.std.proofs.Common.{◌≡◌, ◌∙◌, ℕ, false, Result, Ok, Err, sym, ap}
-use Rattle.arch_compile.proofs.OneAnswer.{build_first, builds_same, one_first}
-use Rattle.arch_compile.specs.declared.building.Build.{Build}
+use Rattle.camkes_tool.proofs.Common.{Build, BuildError, Err, IsGenerated, Ok, Result, Summary, ap, build_first, builds_same, false, generated, one_first, root_name, sym, ℕ, ◌∙◌, ◌≡◌}
 use Rattle.arch_compile.specs.Summary.{summary_of}
-use Rattle.arch_compile.specs.declared.summary.Summary.{Summary}
 use Rattle.front_end.proofs.OneAnswer.{faults_same}
 use Rattle.front_end.specs.Refusals.{yields}
-use Rattle.front_end.specs.declared.error.BuildError.{BuildError}
 use Rattle.front_end.specs.declared.error.BuildError.TheVariants as error
-use Rattle.camkes_tool.specs.Generated.{IsGenerated}
-use Rattle.camkes_tool.specs.GeneratedFiles.{generated, root_name}
 
 module _ (count : ℕ) where
   summaries_same : (f g : Summary) → IsGenerated count (Ok f) → IsGenerated count (Ok g) → f ≡ g

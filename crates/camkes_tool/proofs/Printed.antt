@@ -1,37 +1,19 @@
 -- What `certify`, `sections` and `audit` leave with status 0.
-use Rattle.std.proofs.Common.{◌≡◌, ℕ, List, [], Option, Some, Result, Ok, inl, inr, subst}
-use Rattle.cap_model.specs.declared.edge.Edge.{Edge}
-use Rattle.cam_io.specs.Contents.{Contents}
-use Rattle.cam_io.specs.Reading.{InAll}
-use Rattle.cam_io.specs.Sinks.{Sink, appended}
+use Rattle.camkes_tool.proofs.Common.{Answer, Audit, Certify, Command, Compiled, Contents, Edge, Explained, Faulted, Fits, FitsTexts, Generated, HoldSystem, Holds, InAll, InputError, IsAudited, IsCertificateWritten, IsCertified, IsLabelling}
+use Rattle.camkes_tool.proofs.Common.{IsLeastOf, IsReportOf, IsReportWritten, IsTableOf, IsTableWritten, IsTabled, LabelNames, List, Listed, NoMemory, Ok, Option, Outcome, ReadFault, Refused, Result, SaysYes, Sections, Sink, Some, Spec, Tells, Text}
+use Rattle.camkes_tool.proofs.Common.{Told, Usage, [], appended, cert_text, inl, inr, subst, text_of, ℕ, ◌≡◌}
 use Rattle.cap_audit.specs.declared.report.AuditReport.{AuditReport}
-use Rattle.cap_model.specs.declared.spec.Spec.{Spec}
-use Rattle.capdl_text.specs.Texts.{Text}
-use Rattle.command_words.specs.declared.command.Command.{Command}
-use Rattle.command_words.specs.declared.command.Command.TheVariants.{Audit, Certify, Sections}
-use Rattle.policy_text.specs.EdgeLines.{Labels as Names}
 use Rattle.sect_table.specs.Elf.{Elf}
 use Rattle.std.specs.Prelude.{codes}
-use Rattle.policy_text.specs.Labelled.{IsLabelling}
-use Rattle.policy_text.specs.PolicyLines.{cert_text}
 use Rattle.sect_table.specs.declared.image.Image.{Image}
 use Rattle.text_commands.proofs.AuditBack.{audit_replayed, audit_shown}
 use Rattle.text_commands.proofs.CertBack.{certificate_decides, text_back}
 use Rattle.text_commands.proofs.TableBack.{table_back}
-use Rattle.text_commands.specs.Commands.{IsAudited, IsCertified, IsTabled}
 use Rattle.text_commands.specs.Decisions.{HasReport, IsCertificate}
-use Rattle.text_commands.specs.Inputs.{Holds}
-use Rattle.text_commands.specs.Outcomes.{text_of}
-use Rattle.text_commands.specs.declared.fault.InputError.{InputError}
-use Rattle.text_commands.specs.declared.outcome.Outcome.{Outcome}
 use Rattle.text_commands.specs.declared.outcome.Outcome.TheVariants as found
 use Rattle.camkes_tool.proofs.OfBuild.{least_own, report_listed}
 use Rattle.camkes_tool.proofs.Safe.{policy_read, system_read}
 use Rattle.camkes_tool.proofs.Written.{whole_status, zero_not_five}
-use Rattle.camkes_tool.specs.Answers.{FitsAsked, FitsTexts, Tells}
-use Rattle.camkes_tool.specs.Theorem.{IsCertificateWritten, IsLeastOf, IsReportOf, IsReportWritten, IsTableOf, IsTableWritten, SaysYes}
-use Rattle.camkes_tool.specs.declared.answer.Answer.{Answer}
-use Rattle.camkes_tool.specs.declared.answer.Answer.TheVariants.{Compiled, Listed, Explained, Told, Generated, Faulted, Refused, Usage, ReadFault, NoMemory}
 
 abbrev HasText : Contents → List ℕ → Spec → Type 0
 HasText m cdl spec = (bytes : List ℕ) × Holds m cdl bytes × Text bytes spec
@@ -59,18 +41,20 @@ module _ (m : Contents) (before now : List ℕ → ℕ) where
         let same : cert ≡ edges = cc in
         let least : IsCertificate spec labels.by_object edges = subst (λ z. IsCertificate spec labels.by_object z) same
         certificate in
-        let capdl = system_read m before now cdl policy [] spec system in
-        let text = policy_read m before now cdl policy [] allowed read in
+        let held : HoldSystem m cdl policy spec allowed labels = record {
+          capdl = system_read m before now cdl policy [] spec system;
+          text = policy_read m before now cdl policy [] allowed read;
+          labelled = labelled;
+        } in
         record {
           spec = spec;
           allowed = allowed;
           labels = labels;
-          capdl = capdl;
-          text = text;
-          labelled = labelled;
+          held = held;
           least = least.least;
-          read_back = text_back capdl.0 text.0 spec allowed labels capdl.2 text.2 labelled edges least;
-          of_build = λ root sources b holds. least_own m cdl policy root sources b holds spec allowed labels capdl text labelled
+          read_back = text_back held.capdl.0 held.text.0 spec allowed labels held.capdl.2 held.text.2 labelled edges
+              least;
+          of_build = λ root sources b holds. least_own m cdl policy root sources b holds spec allowed labels held
               edges least.sorted least.least;
           decides = λ cert held. (
             λ yes. (cert, yes),
@@ -110,14 +94,14 @@ module _ (m : Contents) (before now : List ℕ → ℕ) where
   -- ---- reports
 
   is_audited : (cdl policy : List ℕ) (o : Outcome) → IsAudited m before now cdl policy (Ok o)
-      → (report : AuditReport) × (spec : Spec) × (names : Names) × (o ≡ found.Audited report spec names)
+      → (report : AuditReport) × (spec : Spec) × (names : LabelNames) × (o ≡ found.Audited report spec names)
   is_audited cdl policy o (inl (spec, system, inl (allowed, read, inl (labels, labelled, (report, is, has))))) =
       (report, spec, allowed.labels, is)
   is_audited cdl policy o (inl (spec, system, inl (allowed, read, inr (e, told, is)))) = absurd cc
   is_audited cdl policy o (inl (spec, system, inr (e, told, is))) = absurd cc
   is_audited cdl policy o (inr (e, told, is)) = absurd cc
 
-  module _ (cdl policy : List ℕ) (report : AuditReport) (spec : Spec) (names : Names) (audited : IsAudited m before now cdl policy
+  module _ (cdl policy : List ℕ) (report : AuditReport) (spec : Spec) (names : LabelNames) (audited : IsAudited m before now cdl policy
       (Ok (found.Audited report spec names))) where
     report_by : IsAudited m before now cdl policy (Ok (found.Audited report spec names))
         → IsReportOf m cdl policy report spec names
@@ -127,20 +111,19 @@ module _ (m : Contents) (before now : List ℕ → ℕ) where
         let named : names ≡ allowed.labels = cc in
         let mine : HasReport spec labels.by_object report = subst (λ z. HasReport z labels.by_object report) specs
         (subst (λ z. HasReport read_as labels.by_object z) reports has) in
-        let labelled_so : IsLabelling spec allowed (Ok labels) = subst (λ z. IsLabelling z allowed (Ok labels)) specs labelled in
-        let capdl : HasText m cdl spec =
-        subst (λ z. HasText m cdl z) specs (system_read m before now cdl policy [] read_as system) in
-        let text = policy_read m before now cdl policy [] allowed read in
+        let held : HoldSystem m cdl policy spec allowed labels = record {
+          capdl = subst (λ z. HasText m cdl z) specs (system_read m before now cdl policy [] read_as system);
+          text = policy_read m before now cdl policy [] allowed read;
+          labelled = subst (λ z. IsLabelling z allowed (Ok labels)) specs labelled;
+        } in
         record {
           allowed = allowed;
           labels = labels;
-          capdl = capdl;
-          text = text;
-          labelled = labelled_so;
+          held = held;
           named = named;
           reached = mine.shown;
           of_build = λ root sources b holds.
-              report_listed m cdl policy root sources b holds spec allowed labels capdl text labelled_so report.edges report.steps
+              report_listed m cdl policy root sources b holds spec allowed labels held report.edges report.steps
               names named mine.sorted mine.shown;
           replayed = λ few first last file answer held is run.
               let made = audit_replayed m before now first last cdl policy report spec names audited file answer few
@@ -182,11 +165,11 @@ module _ (told : Contents → Type 0) (some : (c : Contents) × told c) (before 
   told_whole Asked Usage fits tells = absurd (fits some.0 some.1)
 
   asked_as : (asked : Option Command) (command : Command) (answer : Answer) → asked ≡ Some command
-      → InAll told (λ c. FitsAsked asked c before now answer) → InAll told (λ c. FitsAsked (Some command) c before now answer)
-  asked_as asked command answer is fits = λ c t. subst (λ z. FitsAsked z c before now answer) is (fits c t)
+      → InAll told (λ c. Fits asked c before now answer) → InAll told (λ c. Fits (Some command) c before now answer)
+  asked_as asked command answer is fits = λ c t. subst (λ z. Fits z c before now answer) is (fits c t)
 
   pub certificate_written : (cdl policy : List ℕ) (asked : Option Command) (answer : Answer) → asked ≡ Some (Certify cdl policy)
-      → InAll told (λ c. FitsAsked asked c before now answer) → Tells answer status old new m n
+      → InAll told (λ c. Fits asked c before now answer) → Tells answer status old new m n
       → IsCertificateWritten told cdl policy old new
   certificate_written cdl policy asked answer is fits tells =
       let all = told_whole (λ c. IsCertified c before now cdl policy) answer (asked_as asked (Certify cdl policy) answer is
@@ -200,7 +183,7 @@ module _ (told : Contents → Type 0) (some : (c : Contents) × told c) (before 
       }
 
   pub table_written : (elf : List ℕ) (asked : Option Command) (answer : Answer) → asked ≡ Some (Sections elf)
-      → InAll told (λ c. FitsAsked asked c before now answer) → Tells answer status old new m n
+      → InAll told (λ c. Fits asked c before now answer) → Tells answer status old new m n
       → IsTableWritten told elf old new
   table_written elf asked answer is fits tells =
       let all = told_whole (λ c. IsTabled c before now elf) answer (asked_as asked (Sections elf) answer is fits) tells in
@@ -212,7 +195,7 @@ module _ (told : Contents → Type 0) (some : (c : Contents) × told c) (before 
       }
 
   pub report_written : (cdl policy : List ℕ) (asked : Option Command) (answer : Answer) → asked ≡ Some (Audit cdl policy)
-      → InAll told (λ c. FitsAsked asked c before now answer) → Tells answer status old new m n
+      → InAll told (λ c. Fits asked c before now answer) → Tells answer status old new m n
       → IsReportWritten told cdl policy old new
   report_written cdl policy asked answer is fits tells =
       let all = told_whole (λ c. IsAudited c before now cdl policy) answer (asked_as asked (Audit cdl policy) answer is

@@ -1,20 +1,12 @@
 -- A command over texts tells a failed read only where the count of its file rose.
-use Rattle.std.proofs.Common.{◌≡◌, ℕ, List, Result, Err, codes, subst, sym, inl, inr}
+use Rattle.camkes_tool.proofs.Common.{Contents, Err, InputError, InputFault, IsAudited, IsCertRead, IsCertified, IsChecked, IsInput, IsLabelling, IsPlanned, IsPolicyRead, IsRun, IsTabled, IsTold, List, Result, Rose, Turn, codes, inl, inr, subst, sym}
+use Rattle.camkes_tool.proofs.Common.{tell_elf, tell_text, tell_untyped, ℕ, ◌≡◌}
 use Rattle.cam_base.specs.declared.error.Refused.{Refused}
-use Rattle.cam_io.specs.Causes.{Rose}
-use Rattle.cam_io.specs.Contents.{Contents}
 use Rattle.boot_plan.specs.UntypedTexts as untyped
 use Rattle.capdl_text.specs.Texts as capdl
 use Rattle.sect_table.specs.Elf as elves
-use Rattle.policy_text.specs.Labelled.{IsLabelling}
-use Rattle.policy_text.specs.PolicyTexts.{IsCertRead, IsPolicyRead}
 use Rattle.step_text.specs.StepTexts as step_texts
-use Rattle.text_commands.specs.Codes.{tell_elf, tell_text, tell_untyped}
-use Rattle.text_commands.specs.Commands.{IsAudited, IsCertified, IsChecked, IsPlanned, IsRun, IsTabled}
-use Rattle.text_commands.specs.Inputs.{IsInput, IsTold, Turn}
-use Rattle.text_commands.specs.declared.fault.InputError.{InputError}
 use Rattle.text_commands.specs.declared.fault.InputError.TheVariants.{ReadFault}
-use Rattle.text_commands.specs.declared.fault.InputFault.{InputFault}
 
 module _ {B : Type 0} (file : List ℕ) (e : InputError) (is : ◌≡◌ {A = Result B InputError} (Err (ReadFault file)) (Err e)) where
   same : ReadFault file ≡ e

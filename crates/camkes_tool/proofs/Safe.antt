@@ -1,24 +1,11 @@
 -- A yes of `check` is sound.
-use Rattle.std.proofs.Common.{◌≡◌, ℕ, Bool, true, false, cond, List, Ok, inl, inr, refl, subst}
-use Rattle.cap_model.specs.declared.edge.Edge.{Edge}
-use Rattle.cap_model.specs.declared.policy.Policy.{Policy}
-use Rattle.cam_io.specs.Contents.{Contents}
-use Rattle.cap_model.specs.declared.spec.Spec.{Spec}
-use Rattle.capdl_text.specs.Texts.{Text}
-use Rattle.cert_check.proofs.Keeps.{runs_stay}
+use Rattle.camkes_tool.proofs.Common.{Answer, Bool, Contents, Edge, FitsTexts, Holds, IsChecked, IsPolicy, IsPolicyText, IsSafe, IsSystem, List, Ok, Outcome, Policy, Spec, Text, cond, false, inl, inr, is_well, is_yes, refl, runs_stay, status_of}
+use Rattle.camkes_tool.proofs.Common.{subst, true, ℕ, ◌≡◌}
 use Rattle.cert_check.specs.Valid.{Stays}
 use Rattle.cert_check.specs.Verdicts.{Judged}
 use Rattle.cert_check.specs.declared.verdict.Verdict.{Verdict}
 use Rattle.cert_check.specs.declared.verdict.Verdict.TheVariants.{Yes, No}
-use Rattle.policy_text.specs.PolicyTexts.{IsPolicyText}
-use Rattle.text_commands.specs.Commands.{IsChecked, IsPolicy, IsSystem}
-use Rattle.text_commands.specs.Inputs.{Holds}
-use Rattle.text_commands.specs.Outcomes.{is_well, is_yes}
-use Rattle.text_commands.specs.declared.outcome.Outcome.{Outcome}
-use Rattle.camkes_tool.specs.Answers.{FitsTexts, status_of}
-use Rattle.camkes_tool.specs.declared.answer.Answer.{Answer}
 use Rattle.camkes_tool.specs.declared.answer.Answer.TheVariants as answers
-use Rattle.camkes_tool.specs.Theorem.{IsSafe}
 
 yes_stays : (spec : Spec) (labels : List ℕ) (policy cert : List Edge) (verdict : Verdict) → is_yes verdict ≡ true
     → Judged spec labels policy cert verdict → Stays spec labels policy
@@ -43,9 +30,7 @@ module _ (contents : Contents) (old new : List ℕ → ℕ) (cdl policy cert : L
     spec = spec;
     allowed = allowed;
     labels = labels;
-    capdl = system_read spec system;
-    text = policy_read allowed text;
-    labelled = labelled;
+    held = record { capdl = system_read spec system; text = policy_read allowed text; labelled = labelled };
     stays = yes_stays spec labels.by_object allowed.edges edges said.0 (subst (λ o. is_well o ≡ true) said.1 well) said.2;
   }
   checked_safe outcome well (inl (spec, system, inl (allowed, text, inl (edges, read, inr (e, labelled, is))))) = absurd cc

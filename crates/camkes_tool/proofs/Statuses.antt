@@ -1,37 +1,15 @@
 -- Statuses are exact where contents are told and nothing failed.
-use Rattle.std.proofs.Common.{◌≡◌, ◌∙◌, ◌⊎◌, ℕ, Bool, true, false, cond, List, Option, Some, None, Result, Ok, Err, refl, sym, ap, inl, inr, arith}
-use Rattle.cam_io.specs.Causes.{Rose}
-use Rattle.cam_io.specs.Contents.{Contents}
-use Rattle.cam_io.specs.Sinks.{Sink}
-use Rattle.arch_compile.proofs.OneAnswer.{none_first}
-use Rattle.arch_compile.specs.Built.{IsBuildOf}
-use Rattle.arch_compile.specs.declared.building.Build.{Build}
-use Rattle.command_words.specs.Words.{read_words}
-use Rattle.command_words.specs.declared.command.Command.{Command}
-use Rattle.command_words.specs.declared.command.Command.TheVariants.{Compile, Check, List as ListOf, Explain, Replay, Generate, Audit, Certify, Sections, Plan}
-use Rattle.front_end.specs.declared.error.BuildError.{BuildError}
+use Rattle.camkes_tool.proofs.Common.{Answer, AreOneButChoice, Audit, Bool, Build, BuildError, Certify, Check, Command, Compile, Compiled, Contents, Err, Explain, Explained, Faulted, Fits, FitsCompiled, FitsExplained, FitsGenerated, FitsListed}
+use Rattle.camkes_tool.proofs.Common.{FitsTexts, Generate, Generated, HasFault, HasNoFault, InputError, IsAudited, IsBuildOf, IsCertified, IsChecked, IsExplained, IsGenerated, IsListed, IsPlanned, IsRun, IsStatus, IsStatusOf, IsStatusOfSource}
+use Rattle.camkes_tool.proofs.Common.{IsStatusOfTexts, IsTabled, List, Listed, Listing, NoMemory, None, NoneRose, Ok, Option, Outcome, Plan, ReadFault, Refused, Replay, Result, Rose, Sections, Sink, Some, Tells, Told, Usage, ap, arith, audited_one}
+use Rattle.camkes_tool.proofs.Common.{but_choice, certified_one, checked_one, cond, false, inl, inr, is_assigned, is_well, none_first, one_explained, one_listing, planned_one, ran_one, refl, status_of, sym, tabled_one, true, ℕ, ◌∙◌, ◌≡◌, ◌⊎◌}
+use Rattle.command_words.specs.declared.command.Command.TheVariants.{List as ListOf}
 use Rattle.front_end.specs.declared.error.BuildError.TheVariants as build
 use Rattle.camkes_tool.proofs.OneGenerated.{one_generated}
-use Rattle.camkes_tool.specs.Generated.{IsGenerated}
-use Rattle.explain.specs.Answers.{is_assigned}
 use Rattle.explain.specs.declared.answer.Answer.{Answer as Reply}
-use Rattle.source_commands.proofs.OneAnswer.{one_explained, one_listing}
-use Rattle.source_commands.specs.Explained.{IsExplained}
-use Rattle.source_commands.specs.Listed.{IsListed}
-use Rattle.source_commands.specs.declared.listing.Listing.{Listing}
-use Rattle.text_commands.proofs.OneAnswer.{audited_one, certified_one, checked_one, planned_one, ran_one, tabled_one}
-use Rattle.text_commands.specs.Commands.{IsAudited, IsCertified, IsChecked, IsPlanned, IsRun, IsTabled}
-use Rattle.text_commands.specs.OneAnswer.{AreOneButChoice, but_choice}
-use Rattle.text_commands.specs.Outcomes.{is_well}
-use Rattle.text_commands.specs.declared.fault.InputError.{InputError}
 use Rattle.text_commands.specs.declared.fault.InputError.TheVariants as input
-use Rattle.text_commands.specs.declared.outcome.Outcome.{Outcome}
 use Rattle.camkes_tool.proofs.OneAnswer.{AreOneOf, but_choice_one, well_one}
 use Rattle.camkes_tool.proofs.ReadFaults.{audit_rose, certify_rose, check_rose, plan_rose, run_rose, table_rose}
-use Rattle.camkes_tool.specs.Answers.{Fits, FitsAsked, FitsExplained, FitsGenerated, FitsListed, FitsCompiled, FitsTexts, Tells, status_of}
-use Rattle.camkes_tool.specs.Statuses.{HasFault, HasNoFault, IsStatus, IsStatusOf, IsStatusOfSource, IsStatusOfTexts, NoneRose}
-use Rattle.camkes_tool.specs.declared.answer.Answer.{Answer}
-use Rattle.camkes_tool.specs.declared.answer.Answer.TheVariants.{Compiled, Listed, Explained, Told, Generated, Faulted, Refused, Usage, ReadFault, NoMemory}
 
 built_sound : (m : Contents) (root : List ℕ) (b : Build) → IsBuildOf root m b → HasNoFault m root
 built_sound m root b is = (b.meaning.source, is.meant.loaded, is.clean)
@@ -49,7 +27,7 @@ of_root m root base old new Usage status x none e = absurd x
 of_root m root base old new (ReadFault file) status x none e = absurd (none file x.1)
 of_root m root base old new NoMemory status x none e = inr (inr e)
 
-of_usage : (m : Contents) (old new : List ℕ → ℕ) (a : Answer) (status : ℕ) → FitsAsked None m old new a → status ≡ status_of a
+of_usage : (m : Contents) (old new : List ℕ → ℕ) (a : Answer) (status : ℕ) → Fits None m old new a → status ≡ status_of a
     → IsStatus m old new None status
 of_usage m old new (Compiled names b) status x e = absurd x
 of_usage m old new (Listed o) status x e = absurd x
@@ -117,7 +95,7 @@ of_generated count (Told outcome) status x e = absurd x
 of_generated count (Refused file fault) status x e = absurd x
 of_generated count Usage status x e = absurd x
 
-of_asked : (m : Contents) (asked : Option Command) (old new : List ℕ → ℕ) (a : Answer) (status : ℕ) → FitsAsked asked m old new a
+of_asked : (m : Contents) (asked : Option Command) (old new : List ℕ → ℕ) (a : Answer) (status : ℕ) → Fits asked m old new a
     → NoneRose old new → status ≡ status_of a → IsStatus m old new asked status
 of_asked m None old new a status x none e = of_usage m old new a status x e
 of_asked m (Some (Compile root base)) old new a status x none e = of_root m root base old new a status x none e
@@ -140,12 +118,12 @@ of_asked m (Some (Plan cdl untypeds)) old new a status x none e =
 of_asked m (Some (Sections elf)) old new a status x none e =
     of_texts (IsTabled m old new elf) a status (λ file h. none file (table_rose m old new elf file h)) x e
 
-pub exact_status : (m : Contents) (words : List (List ℕ)) (old new : List ℕ → ℕ) (answer : Answer) (status : ℕ) (sink left : Sink)
+pub exact_status : (m : Contents) (asked : Option Command) (old new : List ℕ → ℕ) (answer : Answer) (status : ℕ) (sink left : Sink)
     (before now : ℕ)
-    → Fits words m old new answer → Tells answer status sink left before now → NoneRose old new → ¬ Rose before now
-    → IsStatus m old new (read_words words) status
-exact_status m words old new answer status sink left before now fits tells none kept = elim tells.told [
-  | inl t ↦ of_asked m (read_words words) old new answer status fits none t.0
+    → Fits asked m old new answer → Tells answer status sink left before now → NoneRose old new → ¬ Rose before now
+    → IsStatus m old new asked status
+exact_status m asked old new answer status sink left before now fits tells none kept = elim tells.told [
+  | inl t ↦ of_asked m asked old new answer status fits none t.0
   | inr t ↦ absurd (kept t.1)
 ]
 
@@ -208,7 +186,7 @@ generated_not_two count (Told outcome) x e = absurd x
 generated_not_two count (Refused file fault) x e = absurd x
 generated_not_two count Usage x e = absurd x
 
-unread : (m : Contents) (asked : Option Command) (old new : List ℕ → ℕ) (a : Answer) → FitsAsked asked m old new a
+unread : (m : Contents) (asked : Option Command) (old new : List ℕ → ℕ) (a : Answer) → Fits asked m old new a
     → 2 ≡ status_of a → asked ≡ None
 unread m None old new a x e = refl
 unread m (Some (Compile root base)) old new (Compiled names b) x e = absurd cc
@@ -235,11 +213,11 @@ unread m (Some (Compile root base)) old new NoMemory x e = absurd cc
 not_five : ◌≡◌ {A = ℕ} 2 5 → ⊥
 not_five e = omega arith
 
-pub usage_alone : (m : Contents) (words : List (List ℕ)) (old new : List ℕ → ℕ) (answer : Answer) (sink left : Sink)
+pub usage_alone : (m : Contents) (asked : Option Command) (old new : List ℕ → ℕ) (answer : Answer) (sink left : Sink)
     (before now : ℕ)
-    → Fits words m old new answer → Tells answer 2 sink left before now → read_words words ≡ None
-usage_alone m words old new answer sink left before now fits tells = elim tells.told [
-  | inl t ↦ unread m (read_words words) old new answer fits t.0
+    → Fits asked m old new answer → Tells answer 2 sink left before now → asked ≡ None
+usage_alone m asked old new answer sink left before now fits tells = elim tells.told [
+  | inl t ↦ unread m asked old new answer fits t.0
   | inr t ↦ absurd (not_five t.0)
 ]
 

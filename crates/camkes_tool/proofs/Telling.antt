@@ -1,16 +1,10 @@
 -- What a command answers fits as it is told, also where its words are known by equations; and want of memory fits every
 -- command.
-use Rattle.std.proofs.Common.{◌≡◌, ℕ, List, Option, Some, None, Result, Ok, Err, subst, sym}
-use Rattle.cam_io.specs.Contents.{Contents}
-use Rattle.command_words.specs.declared.command.Command.{Command}
-use Rattle.command_words.specs.declared.command.Command.TheVariants.{Compile, Check, List as ListOf, Explain, Replay, Generate, Audit, Certify, Sections, Plan}
-use Rattle.text_commands.specs.Commands.{IsAudited, IsCertified, IsChecked, IsPlanned, IsRun, IsTabled}
-use Rattle.text_commands.specs.declared.fault.InputError.{InputError}
-use Rattle.text_commands.specs.declared.fault.InputError.TheVariants.{Fault, ReadFault, NoMemory}
-use Rattle.text_commands.specs.declared.outcome.Outcome.{Outcome}
-use Rattle.camkes_tool.specs.Answers.{FitsAsked, FitsTexts}
+use Rattle.camkes_tool.proofs.Common.{Answer, Audit, Certify, Check, Command, Compile, Contents, Err, Explain, Fault, Fits, FitsTexts, Generate, InputError, IsAudited, IsCertified, IsChecked, IsPlanned, IsRun, IsTabled, List, None, Ok, Option}
+use Rattle.camkes_tool.proofs.Common.{Outcome, Plan, Replay, Result, Sections, Some, subst, sym, ℕ, ◌≡◌}
+use Rattle.command_words.specs.declared.command.Command.TheVariants.{List as ListOf}
+use Rattle.text_commands.specs.declared.fault.InputError.TheVariants.{ReadFault, NoMemory}
 use Rattle.camkes_tool.specs.Deciding.{told}
-use Rattle.camkes_tool.specs.declared.answer.Answer.{Answer}
 use Rattle.camkes_tool.specs.declared.answer.Answer.TheVariants as answers
 
 pub fits_told : (asked : Result Outcome InputError → Type 0) (r : Result Outcome InputError) → asked r → FitsTexts asked (told r)
@@ -20,7 +14,7 @@ fits_told asked (Err (ReadFault file)) h = h
 fits_told asked (Err NoMemory) h = tt
 
 pub no_memory_fits : (asked : Option Command) (contents : Contents) (before now : List ℕ → ℕ)
-    → FitsAsked asked contents before now answers.NoMemory
+    → Fits asked contents before now answers.NoMemory
 no_memory_fits None contents before now = tt
 no_memory_fits (Some (Compile root base)) contents before now = tt
 no_memory_fits (Some (Check cdl policy cert)) contents before now = tt
@@ -36,43 +30,43 @@ no_memory_fits (Some (Plan cdl untypeds)) contents before now = tt
 -- ---- commands and their words, known by equations
 
 module _ (contents : Contents) (before now : List ℕ → ℕ) (command : Command) (answer : Answer) where
-  asked_as : (known : Command) → command ≡ known → FitsAsked (Some known) contents before now answer
-      → FitsAsked (Some command) contents before now answer
-  asked_as known is = subst (λ x. FitsAsked (Some x) contents before now answer) (sym is)
+  asked_as : (known : Command) → command ≡ known → Fits (Some known) contents before now answer
+      → Fits (Some command) contents before now answer
+  asked_as known is = subst (λ x. Fits (Some x) contents before now answer) (sym is)
 
   pub check_fits : (cdl policy cert a b d : List ℕ) → command ≡ Check cdl policy cert → a ≡ cdl → b ≡ policy → d ≡ cert
-      → FitsTexts (IsChecked contents before now a b d) answer → FitsAsked (Some command) contents before now answer
+      → FitsTexts (IsChecked contents before now a b d) answer → Fits (Some command) contents before now answer
   check_fits cdl policy cert a b d is ea eb ed h = asked_as (Check cdl policy cert) is
       (subst (λ x. FitsTexts (IsChecked contents before now x policy cert) answer) ea
       (subst (λ x. FitsTexts (IsChecked contents before now a x cert) answer) eb
       (subst (λ x. FitsTexts (IsChecked contents before now a b x) answer) ed h)))
 
   pub replay_fits : (cdl policy steps a b d : List ℕ) → command ≡ Replay cdl policy steps → a ≡ cdl → b ≡ policy → d ≡ steps
-      → FitsTexts (IsRun contents before now a b d) answer → FitsAsked (Some command) contents before now answer
+      → FitsTexts (IsRun contents before now a b d) answer → Fits (Some command) contents before now answer
   replay_fits cdl policy steps a b d is ea eb ed h = asked_as (Replay cdl policy steps) is
       (subst (λ x. FitsTexts (IsRun contents before now x policy steps) answer) ea
       (subst (λ x. FitsTexts (IsRun contents before now a x steps) answer) eb
       (subst (λ x. FitsTexts (IsRun contents before now a b x) answer) ed h)))
 
   pub audit_fits : (cdl policy a b : List ℕ) → command ≡ Audit cdl policy → a ≡ cdl → b ≡ policy
-      → FitsTexts (IsAudited contents before now a b) answer → FitsAsked (Some command) contents before now answer
+      → FitsTexts (IsAudited contents before now a b) answer → Fits (Some command) contents before now answer
   audit_fits cdl policy a b is ea eb h = asked_as (Audit cdl policy) is
       (subst (λ x. FitsTexts (IsAudited contents before now x policy) answer) ea
       (subst (λ x. FitsTexts (IsAudited contents before now a x) answer) eb h))
 
   pub certify_fits : (cdl policy a b : List ℕ) → command ≡ Certify cdl policy → a ≡ cdl → b ≡ policy
-      → FitsTexts (IsCertified contents before now a b) answer → FitsAsked (Some command) contents before now answer
+      → FitsTexts (IsCertified contents before now a b) answer → Fits (Some command) contents before now answer
   certify_fits cdl policy a b is ea eb h = asked_as (Certify cdl policy) is
       (subst (λ x. FitsTexts (IsCertified contents before now x policy) answer) ea
       (subst (λ x. FitsTexts (IsCertified contents before now a x) answer) eb h))
 
   pub table_fits : (elf a : List ℕ) → command ≡ Sections elf → a ≡ elf → FitsTexts (IsTabled contents before now a) answer
-      → FitsAsked (Some command) contents before now answer
+      → Fits (Some command) contents before now answer
   table_fits elf a is ea h = asked_as (Sections elf) is
       (subst (λ x. FitsTexts (IsTabled contents before now x) answer) ea h)
 
   pub plan_fits : (cdl untypeds a b : List ℕ) → command ≡ Plan cdl untypeds → a ≡ cdl → b ≡ untypeds
-      → FitsTexts (IsPlanned contents before now a b) answer → FitsAsked (Some command) contents before now answer
+      → FitsTexts (IsPlanned contents before now a b) answer → Fits (Some command) contents before now answer
   plan_fits cdl untypeds a b is ea eb h = asked_as (Plan cdl untypeds) is
       (subst (λ x. FitsTexts (IsPlanned contents before now x untypeds) answer) ea
       (subst (λ x. FitsTexts (IsPlanned contents before now a x) answer) eb h))

@@ -1,21 +1,8 @@
 -- What `compile` leaves with status 0 is a sound build, written whole, whose texts are read back.
-use Rattle.std.proofs.Common.{◌≡◌, ◌∙◌, ℕ, List, Option, Some, inl, inr, sym, subst, arith}
-use Rattle.build_laws.proofs.CertBack.{cert_read}
-use Rattle.build_laws.proofs.HeldAsRead.{as_read}
-use Rattle.build_laws.proofs.PolicyBack.{policy_read}
-use Rattle.build_laws.proofs.SpecBack.{spec_back}
+use Rattle.camkes_tool.proofs.Common.{Answer, Check, Command, Compile, Compiled, Contents, Explained, Faulted, Fits, FitsCompiled, Generated, InAll, IsSafe, IsWritten, List, Listed, NoMemory, Option, ReadFault, Refused, Sink, Some, Tells, Told}
+use Rattle.camkes_tool.proofs.Common.{Usage, arith, as_read, build_sound, cert_read, inl, inr, policy_read, spec_back, status_of, subst, sym, ℕ, ◌∙◌, ◌≡◌}
 use Rattle.arch_compile.proofs.OfSources.{build_of_source}
-use Rattle.arch_compile.proofs.Soundness.{build_sound}
-use Rattle.cam_io.specs.Contents.{Contents}
-use Rattle.cam_io.specs.Reading.{InAll}
-use Rattle.cam_io.specs.Sinks.{Sink}
-use Rattle.command_words.specs.declared.command.Command.{Command}
-use Rattle.command_words.specs.declared.command.Command.TheVariants.{Check, Compile}
 use Rattle.camkes_tool.proofs.Safe.{answered_safe}
-use Rattle.camkes_tool.specs.Answers.{FitsAsked, FitsCompiled, Tells, status_of}
-use Rattle.camkes_tool.specs.Theorem.{IsSafe, IsWritten}
-use Rattle.camkes_tool.specs.declared.answer.Answer.{Answer}
-use Rattle.camkes_tool.specs.declared.answer.Answer.TheVariants.{Compiled, Listed, Explained, Told, Generated, Faulted, Refused, Usage, ReadFault, NoMemory}
 
 pub zero_not_five : (n : ℕ) → n ≡ 0 → n ≡ 5 → ⊥
 zero_not_five n e h = omega arith
@@ -62,15 +49,15 @@ module _ (told : Contents → Type 0) (some : (c : Contents) × told c) (before 
   root_written NoMemory fits tells = let e = whole_status NoMemory status old new m n tells zero in absurd cc
 
   pub compiled_written : (asked : Option Command) (answer : Answer) → asked ≡ Some (Compile root base)
-      → InAll told (λ c. FitsAsked asked c before now answer) → Tells answer status old new m n
+      → InAll told (λ c. Fits asked c before now answer) → Tells answer status old new m n
       → IsWritten told root base old new
   compiled_written asked answer is fits tells =
-      root_written answer (λ c t. subst (λ z. FitsAsked z c before now answer) is (fits c t)) tells
+      root_written answer (λ c t. subst (λ z. Fits z c before now answer) is (fits c t)) tells
 
 pub checked_safe : (contents : Contents) (before now : List ℕ → ℕ) (cdl policy cert : List ℕ) (status : ℕ) (old new : Sink)
     (m n : ℕ) → status ≡ 0 → (asked : Option Command) (answer : Answer)
-    → asked ≡ Some (Check cdl policy cert) → FitsAsked asked contents before now answer → Tells answer status old new m n
+    → asked ≡ Some (Check cdl policy cert) → Fits asked contents before now answer → Tells answer status old new m n
     → IsSafe contents cdl policy
 checked_safe contents before now cdl policy cert status old new m n zero asked answer is fits tells =
-    answered_safe contents before now cdl policy cert answer (subst (λ z. FitsAsked z contents before now answer) is fits)
+    answered_safe contents before now cdl policy cert answer (subst (λ z. Fits z contents before now answer) is fits)
     (whole_status answer status old new m n tells zero)

@@ -30,7 +30,7 @@ use Rattle.text_commands.specs.declared.fault.InputError.{InputError}
 use Rattle.text_commands.specs.declared.fault.InputError.TheVariants as input
 use Rattle.text_commands.specs.declared.fault.InputFault.{InputFault}
 use Rattle.text_commands.specs.declared.outcome.Outcome.{Outcome}
-use Rattle.text_commands.specs.declared.outcome.Outcome.TheVariants.{Audited, Certified, Checked, Planned, Ran, Tabled}
+use Rattle.text_commands.specs.declared.outcome.Outcome.TheVariants.{Audited, Planned}
 use Rattle.camkes_tool.specs.Lines.{fault_line, read_fault_line, no_memory_line}
 use Rattle.camkes_tool.specs.declared.answer.Answer.{Answer}
 use Rattle.camkes_tool.specs.declared.answer.Answer.TheVariants.{Compiled, Listed, Explained, Told, Generated, Faulted, Refused, Usage, ReadFault, NoMemory}
@@ -39,27 +39,15 @@ use Rattle.camkes_tool.specs.declared.answer.Answer.TheVariants.{Compiled, Liste
 abbrev pub FitsCompiled : List ℕ → List ℕ → Contents → (List ℕ → ℕ) → (List ℕ → ℕ) → Answer → Type 0
 FitsCompiled root base contents before now (Compiled names b) = AreNamedBy base names × IsBuildOf root contents b
 FitsCompiled root base contents before now (Faulted file fault) = IsFirstFault root contents fault file
-FitsCompiled root base contents before now (Listed listing) = ⊥
-FitsCompiled root base contents before now (Explained answer) = ⊥
-FitsCompiled root base contents before now (Told outcome) = ⊥
-FitsCompiled root base contents before now (Generated summary) = ⊥
-FitsCompiled root base contents before now (Refused file fault) = ⊥
-FitsCompiled root base contents before now Usage = ⊥
 FitsCompiled root base contents before now (ReadFault file) = IsUnread root contents file × Rose (before file) (now file)
 FitsCompiled root base contents before now NoMemory = Unit {0}
+FitsCompiled root base contents before now _ = ⊥
 
 -- words that are no command are answered by the usage line, but for want of memory
 abbrev pub IsUsage : Answer → Type 0
 IsUsage Usage = Unit {0}
 IsUsage NoMemory = Unit {0}
-IsUsage (Compiled names b) = ⊥
-IsUsage (Listed listing) = ⊥
-IsUsage (Explained answer) = ⊥
-IsUsage (Told outcome) = ⊥
-IsUsage (Generated summary) = ⊥
-IsUsage (Faulted file fault) = ⊥
-IsUsage (Refused file fault) = ⊥
-IsUsage (ReadFault file) = ⊥
+IsUsage _ = ⊥
 
 -- the answer of a command over texts
 abbrev pub FitsTexts : (Result Outcome InputError → Type 0) → Answer → Type 0
@@ -67,25 +55,14 @@ FitsTexts asked (Told outcome) = asked (Ok outcome)
 FitsTexts asked (Refused file fault) = asked (Err (input.Fault fault file))
 FitsTexts asked (ReadFault file) = asked (Err (input.ReadFault file))
 FitsTexts asked NoMemory = Unit {0}
-FitsTexts asked (Compiled names b) = ⊥
-FitsTexts asked (Listed listing) = ⊥
-FitsTexts asked (Explained answer) = ⊥
-FitsTexts asked (Generated summary) = ⊥
-FitsTexts asked (Faulted file fault) = ⊥
-FitsTexts asked Usage = ⊥
+FitsTexts asked _ = ⊥
 
 -- what may come in place of what a command over a source found
 abbrev pub FitsRefused : (BuildError → Type 0) → Answer → Type 0
 FitsRefused refused (Faulted file fault) = refused (build.Fault fault file)
 FitsRefused refused (ReadFault file) = refused (build.ReadFault file)
 FitsRefused refused NoMemory = Unit {0}
-FitsRefused refused (Compiled names b) = ⊥
-FitsRefused refused (Listed listing) = ⊥
-FitsRefused refused (Explained answer) = ⊥
-FitsRefused refused (Told outcome) = ⊥
-FitsRefused refused (Generated summary) = ⊥
-FitsRefused refused (Refused file fault) = ⊥
-FitsRefused refused Usage = ⊥
+FitsRefused refused _ = ⊥
 
 -- the answer of a listing, of an explanation, and of generating
 abbrev pub FitsListed : (Result Listing BuildError → Type 0) → Answer → Type 0
@@ -100,44 +77,33 @@ abbrev pub FitsGenerated : (Result Summary BuildError → Type 0) → Answer →
 FitsGenerated asked (Generated summary) = asked (Ok summary)
 FitsGenerated asked answer = FitsRefused (λ e. asked (Err e)) answer
 
-abbrev pub FitsAsked : Option Command → Contents → (List ℕ → ℕ) → (List ℕ → ℕ) → Answer → Type 0
-FitsAsked None contents before now answer = IsUsage answer
-FitsAsked (Some (Compile root base)) contents before now answer = FitsCompiled root base contents before now answer
-FitsAsked (Some (Check cdl policy cert)) contents before now answer =
+-- The answer is right for what the words ask, which is a command or none. In given contents there is one such answer, aside from
+-- read faults and want of memory (`answers_are_one` in src/laws.rt), so each comes exactly where it says.
+abbrev pub Fits : Option Command → Contents → (List ℕ → ℕ) → (List ℕ → ℕ) → Answer → Type 0
+Fits None contents before now answer = IsUsage answer
+Fits (Some (Compile root base)) contents before now answer = FitsCompiled root base contents before now answer
+Fits (Some (Check cdl policy cert)) contents before now answer =
     FitsTexts (IsChecked contents before now cdl policy cert) answer
-FitsAsked (Some (ListOf root)) contents before now answer = FitsListed (IsListed root contents before now) answer
-FitsAsked (Some (Explain root from authority to)) contents before now answer =
+Fits (Some (ListOf root)) contents before now answer = FitsListed (IsListed root contents before now) answer
+Fits (Some (Explain root from authority to)) contents before now answer =
     FitsExplained (IsExplained from authority to root contents before now) answer
-FitsAsked (Some (Replay cdl policy steps)) contents before now answer =
+Fits (Some (Replay cdl policy steps)) contents before now answer =
     FitsTexts (IsRun contents before now cdl policy steps) answer
-FitsAsked (Some (Generate count)) contents before now answer = FitsGenerated (IsGenerated count) answer
-FitsAsked (Some (Audit cdl policy)) contents before now answer = FitsTexts (IsAudited contents before now cdl policy) answer
-FitsAsked (Some (Certify cdl policy)) contents before now answer = FitsTexts (IsCertified contents before now cdl policy) answer
-FitsAsked (Some (Sections elf)) contents before now answer = FitsTexts (IsTabled contents before now elf) answer
-FitsAsked (Some (Plan cdl untypeds)) contents before now answer = FitsTexts (IsPlanned contents before now cdl untypeds) answer
+Fits (Some (Generate count)) contents before now answer = FitsGenerated (IsGenerated count) answer
+Fits (Some (Audit cdl policy)) contents before now answer = FitsTexts (IsAudited contents before now cdl policy) answer
+Fits (Some (Certify cdl policy)) contents before now answer = FitsTexts (IsCertified contents before now cdl policy) answer
+Fits (Some (Sections elf)) contents before now answer = FitsTexts (IsTabled contents before now elf) answer
+Fits (Some (Plan cdl untypeds)) contents before now answer = FitsTexts (IsPlanned contents before now cdl untypeds) answer
 
 -- the commands that may choose
 abbrev pub MayChoose : Option Command → Type 0
-MayChoose None = ⊥
-MayChoose (Some (Compile root base)) = ⊥
-MayChoose (Some (Check cdl policy cert)) = ⊥
-MayChoose (Some (ListOf root)) = ⊥
-MayChoose (Some (Explain root from authority to)) = ⊥
-MayChoose (Some (Replay cdl policy steps)) = ⊥
-MayChoose (Some (Generate count)) = ⊥
 MayChoose (Some (Audit cdl policy)) = Unit {0}
-MayChoose (Some (Certify cdl policy)) = ⊥
-MayChoose (Some (Sections elf)) = ⊥
 MayChoose (Some (Plan cdl untypeds)) = Unit {0}
+MayChoose _ = ⊥
 
 -- the command that the program's words ask for, if they are one
 abbrev pub command_of : {Z : Type 0} → List (String Z) → Option Command
 command_of words = read_words (map string_bytes words)
-
--- The answer is right for these words. In given contents there is one such answer, aside from read faults and want of memory
--- (`answers_are_one` in src/laws.rt), so each comes exactly where it says.
-abbrev pub Fits : List (List ℕ) → Contents → (List ℕ → ℕ) → (List ℕ → ℕ) → Answer → Type 0
-Fits words = FitsAsked (read_words words)
 
 -- the status, which is 5 where an output failed
 abbrev pub status_of : Answer → ℕ
@@ -182,12 +148,9 @@ found_as _ = None
 
 -- whether there is such a choice
 abbrev pub leaves_choice : Outcome → Bool
-leaves_choice (Checked verdict labels) = false
-leaves_choice (Ran replayed labels) = false
-leaves_choice (Tabled image) = false
 leaves_choice (Audited report spec labels) = true
-leaves_choice (Certified cert) = false
 leaves_choice (Planned plan spec) = true
+leaves_choice _ = false
 
 abbrev pub is_chosen : Answer → Bool
 is_chosen (Told outcome) = leaves_choice outcome
@@ -195,16 +158,9 @@ is_chosen _ = false
 
 -- whether an answer may come in place of another: a read fault, or want of memory
 abbrev pub yields : Answer → Bool
-yields (Compiled names b) = false
-yields (Listed listing) = false
-yields (Explained answer) = false
-yields (Told outcome) = false
-yields (Generated summary) = false
-yields (Faulted file fault) = false
-yields (Refused file fault) = false
-yields Usage = false
 yields (ReadFault file) = true
 yields NoMemory = true
+yields _ = false
 
 -- what is done
 abbrev pub script : Answer → List Act

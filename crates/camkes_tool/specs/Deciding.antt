@@ -8,19 +8,12 @@ use Rattle.text_commands.specs.declared.fault.InputError.{InputError}
 use Rattle.text_commands.specs.declared.fault.InputError.TheVariants as input
 use Rattle.text_commands.specs.declared.outcome.Outcome.{Outcome}
 use Rattle.camkes_tool.specs.declared.answer.Answer.{Answer}
-use Rattle.camkes_tool.specs.declared.answer.Answer.TheVariants.{Compiled, Listed, Explained, Told, Generated, Faulted, Refused, Usage, ReadFault, NoMemory}
+use Rattle.camkes_tool.specs.declared.answer.Answer.TheVariants.{Compiled, Told, Faulted, Refused, ReadFault, NoMemory}
 
 abbrev pub IsWrittenAs : List ℕ → Build → Answer → Type 0
 IsWrittenAs base made (Compiled names b) = AreNamedBy base names × (b ≡ made)
-IsWrittenAs base made (Listed listing) = ⊥
-IsWrittenAs base made (Explained answer) = ⊥
-IsWrittenAs base made (Told outcome) = ⊥
-IsWrittenAs base made (Generated summary) = ⊥
-IsWrittenAs base made (Faulted file fault) = ⊥
-IsWrittenAs base made (Refused file fault) = ⊥
-IsWrittenAs base made Usage = ⊥
-IsWrittenAs base made (ReadFault file) = ⊥
 IsWrittenAs base made NoMemory = Unit {0}
+IsWrittenAs base made _ = ⊥
 
 abbrev pub told : Result Outcome InputError → Answer
 told (Ok outcome) = Told outcome

@@ -24,7 +24,7 @@ use Rattle.std.specs.Prelude.{◌≡◌, ◌≤◌, ◌⊎◌, ◌↔◌, ◌++�
 use Rattle.arch_compile.specs.Built.{IsBuildOf}
 use Rattle.arch_compile.specs.declared.building.Build.{Build}
 use Rattle.cap_model.specs.Tables.{Has}
-use Rattle.cap_model.specs.declared.authority.Authority.{Authority}
+use Rattle.authorities.specs.declared.authority.Authority.{Authority}
 use Rattle.cap_model.specs.declared.edge.Edge.{Edge}
 use Rattle.cap_model.specs.declared.object_labels.Labels.{Labels}
 use Rattle.cap_model.specs.declared.policy.Policy.{Policy}
@@ -49,7 +49,7 @@ use Rattle.cap_model.specs.declared.spec.Spec.{Spec}
 use Rattle.capdl_text.specs.Texts.{Text}
 use Rattle.cert_check.specs.Valid.{Stays}
 use Rattle.cert_check.specs.declared.verdict.Verdict.TheVariants.{Yes}
-use Rattle.policy_text.specs.EdgeLines.{Labels as Names, apart_lines}
+use Rattle.policy_text.specs.EdgeLines.{LabelNames, apart_lines}
 use Rattle.sect_table.specs.TablesBack.{AreBytes}
 use Rattle.sect_table.specs.Elf.{Elf}
 use Rattle.sect_table.specs.Texts.{table_text}
@@ -65,6 +65,7 @@ use Rattle.source_commands.specs.Assigned.{AnswersWhether, ListsAssigned}
 use Rattle.source_commands.specs.Listed.{IsListing, listing_text}
 use Rattle.source_commands.specs.declared.listing.Listing.{Listing}
 use Rattle.step_text.specs.StepLines.{steps_text}
+use Rattle.step_text.specs.StepTexts.{steps_limit}
 use Rattle.text_commands.specs.Commands.{IsChecked, IsRun}
 use Rattle.text_commands.specs.Inputs.{Holds}
 use Rattle.text_commands.specs.Lines.{report_text}
@@ -102,15 +103,19 @@ pub record IsAnswerWritten (told : Contents → Type 0) (root from authority to 
   pub whole : new ≡ appended old 0 (answer_text answer)
   pub assigned : InAll told (λ m. AnswersWhether root m from authority to (is_assigned answer))
 
--- The two files hold a system's capDL and a policy that labels its objects, and every edge that any
--- run of the system reaches between different labels is in the policy.
+-- The two files hold the capDL of a system and a policy, by which its objects have these labels.
+pub record HoldSystem (m : Contents) (cdl policy : List ℕ) (spec : Spec) (allowed : Policy) (labels : Labels) : Type 0 where
+  pub capdl : (bytes : List ℕ) × Holds m cdl bytes × Text bytes spec
+  pub text : (bytes : List ℕ) × Holds m policy bytes × IsPolicyText bytes allowed
+  pub labelled : IsLabelling spec allowed (Ok labels)
+
+-- The two files hold a system and its policy, and every edge that any run of the system reaches between different labels is in
+-- the policy.
 pub record IsSafe (m : Contents) (cdl policy : List ℕ) : Type 0 where
   pub spec : Spec
   pub allowed : Policy
   pub labels : Labels
-  pub capdl : (bytes : List ℕ) × Holds m cdl bytes × Text bytes spec
-  pub text : (bytes : List ℕ) × Holds m policy bytes × IsPolicyText bytes allowed
-  pub labelled : IsLabelling spec allowed (Ok labels)
+  pub held : HoldSystem m cdl policy spec allowed labels
   pub stays : Stays spec labels.by_object allowed.edges
 
 -- The two files hold the capDL and the policy that are written of this build, which is one of the root's source.
@@ -135,18 +140,16 @@ IsListText root sources text = (listing : Listing) × IsListing root sources lis
 
 -- `check` of these files says yes, where no read fails
 abbrev pub SaysYes : Contents → List ℕ → List ℕ → List ℕ → Type 0
-SaysYes m cdl policy cert = (names : Names) × IsChecked m (λ file. 0) (λ file. 0) cdl policy cert (Ok (Checked Yes names))
+SaysYes m cdl policy cert = (names : LabelNames) × IsChecked m (λ file. 0) (λ file. 0) cdl policy cert (Ok (Checked Yes names))
 
--- The two files hold a system's capDL and a policy that labels its objects, and the edges are the system's least certificate.
--- Their text is read, under this policy, as just them; and `check` says yes to a file that holds it exactly where it says yes to
--- some file. Where the two files are written of a build, the edges are those of its certificate.
+-- The two files hold a system and its policy, and the edges are the system's least certificate. Their text is read, under this
+-- policy, as just them; and `check` says yes to a file that holds it exactly where it says yes to some file. Where the two files
+-- are written of a build, the edges are those of its certificate.
 pub record IsLeastOf (m : Contents) (cdl policy : List ℕ) (edges : List Edge) : Type 0 where
   pub spec : Spec
   pub allowed : Policy
   pub labels : Labels
-  pub capdl : (bytes : List ℕ) × Holds m cdl bytes × Text bytes spec
-  pub text : (bytes : List ℕ) × Holds m policy bytes × IsPolicyText bytes allowed
-  pub labelled : IsLabelling spec allowed (Ok labels)
+  pub held : HoldSystem m cdl policy spec allowed labels
   pub least : IsLeast spec labels.by_object edges
   pub read_back : IsCertText allowed (cert_text edges) edges
   pub decides : (cert : List ℕ) → Holds m cert (cert_text edges)
@@ -176,30 +179,28 @@ pub record IsTableWritten (told : Contents → Type 0) (elf : List ℕ) (old new
 
 -- `replay` of any file that holds the text of these steps says that all of them were made, and its edges are such, but for
 -- failed reads and want of memory.
-abbrev pub Replays : Contents → (List ℕ → ℕ) → (List ℕ → ℕ) → List ℕ → List ℕ → Spec → Names → List Step
+abbrev pub Replays : Contents → (List ℕ → ℕ) → (List ℕ → ℕ) → List ℕ → List ℕ → Spec → LabelNames → List Step
     → (List Edge → Type 0) → Type 0
 Replays m before now cdl policy spec names steps AreSuch =
     (file : List ℕ) (answer : Result Outcome InputError) → Holds m file (steps_text spec steps) → IsAnswer answer
     → IsRun m before now cdl policy file answer
     → (edges : List Edge) × (answer ≡ Ok (Ran (Done (length steps) edges) names)) × AreSuch edges
 
--- The two files hold a system's capDL and a policy that labels its objects. The report has just the edges between different
--- labels that runs of the system reach. Where its steps are at most 100,000, `replay` makes all of them, and shows each edge
--- behind some front of them. Where the two files are written of a build, the lines of its edges are what `list` prints of the
--- source.
-pub record IsReportOf (m : Contents) (cdl policy : List ℕ) (report : AuditReport) (spec : Spec) (names : Names) : Type 0 where
+-- The two files hold a system and its policy, whose labels have these names. The report has just the edges between different
+-- labels that runs of the system reach. Where its steps are no more than `replay` takes, `replay` makes all of them, and shows
+-- each edge behind some front of them. Where the two files are written of a build, the lines of its edges are what `list` prints
+-- of the source.
+pub record IsReportOf (m : Contents) (cdl policy : List ℕ) (report : AuditReport) (spec : Spec) (names : LabelNames) : Type 0 where
   pub allowed : Policy
   pub labels : Labels
-  pub capdl : (bytes : List ℕ) × Holds m cdl bytes × Text bytes spec
-  pub text : (bytes : List ℕ) × Holds m policy bytes × IsPolicyText bytes allowed
-  pub labelled : IsLabelling spec allowed (Ok labels)
+  pub held : HoldSystem m cdl policy spec allowed labels
   pub named : names ≡ allowed.labels
   pub reached : IsReport spec labels.by_object report.edges report.steps
   pub of_build : (root : List ℕ) (sources : Contents) (b : Build) → HoldBuild m cdl policy root sources b
       → IsListText root sources (apart_lines names report.edges)
-  pub replayed : length report.steps ≤ 100000 → (before now : List ℕ → ℕ)
+  pub replayed : length report.steps ≤ steps_limit → (before now : List ℕ → ℕ)
       → Replays m before now cdl policy spec names report.steps (λ edges. Unit {0})
-  pub shown : length report.steps ≤ 100000 → (before now : List ℕ → ℕ) (l : ℕ) (a : Authority) (x : ℕ) → Has report.edges l a x
+  pub shown : length report.steps ≤ steps_limit → (before now : List ℕ → ℕ) (l : ℕ) (a : Authority) (x : ℕ) → Has report.edges l a x
       → (front back : List Step) × (report.steps ≡ front ++ back)
       × Replays m before now cdl policy spec names front (λ edges. Has edges l a x)
 
@@ -207,6 +208,6 @@ pub record IsReportOf (m : Contents) (cdl policy : List ℕ) (report : AuditRepo
 pub record IsReportWritten (told : Contents → Type 0) (cdl policy : List ℕ) (old new : Sink) : Type 0 where
   pub report : AuditReport
   pub spec : Spec
-  pub names : Names
+  pub names : LabelNames
   pub whole : new ≡ appended old 0 (report_text names spec report)
   pub of_files : InAll told (λ m. IsReportOf m cdl policy report spec names)

@@ -1,10 +1,10 @@
 ghost use Rattle.arch_compile.specs.Compiled.{AlikeInBuild};
 ghost use Rattle.cam_io.specs.Reading.{InAll, KeepsFiles, LearnsOnly};
-ghost use Rattle.camkes_tool.specs.Answers.{Fits, FitsAsked, FitsCompiled, command_of};
+ghost use Rattle.camkes_tool.specs.Answers.{Fits, FitsCompiled, command_of};
 ghost use Rattle.camkes_tool.specs.Deciding.{IsWrittenAs};
 ghost use Rattle.camkes_tool.specs.Learning.{AlikeInCommand};
 ghost use Rattle.command_words.specs.Words.{AreUtf8};
-ghost use Rattle.std.specs.Prelude.{Some, map, string_bytes};
+ghost use Rattle.std.specs.Prelude.{Some};
 
 use crate::Answer;
 use crate::asking::{
@@ -21,8 +21,8 @@ use std::alloc::Global;
 pub fn decide<F: Files>(alloc: Global, words: &[String], files: &mut F) -> Answer
     ensures kept { KeepsFiles F.told F.faults files.old files.new }
     ensures learned { LearnsOnly F.told (AlikeInCommand (command_of words.now)) files.old files.new }
-    ensures fits { InAll (F.told files.new) (λ m. Fits (map string_bytes words.now)
-        m (F.faults files.old) (F.faults files.new) result) }
+    ensures fits { InAll (F.told files.new) (λ m. Fits (command_of words.now) m (F.faults files.old)
+        (F.faults files.new) result) }
 {
     match read_words(alloc, words) {
         Ok(command) => follow(alloc, &command, files),
@@ -36,8 +36,8 @@ fn follow<F: Files>(alloc: Global, command: &Command, files: &mut F) -> Answer
     requires { AreUtf8 command.now }
     ensures kept { KeepsFiles F.told F.faults files.old files.new }
     ensures learned { LearnsOnly F.told (AlikeInCommand (Some command.now)) files.old files.new }
-    ensures fits { InAll (F.told files.new) (λ m. FitsAsked (Some command.now)
-        m (F.faults files.old) (F.faults files.new) result) }
+    ensures fits { InAll (F.told files.new) (λ m. Fits (Some command.now) m (F.faults files.old)
+        (F.faults files.new) result) }
 {
     match command {
         Command::Compile { root, base } => answer(alloc, as_name(root), as_name(base), files),

@@ -12,24 +12,23 @@ ghost use Rattle.camkes_tool.specs.Channels.{IsAsBefore};
 ghost use Rattle.camkes_tool.specs.Statuses.{HasFault, HasNoFault, IsStatus, NoneRose};
 ghost use Rattle.camkes_tool.specs.declared.answer.Answer.{Answer};
 ghost use Rattle.camkes_tool.specs.declared.answer.Answer.TheVariants.{Compiled};
-ghost use Rattle.command_words.specs.Words.{read_words};
 ghost use Rattle.command_words.specs.declared.command.Command.{Command};
 ghost use Rattle.std.specs.Prelude.{◌≡◌, ◌≢◌, ◌<◌, ◌≤◌, ◌⊎◌, ℕ, false, true, List, None, Option, Some};
 
-/// For the same words and contents there is one answer of every command, and of words that are no command, aside from failed
+/// For the same command and contents there is one answer, and one of words that are no command, aside from failed
 /// reads and want of memory: two calls that end with a status up to 3 end with the same status, and leave outputs that were the
 /// same the same. A report of an audit may have other steps, and a plan other places; no other command may choose.
 pub fn answers_are_one()
-    ensures answers { (m : Contents) (words : List (List ℕ)) (old new later last : List ℕ → ℕ) (a b : Answer)
+    ensures answers { (m : Contents) (asked : Option Command) (old new later last : List ℕ → ℕ) (a b : Answer)
         → yields a ≡ false → yields b ≡ false
-        → Fits words m old new a → Fits words m later last b → AreOne a b }
-    ensures calls { (m : Contents) (words : List (List ℕ)) (old new later last : List ℕ → ℕ) (a b : Answer)
+        → Fits asked m old new a → Fits asked m later last b → AreOne a b }
+    ensures calls { (m : Contents) (asked : Option Command) (old new later last : List ℕ → ℕ) (a b : Answer)
         (first second : ℕ) (sink left right : Sink) (before now before' now' : ℕ)
-        → Fits words m old new a → Tells a first sink left before now → first ≤ 3
-        → Fits words m later last b → Tells b second sink right before' now' → second ≤ 3
+        → Fits asked m old new a → Tells a first sink left before now → first ≤ 3
+        → Fits asked m later last b → Tells b second sink right before' now' → second ≤ 3
         → (first ≡ second) × (is_chosen a ≡ false → left ≡ right) }
-    ensures choices { (m : Contents) (words : List (List ℕ)) (old new : List ℕ → ℕ) (a : Answer)
-        → Fits words m old new a → is_chosen a ≡ true → MayChoose (read_words words) }
+    ensures choices { (m : Contents) (asked : Option Command) (old new : List ℕ → ℕ) (a : Answer)
+        → Fits asked m old new a → is_chosen a ≡ true → MayChoose asked }
 {}
 
 /// Where contents are told and neither a read nor an output failed, the status is 2 for words that are no command, 0 for a
@@ -37,17 +36,17 @@ pub fn answers_are_one()
 /// commands over texts it is 1 where a fault of an input is told, and else 0 or 3 by what is found; or it is 6. No source is of
 /// both kinds. Of every command no two of these reasons stand together, and the status is 2 for no other words.
 pub fn statuses_are_exact()
-    ensures exact { (m : Contents) (words : List (List ℕ)) (old new : List ℕ → ℕ) (answer : Answer)
+    ensures exact { (m : Contents) (asked : Option Command) (old new : List ℕ → ℕ) (answer : Answer)
         (status : ℕ) (sink left : Sink) (before now : ℕ)
-        → Fits words m old new answer → Tells answer status sink left before now
-        → NoneRose old new → ¬ Rose before now → IsStatus m old new (read_words words) status }
+        → Fits asked m old new answer → Tells answer status sink left before now
+        → NoneRose old new → ¬ Rose before now → IsStatus m old new asked status }
     ensures one { (m : Contents) (asked : Option Command) (old new later last : List ℕ → ℕ) (first second : ℕ)
         → IsStatus m old new asked first → IsStatus m later last asked second
         → (first ≡ second) ⊎ ((first ≡ 6) ⊎ (second ≡ 6)) }
     ensures apart { (m : Contents) (root : List ℕ) → HasNoFault m root → ¬ HasFault m root }
-    ensures usage { (m : Contents) (words : List (List ℕ)) (old new : List ℕ → ℕ) (answer : Answer)
+    ensures usage { (m : Contents) (asked : Option Command) (old new : List ℕ → ℕ) (answer : Answer)
         (sink left : Sink) (before now : ℕ)
-        → Fits words m old new answer → Tells answer 2 sink left before now → read_words words ≡ None }
+        → Fits asked m old new answer → Tells answer 2 sink left before now → asked ≡ None }
 {}
 
 /// With status 3 nothing but standard output is touched, and with a status other than 0, 3 and 5 nothing but standard error.

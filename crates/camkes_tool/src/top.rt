@@ -10,7 +10,7 @@ ghost use Rattle.camkes_tool.specs.Theorem.{IsCertificateWritten, IsReportWritte
 ghost use Rattle.camkes_tool.specs.declared.answer.Answer.{Answer};
 ghost use Rattle.command_words.specs.declared.command.Command.TheVariants.{Audit, Certify, Check, Compile, Explain, Sections};
 ghost use Rattle.command_words.specs.declared.command.Command.TheVariants.{List as ListOf};
-ghost use Rattle.std.specs.Prelude.{◌≡◌, ◌⊎◌, ℕ, List, Some, if◌then◌else◌, map, string_bytes};
+ghost use Rattle.std.specs.Prelude.{◌≡◌, ◌⊎◌, ℕ, List, Some, if◌then◌else◌};
 
 use crate::Answer;
 use crate::decide::decide;
@@ -55,8 +55,8 @@ pub fn run<F: Files, O: Outputs>(alloc: Global, words: &[String], files: &mut F,
     requires { AreUnbegun (O.sink out.old) }
     ensures kept { KeepsFiles F.told F.faults files.old files.new }
     ensures learned { LearnsOnly F.told (AlikeInCommand (command_of words.now)) files.old files.new }
-    ensures told { (answer : Answer)
-        × InAll (F.told files.new) (λ m. Fits (map string_bytes words.now) m (F.faults files.old) (F.faults files.new) answer)
+    ensures answered { (answer : Answer)
+        × InAll (F.told files.new) (λ m. Fits (command_of words.now) m (F.faults files.old) (F.faults files.new) answer)
         × Tells answer result (O.sink out.old) (O.sink out.new) (O.faults out.old) (O.faults out.new) }
     ensures compiled { (root base : List ℕ) → command_of words.now ≡ Some (Compile root base) → result ≡ 0
         → IsWritten (F.told files.new) root base (O.sink out.old) (O.sink out.new) }

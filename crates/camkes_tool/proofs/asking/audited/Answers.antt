@@ -1,4 +1,4 @@
-use Rattle.text_commands.specs.Commands.{IsAudited}
+use Rattle.camkes_tool.proofs.Common.{IsAudited}
 use Rattle.camkes_tool.proofs.Telling.{fits_told}
 use Rattle.camkes_tool.proofs.asking.audited.Goals as goal
 

@@ -1,4 +1,4 @@
-use Rattle.text_commands.specs.Commands.{IsCertified}
+use Rattle.camkes_tool.proofs.Common.{IsCertified}
 use Rattle.camkes_tool.proofs.Telling.{fits_told}
 use Rattle.camkes_tool.proofs.asking.certified.Goals as goal
 

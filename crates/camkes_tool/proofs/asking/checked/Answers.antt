@@ -1,4 +1,4 @@
-use Rattle.text_commands.specs.Commands.{IsChecked}
+use Rattle.camkes_tool.proofs.Common.{IsChecked}
 use Rattle.camkes_tool.proofs.Telling.{fits_told}
 use Rattle.camkes_tool.proofs.asking.checked.Goals as goal
 

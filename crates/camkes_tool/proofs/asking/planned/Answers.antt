@@ -1,4 +1,4 @@
-use Rattle.text_commands.specs.Commands.{IsPlanned}
+use Rattle.camkes_tool.proofs.Common.{IsPlanned}
 use Rattle.camkes_tool.proofs.Telling.{fits_told}
 use Rattle.camkes_tool.proofs.asking.planned.Goals as goal
 

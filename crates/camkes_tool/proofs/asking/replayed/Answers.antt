@@ -1,4 +1,4 @@
-use Rattle.text_commands.specs.Commands.{IsRun}
+use Rattle.camkes_tool.proofs.Common.{IsRun}
 use Rattle.camkes_tool.proofs.Telling.{fits_told}
 use Rattle.camkes_tool.proofs.asking.replayed.Goals as goal
 

@@ -1,4 +1,4 @@
-use Rattle.text_commands.specs.Commands.{IsTabled}
+use Rattle.camkes_tool.proofs.Common.{IsTabled}
 use Rattle.camkes_tool.proofs.Telling.{fits_told}
 use Rattle.camkes_tool.proofs.asking.tabled.Goals as goal
 

@@ -1,7 +1,4 @@
-use Rattle.arch_compile.proofs.Soundness.{build_sound}
-use Rattle.arch_compile.specs.Sound.{object_labels}
-use Rattle.cert_check.proofs.Keeps.{runs_stay}
-use Rattle.flow_laws.proofs.Separated.{separated}
+use Rattle.camkes_tool.proofs.Common.{build_sound, object_labels, runs_stay, separated}
 use Rattle.camkes_tool.proofs.build_flow.builds_are_separated.Goals as goal
 
 pub returns : goal.returns

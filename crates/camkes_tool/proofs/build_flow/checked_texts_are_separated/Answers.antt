@@ -1,4 +1,4 @@
-use Rattle.flow_laws.proofs.Separated.{separated}
+use Rattle.camkes_tool.proofs.Common.{separated}
 use Rattle.camkes_tool.proofs.build_flow.checked_texts_are_separated.Goals as goal
 
 pub returns : goal.returns

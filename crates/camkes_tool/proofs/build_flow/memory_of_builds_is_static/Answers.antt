@@ -1,9 +1,7 @@
-use Rattle.std.proofs.Common.{sym, subst}
-use Rattle.arch_compile.specs.Built.{system_tables}
+use Rattle.camkes_tool.proofs.Common.{Spec, subst, sym, system_tables}
 use Rattle.arch_compile.specs.LayoutFaults.{images_beside}
 use Rattle.arch_compile.proofs.Facts.{build_facts}
 use Rattle.arch_compile.proofs.MadeTables.{made_connected}
-use Rattle.cap_model.specs.declared.spec.Spec.{Spec}
 use Rattle.reach_laws.specs.Plain.{HoldsPlain}
 use Rattle.spec_laws.proofs.Connections.{holds_plain}
 use Rattle.flow_laws.proofs.Staying.{run_static}

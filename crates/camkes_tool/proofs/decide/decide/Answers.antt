@@ -1,10 +1,9 @@
-use Rattle.std.proofs.Common.{Some, map, sym}
+use Rattle.camkes_tool.proofs.Common.{AlikeInCommand, Some, map, sym}
 use Rattle.std.specs.Prelude.{string_bytes}
 use Rattle.command_words.specs.Words.{read_words}
 use Rattle.camkes_tool.proofs.Learns.{same_learned}
 use Rattle.camkes_tool.proofs.Telling.{no_memory_fits}
 use Rattle.camkes_tool.proofs.decide.decide.Goals as goal
-use Rattle.camkes_tool.specs.Learning.{AlikeInCommand}
 
 pub returns-in-Err-NoMemory-clause-fits : goal.returns-in-Err-NoMemory-clause-fits
 returns-in-Err-NoMemory-clause-fits g c m told =

@@ -1,5 +1,4 @@
-use Rattle.std.proofs.Common.{◌∙◌, ◌++◌, ℕ, decimal, ap}
-use Rattle.std.proofs.lemmas.List.{append_assoc}
+use Rattle.camkes_tool.proofs.Common.{ap, append_assoc, decimal, ℕ, ◌++◌, ◌∙◌}
 use Rattle.camkes_tool.proofs.Numbered.{added}
 use Rattle.camkes_tool.proofs.files.push_clients.Goals as goal
 

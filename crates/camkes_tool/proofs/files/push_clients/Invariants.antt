@@ -1,5 +1,4 @@
-use Rattle.std.proofs.Common.{◌≡◌, ◌++◌, decimal, ℕ}
-use Rattle.std.specs.List.{flat_map, range_with_len}
+use Rattle.camkes_tool.proofs.Common.{decimal, flat_map, range_with_len, ℕ, ◌++◌, ◌≡◌}
 use Rattle.camkes_tool.proofs.files.push_clients.Given as goal
 
 abbrev pub invariant-loop-i : goal.invariant-loop-i

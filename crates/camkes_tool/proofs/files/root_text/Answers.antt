@@ -1,6 +1,4 @@
-use Rattle.std.proofs.Common.{◌∙◌, ◌++◌, codes, ap}
-use Rattle.std.specs.List.{flat_map}
-use Rattle.camkes_tool.specs.GeneratedFiles.{client_line, clients, from_end, header}
+use Rattle.camkes_tool.proofs.Common.{ap, client_line, clients, codes, flat_map, from_end, header, ◌++◌, ◌∙◌}
 use Rattle.camkes_tool.proofs.Numbered.{seven}
 use Rattle.camkes_tool.proofs.files.root_text.Goals as goal
 

@@ -1,5 +1,4 @@
-use Rattle.std.proofs.Common.{◌∙◌, refl, sym}
-use Rattle.camkes_tool.specs.GeneratedFiles.{generated}
+use Rattle.camkes_tool.proofs.Common.{generated, refl, sym, ◌∙◌}
 use Rattle.camkes_tool.proofs.generation.compiled.Goals as goal
 
 -- what the files hold after the call is what they held before it

@@ -1,5 +1,4 @@
-use Rattle.build_laws.proofs.TrioValid.{trio_valid}
-use Rattle.camkes_tool.specs.GeneratedFiles.{generated, root_name}
+use Rattle.camkes_tool.proofs.Common.{generated, root_name, trio_valid}
 use Rattle.camkes_tool.proofs.generation.generate.Goals as goal
 
 pub accepted-requires : goal.accepted-requires

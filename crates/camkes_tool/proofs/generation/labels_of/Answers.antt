@@ -1,4 +1,4 @@
-use Rattle.std.proofs.Common.{◌∙◌, Some, ap, map}
+use Rattle.camkes_tool.proofs.Common.{Some, ap, map, ◌∙◌}
 use Rattle.camkes_tool.proofs.generation.labels_of.Goals as goal
 
 pub returns-clause-labels : goal.returns-clause-labels

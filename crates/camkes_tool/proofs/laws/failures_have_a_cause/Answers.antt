@@ -1,17 +1,5 @@
-use Rattle.std.proofs.Common.{◌≡◌, ◌≢◌, ◌<◌, ◌≤◌, ℕ, Bool, true, false, cond, List, [], ◌∷◌, Some, inl, inr, subst, arith}
-use Rattle.std.proofs.lemmas.Option.{same_Some}
-use Rattle.arch_compile.specs.declared.building.Build.{Build}
-use Rattle.arch_compile.specs.BuildTexts.{texts_script}
-use Rattle.arch_compile.specs.declared.names.TextNames.{TextNames}
-use Rattle.cam_io.specs.Scripts.{CutShort, Write}
-use Rattle.cam_io.specs.Sinks.{IsCut, Sink}
-use Rattle.camkes_tool.specs.Generated.{generated_text}
-use Rattle.explain.specs.Answers.{answer_text, is_assigned}
-use Rattle.source_commands.specs.Listed.{listing_text}
-use Rattle.text_commands.specs.Outcomes.{is_well, text_of}
-use Rattle.camkes_tool.specs.Answers.{script, status_of, said_as}
-use Rattle.camkes_tool.specs.declared.answer.Answer.{Answer}
-use Rattle.camkes_tool.specs.declared.answer.Answer.TheVariants.{Compiled, Listed, Explained, Told, Generated, Faulted, Refused, Usage, ReadFault, NoMemory}
+use Rattle.camkes_tool.proofs.Common.{Answer, Bool, Build, Compiled, CutShort, Explained, Faulted, Generated, IsCut, List, Listed, NoMemory, ReadFault, Refused, Sink, Some, TextNames, Told, Usage, Write, [], answer_text, arith, cond, false}
+use Rattle.camkes_tool.proofs.Common.{generated_text, inl, inr, is_assigned, is_well, listing_text, said_as, same_Some, script, status_of, subst, text_of, texts_script, true, ℕ, ◌<◌, ◌∷◌, ◌≡◌, ◌≢◌, ◌≤◌}
 use Rattle.camkes_tool.proofs.Leaving.{Spares, cut_spared}
 use Rattle.camkes_tool.proofs.laws.failures_have_a_cause.Goals as goal
 

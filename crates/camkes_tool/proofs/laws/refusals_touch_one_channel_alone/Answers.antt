@@ -1,10 +1,5 @@
-use Rattle.std.proofs.Common.{◌≡◌, ◌≢◌, ◌∙◌, ◌⊎◌, refl, sym, subst, ℕ, Bool, true, false, cond, inl, inr, ⊎_elim, arith}
-use Rattle.explain.specs.Answers.{is_assigned}
-use Rattle.text_commands.specs.Outcomes.{is_well}
-use Rattle.camkes_tool.specs.Answers.{script, status_of}
-use Rattle.camkes_tool.specs.Channels.{IsAsBefore}
-use Rattle.camkes_tool.specs.declared.answer.Answer.{Answer}
-use Rattle.camkes_tool.specs.declared.answer.Answer.TheVariants.{Compiled, Listed, Explained, Told, Generated, Faulted, Refused, Usage, ReadFault, NoMemory}
+use Rattle.camkes_tool.proofs.Common.{Answer, Bool, Compiled, Explained, Faulted, Generated, IsAsBefore, Listed, NoMemory, ReadFault, Refused, Told, Usage, arith, cond, false, inl, inr, is_assigned, is_well, refl, script, status_of, subst, sym, true}
+use Rattle.camkes_tool.proofs.Common.{ℕ, ⊎_elim, ◌∙◌, ◌≡◌, ◌≢◌, ◌⊎◌}
 use Rattle.camkes_tool.proofs.Leaving.{Spares, after_spared}
 use Rattle.camkes_tool.proofs.laws.refusals_touch_one_channel_alone.Goals as goal
 

@@ -1,16 +1,5 @@
-use Rattle.std.proofs.Common.{◌≡◌, ◌⊎◌, refl, ℕ, List, Some, inl, inr}
-use Rattle.arch_compile.specs.declared.building.Build.{Build}
-use Rattle.arch_compile.specs.BuildTexts.{texts_script}
-use Rattle.arch_compile.specs.declared.names.TextNames.{TextNames}
-use Rattle.cam_io.specs.Scripts.{after}
-use Rattle.cam_io.specs.Sinks.{Sink, appended}
-use Rattle.camkes_tool.specs.Generated.{generated_text}
-use Rattle.text_commands.specs.Outcomes.{text_of}
-use Rattle.explain.specs.Answers.{answer_text}
-use Rattle.source_commands.specs.Listed.{listing_text}
-use Rattle.camkes_tool.specs.Answers.{script, status_of, said_as}
-use Rattle.camkes_tool.specs.declared.answer.Answer.{Answer}
-use Rattle.camkes_tool.specs.declared.answer.Answer.TheVariants.{Compiled, Listed, Explained, Told, Generated, Faulted, Refused, Usage, ReadFault, NoMemory}
+use Rattle.camkes_tool.proofs.Common.{Answer, Build, Compiled, Explained, Faulted, Generated, List, Listed, NoMemory, ReadFault, Refused, Sink, Some, TextNames, Told, Usage, after, answer_text, appended, generated_text, inl, inr, listing_text, refl}
+use Rattle.camkes_tool.proofs.Common.{said_as, script, status_of, text_of, texts_script, ℕ, ◌≡◌, ◌⊎◌}
 use Rattle.camkes_tool.proofs.laws.success_writes_a_whole_text.Goals as goal
 use Rattle.camkes_tool.proofs.Written.{zero_not_five}
 

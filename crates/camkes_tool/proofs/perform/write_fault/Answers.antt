@@ -1,5 +1,4 @@
-use Rattle.std.proofs.Common.{◌∙◌}
-use Rattle.cam_io.proofs.Sequence.{writes_after, writes_first, writes_exit}
+use Rattle.camkes_tool.proofs.Common.{writes_after, writes_exit, writes_first, ◌∙◌}
 use Rattle.camkes_tool.proofs.perform.write_fault.Goals as goal
 
 pub returns-in_err-write_place : goal.returns-in_err-write_place

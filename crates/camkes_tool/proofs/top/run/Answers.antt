@@ -1,5 +1,4 @@
-use Rattle.std.proofs.Common.{map}
-use Rattle.std.specs.String.{string_bytes}
+use Rattle.camkes_tool.proofs.Common.{command_of}
 use Rattle.camkes_tool.proofs.Accepted.{texts_accepted}
 use Rattle.camkes_tool.proofs.Asked.{explained_written, listed_written}
 use Rattle.camkes_tool.proofs.Printed.{certificate_written, report_written, table_written}
@@ -31,7 +30,7 @@ returns-clause-checked g c = λ cdl policy cert asked zero m told.
 
 pub returns-clause-accepted : goal.returns-clause-accepted
 returns-clause-accepted g c = λ cdl policy cert asked m told holds none kept.
-    texts_accepted _ _ _ cdl policy cert (map string_bytes c.args.words.now) c.decide-answer.result _ _ _ _ _ asked holds none
+    texts_accepted _ _ _ cdl policy cert (command_of c.args.words.now) c.decide-answer.result _ _ _ _ _ asked holds none
     kept (c.decide-answer.ensures.fits m told) c.tell.ensures
 
 pub returns-clause-certified : goal.returns-clause-certified

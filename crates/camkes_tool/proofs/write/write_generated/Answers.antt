@@ -1,4 +1,4 @@
-use Rattle.cam_io.proofs.Sequence.{writes_after, writes_first, writes_exit, open_still}
+use Rattle.camkes_tool.proofs.Common.{open_still, writes_after, writes_exit, writes_first}
 use Rattle.camkes_tool.proofs.write.write_generated.Goals as goal
 
 pub returns-in_err-write_summary : goal.returns-in_err-write_summary
