@@ -22,7 +22,11 @@ nested_is = record {
   full = refl;
   first_is = refl;
   closed = refl;
-  opening = λ t h. elim (one_of_two (token_code t) (mark_code marks.SquareL) (mark_code marks.BraceL) h) [ inl p ↦ inl (inl (inr (t, p, refl))) | inr p ↦ inr (inl (inr (t, p, refl))) ];
+  opening = λ t h. elim (one_of_two (token_code t) (mark_code marks.SquareL) (mark_code marks.BraceL) h) [
+    | inl p ↦
+        inl (inl (inr (t, p, refl)))
+    | inr p ↦ inr (inl (inr (t, p, refl)))
+  ];
 }
 
 pub value_decides : decides opens value_line ≡ true
@@ -77,7 +81,8 @@ unfolding configuration_line
 configuration_closed = refl
 
 pub assembly_decides : decides opens assembly_line ≡ true
-unfolding assembly_line composition_line composition_member_line instance_line group_line connection_line end_line dotted_line export_line configuration_line setting_line path_line setter_line value_line
+unfolding assembly_line composition_line composition_member_line instance_line group_line connection_line end_line dotted_line
+    export_line configuration_line setting_line path_line setter_line value_line
 assembly_decides = refl
 
 pub assembly_closed : further opens assembly_line ≡ []
@@ -93,17 +98,28 @@ unfolding param_line direction_line typed_line
 next_param_decides = refl
 
 pub proc_member_decides : decides opens proc_member_form ≡ true
-unfolding proc_member_line import_line method_line typed_line params_line void_params_line other_params_line directed_line undirected_line direction_line param_line
+unfolding proc_member_line import_line method_line typed_line params_line void_params_line other_params_line directed_line
+    undirected_line direction_line param_line
 proc_member_decides = refl
 
 pub member_decides : decides opens member_form ≡ true
-unfolding member_line flag_line import_line interface_line plain_port_line dataport_line buf_line data_line attribute_line typed_line lock_line composition_line composition_member_line instance_line group_line connection_line end_line dotted_line export_line configuration_line setting_line path_line setter_line value_line
+unfolding member_line flag_line import_line interface_line plain_port_line dataport_line buf_line data_line attribute_line
+    typed_line lock_line composition_line composition_member_line instance_line group_line connection_line end_line dotted_line
+    export_line configuration_line setting_line path_line setter_line value_line
 member_decides = refl
 
 pub ended_decides : decides opens ended_form ≡ true
-unfolding ended_line item_line procedure_line proc_member_line method_line typed_line params_line void_params_line other_params_line directed_line undirected_line direction_line param_line component_line assembly_line member_line flag_line import_line interface_line plain_port_line dataport_line buf_line data_line attribute_line lock_line composition_line composition_member_line instance_line group_line connection_line end_line dotted_line export_line configuration_line setting_line path_line setter_line value_line
+unfolding ended_line item_line procedure_line proc_member_line method_line typed_line params_line void_params_line
+    other_params_line directed_line undirected_line direction_line param_line component_line assembly_line member_line flag_line
+    import_line interface_line plain_port_line dataport_line buf_line data_line attribute_line lock_line composition_line
+    composition_member_line instance_line group_line connection_line end_line dotted_line export_line configuration_line
+    setting_line path_line setter_line value_line
 ended_decides = refl
 
 pub file_decides : decides opens file_line ≡ true
-unfolding file_line ended_line item_line procedure_line proc_member_line method_line typed_line params_line void_params_line other_params_line directed_line undirected_line direction_line param_line component_line assembly_line member_line flag_line import_line interface_line plain_port_line dataport_line buf_line data_line attribute_line lock_line composition_line composition_member_line instance_line group_line connection_line end_line dotted_line export_line configuration_line setting_line path_line setter_line value_line
+unfolding file_line ended_line item_line procedure_line proc_member_line method_line typed_line params_line void_params_line
+    other_params_line directed_line undirected_line direction_line param_line component_line assembly_line member_line flag_line
+    import_line interface_line plain_port_line dataport_line buf_line data_line attribute_line lock_line composition_line
+    composition_member_line instance_line group_line connection_line end_line dotted_line export_line configuration_line
+    setting_line path_line setter_line value_line
 file_decides = refl

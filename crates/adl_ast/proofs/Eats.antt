@@ -9,10 +9,12 @@ use Rattle.adl_ast.specs.Spelling.{opens, nests, reads, limit}
 use Rattle.adl_ast.proofs.Decides.{nested_is, next_value_decides, next_entry_decides, instance_decides, end_decides, dot_word_decides, composition_member_decides, setting_decides, param_decides, next_param_decides, proc_member_decides, member_decides, ended_decides}
 
 pub next_value_eats : (room : ℕ) → Eats (nests room (behind (mark_code marks.Comma) value_form))
-next_value_eats room = eats token_code nested_line opens nested_is room (behind (mark_code marks.Comma) value_form) next_value_decides refl
+next_value_eats room = eats token_code nested_line opens nested_is room (behind (mark_code marks.Comma) value_form)
+    next_value_decides refl
 
 pub next_entry_eats : (room : ℕ) → Eats (nests room (behind (mark_code marks.Comma) entry_form))
-next_entry_eats room = eats token_code nested_line opens nested_is room (behind (mark_code marks.Comma) entry_form) next_entry_decides refl
+next_entry_eats room = eats token_code nested_line opens nested_is room (behind (mark_code marks.Comma) entry_form)
+    next_entry_decides refl
 
 pub instance_eats : Eats (reads instance_form)
 instance_eats = eats token_code nested_line opens nested_is limit instance_form instance_decides refl
@@ -24,7 +26,8 @@ pub dot_word_eats : Eats (reads dot_word)
 dot_word_eats = eats token_code nested_line opens nested_is limit dot_word dot_word_decides refl
 
 pub composition_member_eats : Eats (reads composition_member_form)
-composition_member_eats = eats token_code nested_line opens nested_is limit composition_member_form composition_member_decides refl
+composition_member_eats = eats token_code nested_line opens nested_is limit composition_member_form
+    composition_member_decides refl
 
 pub setting_eats : Eats (reads setting_form)
 setting_eats = eats token_code nested_line opens nested_is limit setting_form setting_decides refl
@@ -42,4 +45,5 @@ pub ended_eats : Eats (reads ended_form)
 ended_eats = eats token_code nested_line opens nested_is limit ended_form ended_decides refl
 
 pub next_param_eats : Eats (reads (behind (mark_code marks.Comma) param_form))
-next_param_eats = eats token_code nested_line opens nested_is limit (behind (mark_code marks.Comma) param_form) next_param_decides refl
+next_param_eats = eats token_code nested_line opens nested_is limit (behind (mark_code marks.Comma) param_form)
+    next_param_decides refl

@@ -18,7 +18,8 @@ sample kind text = record { kind = kind; text = text; place = record { file = 0;
 -- a token of each code
 abbrev pub samples : List Seen
 samples =
-    sample kinds.Word [] ∷ sample kinds.Word (codes "void") ∷ sample kinds.Word (codes "Buf") ∷ sample (kinds.Number 0) [] ∷ sample kinds.Text [] ∷ sample kinds.Angle []
+    sample kinds.Word [] ∷ sample kinds.Word (codes "void") ∷ sample kinds.Word (codes "Buf") ∷ sample (kinds.Number 0) []
+    ∷ sample kinds.Text [] ∷ sample kinds.Angle []
     ∷ sample (kinds.Mark marks.BraceL) []
     ∷ sample (kinds.Mark marks.BraceR) []
     ∷ sample (kinds.Mark marks.ParenL) []
@@ -80,11 +81,16 @@ unfolding configuration_line setting_line path_line setter_line value_line
 configuration_parts = refl
 
 pub assembly_parts : parts_have_spellings token_code samples true assembly_line ≡ true
-unfolding assembly_line composition_line composition_member_line instance_line group_line connection_line end_line dotted_line export_line configuration_line setting_line path_line setter_line value_line
+unfolding assembly_line composition_line composition_member_line instance_line group_line connection_line end_line dotted_line
+    export_line configuration_line setting_line path_line setter_line value_line
 assembly_parts = refl
 
 pub file_parts : parts_have_spellings token_code samples true file_line ≡ true
-unfolding file_line ended_line item_line procedure_line proc_member_line method_line typed_line params_line void_params_line other_params_line directed_line undirected_line direction_line param_line component_line assembly_line member_line flag_line import_line interface_line plain_port_line dataport_line buf_line data_line attribute_line lock_line composition_line composition_member_line instance_line group_line connection_line end_line dotted_line export_line configuration_line setting_line path_line setter_line value_line
+unfolding file_line ended_line item_line procedure_line proc_member_line method_line typed_line params_line void_params_line
+    other_params_line directed_line undirected_line direction_line param_line component_line assembly_line member_line flag_line
+    import_line interface_line plain_port_line dataport_line buf_line data_line attribute_line lock_line composition_line
+    composition_member_line instance_line group_line connection_line end_line dotted_line export_line configuration_line
+    setting_line path_line setter_line value_line
 file_parts = refl
 
 pub typed_parts : parts_have_spellings token_code samples true typed_line ≡ true

@@ -100,7 +100,8 @@ values_line = Or (commas value_form) (Give [])
 
 -- '[' [value,+] ']'
 unfoldable pub list_line : Rule Value
-list_line = As (λ x. record { kind = values.Items x.1.0; place = span x.0.place x.1.1.place }) (Then (mark marks.SquareL) (Then values_line (mark marks.SquareR)))
+list_line = As (λ x. record { kind = values.Items x.1.0; place = span x.0.place x.1.1.place })
+    (Then (mark marks.SquareL) (Then values_line (mark marks.SquareR)))
 
 -- TEXT ':' value
 unfoldable pub entry_line : Rule (List ℕ × Value)
@@ -115,7 +116,8 @@ entries_line = Or (commas entry_form) (Give [])
 
 -- '{' [(TEXT ':' value),+] '}'
 unfoldable pub dictionary_line : Rule Value
-dictionary_line = As (λ x. record { kind = values.Dictionary x.1.0; place = span x.0.place x.1.1.place }) (Then (mark marks.BraceL) (Then entries_line (mark marks.BraceR)))
+dictionary_line = As (λ x. record { kind = values.Dictionary x.1.0; place = span x.0.place x.1.1.place })
+    (Then (mark marks.BraceL) (Then entries_line (mark marks.BraceR)))
 
 -- a value in brackets: what may stand within itself
 unfoldable pub nested_line : Rule Value
@@ -147,7 +149,8 @@ typed_form = Starts word_codes typed_line
 
 -- ('import' or 'include') (TEXT | ANGLE) ';'
 abbrev pub path_form : Rule Import
-path_form = Or (As (λ t. record { path = inner t.text; angle = false; place = t.place }) (token text_code)) (As (λ t. record { path = inner t.text; angle = true; place = t.place }) (token angle_code))
+path_form = Or (As (λ t. record { path = inner t.text; angle = false; place = t.place }) (token text_code))
+    (As (λ t. record { path = inner t.text; angle = true; place = t.place }) (token angle_code))
 
 unfoldable pub import_line : Keyword → Rule Import
 import_line k = As (λ x. x.1.0) (Then (key k) (Then path_form (mark marks.Semi)))
@@ -162,7 +165,9 @@ include_form = Starts (key_code keys.KInclude ∷ []) (import_line keys.KInclude
 
 -- 'in' | 'out' | 'inout' | 'refin'
 unfoldable pub direction_line : Rule Direction
-direction_line = Or (says keys.KIn directions.DirIn) (Or (says keys.KOut directions.DirOut) (Or (says keys.KInout directions.DirInOut) (says keys.KRefin directions.DirRefIn)))
+direction_line =
+    Or (says keys.KIn directions.DirIn)
+    (Or (says keys.KOut directions.DirOut) (Or (says keys.KInout directions.DirInOut) (says keys.KRefin directions.DirRefIn)))
 
 abbrev pub direction_codes : List ℕ
 direction_codes = key_code keys.KIn ∷ key_code keys.KOut ∷ key_code keys.KInout ∷ key_code keys.KRefin ∷ []
@@ -197,7 +202,8 @@ void_params_of v (Some (more, (array, ps))) = (false, param_of None (typed_of v 
 
 -- what begins with the word void: that word alone, or a first parameter whose type begins with it, and those behind it
 unfoldable pub void_params_line : Rule Params
-void_params_line = As (λ x. void_params_of (id_of x.0) x.1) (Then (token void_code) (maybe (Then more_words (Then brackets more_params))))
+void_params_line =
+    As (λ x. void_params_of (id_of x.0) x.1) (Then (token void_code) (maybe (Then more_words (Then brackets more_params))))
 
 -- a first parameter with a direction
 unfoldable pub directed_line : Rule Param
@@ -205,7 +211,8 @@ directed_line = As (λ x. param_of (Some x.0) x.1.0 x.1.1) (Then direction_form 
 
 -- a first parameter without one, whose type doesn't begin with the word void
 unfoldable pub undirected_line : Rule Param
-undirected_line = As (λ x. param_of None (typed_of (id_of x.0) x.1.0) x.1.1) (Then (One not_void_codes) (Then more_words brackets))
+undirected_line = As (λ x. param_of None (typed_of (id_of x.0) x.1.0) x.1.1)
+    (Then (One not_void_codes) (Then more_words brackets))
 
 -- a first parameter that doesn't begin with the word void
 abbrev pub first_param : Rule Param
@@ -217,11 +224,13 @@ other_params_line = As (λ x. (false, x.0 ∷ x.1)) (Then first_param more_param
 
 -- ['void' | param,+], which is params_written of specs/Written.antt: decided by whether the next token is the word void
 unfoldable pub params_line : Rule Params
-params_line = Or (Starts (void_code ∷ []) void_params_line) (Or (Starts (direction_codes ++ not_void_codes) other_params_line) (Give (false, [])))
+params_line = Or (Starts (void_code ∷ []) void_params_line) (Or (Starts (direction_codes ++ not_void_codes) other_params_line)
+    (Give (false, [])))
 
 -- method = type WORD '(' ['void' | param,+] ')' ';'
 unfoldable pub method_line : Rule Method
-method_line = As (λ x. record { result = x.0.0; id = x.0.1; void = x.1.1.0.0; params = x.1.1.0.1 }) (Then typed_form (Then (mark marks.ParenL) (Then params_line (Then (mark marks.ParenR) (mark marks.Semi)))))
+method_line = As (λ x. record { result = x.0.0; id = x.0.1; void = x.1.1.0.0; params = x.1.1.0.1 })
+    (Then typed_form (Then (mark marks.ParenL) (Then params_line (Then (mark marks.ParenR) (mark marks.Semi)))))
 
 unfoldable pub proc_member_line : Rule ProcMember
 proc_member_line = Or (As parts.Include include_form) (As parts.Method (Starts word_codes method_line))
@@ -231,20 +240,23 @@ proc_member_form = Starts (key_code keys.KInclude ∷ word_codes) proc_member_li
 
 -- procedure = 'procedure' WORD '{' (include | method)* '}'
 unfoldable pub procedure_line : Rule Procedure
-procedure_line = As (λ x. record { id = x.1.0; members = x.1.1.1.0 }) (Then (key keys.KProcedure) (Then word (Then (mark marks.BraceL) (Then (Many proc_member_form) (mark marks.BraceR)))))
+procedure_line = As (λ x. record { id = x.1.0; members = x.1.1.1.0 })
+    (Then (key keys.KProcedure) (Then word (Then (mark marks.BraceL) (Then (Many proc_member_form) (mark marks.BraceR)))))
 
 -- ---- compositions
 
 -- instance = 'component' WORD WORD ';'
 unfoldable pub instance_line : Rule Instance
-instance_line = As (λ x. record { component = x.1.0; id = x.1.1.0 }) (Then (key keys.KComponent) (Then word (Then word (mark marks.Semi))))
+instance_line = As (λ x. record { component = x.1.0; id = x.1.1.0 })
+    (Then (key keys.KComponent) (Then word (Then word (mark marks.Semi))))
 
 abbrev pub instance_form : Rule Instance
 instance_form = Starts (key_code keys.KComponent ∷ []) instance_line
 
 -- 'group' WORD '{' instance* '}'
 unfoldable pub group_line : Rule Group
-group_line = As (λ x. record { id = x.1.0; instances = x.1.1.1.0 }) (Then (key keys.KGroup) (Then word (Then (mark marks.BraceL) (Then (Many instance_form) (mark marks.BraceR)))))
+group_line = As (λ x. record { id = x.1.0; instances = x.1.1.1.0 })
+    (Then (key keys.KGroup) (Then word (Then (mark marks.BraceL) (Then (Many instance_form) (mark marks.BraceR)))))
 
 -- words of a dotted name, and its place
 abbrev pub Dotted : Type 0
@@ -279,11 +291,14 @@ end_form = Starts (key_code keys.KFrom ∷ key_code keys.KTo ∷ []) end_line
 unfoldable pub connection_line : Rule Connection
 connection_line =
     As (λ x. record { connector = x.1.0; id = x.1.1.0; ends = x.1.1.1.1.0 })
-    (Then (key keys.KConnection) (Then word (Then word (Then (mark marks.ParenL) (Then (commas end_form) (Then (mark marks.ParenR) (mark marks.Semi)))))))
+    (Then (key keys.KConnection)
+    (Then word
+    (Then word (Then (mark marks.ParenL) (Then (commas end_form) (Then (mark marks.ParenR) (mark marks.Semi)))))))
 
 -- 'export' dotted '->' WORD ';'
 unfoldable pub export_line : Rule Export
-export_line = As (λ x. record { words = x.1.0.0; target = x.1.1.1.0; place = x.1.0.1 }) (Then (key keys.KExport) (Then dotted_form (Then (mark marks.Arrow) (Then word (mark marks.Semi)))))
+export_line = As (λ x. record { words = x.1.0.0; target = x.1.1.1.0; place = x.1.0.1 })
+    (Then (key keys.KExport) (Then dotted_form (Then (mark marks.Arrow) (Then word (mark marks.Semi)))))
 
 -- line = instance | 'group' .. | 'connection' .. | 'export' ..
 unfoldable pub composition_member_line : Rule Line
@@ -294,11 +309,13 @@ composition_member_line =
     (As lines.Export (Starts (key_code keys.KExport ∷ []) export_line))))
 
 abbrev pub composition_member_form : Rule Line
-composition_member_form = Starts (key_code keys.KComponent ∷ key_code keys.KGroup ∷ key_code keys.KConnection ∷ key_code keys.KExport ∷ []) composition_member_line
+composition_member_form = Starts (key_code keys.KComponent ∷ key_code keys.KGroup ∷ key_code keys.KConnection
+    ∷ key_code keys.KExport ∷ []) composition_member_line
 
 -- composition = 'composition' '{' line* '}'
 unfoldable pub composition_line : Rule Composition
-composition_line = As (λ x. record { place = x.0.place; lines = x.1.1.0 }) (Then (key keys.KComposition) (Then (mark marks.BraceL) (Then (Many composition_member_form) (mark marks.BraceR))))
+composition_line = As (λ x. record { place = x.0.place; lines = x.1.1.0 })
+    (Then (key keys.KComposition) (Then (mark marks.BraceL) (Then (Many composition_member_form) (mark marks.BraceR))))
 
 abbrev pub composition_form : Rule Composition
 composition_form = Starts (key_code keys.KComposition ∷ []) composition_line
@@ -312,22 +329,27 @@ last_place p (a ∷ more) = last_place a.place more
 
 -- WORD ('.' WORD)+
 unfoldable pub path_line : Rule Dotted
-path_line = As (λ x. (x.0 ∷ x.1.0 ∷ x.1.1, span x.0.place (last_place x.1.0.place x.1.1))) (Then word (Then dot_word (Many dot_word)))
+path_line = As (λ x. (x.0 ∷ x.1.0 ∷ x.1.1, span x.0.place (last_place x.1.0.place x.1.1)))
+    (Then word (Then dot_word (Many dot_word)))
 
 -- '=' value | '<-' WORD
 unfoldable pub setter_line : Rule Setter
-setter_line = Or (As setters.Literal (behind (mark_code marks.Equals) value_form)) (As setters.Reference (behind (mark_code marks.Back) word))
+setter_line = Or (As setters.Literal (behind (mark_code marks.Equals) value_form))
+    (As setters.Reference (behind (mark_code marks.Back) word))
 
 -- setting = WORD ('.' WORD)+ ('=' value | '<-' WORD) ';'
 unfoldable pub setting_line : Rule Setting
-setting_line = As (λ x. record { words = x.0.0; setter = x.1.0; place = x.0.1 }) (Then (Starts word_codes path_line) (Then (Starts (mark_code marks.Equals ∷ mark_code marks.Back ∷ []) setter_line) (mark marks.Semi)))
+setting_line = As (λ x. record { words = x.0.0; setter = x.1.0; place = x.0.1 })
+    (Then (Starts word_codes path_line) (Then (Starts (mark_code marks.Equals ∷ mark_code marks.Back ∷ []) setter_line)
+    (mark marks.Semi)))
 
 abbrev pub setting_form : Rule Setting
 setting_form = Starts word_codes setting_line
 
 -- configuration = 'configuration' '{' setting* '}'
 unfoldable pub configuration_line : Rule Configuration
-configuration_line = As (λ x. record { place = x.0.place; settings = x.1.1.0 }) (Then (key keys.KConfiguration) (Then (mark marks.BraceL) (Then (Many setting_form) (mark marks.BraceR))))
+configuration_line = As (λ x. record { place = x.0.place; settings = x.1.1.0 })
+    (Then (key keys.KConfiguration) (Then (mark marks.BraceL) (Then (Many setting_form) (mark marks.BraceR))))
 
 abbrev pub configuration_form : Rule Configuration
 configuration_form = Starts (key_code keys.KConfiguration ∷ []) configuration_line
@@ -336,7 +358,9 @@ configuration_form = Starts (key_code keys.KConfiguration ∷ []) configuration_
 unfoldable pub assembly_line : Rule Assembly
 assembly_line =
     As (λ x. record { place = x.0.place; id = x.1.0; composition = x.1.1.1.0; configuration = x.1.1.1.1.0 })
-    (Then (key keys.KAssembly) (Then (maybe word) (Then (mark marks.BraceL) (Then composition_form (Then (maybe configuration_form) (mark marks.BraceR))))))
+    (Then (key keys.KAssembly)
+    (Then (maybe word)
+    (Then (mark marks.BraceL) (Then composition_form (Then (maybe configuration_form) (mark marks.BraceR))))))
 
 abbrev pub assembly_form : Rule Assembly
 assembly_form = Starts (key_code keys.KAssembly ∷ []) assembly_line
@@ -352,7 +376,9 @@ interface_of m p = record { maybe = m; kind = p.0; word = p.1.0; size = p.1.1.0;
 
 -- 'uses' | 'provides' | 'emits' | 'consumes'
 abbrev pub interface_kind : Rule InterfaceKind
-interface_kind = Or (says keys.KUses interfaces.Uses) (Or (says keys.KProvides interfaces.Provides) (Or (says keys.KEmits interfaces.Emits) (says keys.KConsumes interfaces.Consumes)))
+interface_kind =
+    Or (says keys.KUses interfaces.Uses) (Or (says keys.KProvides interfaces.Provides)
+    (Or (says keys.KEmits interfaces.Emits) (says keys.KConsumes interfaces.Consumes)))
 
 abbrev pub interface_kind_codes : List ℕ
 interface_kind_codes = key_code keys.KUses ∷ key_code keys.KProvides ∷ key_code keys.KEmits ∷ key_code keys.KConsumes ∷ []
@@ -375,7 +401,9 @@ data_line = As (λ x. (id_of x.0, (None, x.1))) (Then (One not_buf_codes) word)
 
 -- 'dataport' (WORD WORD | 'Buf' '(' NUMBER ')' WORD)
 unfoldable pub dataport_line : Rule Port
-dataport_line = As (λ x. (interfaces.Dataport, x)) (behind (key_code keys.KDataport) (Or (Starts (buf_code ∷ []) buf_line) (Starts not_buf_codes data_line)))
+dataport_line =
+    As (λ x. (interfaces.Dataport, x))
+    (behind (key_code keys.KDataport) (Or (Starts (buf_code ∷ []) buf_line) (Starts not_buf_codes data_line)))
 
 abbrev pub interface_codes : List ℕ
 interface_codes = key_code keys.KMaybe ∷ (interface_kind_codes ++ (key_code keys.KDataport ∷ []))
@@ -386,17 +414,24 @@ maybe_word = Or (As (λ t. true) (key keys.KMaybe)) (Give false)
 
 -- ['maybe'] one of the two ';', which is interface_written of specs/Written.antt
 unfoldable pub interface_line : Rule Interface
-interface_line = As (λ x. interface_of x.0 x.1.0) (Then maybe_word (Then (Or (Starts interface_kind_codes plain_port_line) (Starts (key_code keys.KDataport ∷ []) dataport_line)) (mark marks.Semi)))
+interface_line =
+    As (λ x. interface_of x.0 x.1.0)
+    (Then maybe_word
+    (Then (Or (Starts interface_kind_codes plain_port_line) (Starts (key_code keys.KDataport ∷ []) dataport_line))
+    (mark marks.Semi)))
 
 -- 'attribute' type WORD ['[' ']'] ['=' value] ';'
 unfoldable pub attribute_line : Rule Attribute
 attribute_line =
     As (λ x. record { words = x.1.0.0; id = x.1.0.1; array = x.1.1.0; value = x.1.1.1.0 })
-    (Then (key keys.KAttribute) (Then typed_form (Then brackets (Then (maybe (behind (mark_code marks.Equals) value_form)) (mark marks.Semi)))))
+    (Then (key keys.KAttribute)
+    (Then typed_form (Then brackets (Then (maybe (behind (mark_code marks.Equals) value_form)) (mark marks.Semi)))))
 
 -- 'mutex' | 'semaphore' | 'binary_semaphore'
 abbrev pub lock_kind : Rule LockKind
-lock_kind = Or (says keys.KMutex locks.Mutex) (Or (says keys.KSemaphore locks.Semaphore) (says keys.KBinarySemaphore locks.BinarySemaphore))
+lock_kind =
+    Or (says keys.KMutex locks.Mutex) (Or (says keys.KSemaphore locks.Semaphore)
+    (says keys.KBinarySemaphore locks.BinarySemaphore))
 
 -- 'has' ('mutex' | 'semaphore' | 'binary_semaphore') WORD ';'
 unfoldable pub lock_line : Rule Lock
@@ -421,14 +456,16 @@ member_line =
 abbrev pub member_codes : List ℕ
 member_codes =
     key_code keys.KControl ∷ key_code keys.KHardware ∷ key_code keys.KInclude
-    ∷ (interface_codes ++ (key_code keys.KAttribute ∷ key_code keys.KHas ∷ key_code keys.KComposition ∷ key_code keys.KConfiguration ∷ []))
+    ∷ (interface_codes ++ (key_code keys.KAttribute ∷ key_code keys.KHas ∷ key_code keys.KComposition
+    ∷ key_code keys.KConfiguration ∷ []))
 
 abbrev pub member_form : Rule Member
 member_form = Starts member_codes member_line
 
 -- component = 'component' WORD '{' member* '}'
 unfoldable pub component_line : Rule Component
-component_line = As (λ x. record { id = x.1.0; members = x.1.1.1.0 }) (Then (key keys.KComponent) (Then word (Then (mark marks.BraceL) (Then (Many member_form) (mark marks.BraceR)))))
+component_line = As (λ x. record { id = x.1.0; members = x.1.1.1.0 })
+    (Then (key keys.KComponent) (Then word (Then (mark marks.BraceL) (Then (Many member_form) (mark marks.BraceR)))))
 
 -- ---- files
 
@@ -445,7 +482,8 @@ item_codes = key_code keys.KImport ∷ key_code keys.KProcedure ∷ key_code key
 
 -- item [';']
 unfoldable pub ended_line : Rule Ended
-ended_line = As (λ x. record { item = x.0; semicolon = x.1 }) (Then (Starts item_codes item_line) (Or (As (λ t. true) (mark marks.Semi)) (Give false)))
+ended_line = As (λ x. record { item = x.0; semicolon = x.1 })
+    (Then (Starts item_codes item_line) (Or (As (λ t. true) (mark marks.Semi)) (Give false)))
 
 abbrev pub ended_form : Rule Ended
 ended_form = Starts item_codes ended_line

@@ -28,11 +28,13 @@ params_written = Or (As (λ t. (true, [])) (token void_code)) (Or (As (λ ps. (f
 
 -- ['maybe'] ('uses' | 'provides' | 'emits' | 'consumes') WORD WORD ';'
 abbrev pub plain_written : Rule Interface
-plain_written = As (λ x. interface_of x.0 (x.1.0, (x.1.1.0, (None, x.1.1.1.0)))) (Then maybe_word (Then interface_kind (Then word (Then word (mark marks.Semi)))))
+plain_written = As (λ x. interface_of x.0 (x.1.0, (x.1.1.0, (None, x.1.1.1.0))))
+    (Then maybe_word (Then interface_kind (Then word (Then word (mark marks.Semi)))))
 
 -- ['maybe'] 'dataport' WORD WORD ';'
 abbrev pub dataport_written : Rule Interface
-dataport_written = As (λ x. interface_of x.0 (interfaces.Dataport, (x.1.1.0, (None, x.1.1.1.0)))) (Then maybe_word (Then (key keys.KDataport) (Then word (Then word (mark marks.Semi)))))
+dataport_written = As (λ x. interface_of x.0 (interfaces.Dataport, (x.1.1.0, (None, x.1.1.1.0))))
+    (Then maybe_word (Then (key keys.KDataport) (Then word (Then word (mark marks.Semi)))))
 
 -- ['maybe'] 'dataport' 'Buf' '(' NUMBER ')' WORD ';'
 abbrev pub sized_written : Rule Interface

@@ -12,14 +12,17 @@ use Rattle.cam_base.proofs.NumberedLists.{in_flat_map, from_flat_map, from_filte
 
 -- ---- instances
 
-part_from : (numbers : Name → Option ℕ) (g : Option Name) (is : List Instance) (x : Part) → IsIn x (filter_map (part_of numbers g) is) → IsIn x.instance is × (numbers x.instance.component.name ≡ Some x.kind)
+part_from : (numbers : Name → Option ℕ) (g : Option Name) (is : List Instance) (x : Part)
+    → IsIn x (filter_map (part_of numbers g) is) → IsIn x.instance is × (numbers x.instance.component.name ≡ Some x.kind)
 part_from numbers g is x m =
     let i = from_filter_map (part_of numbers g) x is m in
-    let p = map_some (λ k. let part : Part = record { instance = i.0; group = g; kind = k } in part) (numbers i.0.component.name) x i.2 in
+    let p = map_some (λ k. let part : Part = record { instance = i.0; group = g; kind = k } in
+    part) (numbers i.0.component.name) x i.2 in
     let P : Part → Type 0 = λ y. IsIn y.instance is × (numbers y.instance.component.name ≡ Some y.kind) in
     subst P p.2 (i.1, p.1)
 
-part_by : (numbers : Name → Option ℕ) (l : Line) (x : Part) → IsIn x (parts_by numbers l) → IsIn x.instance (instances_by l) × (numbers x.instance.component.name ≡ Some x.kind)
+part_by : (numbers : Name → Option ℕ) (l : Line) (x : Part) → IsIn x (parts_by numbers l) → IsIn x.instance (instances_by l)
+    × (numbers x.instance.component.name ≡ Some x.kind)
 part_by numbers (lines.Instance i) x m = part_from numbers None (i ∷ []) x m
 part_by numbers (lines.Group g) x m = part_from numbers (Some g.id.name) g.instances x m
 part_by numbers (lines.Connection k) x m = absurd m
@@ -47,23 +50,30 @@ pub body_at : (s : Source) (k : ℕ)
     ⊎ ((length (components s) ≤ k) × (body (hierarchy_of s) k ≡ top_of (kind_named s) (slice_get (assemblies s) 0)))
 body_at s k = get_or_map (body_of (kind_named s)) (components s) k (top_of (kind_named s) (slice_get (assemblies s) 0))
 
-pub body_number : (s : Source) (k : ℕ) (c : ItemAt × Component) → slice_get (components s) k ≡ Some c → body (hierarchy_of s) k ≡ body_of (kind_named s) c
+pub body_number : (s : Source) (k : ℕ) (c : ItemAt × Component) → slice_get (components s) k ≡ Some c
+    → body (hierarchy_of s) k ≡ body_of (kind_named s) c
 body_number s k c e =
-    get_or_from_slice_get (map (body_of (kind_named s)) (components s)) k (body_of (kind_named s) c) (hierarchy_of s).top (get_map (body_of (kind_named s)) (components s) k c e)
+    get_or_from_slice_get (map (body_of (kind_named s)) (components s)) k (body_of (kind_named s) c) (hierarchy_of s).top
+    (get_map (body_of (kind_named s)) (components s) k c e)
 
-parts_of_top : (numbers : Name → Option ℕ) (a : Option (ItemAt × Assembly)) → (top_of numbers a).parts ≡ parts_in numbers (top_of numbers a).composition
+parts_of_top : (numbers : Name → Option ℕ) (a : Option (ItemAt × Assembly))
+    → (top_of numbers a).parts ≡ parts_in numbers (top_of numbers a).composition
 parts_of_top numbers None = refl
 parts_of_top numbers (Some a) = refl
 
 -- the instances of a body are those of its composition
-pub parts_of : (s : Source) (k : ℕ) → (body (hierarchy_of s) k).parts ≡ parts_in (kind_named s) (body (hierarchy_of s) k).composition
+pub parts_of : (s : Source) (k : ℕ) → (body (hierarchy_of s) k).parts ≡ parts_in (kind_named s)
+    (body (hierarchy_of s) k).composition
 parts_of s k = elim (body_at s k) [
   | inl c ↦ let P : Body → Type 0 = λ b. b.parts ≡ parts_in (kind_named s) b.composition in subst P (sym c.2) refl
-  | inr t ↦ let P : Body → Type 0 = λ b. b.parts ≡ parts_in (kind_named s) b.composition in subst P (sym t.1) (parts_of_top (kind_named s) (slice_get (assemblies s) 0))
+  | inr t ↦ let P : Body → Type 0 = λ b. b.parts ≡ parts_in (kind_named s) b.composition in
+      subst P (sym t.1) (parts_of_top (kind_named s) (slice_get (assemblies s) 0))
 ]
 
-pub part_of_body : (s : Source) (k : ℕ) (x : Part) → IsIn x (body (hierarchy_of s) k).parts → IsPart (kind_named s) (body (hierarchy_of s) k).composition x
-part_of_body s k x i = let P : List Part → Type 0 = λ xs. IsIn x xs in part_in (kind_named s) (body (hierarchy_of s) k).composition x (subst P (parts_of s k) i)
+pub part_of_body : (s : Source) (k : ℕ) (x : Part) → IsIn x (body (hierarchy_of s) k).parts
+    → IsPart (kind_named s) (body (hierarchy_of s) k).composition x
+part_of_body s k x i = let P : List Part → Type 0 = λ xs. IsIn x xs in
+    part_in (kind_named s) (body (hierarchy_of s) k).composition x (subst P (parts_of s k) i)
 
 -- the graph lists the types of a body's instances
 pub inner_of_body : (h : Hierarchy) (k : ℕ) → k ≤ length h.bodies → inner_of (graph h) k ≡ map (λ x. x.kind) (body h k).parts

@@ -24,25 +24,33 @@ own_stands h k x i =
     let P : Strung → Type 0 = λ z. IsStrung h k z in
     subst P w.2 (refl, w.1)
 
-pub stands : (h : Hierarchy) → ((k : ℕ) → IsOnce (map name_of (body h k).parts)) → (n k : ℕ) (x : Strung) → IsIn x (connections_within h n k) → IsStrung h k x
+pub stands : (h : Hierarchy) → ((k : ℕ) → IsOnce (map name_of (body h k).parts)) → (n k : ℕ) (x : Strung)
+    → IsIn x (connections_within h n k) → IsStrung h k x
 stands h a zero k x i = own_stands h k x i
-stands h a (suc n) k x i = elim (in_append x (map (strung k) (wires_of (body h k))) (flat_map (strung_by (connections_within h n)) (body h k).parts) i) [
-  | inl j ↦ own_stands h k x j
-  | inr j ↦
-      let y = from_flat_map (strung_by (connections_within h n)) x (body h k).parts j in
-      let z = from_map (further (name_of y.0)) x (connections_within h n y.0.kind) y.2 in
-      let s = stands h a n y.0.kind z.0 z.1 in
-      let P : Strung → Type 0 = λ u. IsStrung h k u in
-      subst P z.2 (at_behind h k (name_of y.0) z.0.path y.0 z.0.inside (find_once name_of (body h k).parts y.0 (a k) y.1) s.0, s.1)
-]
+stands h a (suc n) k x i =
+    elim (in_append x (map (strung k) (wires_of (body h k))) (flat_map (strung_by (connections_within h n)) (body h k).parts) i) [
+      | inl j ↦ own_stands h k x j
+      | inr j ↦
+          let y = from_flat_map (strung_by (connections_within h n)) x (body h k).parts j in
+          let z = from_map (further (name_of y.0)) x (connections_within h n y.0.kind) y.2 in
+          let s = stands h a n y.0.kind z.0 z.1 in
+          let P : Strung → Type 0 = λ u. IsStrung h k u in
+          subst P z.2 (
+            at_behind h k (name_of y.0) z.0.path y.0 z.0.inside (find_once name_of (body h k).parts y.0 (a k) y.1) s.0,
+            s.1,
+          )
+    ]
 
 -- ---- what stands is met
 
-own_met : (h : Hierarchy) (n k : ℕ) (x : Strung) → IsIn x (map (strung k) (wires_of (body h k))) → IsIn x (connections_within h n k)
+own_met : (h : Hierarchy) (n k : ℕ) (x : Strung) → IsIn x (map (strung k) (wires_of (body h k)))
+    → IsIn x (connections_within h n k)
 own_met h zero k x i = i
-own_met h (suc n) k x i = in_left x (map (strung k) (wires_of (body h k))) (flat_map (strung_by (connections_within h n)) (body h k).parts) i
+own_met h (suc n) k x i = in_left x (map (strung k) (wires_of (body h k))) (flat_map (strung_by (connections_within h n))
+    (body h k).parts) i
 
-pub met : (h : Hierarchy) (n k m : ℕ) (q : Path) (w : Wire) → length q ≤ n → at h k q ≡ Some m → IsIn w (wires_of (body h m)) → IsIn (record { path = q; inside = m; wire = w }) (connections_within h n k)
+pub met : (h : Hierarchy) (n k m : ℕ) (q : Path) (w : Wire) → length q ≤ n → at h k q ≡ Some m → IsIn w (wires_of (body h m))
+    → IsIn (record { path = q; inside = m; wire = w }) (connections_within h n k)
 met h n k m [] w l e i =
     let s : k ≡ m = cc in
     let P : ℕ → Type 0 = λ z. IsIn (strung z w) (connections_within h n k) in
@@ -55,15 +63,19 @@ met h (suc n) k m (c ∷ q) w l e i =
     let x : Strung = record { path = q; inside = m; wire = w } in
     let inner = met h n y.0.kind m q w (omega arith) y.2 i in
     let P : Name → Type 0 = λ z. IsIn (record { path = z ∷ q; inside = m; wire = w }) (connections_within h (suc n) k) in
-    subst P name.1 (in_right (further (name_of y.0) x) (map (strung k) (wires_of (body h k))) (flat_map (strung_by (connections_within h n)) (body h k).parts)
-    (in_flat_map (strung_by (connections_within h n)) y.0 (further (name_of y.0) x) (body h k).parts name.0 (in_map (further (name_of y.0)) x (connections_within h n y.0.kind) inner)))
+    subst P name.1 (in_right (further (name_of y.0) x) (map (strung k) (wires_of (body h k)))
+    (flat_map (strung_by (connections_within h n)) (body h k).parts)
+    (in_flat_map (strung_by (connections_within h n)) y.0 (further (name_of y.0) x) (body h k).parts name.0
+    (in_map (further (name_of y.0)) x (connections_within h n y.0.kind) inner)))
 
-pub connections_stand : (s : Source) → AreNamesSound s → (x : Strung) → IsIn x (connections (hierarchy_of s)) ↔ IsStrung (hierarchy_of s) (top_number (hierarchy_of s)) x
+pub connections_stand : (s : Source) → AreNamesSound s → (x : Strung) → IsIn x (connections (hierarchy_of s))
+    ↔ IsStrung (hierarchy_of s) (top_number (hierarchy_of s)) x
 connections_stand s sound x =
     let h = hierarchy_of s in
     let top = top_number h in (
       stands h (names_once s sound) (length h.bodies) top x,
-      λ e. met h (length h.bodies) top x.inside x.path x.wire (path_short h (sound_is_finite s sound) top x.inside x.path (omega arith) e.0) e.0 e.1,
+      λ e. met h (length h.bodies) top x.inside x.path x.wire (path_short h (sound_is_finite s sound) top x.inside x.path
+          (omega arith) e.0) e.0 e.1,
     )
 
 -- ---- once
@@ -97,7 +109,8 @@ not_empty [] n e = cc
 not_empty (m ∷ p) n e = cc
 
 -- a connection of the body itself is none of an instance
-apart : (k : ℕ) (ws : List Wire) (f : ℕ → List Strung) (xs : List Part) (p : Path) → IsIn p (map whole_path (map (strung k) ws)) → IsIn p (map whole_path (flat_map (strung_by f) xs)) → ⊥
+apart : (k : ℕ) (ws : List Wire) (f : ℕ → List Strung) (xs : List Part) (p : Path) → IsIn p (map whole_path (map (strung k) ws))
+    → IsIn p (map whole_path (flat_map (strung_by f) xs)) → ⊥
 unfolding whole_path
 apart k ws f xs p i j =
     let P : List Path → Type 0 = λ ps. IsIn p ps in
@@ -105,13 +118,16 @@ apart k ws f xs p i j =
     let y = from_map whole_path p (flat_map (strung_by f) xs) j in
     let x = from_flat_map (strung_by f) y.0 xs y.1 in
     let z = from_map (further (name_of x.0)) y.0 (f x.0.kind) x.2 in
-    not_empty z.0.path z.0.wire.1.id.name (ap (λ (u : Strung). tail_of (whole_path u)) z.2 ∙ ap tail_of y.2 ∙ ap tail_of (sym n.2))
+    not_empty z.0.path z.0.wire.1.id.name (ap (λ (u : Strung). tail_of (whole_path u)) z.2 ∙ ap tail_of y.2
+    ∙ ap tail_of (sym n.2))
 
 begins : (x : Part) (ys : List Strung) (y : Strung) → IsIn y (map (further (name_of x)) ys) → head_of (whole_path y) ≡ name_of x
 unfolding whole_path
 begins x ys y i = let z = from_map (further (name_of x)) y ys i in ap (λ (u : Strung). head_of (whole_path u)) (sym z.2)
 
-wholes_once : (h : Hierarchy) → ((k : ℕ) → IsOnce (map name_of (body h k).parts)) → ((k : ℕ) → IsOnce (map (λ w. w.1.id.name) (wires_of (body h k)))) → (n k : ℕ) → IsOnce (map whole_path (connections_within h n k))
+wholes_once : (h : Hierarchy) → ((k : ℕ) → IsOnce (map name_of (body h k).parts))
+    → ((k : ℕ) → IsOnce (map (λ w. w.1.id.name) (wires_of (body h k)))) → (n k : ℕ)
+    → IsOnce (map whole_path (connections_within h n k))
 wholes_once h a b zero k = own_once k (wires_of (body h k)) (b k)
 wholes_once h a b (suc n) k =
     let own = map (strung k) (wires_of (body h k)) in
@@ -120,10 +136,13 @@ wholes_once h a b (suc n) k =
     let P : List Path → Type 0 = λ ps. IsOnce ps in
     subst P (sym (map-append whole_path own inner))
     (once_append (map whole_path own) (map whole_path inner) (own_once k (wires_of (body h k)) (b k))
-    (once_by_head name_of (strung_by f) whole_path (λ x. further_once x (f x.kind) (wholes_once h a b n x.kind)) (λ x y i. begins x (f x.kind) y i) (body h k).parts (a k))
+    (once_by_head name_of (strung_by f) whole_path (λ x. further_once x (f x.kind) (wholes_once h a b n x.kind))
+    (λ x y i. begins x (f x.kind) y i) (body h k).parts (a k))
     (apart k (wires_of (body h k)) f (body h k).parts))
 
 -- no two connections have one name in compositions at one path
-pub connections_once : (s : Source) → AreNamesSound s → IsOnce (map (λ x. x.path ++ x.wire.1.id.name ∷ []) (connections (hierarchy_of s)))
+pub connections_once : (s : Source) → AreNamesSound s
+    → IsOnce (map (λ x. x.path ++ x.wire.1.id.name ∷ []) (connections (hierarchy_of s)))
 unfolding whole_path
-connections_once s sound = wholes_once (hierarchy_of s) (names_once s sound) (wires_once s sound) (length (hierarchy_of s).bodies) (top_number (hierarchy_of s))
+connections_once s sound = wholes_once (hierarchy_of s) (names_once s sound) (wires_once s sound) (length (hierarchy_of s).bodies)
+    (top_number (hierarchy_of s))

@@ -16,7 +16,8 @@ use Rattle.adl_hierarchy.proofs.Walks.{walk_more}
 -- one component more that a number is an inner one of
 pub turned_more : (ws old : List (List ℕ)) (inner : List ℕ) (a d : ℕ) → d < length ws → has inner d ≡ true
     → ((c x : ℕ) → has (inner_of ws c) x ≡ true → ((x ≡ a) × (has inner c ≡ true)) ⊎ (has (inner_of old c) x ≡ true))
-    → (c x : ℕ) → has (inner_of (with_waiting ws d a) c) x ≡ true → ((x ≡ a) × (has inner c ≡ true)) ⊎ (has (inner_of old c) x ≡ true)
+    → (c x : ℕ) → has (inner_of (with_waiting ws d a) c) x ≡ true → ((x ≡ a) × (has inner c ≡ true))
+    ⊎ (has (inner_of old c) x ≡ true)
 turned_more ws old inner a d l e edges c x h = elim (in_set ws d (inner_of ws d ++ a ∷ []) c x l h) [
   | inl k ↦ elim (has_pushed (inner_of ws d) a x k.1) [
     | inl q ↦ let P : ℕ → Type 0 = λ j. has (inner_of ws j) x ≡ true in edges c x (subst P (sym k.0) q)
@@ -36,10 +37,12 @@ turned_in_range g turned t c a l e = let s = t.size in omega (arith, (t.edges c 
 
 -- ---- roots
 
-pub one_more : (g : List (List ℕ)) (root component inner : ℕ) → Holds g root component → has (inner_of g component) inner ≡ true → Holds g root inner
+pub one_more : (g : List (List ℕ)) (root component inner : ℕ) → Holds g root component → has (inner_of g component) inner ≡ true
+    → Holds g root inner
 one_more g root component inner k e = (suc k.0, walk_more g k.0 root component inner k.1 e)
 
-pub root_more : (g : List (List ℕ)) (roots : List ℕ) (root d : ℕ) → AreRoots g roots → d < length g → Holds g root d → AreRoots g (set roots d root)
+pub root_more : (g : List (List ℕ)) (roots : List ℕ) (root d : ℕ) → AreRoots g roots → d < length g → Holds g root d
+    → AreRoots g (set roots d root)
 root_more g roots root d are l k = record {
   size = length-set roots d root ∙ are.size;
   held = λ x lx lr.
@@ -55,7 +58,8 @@ root_more g roots root d are l k = record {
       ];
 }
 
-pub held_more : (g : List (List ℕ)) (root d : ℕ) (waiting : List ℕ) → AreHeldBy g root waiting → d < length g → Holds g root d → AreHeldBy g root (waiting ++ d ∷ [])
+pub held_more : (g : List (List ℕ)) (root d : ℕ) (waiting : List ℕ) → AreHeldBy g root waiting → d < length g → Holds g root d
+    → AreHeldBy g root (waiting ++ d ∷ [])
 held_more g root d waiting are l k x e = elim (has_pushed waiting d x e) [
   | inl p ↦ are x p
   | inr s ↦ let P : ℕ → Type 0 = λ y. (y < length g) × Holds g root y in subst P (sym s) (l, k)
@@ -66,9 +70,11 @@ held_first g root l = held_more g root root [] (λ x e. absurd (false≢true e))
 
 -- ---- the test
 
-pub told : (g turned : List (List ℕ)) (roots others ranks : List ℕ) → InRange g → IsTurned g turned → AreRoots g roots → AreRoots turned others
+pub told : (g turned : List (List ℕ)) (roots others ranks : List ℕ) → InRange g → IsTurned g turned → AreRoots g roots
+    → AreRoots turned others
     → ((x : ℕ) → x < length g → (get_or roots x 0 < length g) × (get_or roots x 0 ≡ get_or others x 0))
-    → ((a c : ℕ) → a < length g → has (inner_of g a) c ≡ true → (get_or roots c 0 ≡ get_or roots a 0) ⊎ (get_or ranks (get_or roots a 0) 0 < get_or ranks (get_or roots c 0) 0))
+    → ((a c : ℕ) → a < length g → has (inner_of g a) c ≡ true → (get_or roots c 0 ≡ get_or roots a 0)
+    ⊎ (get_or ranks (get_or roots a 0) 0 < get_or ranks (get_or roots c 0) 0))
     → TellCycles g roots
 told g turned roots others ranks r t are areothers agree rises =
     let numbers : AreCycleNumbers g (λ x. get_or roots x 0) (λ x. get_or ranks x 0) = record {
@@ -92,17 +98,21 @@ told g turned roots others ranks r t are areothers agree rises =
 pub last_below : (xs ys : List ℕ) (a n : ℕ) → xs ≡ ys ++ a ∷ [] → ((x : ℕ) → has xs x ≡ true → x < n) → a < n
 last_below xs ys a n e below = below a (let P : List ℕ → Type 0 = λ zs. has zs a ≡ true in subst P (sym e) (has_new ys a))
 
-pub rest_below : (xs ys : List ℕ) (a n : ℕ) → xs ≡ ys ++ a ∷ [] → ((x : ℕ) → has xs x ≡ true → x < n) → (x : ℕ) → has ys x ≡ true → x < n
+pub rest_below : (xs ys : List ℕ) (a n : ℕ) → xs ≡ ys ++ a ∷ [] → ((x : ℕ) → has xs x ≡ true → x < n) → (x : ℕ)
+    → has ys x ≡ true → x < n
 rest_below xs ys a n e below x h = below x (let P : List ℕ → Type 0 = λ zs. has zs x ≡ true in subst P (sym e) (has_old ys a x h))
 
-pub more_below : (xs ys : List ℕ) (a n : ℕ) → ys ≡ xs ++ a ∷ [] → ((x : ℕ) → has xs x ≡ true → x < n) → a < n → (x : ℕ) → has ys x ≡ true → x < n
+pub more_below : (xs ys : List ℕ) (a n : ℕ) → ys ≡ xs ++ a ∷ [] → ((x : ℕ) → has xs x ≡ true → x < n) → a < n → (x : ℕ)
+    → has ys x ≡ true → x < n
 more_below xs ys a n e below l x h = elim (has_pushed xs a x (let P : List ℕ → Type 0 = λ zs. has zs x ≡ true in subst P e h)) [
   | inl p ↦ below x p
   | inr s ↦ omega arith
 ]
 
 -- the comparison of two numbers is the test of holding
-pub told_test : (g : List (List ℕ)) (numbers : List ℕ) → InRange g → TellCycles g numbers → (a c : ℕ) → a < length g → has (inner_of g a) c ≡ true → eqb (get_or numbers c 0) (get_or numbers a 0) ≡ is_held g c a
+pub told_test : (g : List (List ℕ)) (numbers : List ℕ) → InRange g → TellCycles g numbers → (a c : ℕ) → a < length g
+    → has (inner_of g a) c ≡ true → eqb (get_or numbers c 0) (get_or numbers a 0) ≡ is_held g c a
 told_test g numbers r t a c l e =
     let x = t.exact a c l e in
-    held_test g r c a (r a c l e) (eqb (get_or numbers c 0) (get_or numbers a 0)) (λ s. x.0 (eqb-true _ _ s)) (λ s k. both_ways _ s (eq-eqb _ _ (x.1 k)))
+    held_test g r c a (r a c l e) (eqb (get_or numbers c 0) (get_or numbers a 0)) (λ s. x.0 (eqb-true _ _ s))
+    (λ s k. both_ways _ s (eq-eqb _ _ (x.1 k)))

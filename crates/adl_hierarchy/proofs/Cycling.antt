@@ -5,8 +5,10 @@ use Rattle.adl_hierarchy.specs.Cycles.{AreCycleNumbers}
 use Rattle.adl_hierarchy.proofs.Through.{walk_join}
 
 -- no walk leads to a smaller rank
-walk_rises : (g : List (List ℕ)) → InRange g → (number rank : ℕ → ℕ) → AreCycleNumbers g number rank → (n a b : ℕ) → a < length g → Walk g a b n → rank (number a) ≤ rank (number b)
-walk_rises g r number rank are zero a b l w = let e : rank (number a) ≡ rank (number b) = ap (λ x. rank (number x)) w in omega arith
+walk_rises : (g : List (List ℕ)) → InRange g → (number rank : ℕ → ℕ) → AreCycleNumbers g number rank → (n a b : ℕ) → a < length g
+    → Walk g a b n → rank (number a) ≤ rank (number b)
+walk_rises g r number rank are zero a b l w = let e : rank (number a) ≡ rank (number b) =
+    ap (λ x. rank (number x)) w in omega arith
 walk_rises g r number rank are (suc n) a b l w =
     let rest : rank (number w.0) ≤ rank (number b) = walk_rises g r number rank are n w.0 b (r a w.0 l w.1) w.2 in
     elim (are.rises a w.0 l w.1) [
@@ -14,7 +16,8 @@ walk_rises g r number rank are (suc n) a b l w =
       | inr k ↦ omega arith
     ]
 
-pub exact : (g : List (List ℕ)) → InRange g → (number rank : ℕ → ℕ) → AreCycleNumbers g number rank → (a c : ℕ) → a < length g → has (inner_of g a) c ≡ true → (number c ≡ number a) ↔ Holds g c a
+pub exact : (g : List (List ℕ)) → InRange g → (number rank : ℕ → ℕ) → AreCycleNumbers g number rank → (a c : ℕ) → a < length g
+    → has (inner_of g a) c ≡ true → (number c ≡ number a) ↔ Holds g c a
 exact g r number rank are a c l e = (
   λ s.
       let there = are.inwards c (r a c l e) in

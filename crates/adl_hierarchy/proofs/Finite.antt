@@ -35,7 +35,8 @@ pub record IsEdge (h : Hierarchy) (a : ℕ) (c : ℕ) : Type 0 where
 pub edge : (h : Hierarchy) (a c : ℕ) → a < length (graph h) → has (inner_of (graph h) a) c ≡ true → IsEdge h a c
 edge h a c l e =
     let low : a ≤ length h.bodies = omega (arith, l, graph_size h) in
-    let i = from_map (λ (x : Part). x.kind) c (body h a).parts (in_has c (map (λ (x : Part). x.kind) (body h a).parts) (ap (λ ts. has ts c) (sym (inner_of_body h a low)) ∙ e)) in
+    let i = from_map (λ (x : Part). x.kind) c (body h a).parts (in_has c (map (λ (x : Part). x.kind) (body h a).parts)
+    (ap (λ ts. has ts c) (sym (inner_of_body h a low)) ∙ e)) in
     record { part = i.0; stands = i.1; kind = i.2 }
 
 -- the number of an instance's type is one of a component
@@ -43,7 +44,12 @@ pub kind_below : (s : Source) (a : ℕ) (x : Part) → IsIn x (body (hierarchy_o
 unfolding bare
 kind_below s a x i =
     let p = part_of_body s a x i in
-    omega (arith, numbers_below (bare s) x.instance.component.name x.kind p.typed, length-map (components s) (λ (c : ItemAt × Component). c.1))
+    omega (
+      arith,
+      numbers_below (bare s) x.instance.component.name x.kind p.typed,
+      length-map (components s)
+          (λ (c : ItemAt × Component). c.1),
+    )
 
 -- an instance in a body with the number of a component is one of the component
 record IsHeld (s : Source) (a : ℕ) (x : Part) : Type 0 where
@@ -59,23 +65,27 @@ held_at s a x l i =
       | inl c ↦ record {
         component = c.0.1;
         numbered = get_map (λ (c : ItemAt × Component). c.1) (components s) a c.0 c.1;
-        stands = composed_instance c.0.1 p.composition x.instance (ap (λ (b : Body). b.composition) (sym c.2) ∙ p.composed) p.stands;
+        stands = composed_instance c.0.1 p.composition x.instance (ap (λ (b : Body). b.composition) (sym c.2)
+            ∙ p.composed) p.stands;
       }
       | inr t ↦ let high = t.0 in absurd (omega arith)
     ]
 
 -- ---- walks from a component are those of the components alone
 
-inner_edge : (s : Source) (a c : ℕ) → a < length (components s) → IsEdge (hierarchy_of s) a c → has (inner_of (inner_graph s) a) c ≡ true
+inner_edge : (s : Source) (a c : ℕ) → a < length (components s) → IsEdge (hierarchy_of s) a c
+    → has (inner_of (inner_graph s) a) c ≡ true
 unfolding inner_graph
 inner_edge s a c l e =
     let k = held_at s a e.part l e.stands in
-    listed (kind_named s) (bare s) a k.component e.part.instance c k.numbered k.stands ((part_of_body s a e.part e.stands).typed ∙ ap Some e.kind)
+    listed (kind_named s) (bare s) a k.component e.part.instance c k.numbered k.stands ((part_of_body s a e.part e.stands).typed
+    ∙ ap Some e.kind)
 
 in_graph : (s : Source) (a : ℕ) → a ≤ length (components s) → a < length (graph (hierarchy_of s))
 in_graph s a l = omega (arith, graph_size (hierarchy_of s), length-map (components s) (body_of (kind_named s)))
 
-inner_walk : (s : Source) (n a b : ℕ) → a < length (components s) → Walk (graph (hierarchy_of s)) a b n → Walk (inner_graph s) a b n
+inner_walk : (s : Source) (n a b : ℕ) → a < length (components s) → Walk (graph (hierarchy_of s)) a b n
+    → Walk (inner_graph s) a b n
 inner_walk s zero a b l w = w
 inner_walk s (suc n) a b l w =
     let e = edge (hierarchy_of s) a w.0 (in_graph s a (omega arith)) w.1 in
@@ -99,6 +109,8 @@ sound_is_finite s sound = record {
       let all : length (bare s) ≡ length (components s) = length-map (components s) _ in
       let inner = inner_walk s n c a low w in
       let inside : c < length g = omega (arith, low, size, all) in
-      let back : a < length g = walk_in_range g (graph_in_range (kind_named s) (bare s) (numbers_below (bare s))) n c a inside inner in
-      acyclic_from_none (kind_named s) (bare s) (numbers_below (bare s)) sound.none_recursive a c n back (inner_edge s a c (omega (arith, back, size, all)) x) inner;
+      let back : a < length g = walk_in_range g (graph_in_range (kind_named s) (bare s) (numbers_below (bare s))) n c a
+      inside inner in
+      acyclic_from_none (kind_named s) (bare s) (numbers_below (bare s)) sound.none_recursive a c n back
+      (inner_edge s a c (omega (arith, back, size, all)) x) inner;
 }

@@ -7,14 +7,16 @@ use Rattle.adl_meaning.specs.Export.{instance_held, member_held}
 use Rattle.cam_base.specs.Gather.{IsIn}
 use Rattle.cam_base.proofs.NumberedLists.{in_flat_map, from_flat_map, from_map, found, map_some}
 
-held_found : (k : Composition) (n : Name) (x : Held) → held_as k n ≡ Some x → (l : Line) × IsIn l k.lines × (h : Id × Held) × IsIn h (held_by l) × (h.0.name ≡ n) × (h.1 ≡ x)
+held_found : (k : Composition) (n : Name) (x : Held) → held_as k n ≡ Some x → (l : Line) × IsIn l k.lines × (h : Id × Held)
+    × IsIn h (held_by l) × (h.0.name ≡ n) × (h.1 ≡ x)
 held_found k n x e =
     let a = map_some (λ (h : Id × Held). h.1) (find (λ (h : Id × Held). bytes_eq n h.0.name) (held_in k)) x e in
     let b = found (λ (h : Id × Held). bytes_eq n h.0.name) (held_in k) a.0 a.1 in
     let l = from_flat_map held_by a.0 k.lines b.0 in
     (l.0, l.1, a.0, l.2, sym ((bytes_eq-Decides n a.0.0.name).0 b.1), a.2)
 
-held_instance : (l : Line) (h : Id × Held) (i : Instance) → IsIn h (held_by l) → h.1 ≡ an_instance i → IsIn i (instances_by l) × (h.0 ≡ i.id)
+held_instance : (l : Line) (h : Id × Held) (i : Instance) → IsIn h (held_by l) → h.1 ≡ an_instance i
+    → IsIn i (instances_by l) × (h.0 ≡ i.id)
 held_instance (lines.Instance j) h i (inl e) t =
     let s : j ≡ i = let u : an_instance j ≡ h.1 = ap (λ (z : Id × Held). z.1) e in cc in
     (inl s, ap (λ (z : Id × Held). z.0) (sym e) ∙ ap (λ (z : Instance). z.id) s)
@@ -29,7 +31,8 @@ held_instance (lines.Connection k) h i (inl e) t = let u : a_connection ≡ h.1 
 held_instance (lines.Connection k) h i (inr m) t = absurd m
 held_instance (lines.Export x) h i m t = absurd m
 
-held_member : (l : Line) (h : Id × Held) (f : Name → Option Instance) (n : Name) (i : Instance) → IsIn h (held_by l) → h.1 ≡ a_group f → f n ≡ Some i → IsIn i (instances_by l) × (i.id.name ≡ n)
+held_member : (l : Line) (h : Id × Held) (f : Name → Option Instance) (n : Name) (i : Instance) → IsIn h (held_by l)
+    → h.1 ≡ a_group f → f n ≡ Some i → IsIn i (instances_by l) × (i.id.name ≡ n)
 held_member (lines.Instance j) h f n i (inl e) t m = let u : an_instance j ≡ h.1 = ap (λ (z : Id × Held). z.1) e in cc
 held_member (lines.Instance j) h f n i (inr x) t m = absurd x
 held_member (lines.Group g) h f n i (inl e) t m =
@@ -46,14 +49,16 @@ held_member (lines.Export x) h f n i y t m = absurd y
 -- ---- instances
 
 -- an instance that a name stands for
-pub instance_in : (k : Composition) (n : Name) (i : Instance) → held_as k n ≡ Some (an_instance i) → IsIn i (instances_in k) × (i.id.name ≡ n)
+pub instance_in : (k : Composition) (n : Name) (i : Instance) → held_as k n ≡ Some (an_instance i)
+    → IsIn i (instances_in k) × (i.id.name ≡ n)
 instance_in k n i e =
     let h = held_found k n (an_instance i) e in
     let m = held_instance h.0 h.2 i h.3 h.5 in
     (in_flat_map instances_by h.0 i k.lines h.1 m.0, ap (λ (w : Id). w.name) (sym m.1) ∙ h.4)
 
 -- an instance that a name stands for among those of a group
-pub member_in : (k : Composition) (g n : Name) (f : Name → Option Instance) (i : Instance) → held_as k g ≡ Some (a_group f) → f n ≡ Some i → IsIn i (instances_in k) × (i.id.name ≡ n)
+pub member_in : (k : Composition) (g n : Name) (f : Name → Option Instance) (i : Instance) → held_as k g ≡ Some (a_group f)
+    → f n ≡ Some i → IsIn i (instances_in k) × (i.id.name ≡ n)
 member_in k g n f i e t =
     let h = held_found k g (a_group f) e in
     let m = held_member h.0 h.2 f n i h.3 h.5 t in
@@ -66,7 +71,8 @@ of_instance k n i e = by_case (held_as k n) refl e
   where
     by_case : (o : Option Held) → held_as k n ≡ o → instance_held o ≡ Some i → IsIn i (instances_in k)
     by_case None t u = cc
-    by_case (Some (an_instance j)) t u = let s : j ≡ i = cc in let P : Instance → Type 0 = λ z. IsIn z (instances_in k) in subst P s (instance_in k n j t).0
+    by_case (Some (an_instance j)) t u = let s : j ≡ i = cc in let P : Instance → Type 0 = λ z. IsIn z (instances_in k) in
+        subst P s (instance_in k n j t).0
     by_case (Some (a_group f)) t u = cc
     by_case (Some a_connection) t u = cc
 

@@ -33,26 +33,39 @@ typed s n known e =
     let a = map_some known_of (option_map (λ (c : ItemAt × Component). c.1) (component_named s n)) known e in
     let b = map_some (λ (c : ItemAt × Component). c.1) (component_named s n) a.0 a.1 in
     let k = number_found (components s) 0 n b.0 b.1 in
-    record { number = k.0; component = b.0; numbered = k.1 ∙ ap Some (omega arith); stands = k.2; is_known = ap known_of b.2 ∙ a.2 }
+    record {
+      number = k.0;
+      component = b.0;
+      numbered = k.1 ∙ ap Some (omega arith);
+      stands = k.2;
+      is_known = ap known_of b.2 ∙ a.2;
+    }
 
 -- ---- compositions
 
 -- no name of this composition is unknown
-pub no_unknown : (s : Source) → AreNamesSound s → (k : ℕ) (composition : Composition) → (body (hierarchy_of s) k).composition ≡ Some composition
+pub no_unknown : (s : Source) → AreNamesSound s → (k : ℕ) (composition : Composition)
+    → (body (hierarchy_of s) k).composition ≡ Some composition
     → (owner : Option Known) × (unknown_in_composition (known_in s) owner composition ≡ [])
 no_unknown s sound k composition e = elim (composed s k composition e) [
   | inl c ↦
       let own = none_in_component s (unknown_in_item (known_in s) (is_procedure s)) c.0 sound.all_known c.1 in
-      let m = from_filter_map as_composition composition c.0.1.members (in_get (compositions c.0.1) 0 composition c.2) in
-      (Some (known_of c.0.1), of_member (known_of c.0.1) m.0 m.2 (none_in (unknown_in_member (known_in s) (is_procedure s) (known_of c.0.1)) c.0.1.members m.0 own m.1))
+      let m = from_filter_map as_composition composition c.0.1.members (in_get (compositions c.0.1) 0 composition c.2) in (
+        Some (known_of c.0.1),
+        of_member (known_of c.0.1) m.0 m.2
+            (none_in (unknown_in_member (known_in s) (is_procedure s) (known_of c.0.1)) c.0.1.members m.0 own m.1),
+      )
   | inr a ↦
       let own = none_in_assembly s (unknown_in_item (known_in s) (is_procedure s)) a.0 sound.all_known a.1 in
       let P : Composition → Type 0 = λ z. unknown_in_composition (known_in s) None z ≡ [] in
       (None, subst P a.2 (none_left (unknown_in_composition (known_in s) None a.0.1.composition) _ own))
 ]
   where
-    of_member : (owner : Known) (m : Member) → as_composition m ≡ Some composition → unknown_in_member (known_in s) (is_procedure s) owner m ≡ [] → unknown_in_composition (known_in s) (Some owner) composition ≡ []
-    of_member owner (members.Composition z) t n = let p : z ≡ composition = cc in ap (unknown_in_composition (known_in s) (Some owner)) (sym p) ∙ n
+    of_member : (owner : Known) (m : Member) → as_composition m ≡ Some composition
+        → unknown_in_member (known_in s) (is_procedure s) owner m ≡ []
+        → unknown_in_composition (known_in s) (Some owner) composition ≡ []
+    of_member owner (members.Composition z) t n = let p : z ≡ composition = cc in
+        ap (unknown_in_composition (known_in s) (Some owner)) (sym p) ∙ n
     of_member owner (members.Control p) t n = cc
     of_member owner (members.Hardware p) t n = cc
     of_member owner (members.Include i) t n = cc
@@ -61,46 +74,59 @@ no_unknown s sound k composition e = elim (composed s k composition e) [
     of_member owner (members.Lock l) t n = cc
     of_member owner (members.Configuration f) t n = cc
 
-known_type : (types : Name → Option Known) (owner : Option Known) (held : Name → Option Held) (l : Line) (i : Instance) → IsIn i (instances_by l) → unknown_in_line types owner held l ≡ [] → unknown_type types i ≡ []
+known_type : (types : Name → Option Known) (owner : Option Known) (held : Name → Option Held) (l : Line) (i : Instance)
+    → IsIn i (instances_by l) → unknown_in_line types owner held l ≡ [] → unknown_type types i ≡ []
 known_type types owner held (lines.Instance j) i (inl s) e = ap (unknown_type types) (sym s) ∙ e
 known_type types owner held (lines.Instance j) i (inr m) e = absurd m
 known_type types owner held (lines.Group g) i m e = none_in (unknown_type types) g.instances i e m
 known_type types owner held (lines.Connection k) i m e = absurd m
 known_type types owner held (lines.Export x) i m e = absurd m
 
-is_typed : (types : Name → Option Known) (i : Instance) → unknown_type types i ≡ [] → (known : Known) × (types i.component.name ≡ Some known)
+is_typed : (types : Name → Option Known) (i : Instance) → unknown_type types i ≡ []
+    → (known : Known) × (types i.component.name ≡ Some known)
 is_typed types i e = by_case (types i.component.name) refl e
   where
-    by_case : (o : Option Known) → types i.component.name ≡ o → unless_known (is_some o) i.component ≡ [] → (known : Known) × (types i.component.name ≡ Some known)
+    by_case : (o : Option Known) → types i.component.name ≡ o → unless_known (is_some o) i.component ≡ []
+        → (known : Known) × (types i.component.name ≡ Some known)
     by_case None t u = cc
     by_case (Some known) t u = (known, t)
 
 -- each instance has a type
-pub instance_typed : (types : Name → Option Known) (owner : Option Known) (k : Composition) (i : Instance) → unknown_in_composition types owner k ≡ [] → IsIn i (instances_in k) → (known : Known) × (types i.component.name ≡ Some known)
+pub instance_typed : (types : Name → Option Known) (owner : Option Known) (k : Composition) (i : Instance)
+    → unknown_in_composition types owner k ≡ [] → IsIn i (instances_in k)
+    → (known : Known) × (types i.component.name ≡ Some known)
 instance_typed types owner k i e m =
     let l = from_flat_map instances_by i k.lines m in
-    is_typed types i (known_type types owner (held_as k) l.0 i l.2 (none_in (unknown_in_line types owner (held_as k)) k.lines l.0 e l.1))
+    is_typed types i (known_type types owner (held_as k) l.0 i l.2 (none_in (unknown_in_line types owner (held_as k))
+    k.lines l.0 e l.1))
 
 -- the dotted names of exports and ends are known
-pub export_known : (types : Name → Option Known) (owner : Option Known) (k : Composition) (x : Export) → unknown_in_composition types owner k ≡ [] → IsIn x (exports_in k) → unknown_in_dotted types (held_as k) x.words ≡ []
+pub export_known : (types : Name → Option Known) (owner : Option Known) (k : Composition) (x : Export)
+    → unknown_in_composition types owner k ≡ [] → IsIn x (exports_in k) → unknown_in_dotted types (held_as k) x.words ≡ []
 export_known types owner k x e m =
     let l = from_filter_map as_export x k.lines m in
     by_line l.0 l.2 (none_in (unknown_in_line types owner (held_as k)) k.lines l.0 e l.1)
   where
-    by_line : (l : Line) → as_export l ≡ Some x → unknown_in_line types owner (held_as k) l ≡ [] → unknown_in_dotted types (held_as k) x.words ≡ []
+    by_line : (l : Line) → as_export l ≡ Some x → unknown_in_line types owner (held_as k) l ≡ []
+        → unknown_in_dotted types (held_as k) x.words ≡ []
     by_line (lines.Instance i) t n = cc
     by_line (lines.Group g) t n = cc
     by_line (lines.Connection c) t n = cc
     by_line (lines.Export y) t n =
         let s : y ≡ x = cc in
-        ap (λ (z : Export). unknown_in_dotted types (held_as k) z.words) (sym s) ∙ none_left (unknown_in_dotted types (held_as k) y.words) (unknown_target owner y.target) n
+        ap (λ (z : Export). unknown_in_dotted types (held_as k) z.words) (sym s)
+        ∙ none_left (unknown_in_dotted types (held_as k) y.words) (unknown_target owner y.target) n
 
-pub end_known : (types : Name → Option Known) (owner : Option Known) (k : Composition) (x : Connection) (e : End) → unknown_in_composition types owner k ≡ [] → IsIn x (connections_in k) → IsIn e x.ends → unknown_in_dotted types (held_as k) e.words ≡ []
+pub end_known : (types : Name → Option Known) (owner : Option Known) (k : Composition) (x : Connection) (e : End)
+    → unknown_in_composition types owner k ≡ [] → IsIn x (connections_in k) → IsIn e x.ends
+    → unknown_in_dotted types (held_as k) e.words ≡ []
 end_known types owner k x e none m i =
     let l = from_filter_map as_connection x k.lines m in
-    none_in (λ (e : End). unknown_in_dotted types (held_as k) e.words) x.ends e (by_line l.0 l.2 (none_in (unknown_in_line types owner (held_as k)) k.lines l.0 none l.1)) i
+    none_in (λ (e : End). unknown_in_dotted types (held_as k) e.words) x.ends e
+    (by_line l.0 l.2 (none_in (unknown_in_line types owner (held_as k)) k.lines l.0 none l.1)) i
   where
-    by_line : (l : Line) → as_connection l ≡ Some x → unknown_in_line types owner (held_as k) l ≡ [] → flat_map (λ (e : End). unknown_in_dotted types (held_as k) e.words) x.ends ≡ []
+    by_line : (l : Line) → as_connection l ≡ Some x → unknown_in_line types owner (held_as k) l ≡ []
+        → flat_map (λ (e : End). unknown_in_dotted types (held_as k) e.words) x.ends ≡ []
     by_line (lines.Instance i) t n = cc
     by_line (lines.Group g) t n = cc
     by_line (lines.Export y) t n = cc
@@ -110,12 +136,16 @@ end_known types owner k x e none m i =
         ∙ none_right (unknown_connector y) (flat_map (λ (e : End). unknown_in_dotted types (held_as k) e.words) y.ends) n
 
 -- so is each connector
-pub connector_known : (types : Name → Option Known) (owner : Option Known) (k : Composition) (x : Connection) → unknown_in_composition types owner k ≡ [] → IsIn x (connections_in k) → (c : Connector) × (connector_of x.connector.name ≡ Some c)
+pub connector_known : (types : Name → Option Known) (owner : Option Known) (k : Composition) (x : Connection)
+    → unknown_in_composition types owner k ≡ [] → IsIn x (connections_in k)
+    → (c : Connector) × (connector_of x.connector.name ≡ Some c)
 connector_known types owner k x none m =
     let l = from_filter_map as_connection x k.lines m in
-    is_there (connector_of x.connector.name) refl (by_line l.0 l.2 (none_in (unknown_in_line types owner (held_as k)) k.lines l.0 none l.1))
+    is_there (connector_of x.connector.name) refl
+    (by_line l.0 l.2 (none_in (unknown_in_line types owner (held_as k)) k.lines l.0 none l.1))
   where
-    is_there : (o : Option Connector) → connector_of x.connector.name ≡ o → unless_known (is_some o) x.connector ≡ [] → (c : Connector) × (connector_of x.connector.name ≡ Some c)
+    is_there : (o : Option Connector) → connector_of x.connector.name ≡ o → unless_known (is_some o) x.connector ≡ []
+        → (c : Connector) × (connector_of x.connector.name ≡ Some c)
     is_there None t n = cc
     is_there (Some c) t n = (c, t)
 
@@ -123,7 +153,8 @@ connector_known types owner k x none m =
     by_line (lines.Instance i) t n = cc
     by_line (lines.Group g) t n = cc
     by_line (lines.Export y) t n = cc
-    by_line (lines.Connection y) t n = let s : y ≡ x = cc in ap unknown_connector (sym s) ∙ none_left (unknown_connector y) (flat_map (λ (e : End). unknown_in_dotted types (held_as k) e.words) y.ends) n
+    by_line (lines.Connection y) t n = let s : y ≡ x = cc in ap unknown_connector (sym s) ∙ none_left (unknown_connector y)
+        (flat_map (λ (e : End). unknown_in_dotted types (held_as k) e.words) y.ends) n
 
 -- ---- dotted names
 
@@ -136,7 +167,8 @@ pub record IsKnown (types : Name → Option Known) (k : Composition) (words : Li
   pub last : port_in words ≡ Some (instance.id.name, interface.name)
   pub declared : unknown_interface (types instance.component.name) interface ≡ []
 
-pub dotted_known : (types : Name → Option Known) (k : Composition) (words : List Id) → IsDotted words → unknown_in_dotted types (held_as k) words ≡ [] → IsKnown types k words
+pub dotted_known : (types : Name → Option Known) (k : Composition) (words : List Id) → IsDotted words
+    → unknown_in_dotted types (held_as k) words ≡ [] → IsKnown types k words
 dotted_known types k [] d e = let l = d.0 in absurd (omega (arith, l))
 dotted_known types k (a ∷ []) d e = let l : 2 ≤ 1 = d.0 in absurd (omega (arith, l))
 dotted_known types k (a ∷ j ∷ []) d e = by_case (held_as k a.name) refl e
@@ -172,9 +204,11 @@ dotted_known types k (g ∷ a ∷ j ∷ []) d e = by_case (held_as k g.name) ref
               instance = i;
               interface = j;
               stands = m.0;
-              port = ap (λ o. option_map (λ (i : Instance). (i, j.name)) (member_held o a.name)) t ∙ ap (λ o. option_map (λ (i : Instance). (i, j.name)) o) u;
+              port = ap (λ o. option_map (λ (i : Instance). (i, j.name)) (member_held o a.name)) t
+                  ∙ ap (λ o. option_map (λ (i : Instance). (i, j.name)) o) u;
               last = ap F (sym m.1);
               declared = n;
             }
     by_case (Some a_connection) t n = cc
-dotted_known types k (a ∷ b ∷ c ∷ x ∷ more) d e = let l : suc (suc (suc (suc (length more)))) ≤ 3 = d.1 in absurd (omega (arith, l))
+dotted_known types k (a ∷ b ∷ c ∷ x ∷ more) d e = let l : suc (suc (suc (suc (length more)))) ≤ 3 = d.1 in
+    absurd (omega (arith, l))

@@ -12,7 +12,11 @@ in_get (y ∷ xs) (suc n) x e = inr (in_get xs n x e)
 
 pub in_has : (x : ℕ) (xs : List ℕ) → has xs x ≡ true → IsIn x xs
 in_has x [] e = cc
-in_has x (y ∷ xs) e = elim (or_cases (nat_eq x y) (has xs x) e) [ inl p ↦ inl (sym (eqb-true x y p)) | inr p ↦ inr (in_has x xs p) ]
+in_has x (y ∷ xs) e = elim (or_cases (nat_eq x y) (has xs x) e) [
+  | inl p ↦ inl (sym (eqb-true x y p))
+  | inr p ↦
+      inr (in_has x xs p)
+]
 
 pub has_in : (x : ℕ) (xs : List ℕ) → IsIn x xs → has xs x ≡ true
 has_in x [] i = absurd i

@@ -35,16 +35,23 @@ at_same : (b : Bool) → true ≡ (b || (true || false))
 at_same true = refl
 at_same false = refl
 
-pub marks_more : (marks : List Bool) (list : List ℕ) (x : ℕ) → AreMarks marks list → x < length marks → has list x ≡ false → AreMarks (set marks x true) (list ++ x ∷ [])
+pub marks_more : (marks : List Bool) (list : List ℕ) (x : ℕ) → AreMarks marks list → x < length marks → has list x ≡ false
+    → AreMarks (set marks x true) (list ++ x ∷ [])
 marks_more marks list x m h fresh = record {
   each = λ y l. elim (cases_eq y x) [
     | inl e ↦ let P : ℕ → Type 0 = λ z. get_or (set marks x true) z false ≡ has (list ++ x ∷ []) z in
-        subst P (sym e) (get_or-set_same marks x true false h ∙ at_same (has list x) ∙ ap (λ b. has list x || (b || false)) (sym (eq-eqb x x refl)) ∙ sym (has_push list x x))
-    | inr n ↦ get_or-set_other marks x y true false n ∙ m.each y (simp length-set at l) ∙ at_other (has list y) ∙ ap (λ b. has list y || (b || false)) (sym (ne_eqb y x n)) ∙ sym (has_push list x y)
+        subst P (sym e) (get_or-set_same marks x true false h ∙ at_same (has list x) ∙ ap (λ b. has list x || (b || false))
+        (sym (eq-eqb x x refl)) ∙ sym (has_push list x x))
+    | inr n ↦ get_or-set_other marks x y true false n ∙ m.each y (simp length-set at l) ∙ at_other (has list y)
+        ∙ ap (λ b. has list y || (b || false)) (sym (ne_eqb y x n)) ∙ sym (has_push list x y)
   ];
   below = λ y e. rw length-set (elim (or_cases (has list y) (eqb y x || false) (sym (has_push list x y) ∙ e)) [
     | inl p ↦ m.below y p
-    | inr p ↦ elim (or_cases (eqb y x) false p) [ inl q ↦ let s : y ≡ x = eqb-true y x q in omega arith | inr q ↦ absurd (false≢true q) ]
+    | inr p ↦ elim (or_cases (eqb y x) false p) [
+      | inl q ↦ let s : y ≡ x = eqb-true y x q in omega arith
+      | inr q ↦
+          absurd (false≢true q)
+    ]
   ]);
   distinct = IsDistinct-push nat_eq_equiv list x m.distinct fresh;
   size = rw length-set m.size;
@@ -84,4 +91,8 @@ pub take-with_number : (n : ℕ) (xs : List ℕ) (a : ℕ) → n ≤ length xs �
 take-with_number n xs a h = elim (cases_Bool (has xs a)) [ inl e ↦ rw e | inr e ↦ rw e (take-append-le n xs (a ∷ []) h) ]
 
 pub length-with_number : (xs : List ℕ) (a : ℕ) → length xs ≤ length (with_number xs a)
-length-with_number xs a = elim (cases_Bool (has xs a)) [ inl e ↦ rw e (omega arith) | inr e ↦ rw e (omega (arith, length-append xs (a ∷ []))) ]
+length-with_number xs a = elim (cases_Bool (has xs a)) [
+  | inl e ↦ rw e (omega arith)
+  | inr e ↦
+      rw e (omega (arith, length-append xs (a ∷ [])))
+]

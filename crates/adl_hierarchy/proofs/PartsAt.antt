@@ -12,19 +12,23 @@ use Rattle.adl_hierarchy.proofs.Steps.{listed, kind_in, shallow}
 
 -- an instance found by name is one of the name
 pub named_in : (xs : List Part) (n : Name) (x : Part) → part_named xs n ≡ Some x → IsIn x xs × (name_of x ≡ n)
-named_in xs n x e = let k = found (λ (x : Part). bytes_eq n x.instance.id.name) xs x e in (k.0, sym ((bytes_eq-Decides n (name_of x)).0 k.1))
+named_in xs n x e = let k = found (λ (x : Part). bytes_eq n x.instance.id.name) xs x e in
+    (k.0, sym ((bytes_eq-Decides n (name_of x)).0 k.1))
 
 -- ---- one name further
 
-pub part_behind : (h : Hierarchy) (k : ℕ) (n : Name) (p : Path) (y x : Part) → part_named (body h k).parts n ≡ Some y → part_at h y.kind p ≡ Some x → part_at h k (n ∷ p) ≡ Some x
+pub part_behind : (h : Hierarchy) (k : ℕ) (n : Name) (p : Path) (y x : Part) → part_named (body h k).parts n ≡ Some y
+    → part_at h y.kind p ≡ Some x → part_at h k (n ∷ p) ≡ Some x
 part_behind h k n [] y x e f = cc
 part_behind h k n (m ∷ p) y x e f = ap (λ o. option_and_then (λ (z : Part). part_at h z.kind (m ∷ p)) o) e ∙ f
 
-pub at_behind : (h : Hierarchy) (k : ℕ) (n : Name) (p : Path) (y : Part) (m : ℕ) → part_named (body h k).parts n ≡ Some y → at h y.kind p ≡ Some m → at h k (n ∷ p) ≡ Some m
+pub at_behind : (h : Hierarchy) (k : ℕ) (n : Name) (p : Path) (y : Part) (m : ℕ) → part_named (body h k).parts n ≡ Some y
+    → at h y.kind p ≡ Some m → at h k (n ∷ p) ≡ Some m
 at_behind h k n p y m e f = ap (λ o. option_and_then (λ (z : Part). at h z.kind p) o) e ∙ f
 
 -- the first instance on the way
-pub first_on : (h : Hierarchy) (k : ℕ) (n : Name) (p : Path) (m : ℕ) → at h k (n ∷ p) ≡ Some m → (y : Part) × (part_named (body h k).parts n ≡ Some y) × (at h y.kind p ≡ Some m)
+pub first_on : (h : Hierarchy) (k : ℕ) (n : Name) (p : Path) (m : ℕ) → at h k (n ∷ p) ≡ Some m
+    → (y : Part) × (part_named (body h k).parts n ≡ Some y) × (at h y.kind p ≡ Some m)
 first_on h k n p m e = option_and_then_some (λ (z : Part). at h z.kind p) (part_named (body h k).parts n) m e (λ y a b. (y, a, b))
 
 -- ---- instances and bodies at one path
@@ -33,9 +37,11 @@ pub at_part : (h : Hierarchy) (k : ℕ) (p : Path) (x : Part) → part_at h k p 
 at_part h k [] x e = cc
 at_part h k (n ∷ []) x e = at_behind h k n [] x x.kind e refl
 at_part h k (n ∷ m ∷ p) x e =
-    option_and_then_some (λ (z : Part). part_at h z.kind (m ∷ p)) (part_named (body h k).parts n) x e (λ y a b. at_behind h k n (m ∷ p) y x.kind a (at_part h y.kind (m ∷ p) x b))
+    option_and_then_some (λ (z : Part). part_at h z.kind (m ∷ p)) (part_named (body h k).parts n) x e
+    (λ y a b. at_behind h k n (m ∷ p) y x.kind a (at_part h y.kind (m ∷ p) x b))
 
-pub part_from_at : (h : Hierarchy) (k : ℕ) (n : Name) (p : Path) (m : ℕ) → at h k (n ∷ p) ≡ Some m → (x : Part) × (part_at h k (n ∷ p) ≡ Some x) × (x.kind ≡ m)
+pub part_from_at : (h : Hierarchy) (k : ℕ) (n : Name) (p : Path) (m : ℕ) → at h k (n ∷ p) ≡ Some m
+    → (x : Part) × (part_at h k (n ∷ p) ≡ Some x) × (x.kind ≡ m)
 part_from_at h k n [] m e = let y = first_on h k n [] m e in (y.0, y.1, let f = y.2 in cc)
 part_from_at h k n (c ∷ p) m e =
     let y = first_on h k n (c ∷ p) m e in
@@ -50,7 +56,8 @@ at_append h k m (n ∷ q) p e =
     let y = first_on h k n q m e in
     ap (λ o. option_and_then (λ (z : Part). at h z.kind (q ++ p)) o) y.1 ∙ at_append h y.0.kind m q p y.2
 
-pub part_append : (h : Hierarchy) (k m : ℕ) (q p : Path) (x : Part) → at h k q ≡ Some m → part_at h m p ≡ Some x → part_at h k (q ++ p) ≡ Some x
+pub part_append : (h : Hierarchy) (k m : ℕ) (q p : Path) (x : Part) → at h k q ≡ Some m → part_at h m p ≡ Some x
+    → part_at h k (q ++ p) ≡ Some x
 part_append h k m [] p x e f = let s : k ≡ m = cc in ap (λ z. part_at h z p) s ∙ f
 part_append h k m (n ∷ q) p x e f =
     let y = first_on h k n q m e in
@@ -68,9 +75,11 @@ last_of h k (n ∷ m ∷ p) x e =
 
 pub body_in : (h : Hierarchy) → IsFinite h → (k m : ℕ) (p : Path) → k ≤ length h.bodies → at h k p ≡ Some m → m ≤ length h.bodies
 body_in h f k m [] l e = let s : k ≡ m = cc in let P : ℕ → Type 0 = λ z. z ≤ length h.bodies in subst P s l
-body_in h f k m (n ∷ p) l e = let y = first_on h k n p m e in body_in h f y.0.kind m p (kind_in h f k y.0 l (named_in (body h k).parts n y.0 y.1).0) y.2
+body_in h f k m (n ∷ p) l e = let y = first_on h k n p m e in
+    body_in h f y.0.kind m p (kind_in h f k y.0 l (named_in (body h k).parts n y.0 y.1).0) y.2
 
-walk_to : (h : Hierarchy) → IsFinite h → (k m : ℕ) (p : Path) → k ≤ length h.bodies → at h k p ≡ Some m → Walk (graph h) k m (length p)
+walk_to : (h : Hierarchy) → IsFinite h → (k m : ℕ) (p : Path) → k ≤ length h.bodies → at h k p ≡ Some m
+    → Walk (graph h) k m (length p)
 walk_to h f k m [] l e = cc
 walk_to h f k m (n ∷ p) l e =
     let y = first_on h k n p m e in
@@ -78,7 +87,8 @@ walk_to h f k m (n ∷ p) l e =
     (y.0.kind, listed h k y.0 l i, walk_to h f y.0.kind m p (kind_in h f k y.0 l i) y.2)
 
 -- a path has no more names than there are components
-pub path_short : (h : Hierarchy) → IsFinite h → (k m : ℕ) (p : Path) → k ≤ length h.bodies → at h k p ≡ Some m → length p ≤ length h.bodies
+pub path_short : (h : Hierarchy) → IsFinite h → (k m : ℕ) (p : Path) → k ≤ length h.bodies → at h k p ≡ Some m
+    → length p ≤ length h.bodies
 path_short h f k m p l e = shallow h f k l (length p) m (walk_to h f k m p l e)
 
 -- ---- bodies without a composition
@@ -95,7 +105,8 @@ are_composed s k e = parts_of s k ∙ by_case (body (hierarchy_of s) k).composit
     by_case (Some k) e = cc
 
 -- so one in which an instance is found is a composite
-pub is_outer : (h : Hierarchy) → AreComposed h → (k : ℕ) (n : Name) (x : Part) → part_named (body h k).parts n ≡ Some x → is_composite h k ≡ true
+pub is_outer : (h : Hierarchy) → AreComposed h → (k : ℕ) (n : Name) (x : Part) → part_named (body h k).parts n ≡ Some x
+    → is_composite h k ≡ true
 is_outer h a k n x e = by_case (is_composite h k) (a k)
   where
     by_case : (b : Bool) → (b ≡ false → (body h k).parts ≡ []) → b ≡ true

@@ -33,7 +33,8 @@ or_three false false false = refl
 pub more_none : (set : Numbers) → HasMore [] set set
 more_none set = record { size = refl; front = take-length set.list; longer = omega arith; each = λ x. or_none (has set.list x) }
 
-pub more_next : (xs : List ℕ) (old mid new : Numbers) (i : ℕ) → i < length xs → HasMore (take i xs) old mid → new ≡ record { size = mid.size; list = with_number mid.list (get_or xs i 0) } → HasMore (take (i + 1) xs) old new
+pub more_next : (xs : List ℕ) (old mid new : Numbers) (i : ℕ) → i < length xs → HasMore (take i xs) old mid
+    → new ≡ record { size = mid.size; list = with_number mid.list (get_or xs i 0) } → HasMore (take (i + 1) xs) old new
 more_next xs old mid new i h m e =
     let a : ℕ = get_or xs i 0 in
     let list : new.list ≡ with_number mid.list a = ap (λ s. s.list) e in
@@ -44,7 +45,8 @@ more_next xs old mid new i h m e =
       front = ap (take (length old.list)) list ∙ take-with_number (length old.list) mid.list a longer ∙ m.front;
       longer = omega (arith, len, length-with_number mid.list a);
       each = λ x. ap (λ ys. has ys x) list ∙ has-with_number mid.list a x ∙ ap (λ b. b || has (a ∷ []) x) (m.each x)
-          ∙ or_three (has old.list x) (has (take i xs) x) (eqb x a) ∙ ap (λ b. has old.list x || b) (sym (list_any_more (eqb x) xs i 0 h));
+          ∙ or_three (has old.list x) (has (take i xs) x) (eqb x a) ∙ ap (λ b. has old.list x || b)
+          (sym (list_any_more (eqb x) xs i 0 h));
     }
 
 -- ---- the search
@@ -57,7 +59,8 @@ pub record IsReach (g : List (List ℕ)) (from : ℕ) (set : Numbers) (n : ℕ) 
   pub upto : n ≤ length set.list
   pub closed : (i c : ℕ) → i < n → has (inner_of g (get_or set.list i 0)) c ≡ true → has set.list c ≡ true
 
-pub reach_new : (g : List (List ℕ)) (from : ℕ) (set : Numbers) → set ≡ record { size = length g; list = from ∷ [] } → IsReach g from set 0
+pub reach_new : (g : List (List ℕ)) (from : ℕ) (set : Numbers) → set ≡ record { size = length g; list = from ∷ [] }
+    → IsReach g from set 0
 reach_new g from set e =
     let P : Numbers → Type 0 = λ s. IsReach g from s 0 in
     subst P (sym e) (record {
@@ -68,10 +71,12 @@ reach_new g from set e =
       closed = λ i c l h. absurd (omega arith);
     })
 
-pub reach_more : (g : List (List ℕ)) (from : ℕ) (set new : Numbers) (n : ℕ) → n < length set.list → IsReach g from set n → HasMore (inner_of g (get_or set.list n 0)) set new → IsReach g from new (n + 1)
+pub reach_more : (g : List (List ℕ)) (from : ℕ) (set new : Numbers) (n : ℕ) → n < length set.list → IsReach g from set n
+    → HasMore (inner_of g (get_or set.list n 0)) set new → IsReach g from new (n + 1)
 reach_more g from set new n h r m =
     let longer = m.longer in
-    let same : (i : ℕ) → i < length set.list → get_or new.list i 0 ≡ get_or set.list i 0 = λ i l. sym (get_or-take (length set.list) new.list i 0 l) ∙ ap (λ xs. get_or xs i 0) m.front in
+    let same : (i : ℕ) → i < length set.list → get_or new.list i 0 ≡ get_or set.list i 0 =
+    λ i l. sym (get_or-take (length set.list) new.list i 0 l) ∙ ap (λ xs. get_or xs i 0) m.front in
     record {
       size = m.size ∙ r.size;
       first = m.each from ∙ or_left _ _ r.first;
@@ -101,7 +106,8 @@ place (y ∷ ys) x e = elim (or_cases (eqb x y) (has ys x) e) [
 ]
 
 -- at the end what isn't found isn't held
-pub reach_end : (g : List (List ℕ)) (from to : ℕ) (set : Numbers) (n : ℕ) → IsReach g from set n → length set.list ≤ n → has set.list to ≡ false → Holds g from to → ⊥
+pub reach_end : (g : List (List ℕ)) (from to : ℕ) (set : Numbers) (n : ℕ) → IsReach g from set n → length set.list ≤ n
+    → has set.list to ≡ false → Holds g from to → ⊥
 reach_end g from to set n r h e k =
     both_ways _ e (closed_walk g set.list
     (λ a c p q. let w : (i : ℕ) × (i < length set.list) × (get_or set.list i 0 ≡ a) = place set.list a p in

@@ -12,10 +12,14 @@ use Rattle.cam_base.proofs.NumberedLists.{in_map, from_map, from_flat_map, from_
 
 -- ---- lists made of others
 
-pub once_append : {X : Type 0} (xs ys : List X) → IsOnce xs → IsOnce ys → ((x : X) → IsIn x xs → IsIn x ys → ⊥) → IsOnce (xs ++ ys)
+pub once_append : {X : Type 0} (xs ys : List X) → IsOnce xs → IsOnce ys → ((x : X) → IsIn x xs → IsIn x ys → ⊥)
+    → IsOnce (xs ++ ys)
 once_append [] ys a b h = b
-once_append (x ∷ xs) ys a b h =
-    (λ i. elim (in_append x xs ys i) [ inl j ↦ a.0 j | inr j ↦ h x (inl refl) j ], once_append xs ys a.1 b (λ y i j. h y (inr i) j))
+once_append (x ∷ xs) ys a b h = (
+  λ i. elim (in_append x xs ys i) [ inl j ↦ a.0 j | inr j ↦ h x (inl refl) j ],
+  once_append xs ys a.1 b
+      (λ y i j. h y (inr i) j),
+)
 
 pub once_left : {X : Type 0} (xs ys : List X) → IsOnce (xs ++ ys) → IsOnce xs
 once_left [] ys a = tt
@@ -42,7 +46,8 @@ once_map {X} {Y} f g (x ∷ xs) back a = (
 
 -- ---- keys of what is left of lists
 
-pub filtered_in : {X Y K : Type 0} (f : X → Option Y) (key : Y → K) (name : X → K) → ((x : X) (y : Y) → f x ≡ Some y → key y ≡ name x)
+pub filtered_in : {X Y K : Type 0} (f : X → Option Y) (key : Y → K) (name : X → K)
+    → ((x : X) (y : Y) → f x ≡ Some y → key y ≡ name x)
     → (xs : List X) (k : K) → IsIn k (map key (filter_map f xs)) → IsIn k (map name xs)
 filtered_in {X} {Y} {K} f key name same xs k i =
     let y = from_map key k (filter_map f xs) i in
@@ -50,19 +55,25 @@ filtered_in {X} {Y} {K} f key name same xs k i =
     let P : K → Type 0 = λ z. IsIn z (map name xs) in
     subst P (sym (same x.0 y.0 x.2) ∙ y.2) (in_map name x.0 xs x.1)
 
-pub once_filtered : {X Y K : Type 0} (f : X → Option Y) (key : Y → K) (name : X → K) → ((x : X) (y : Y) → f x ≡ Some y → key y ≡ name x)
+pub once_filtered : {X Y K : Type 0} (f : X → Option Y) (key : Y → K) (name : X → K)
+    → ((x : X) (y : Y) → f x ≡ Some y → key y ≡ name x)
     → (xs : List X) → IsOnce (map name xs) → IsOnce (map key (filter_map f xs))
 once_filtered f key name same [] a = tt
 once_filtered {X} {Y} {K} f key name same (x ∷ xs) a = by_case (f x) refl (once_filtered f key name same xs a.1)
   where
     by_case : (o : Option Y) → f x ≡ o → IsOnce (map key (filter_map f xs)) → IsOnce (map key (cons_option o (filter_map f xs)))
     by_case None e ih = ih
-    by_case (Some y) e ih = (λ i. a.0 (let P : K → Type 0 = λ z. IsIn z (map name xs) in subst P (same x y e) (filtered_in f key name same xs (key y) i)), ih)
+    by_case (Some y) e ih = (
+      λ i. a.0 (let P : K → Type 0 = λ z. IsIn z (map name xs) in
+          subst P (same x y e) (filtered_in f key name same xs (key y) i)),
+      ih,
+    )
 
 pub once_flat_map : {X Y Z K : Type 0} (f : X → List Y) (g : X → List Z) (key : Y → K) (name : Z → K)
     → ((x : X) (k : K) → IsIn k (map key (f x)) → IsIn k (map name (g x)))
     → ((x : X) → IsOnce (map name (g x)) → IsOnce (map key (f x)))
-    → (xs : List X) → IsOnce (map name (flat_map g xs)) → IsOnce (map key (flat_map f xs)) × ((k : K) → IsIn k (map key (flat_map f xs)) → IsIn k (map name (flat_map g xs)))
+    → (xs : List X) → IsOnce (map name (flat_map g xs)) → IsOnce (map key (flat_map f xs))
+    × ((k : K) → IsIn k (map key (flat_map f xs)) → IsIn k (map name (flat_map g xs)))
 once_flat_map f g key name sub once [] a = (tt, λ k i. i)
 once_flat_map {X} {Y} {Z} {K} f g key name sub once (x ∷ xs) a =
     let P : List K → Type 0 = λ ks. IsOnce ks in
@@ -70,7 +81,8 @@ once_flat_map {X} {Y} {Z} {K} f g key name sub once (x ∷ xs) a =
     let there = map-append key (f x) (flat_map f xs) in
     let b = subst P here a in
     let more = once_flat_map f g key name sub once xs (once_right (map name (g x)) (map name (flat_map g xs)) b) in
-    let whole = once_append (map key (f x)) (map key (flat_map f xs)) (once x (once_left (map name (g x)) (map name (flat_map g xs)) b)) more.0
+    let whole = once_append (map key (f x)) (map key (flat_map f xs))
+    (once x (once_left (map name (g x)) (map name (flat_map g xs)) b)) more.0
     (λ k i j. once_apart (map name (g x)) (map name (flat_map g xs)) k b (sub x k i) (more.1 k j)) in (
       subst P (sym there) whole,
       λ k i.
@@ -91,7 +103,8 @@ tail_of [] = []
 tail_of (n ∷ p) = p
 
 -- lists of paths that begin with names that stand once
-pub once_by_head : {X Y : Type 0} (name : X → Name) (f : X → List Y) (path : Y → Path) → ((x : X) → IsOnce (map path (f x))) → ((x : X) (y : Y) → IsIn y (f x) → head_of (path y) ≡ name x)
+pub once_by_head : {X Y : Type 0} (name : X → Name) (f : X → List Y) (path : Y → Path) → ((x : X) → IsOnce (map path (f x)))
+    → ((x : X) (y : Y) → IsIn y (f x) → head_of (path y) ≡ name x)
     → (xs : List X) → IsOnce (map name xs) → IsOnce (map path (flat_map f xs))
 once_by_head name f path each begins [] a = tt
 once_by_head {X} {Y} name f path each begins (x ∷ xs) a =
@@ -109,14 +122,16 @@ once_by_head {X} {Y} name f path each begins (x ∷ xs) a =
 -- ---- look-ups
 
 -- where keys stand once, what is looked up by its key is found
-pub find_once : {X : Type 0} (key : X → Name) (xs : List X) (x : X) → IsOnce (map key xs) → IsIn x xs → find (λ y. bytes_eq (key x) (key y)) xs ≡ Some x
+pub find_once : {X : Type 0} (key : X → Name) (xs : List X) (x : X) → IsOnce (map key xs) → IsIn x xs
+    → find (λ y. bytes_eq (key x) (key y)) xs ≡ Some x
 find_once key [] x a i = absurd i
 find_once {X} key (y ∷ xs) x a (inl e) =
     let t : bytes_eq (key x) (key y) ≡ true = (bytes_eq-Decides (key x) (key y)).1 (ap key (sym e)) in
     ap (λ b. cond b (Some y) (find (λ (z : X). bytes_eq (key x) (key z)) xs)) t ∙ ap Some e
 find_once {X} key (y ∷ xs) x a (inr i) = by_test (bytes_eq (key x) (key y)) refl (find_once key xs x a.1 i)
   where
-    by_test : (b : Bool) → bytes_eq (key x) (key y) ≡ b → find (λ (z : X). bytes_eq (key x) (key z)) xs ≡ Some x → cond b (Some y) (find (λ (z : X). bytes_eq (key x) (key z)) xs) ≡ Some x
+    by_test : (b : Bool) → bytes_eq (key x) (key y) ≡ b → find (λ (z : X). bytes_eq (key x) (key z)) xs ≡ Some x
+        → cond b (Some y) (find (λ (z : X). bytes_eq (key x) (key z)) xs) ≡ Some x
     by_test true t ih =
         let P : Name → Type 0 = λ n. IsIn n (map key xs) in
         absurd (a.0 (subst P ((bytes_eq-Decides (key x) (key y)).0 t) (in_map key x xs i)))
@@ -127,20 +142,26 @@ find_once {X} key (y ∷ xs) x a (inr i) = by_test (bytes_eq (key x) (key y)) re
 not_true : (b : Bool) (f : Fault) (fs : List Fault) → where_true b f ++ fs ≡ [] → b ≡ true → ⊥
 not_true b f fs e t = cc
 
-not_met : {X : Type 0} (word : X → Id) (met : Name → Bool) (n : Name) (xs : List X) → met n ≡ true → repeats_after met (map word xs) ≡ [] → IsIn n (map (λ x. (word x).name) xs) → ⊥
+not_met : {X : Type 0} (word : X → Id) (met : Name → Bool) (n : Name) (xs : List X) → met n ≡ true
+    → repeats_after met (map word xs) ≡ [] → IsIn n (map (λ x. (word x).name) xs) → ⊥
 not_met word met n [] t e i = i
-not_met word met n (x ∷ xs) t e (inl s) = not_true (met (word x).name) _ (repeats_after (λ n. met n || bytes_eq n (word x).name) (map word xs)) e (ap met s ∙ t)
+not_met word met n (x ∷ xs) t e (inl s) = not_true (met (word x).name) _ (repeats_after (λ n. met n || bytes_eq n (word x).name)
+    (map word xs)) e (ap met s ∙ t)
 not_met word met n (x ∷ xs) t e (inr i) =
-    not_met word (λ n. met n || bytes_eq n (word x).name) n xs (or_left (met n) (bytes_eq n (word x).name) t) (none_right (where_true (met (word x).name) _) (repeats_after (λ n. met n || bytes_eq n (word x).name) (map word xs)) e) i
+    not_met word (λ n. met n || bytes_eq n (word x).name) n xs (or_left (met n) (bytes_eq n (word x).name) t)
+    (none_right (where_true (met (word x).name) _) (repeats_after (λ n. met n || bytes_eq n (word x).name) (map word xs)) e) i
 
-unrepeated : {X : Type 0} (word : X → Id) (met : Name → Bool) (xs : List X) → repeats_after met (map word xs) ≡ [] → IsOnce (map (λ x. (word x).name) xs)
+unrepeated : {X : Type 0} (word : X → Id) (met : Name → Bool) (xs : List X) → repeats_after met (map word xs) ≡ []
+    → IsOnce (map (λ x. (word x).name) xs)
 unrepeated word met [] e = tt
 unrepeated word met (x ∷ xs) e =
     let n = (word x).name in
     let rest = none_right (where_true (met n) _) (repeats_after (λ m. met m || bytes_eq m n) (map word xs)) e in (
-      λ i. not_met word (λ m. met m || bytes_eq m n) n xs (or_right (met n) (bytes_eq n n) ((bytes_eq-Decides n n).1 refl)) rest i,
+      λ i. not_met word (λ m. met m || bytes_eq m n) n xs (or_right (met n) (bytes_eq n n) ((bytes_eq-Decides n n).1 refl)) rest
+          i,
       unrepeated word (λ m. met m || bytes_eq m n) xs rest,
     )
 
-pub unrepeated_once : {X : Type 0} (word : X → Id) (xs : List X) → repeats (map word xs) ≡ [] → IsOnce (map (λ x. (word x).name) xs)
+pub unrepeated_once : {X : Type 0} (word : X → Id) (xs : List X) → repeats (map word xs) ≡ []
+    → IsOnce (map (λ x. (word x).name) xs)
 unrepeated_once word xs e = unrepeated word (λ n. false) xs e

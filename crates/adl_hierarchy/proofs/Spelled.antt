@@ -24,7 +24,8 @@ abbrev pub IsOne : {A : Type 0} → Rule A → A → Type 0
 IsOne f x = (ts : List Seen) × IsSpelledBy f x ts
 
 -- what is repeated is spelled one by one
-pub one_of : {A : Type 0} (f : Rule A) (xs : List A) (ts : List Seen) (x : A) → Each (Spells token_code (deep token_code nested_line limit) f) xs ts → IsIn x xs → IsOne f x
+pub one_of : {A : Type 0} (f : Rule A) (xs : List A) (ts : List Seen) (x : A)
+    → Each (Spells token_code (deep token_code nested_line limit) f) xs ts → IsIn x xs → IsOne f x
 one_of f [] ts x e i = absurd i
 one_of {A} f (y ∷ xs) ts x e (inl s) = let P : A → Type 0 = λ z. IsOne f z in subst P s (e.0, e.3)
 one_of f (y ∷ xs) ts x e (inr i) = one_of f xs e.1 x e.4 i
@@ -37,7 +38,8 @@ dotted_words a b (Some c) = (omega arith, omega arith)
 
 dotted_name : (d : Dotted) → IsOne dotted_line d → IsDotted d.0
 unfolding dotted_line
-dotted_name d w = let p = w.1 in let P : Dotted → Type 0 = λ z. IsDotted z.0 in subst P (sym p.1) (dotted_words p.0.0 p.0.1.0 p.0.1.1)
+dotted_name d w = let p = w.1 in let P : Dotted → Type 0 = λ z. IsDotted z.0 in
+    subst P (sym p.1) (dotted_words p.0.0 p.0.1.0 p.0.1.1)
 
 end_name : (e : End) → IsOne end_line e → IsDotted e.words
 unfolding end_line
@@ -45,7 +47,8 @@ end_name e w = let p = w.1 in let P : End → Type 0 = λ z. IsDotted z.words in
 
 export_name : (x : Export) → IsOne export_line x → IsDotted x.words
 unfolding export_line
-export_name x w = let p = w.1 in let P : Export → Type 0 = λ z. IsDotted z.words in subst P (sym p.1) (dotted_name p.0.1.0 (p.2.4.0, p.2.4.3))
+export_name x w = let p = w.1 in let P : Export → Type 0 = λ z. IsDotted z.words in
+    subst P (sym p.1) (dotted_name p.0.1.0 (p.2.4.0, p.2.4.3))
 
 connection_end : (k : Connection) → IsOne connection_line k → (e : End) → IsIn e k.ends → IsOne end_line e
 unfolding connection_line
@@ -62,7 +65,8 @@ connection_end k w e i =
           subst R (sym y.1.1) (y.1.2.1, y.1.2.4)
     ]
 
-line_connection : (l : Line) (k : Connection) → IsOne composition_member_line l → as_connection l ≡ Some k → IsOne connection_line k
+line_connection : (l : Line) (k : Connection) → IsOne composition_member_line l → as_connection l ≡ Some k
+    → IsOne connection_line k
 unfolding composition_member_line
 line_connection l k w e = elim w.1 [
   | inl a ↦ let u : as_connection l ≡ None = ap as_connection a.1 in cc
@@ -120,8 +124,10 @@ component_member c w m i =
     let P : Component → Type 0 = λ z. IsIn m z.members in
     one_of member_form p.0.1.1.1.0 p.2.4.4.4.0 m p.2.4.4.4.3 (subst P p.1 i)
 
-component_composition : (c : Component) (k : Composition) → IsOne component_line c → IsIn k (compositions c) → IsOne composition_line k
-component_composition c k w i = let m = from_filter_map as_composition k c.members i in member_composition m.0 k (component_member c w m.0 m.1) m.2
+component_composition : (c : Component) (k : Composition) → IsOne component_line c → IsIn k (compositions c)
+    → IsOne composition_line k
+component_composition c k w i = let m = from_filter_map as_composition k c.members i in
+    member_composition m.0 k (component_member c w m.0 m.1) m.2
 
 assembly_composition : (a : Assembly) → IsOne assembly_line a → IsOne composition_line a.composition
 unfolding assembly_line
@@ -135,7 +141,8 @@ unfolding item_line
 item_component c w = elim w.1 [
   | inl a ↦ let u = a.1 in cc
   | inr (inl a) ↦ let u = a.1 in cc
-  | inr (inr (inl a)) ↦ let u = a.1 in let s : a.0 ≡ c = cc in let P : Component → Type 0 = λ z. IsOne component_line z in subst P s (w.0, a.2)
+  | inr (inr (inl a)) ↦ let u = a.1 in let s : a.0 ≡ c = cc in let P : Component → Type 0 = λ z. IsOne component_line z in
+      subst P s (w.0, a.2)
   | inr (inr (inr a)) ↦ let u = a.1 in cc
 ]
 
@@ -145,7 +152,8 @@ item_assembly d w = elim w.1 [
   | inl a ↦ let u = a.1 in cc
   | inr (inl a) ↦ let u = a.1 in cc
   | inr (inr (inl a)) ↦ let u = a.1 in cc
-  | inr (inr (inr a)) ↦ let u = a.1 in let s : a.0 ≡ d = cc in let P : Assembly → Type 0 = λ z. IsOne assembly_line z in subst P s (w.0, a.2)
+  | inr (inr (inr a)) ↦ let u = a.1 in let s : a.0 ≡ d = cc in let P : Assembly → Type 0 = λ z. IsOne assembly_line z in
+      subst P s (w.0, a.2)
 ]
 
 ended_item : (e : Ended) → IsOne ended_line e → IsOne item_line e.item
@@ -163,17 +171,21 @@ pub item_spelled : (s : Source) → AreSpelled s → (x : ItemAt × Item) → Is
 item_spelled s spelled x i =
     let f = from_flat_map items_in x (enumerate_from 0 s.files) i in
     let n = from_enumerate 0 s.files f.0 f.1 in
-    let e = from_map (λ (e : ℕ × Ended). let at : ItemAt = record { file = f.0.0; item = e.0 } in (at, e.1.item)) x (enumerate_from 0 f.0.1.tree.items) f.2 in
+    let e = from_map (λ (e : ℕ × Ended). let at : ItemAt = record { file = f.0.0; item = e.0 } in (at, e.1.item)) x
+    (enumerate_from 0 f.0.1.tree.items) f.2 in
     let m = from_enumerate 0 f.0.1.tree.items e.0 e.1 in
     let P : ItemAt × Item → Type 0 = λ z. IsOne item_line z.1 in
-    subst P e.2 (file_item f.0.1.tree (spelled f.0.1 (in_get s.files n.0 f.0.1 n.2)) e.0.1 (in_get f.0.1.tree.items m.0 e.0.1 m.2))
+    subst P e.2 (file_item f.0.1.tree (spelled f.0.1 (in_get s.files n.0 f.0.1 n.2)) e.0.1
+    (in_get f.0.1.tree.items m.0 e.0.1 m.2))
 
-composition_spelled : (s : Source) → AreSpelled s → (k : ℕ) (c : Composition) → (body (hierarchy_of s) k).composition ≡ Some c → IsOne composition_line c
+composition_spelled : (s : Source) → AreSpelled s → (k : ℕ) (c : Composition) → (body (hierarchy_of s) k).composition ≡ Some c
+    → IsOne composition_line c
 composition_spelled s spelled k c e = elim (composed s k c e) [
   | inl d ↦
       let x = component_item s d.0 d.1 in
       let P : Item → Type 0 = λ z. IsOne item_line z in
-      component_composition d.0.1 c (item_component d.0.1 (subst P x.2 (item_spelled s spelled x.0 x.1))) (in_get (compositions d.0.1) 0 c d.2)
+      component_composition d.0.1 c (item_component d.0.1 (subst P x.2 (item_spelled s spelled x.0 x.1)))
+      (in_get (compositions d.0.1) 0 c d.2)
   | inr d ↦
       let x = assembly_item s d.0 d.1 in
       let P : Item → Type 0 = λ z. IsOne item_line z in
@@ -190,8 +202,11 @@ spelled_dotted s spelled = record {
   ends = λ k w e i m.
       let o = own_connection (body (hierarchy_of s) k).composition w i in
       let l = from_filter_map as_connection w.1 o.0.lines o.2 in
-      end_name e (connection_end w.1 (line_connection l.0 w.1 (composition_member o.0 (composition_spelled s spelled k o.0 o.1) l.0 l.1) l.2) e m);
+      end_name e
+      (connection_end w.1 (line_connection l.0 w.1 (composition_member o.0 (composition_spelled s spelled k o.0 o.1) l.0
+      l.1) l.2) e m);
 }
 
-pub line_spelled : (s : Source) → AreSpelled s → (k : ℕ) (c : Composition) → (body (hierarchy_of s) k).composition ≡ Some c → (l : Line) → IsIn l c.lines → IsOne composition_member_line l
+pub line_spelled : (s : Source) → AreSpelled s → (k : ℕ) (c : Composition) → (body (hierarchy_of s) k).composition ≡ Some c
+    → (l : Line) → IsIn l c.lines → IsOne composition_member_line l
 line_spelled s spelled k c e = composition_member c (composition_spelled s spelled k c e)

@@ -21,11 +21,13 @@ inner_of-empty (w ∷ ws) zero = refl
 inner_of-empty (w ∷ ws) (suc c) = inner_of-empty ws c
 
 -- what a list among lists has, where one of them is replaced
-pub in_set : (ws : List (List ℕ)) (d : ℕ) (v : List ℕ) (c x : ℕ) → d < length ws → has (inner_of (set ws d v) c) x ≡ true → ((c ≡ d) × (has v x ≡ true)) ⊎ (has (inner_of ws c) x ≡ true)
+pub in_set : (ws : List (List ℕ)) (d : ℕ) (v : List ℕ) (c x : ℕ) → d < length ws → has (inner_of (set ws d v) c) x ≡ true
+    → ((c ≡ d) × (has v x ≡ true)) ⊎ (has (inner_of ws c) x ≡ true)
 in_set ws d v c x h e =
     let P : List ℕ → Type 0 = λ xs. has xs x ≡ true in
     elim (cases_eq c d) [
-      | inl s ↦ let Q : ℕ → Type 0 = λ j. has (inner_of (set ws d v) j) x ≡ true in inl (s, subst P (get_or-set_same ws d v [] h) (subst Q s e))
+      | inl s ↦ let Q : ℕ → Type 0 = λ j. has (inner_of (set ws d v) j) x ≡ true in
+          inl (s, subst P (get_or-set_same ws d v [] h) (subst Q s e))
       | inr n ↦ inr (subst P (get_or-set_other ws d c v [] n) e)
     ]
 
@@ -33,13 +35,15 @@ in_set ws d v c x h e =
 abbrev pub with_waiting : List (List ℕ) → ℕ → ℕ → List (List ℕ)
 with_waiting ws d a = set ws d (inner_of ws d ++ a ∷ [])
 
-waits_still : (ws : List (List ℕ)) (d a c x : ℕ) → d < length ws → has (inner_of ws c) x ≡ true → has (inner_of (with_waiting ws d a) c) x ≡ true
+waits_still : (ws : List (List ℕ)) (d a c x : ℕ) → d < length ws → has (inner_of ws c) x ≡ true
+    → has (inner_of (with_waiting ws d a) c) x ≡ true
 waits_still ws d a c x h e =
     let P : List ℕ → Type 0 = λ xs. has xs x ≡ true in
     elim (cases_eq c d) [
       | inl s ↦ let Q : ℕ → Type 0 = λ j. has (inner_of ws j) x ≡ true in
           let R : ℕ → Type 0 = λ j. has (inner_of (with_waiting ws d a) j) x ≡ true in
-          subst R (sym s) (subst P (sym (get_or-set_same ws d (inner_of ws d ++ a ∷ []) [] h)) (has_old (inner_of ws d) a x (subst Q s e)))
+          subst R (sym s) (subst P (sym (get_or-set_same ws d (inner_of ws d ++ a ∷ []) [] h))
+          (has_old (inner_of ws d) a x (subst Q s e)))
       | inr n ↦ subst P (sym (get_or-set_other ws d c (inner_of ws d ++ a ∷ []) [] n)) e
     ]
 
@@ -50,7 +54,8 @@ waits_now ws d a h =
 
 -- ---- orders
 
-pub laid_push : (g : List (List ℕ)) (list : List ℕ) (a : ℕ) → IsLaid g list → ((c : ℕ) → has (inner_of g a) c ≡ true → has list c ≡ true) → IsLaid g (list ++ a ∷ [])
+pub laid_push : (g : List (List ℕ)) (list : List ℕ) (a : ℕ) → IsLaid g list
+    → ((c : ℕ) → has (inner_of g a) c ≡ true → has list c ≡ true) → IsLaid g (list ++ a ∷ [])
 laid_push g list a laid inner i c h e = elim (cases_lt i (length list)) [
   | inl l ↦ let k : i ≤ length list = omega arith in
       let P : ℕ → Type 0 = λ x. has (inner_of g x) c ≡ true in
@@ -59,10 +64,12 @@ laid_push g list a laid inner i c h e = elim (cases_lt i (length list)) [
       let k : i ≤ length list = omega arith in
       let P : ℕ → Type 0 = λ x. has (inner_of g x) c ≡ true in
       let here : get_or (list ++ a ∷ []) i 0 ≡ a = ap (λ j. get_or (list ++ a ∷ []) j 0) s ∙ get_or-append_seam list a [] 0 in
-      rw take-append-le (let Q : ℕ → Type 0 = λ j. has (take j list) c ≡ true in subst Q (sym s) (rw take-length (inner c (subst P here e))))
+      rw take-append-le (let Q : ℕ → Type 0 = λ j. has (take j list) c ≡ true in
+      subst Q (sym s) (rw take-length (inner c (subst P here e))))
 ]
 
-laid_with : (g : List (List ℕ)) (list : List ℕ) (a : ℕ) → IsLaid g list → ((c : ℕ) → has (inner_of g a) c ≡ true → has list c ≡ true) → IsLaid g (with_number list a)
+laid_with : (g : List (List ℕ)) (list : List ℕ) (a : ℕ) → IsLaid g list
+    → ((c : ℕ) → has (inner_of g a) c ≡ true → has list c ≡ true) → IsLaid g (with_number list a)
 laid_with g list a laid inner =
     let P : List ℕ → Type 0 = λ xs. IsLaid g xs in
     elim (cases_Bool (has list a)) [
@@ -79,7 +86,9 @@ has_now list a = elim (cases_Bool (has list a)) [ inl e ↦ rw e e | inr e ↦ r
 -- ---- one component is placed, or waits
 
 -- no component is placed, and none waits
-pub placing_new : (g : List (List ℕ)) (p : Placing) → p.placed ≡ record { size = length g; list = [] } → length p.past.items ≡ length g → ((a : ℕ) → get_or p.past.items a 0 ≡ 0) → length p.waiting.items ≡ length g → ((c a : ℕ) → has (inner_of p.waiting.items c) a ≡ false) → IsPlacing g p
+pub placing_new : (g : List (List ℕ)) (p : Placing) → p.placed ≡ record { size = length g; list = [] }
+    → length p.past.items ≡ length g → ((a : ℕ) → get_or p.past.items a 0 ≡ 0) → length p.waiting.items ≡ length g
+    → ((c a : ℕ) → has (inner_of p.waiting.items c) a ≡ false) → IsPlacing g p
 placing_new g p placed pasts zeros lists none =
     let empty : p.placed.list ≡ [] = ap (λ s. s.list) placed in
     let P : List ℕ → Type 0 = λ xs. IsLaid g xs in
@@ -88,7 +97,8 @@ placing_new g p placed pasts zeros lists none =
       pasts = pasts;
       lists = lists;
       laid = subst P (sym empty) (λ i c l e. absurd (omega arith));
-      past = λ a c l e. let Q : ℕ → Type 0 = λ n. has (take n (inner_of g a)) c ≡ true in let h : false ≡ true = subst Q (zeros a) e in cc;
+      past = λ a c l e. let Q : ℕ → Type 0 = λ n. has (take n (inner_of g a)) c ≡ true in let h : false ≡ true =
+          subst Q (zeros a) e in cc;
       below = λ a c e. let n = none c a in absurd (both_ways _ n e);
     }
 
@@ -109,28 +119,35 @@ past_set g past list a next h old here x c l e =
 -- the component waits for d
 pub placing_waits : (g : List (List ℕ)) (old new : Placing) (a next d : ℕ) → IsPlacing g old → a < length g → d < length g
     → ((c : ℕ) → has (take next (inner_of g a)) c ≡ true → has old.placed.list c ≡ true)
-    → new.placed ≡ old.placed → new.past.items ≡ set old.past.items a next → new.waiting.items ≡ with_waiting old.waiting.items d a → IsPlacing g new
+    → new.placed ≡ old.placed → new.past.items ≡ set old.past.items a next
+    → new.waiting.items ≡ with_waiting old.waiting.items d a → IsPlacing g new
 placing_waits g old new a next d i la ld past placed pasts waiting =
     let same : new.placed.list ≡ old.placed.list = ap (λ s. s.list) placed in
     let pl = i.pasts in
     let wl = i.lists in
     let P : List ℕ → Type 0 = λ xs. IsLaid g xs in
-    let Q : List ℕ → Type 0 = λ list. (x c : ℕ) → x < length g → has (take (get_or (set old.past.items a next) x 0) (inner_of g x)) c ≡ true → has list c ≡ true in
-    let R : List ℕ → Type 0 = λ ps. (x c : ℕ) → x < length g → has (take (get_or ps x 0) (inner_of g x)) c ≡ true → has new.placed.list c ≡ true in
+    let Q : List ℕ → Type 0 = λ list. (x c : ℕ) → x < length g
+    → has (take (get_or (set old.past.items a next) x 0) (inner_of g x)) c ≡ true → has list c ≡ true in
+    let R : List ℕ → Type 0 = λ ps. (x c : ℕ) → x < length g → has (take (get_or ps x 0) (inner_of g x)) c ≡ true
+    → has new.placed.list c ≡ true in
     let S : List (List ℕ) → Type 0 = λ ws. (x c : ℕ) → has (inner_of ws c) x ≡ true → x < length g in
     record {
       size = ap (λ s. s.size) placed ∙ i.size;
       pasts = ap length pasts ∙ length-set old.past.items a next ∙ i.pasts;
       lists = ap length waiting ∙ length-set old.waiting.items d _ ∙ i.lists;
       laid = subst P (sym same) i.laid;
-      past = subst R (sym pasts) (subst Q (sym same) (past_set g old.past.items old.placed.list a next (omega arith) i.past past));
-      below = subst S (sym waiting) (λ x c e. elim (in_set old.waiting.items d (inner_of old.waiting.items d ++ a ∷ []) c x (omega arith) e) [
-        | inl k ↦ elim (has_pushed (inner_of old.waiting.items d) a x k.1) [ inl q ↦ i.below x d q | inr q ↦ omega arith ]
-        | inr k ↦ i.below x c k
-      ]);
+      past =
+          subst R (sym pasts) (subst Q (sym same) (past_set g old.past.items old.placed.list a next (omega arith) i.past past));
+      below =
+          subst S (sym waiting) (λ x c e. elim (in_set old.waiting.items d (inner_of old.waiting.items d ++ a ∷ []) c x
+          (omega arith) e) [
+            | inl k ↦ elim (has_pushed (inner_of old.waiting.items d) a x k.1) [ inl q ↦ i.below x d q | inr q ↦ omega arith ]
+            | inr k ↦ i.below x c k
+          ]);
     }
 
-pub settles_waits : (g : List (List ℕ)) (old new : Placing) (a d : ℕ) → d < length old.waiting.items → has (inner_of g a) d ≡ true → has old.placed.list d ≡ false
+pub settles_waits : (g : List (List ℕ)) (old new : Placing) (a d : ℕ) → d < length old.waiting.items → has (inner_of g a) d ≡ true
+    → has old.placed.list d ≡ false
     → new.placed ≡ old.placed → new.waiting.items ≡ with_waiting old.waiting.items d a → Settles g old new (λ x. x ≡ a)
 settles_waits g old new a d h inner fresh placed waiting =
     let same : new.placed.list ≡ old.placed.list = ap (λ s. s.list) placed in
@@ -140,7 +157,12 @@ settles_waits g old new a d h inner fresh placed waiting =
       longer = omega arith;
       kept = λ n x l w. elim w [
         | inl e ↦ inl (ap (λ xs. has xs x) same ∙ e)
-        | inr k ↦ inr (k.0, k.1, ap (λ ws. has (inner_of ws k.0) x) waiting ∙ waits_still old.waiting.items d a k.0 x h k.2, ap (λ xs. has (take n xs) k.0) same ∙ k.3)
+        | inr k ↦ inr (
+          k.0,
+          k.1,
+          ap (λ ws. has (inner_of ws k.0) x) waiting ∙ waits_still old.waiting.items d a k.0 x h k.2,
+          ap (λ xs. has (take n xs) k.0) same ∙ k.3,
+        )
       ];
       each = λ n x l s.
           let P : ℕ → Type 0 = λ y. Waits g n new y in
@@ -153,21 +175,26 @@ settles_waits g old new a d h inner fresh placed waiting =
     }
 
 -- the component is placed
-pub placing_placed : (g : List (List ℕ)) (old new : Placing) (a next : ℕ) → IsPlacing g old → a < length g → length (inner_of g a) ≤ next
+pub placing_placed : (g : List (List ℕ)) (old new : Placing) (a next : ℕ) → IsPlacing g old → a < length g
+    → length (inner_of g a) ≤ next
     → ((c : ℕ) → has (take next (inner_of g a)) c ≡ true → has old.placed.list c ≡ true)
-    → new.placed.size ≡ old.placed.size → new.placed.list ≡ with_number old.placed.list a → new.past.items ≡ set old.past.items a next → new.waiting.items ≡ old.waiting.items → IsPlacing g new
+    → new.placed.size ≡ old.placed.size → new.placed.list ≡ with_number old.placed.list a
+    → new.past.items ≡ set old.past.items a next → new.waiting.items ≡ old.waiting.items → IsPlacing g new
 placing_placed g old new a next i la end past size placed pasts waiting =
     let pl = i.pasts in
-    let inner : (c : ℕ) → has (inner_of g a) c ≡ true → has old.placed.list c ≡ true = λ c e. past c (ap (λ xs. has xs c) (take_all next (inner_of g a) end) ∙ e) in
+    let inner : (c : ℕ) → has (inner_of g a) c ≡ true → has old.placed.list c ≡ true =
+    λ c e. past c (ap (λ xs. has xs c) (take_all next (inner_of g a) end) ∙ e) in
     let P : List ℕ → Type 0 = λ xs. IsLaid g xs in
-    let R : List ℕ → Type 0 = λ ps. (x c : ℕ) → x < length g → has (take (get_or ps x 0) (inner_of g x)) c ≡ true → has new.placed.list c ≡ true in
+    let R : List ℕ → Type 0 = λ ps. (x c : ℕ) → x < length g → has (take (get_or ps x 0) (inner_of g x)) c ≡ true
+    → has new.placed.list c ≡ true in
     let S : List (List ℕ) → Type 0 = λ ws. (x c : ℕ) → has (inner_of ws c) x ≡ true → x < length g in
     record {
       size = size ∙ i.size;
       pasts = ap length pasts ∙ length-set old.past.items a next ∙ i.pasts;
       lists = ap length waiting ∙ i.lists;
       laid = subst P (sym placed) (laid_with g old.placed.list a i.laid inner);
-      past = subst R (sym pasts) (λ x c l e. ap (λ xs. has xs c) placed ∙ has_still old.placed.list a c (past_set g old.past.items old.placed.list a next (omega arith) i.past past x c l e));
+      past = subst R (sym pasts) (λ x c l e. ap (λ xs. has xs c) placed ∙ has_still old.placed.list a c
+          (past_set g old.past.items old.placed.list a next (omega arith) i.past past x c l e));
       below = subst S (sym waiting) i.below;
     }
 
@@ -179,7 +206,13 @@ settles_placed g old new a placed waiting =
       longer = omega (arith, len, length-with_number old.placed.list a);
       kept = λ n x l w. elim w [
         | inl e ↦ inl (ap (λ xs. has xs x) placed ∙ has_still old.placed.list a x e)
-        | inr k ↦ inr (k.0, k.1, ap (λ ws. has (inner_of ws k.0) x) waiting ∙ k.2, ap (λ xs. has (take n xs) k.0) placed ∙ ap (λ xs. has xs k.0) (take-with_number n old.placed.list a l) ∙ k.3)
+        | inr k ↦ inr (
+          k.0,
+          k.1,
+          ap (λ ws. has (inner_of ws k.0) x) waiting ∙ k.2,
+          ap (λ xs. has (take n xs) k.0) placed
+              ∙ ap (λ xs. has xs k.0) (take-with_number n old.placed.list a l) ∙ k.3,
+        )
       ];
       each = λ n x l s.
           let P : ℕ → Type 0 = λ y. Waits g n new y in
@@ -191,27 +224,39 @@ settles_placed g old new a placed waiting =
 pub settles_none : (g : List (List ℕ)) (p : Placing) (P : ℕ → Type 0) → ((x : ℕ) → P x → ⊥) → Settles g p p P
 settles_none g p P none = record { longer = omega arith; kept = λ n x l w. w; each = λ n x l h. absurd (none x h) }
 
-settles_both : (g : List (List ℕ)) (old mid new : Placing) (P Q R : ℕ → Type 0) → Settles g old mid P → Settles g mid new Q → ((x : ℕ) → R x → P x ⊎ Q x) → Settles g old new R
+settles_both : (g : List (List ℕ)) (old mid new : Placing) (P Q R : ℕ → Type 0) → Settles g old mid P → Settles g mid new Q
+    → ((x : ℕ) → R x → P x ⊎ Q x) → Settles g old new R
 settles_both g old mid new P Q R s t split =
     let sl = s.longer in
     let tl = t.longer in
     record {
       longer = omega arith;
       kept = λ n x l w. t.kept n x (omega arith) (s.kept n x l w);
-      each = λ n x l r. elim (split x r) [ inl p ↦ t.kept n x (omega arith) (s.each n x l p) | inr q ↦ t.each n x (omega arith) q ];
+      each = λ n x l r. elim (split x r) [
+        | inl p ↦ t.kept n x (omega arith) (s.each n x l p)
+        | inr q ↦
+            t.each n x (omega arith) q
+      ];
     }
 
-pub settles_next : (g : List (List ℕ)) (old mid new : Placing) (a : ℕ) → Settles g old mid (λ x. x < a) → Settles g mid new (λ x. x ≡ a) → Settles g old new (λ x. x < a + 1)
-settles_next g old mid new a s t = settles_both g old mid new (λ x. x < a) (λ x. x ≡ a) (λ x. x < a + 1) s t (λ x l. elim (cases_lt x a) [ inl h ↦ inl h | inr h ↦ inr (omega arith) ])
+pub settles_next : (g : List (List ℕ)) (old mid new : Placing) (a : ℕ) → Settles g old mid (λ x. x < a)
+    → Settles g mid new (λ x. x ≡ a) → Settles g old new (λ x. x < a + 1)
+settles_next g old mid new a s t = settles_both g old mid new (λ x. x < a) (λ x. x ≡ a) (λ x. x < a + 1) s t
+    (λ x l. elim (cases_lt x a) [ inl h ↦ inl h | inr h ↦ inr (omega arith) ])
 
-pub settles_more : (g : List (List ℕ)) (old mid new : Placing) (xs : List ℕ) (i : ℕ) → i < length xs → Settles g old mid (λ x. has (take i xs) x ≡ true) → Settles g mid new (λ x. x ≡ get_or xs i 0) → Settles g old new (λ x. has (take (i + 1) xs) x ≡ true)
+pub settles_more : (g : List (List ℕ)) (old mid new : Placing) (xs : List ℕ) (i : ℕ) → i < length xs
+    → Settles g old mid (λ x. has (take i xs) x ≡ true) → Settles g mid new (λ x. x ≡ get_or xs i 0)
+    → Settles g old new (λ x. has (take (i + 1) xs) x ≡ true)
 settles_more g old mid new xs i h s t =
-    settles_both g old mid new (λ x. has (take i xs) x ≡ true) (λ x. x ≡ get_or xs i 0) (λ x. has (take (i + 1) xs) x ≡ true) s t (λ x e. has_more xs i x h e)
+    settles_both g old mid new (λ x. has (take i xs) x ≡ true) (λ x. x ≡ get_or xs i 0) (λ x. has (take (i + 1) xs) x ≡ true) s t
+    (λ x e. has_more xs i x h e)
 
 -- ---- letting go on
 
 -- what is placed is in range
-pub placed_at : (g : List (List ℕ)) (p : Placing) (i : ℕ) (xs : List ℕ) → IsPlacing g p → ((x : ℕ) → has p.placed.list x ≡ true → x < p.placed.size) → i < length p.placed.list → xs ≡ p.placed.list → get_or xs i 0 < length g
+pub placed_at : (g : List (List ℕ)) (p : Placing) (i : ℕ) (xs : List ℕ) → IsPlacing g p
+    → ((x : ℕ) → has p.placed.list x ≡ true → x < p.placed.size) → i < length p.placed.list → xs ≡ p.placed.list
+    → get_or xs i 0 < length g
 placed_at g p i xs q below l e =
     let P : List ℕ → Type 0 = λ ys. get_or ys i 0 < length g in
     subst P (sym e) (rw (← q.size) (below (get_or p.placed.list i 0) (has_at p.placed.list i l)))
@@ -229,12 +274,18 @@ placing_taken g old new c i l placed pasts waiting =
       pasts = ap length pasts ∙ i.pasts;
       lists = ap length waiting ∙ length-set old.waiting.items c [] ∙ i.lists;
       laid = subst P (sym same) i.laid;
-      past = λ a x h e. ap (λ xs. has xs x) same ∙ i.past a x h (ap (λ ps. has (take (get_or ps a 0) (inner_of g a)) x) (sym pasts) ∙ e);
-      below = subst S (sym waiting) (λ x d e. elim (in_set old.waiting.items c [] d x (omega arith) e) [ inl k ↦ absurd (both_ways false refl k.1) | inr k ↦ i.below x d k ]);
+      past = λ a x h e. ap (λ xs. has xs x) same ∙ i.past a x h (ap (λ ps. has (take (get_or ps a 0) (inner_of g a)) x)
+          (sym pasts) ∙ e);
+      below = subst S (sym waiting) (λ x d e. elim (in_set old.waiting.items c [] d x (omega arith) e) [
+        | inl k ↦
+            absurd (both_ways false refl k.1)
+        | inr k ↦ i.below x d k
+      ]);
     }
 
 -- each component waits for one that isn't among the first n + 1, or waited for the one behind the first n
-waits_or_taken : (g : List (List ℕ)) (old new : Placing) (n : ℕ) (x : ℕ) → n < length old.placed.list → new.placed ≡ old.placed → new.waiting.items ≡ set old.waiting.items (get_or old.placed.list n 0) []
+waits_or_taken : (g : List (List ℕ)) (old new : Placing) (n : ℕ) (x : ℕ) → n < length old.placed.list → new.placed ≡ old.placed
+    → new.waiting.items ≡ set old.waiting.items (get_or old.placed.list n 0) []
     → Waits g n old x → (Waits g (n + 1) new x) ⊎ (has (inner_of old.waiting.items (get_or old.placed.list n 0)) x ≡ true)
 waits_or_taken g old new n x l placed waiting w =
     let same : new.placed.list ≡ old.placed.list = ap (λ s. s.list) placed in
@@ -245,13 +296,16 @@ waits_or_taken g old new n x l placed waiting w =
         | inr ne ↦ inl (inr (
           k.0,
           k.1,
-          ap (λ ws. has (inner_of ws k.0) x) waiting ∙ ap (λ xs. has xs x) (get_or-set_other old.waiting.items (get_or old.placed.list n 0) k.0 [] [] ne) ∙ k.2,
-          ap (λ xs. has (take (n + 1) xs) k.0) same ∙ false_from_ne_true _ (λ e. elim (has_more old.placed.list n k.0 l e) [ inl q ↦ both_ways _ k.3 q | inr q ↦ ne q ]),
+          ap (λ ws. has (inner_of ws k.0) x) waiting
+              ∙ ap (λ xs. has xs x) (get_or-set_other old.waiting.items (get_or old.placed.list n 0) k.0 [] [] ne) ∙ k.2,
+          ap (λ xs. has (take (n + 1) xs) k.0) same ∙ false_from_ne_true _ (λ e. elim (has_more old.placed.list n k.0 l e)
+              [ inl q ↦ both_ways _ k.3 q | inr q ↦ ne q ]),
         ))
       ]
     ]
 
-pub waits_released : (g : List (List ℕ)) (old mid new : Placing) (n : ℕ) → n < length old.placed.list → mid.placed ≡ old.placed → mid.waiting.items ≡ set old.waiting.items (get_or old.placed.list n 0) []
+pub waits_released : (g : List (List ℕ)) (old mid new : Placing) (n : ℕ) → n < length old.placed.list → mid.placed ≡ old.placed
+    → mid.waiting.items ≡ set old.waiting.items (get_or old.placed.list n 0) []
     → ((x : ℕ) → x < length g → Waits g n old x)
     → Settles g mid new (λ x. has (inner_of old.waiting.items (get_or old.placed.list n 0)) x ≡ true)
     → (x : ℕ) → x < length g → Waits g (n + 1) new x
@@ -264,17 +318,20 @@ waits_released g old mid new n l placed waiting all s x h =
 
 -- ---- the end
 
-pub end_from_waits : (g : List (List ℕ)) (p : Placing) (n : ℕ) → length p.placed.list ≤ n → ((x : ℕ) → x < length g → Waits g n p x) → IsAtEnd g p.placed.list
+pub end_from_waits : (g : List (List ℕ)) (p : Placing) (n : ℕ) → length p.placed.list ≤ n
+    → ((x : ℕ) → x < length g → Waits g n p x) → IsAtEnd g p.placed.list
 end_from_waits g p n l all x h = elim (all x h) [
   | inl e ↦ inl e
   | inr k ↦ inr (k.0, k.1, ap (λ xs. has xs k.0) (sym (take_all n p.placed.list l)) ∙ k.3)
 ]
 
-pub ring_at_end : (g : List (List ℕ)) (order : List ℕ) → InRange g → IsAtEnd g order → (a : ℕ) → a < length g → has order a ≡ false → IsAcyclic g → ⊥
+pub ring_at_end : (g : List (List ℕ)) (order : List ℕ) → InRange g → IsAtEnd g order → (a : ℕ) → a < length g
+    → has order a ≡ false → IsAcyclic g → ⊥
 ring_at_end g order r end a h e = ring_from_stuck g order r
     (λ x l f. elim (end x l) [ inl t ↦ absurd (both_ways _ f t) | inr k ↦ k ]) a h e
 
-pub order_at_end : (g : List (List ℕ)) (p : Placing) → IsPlacing g p → ((x : ℕ) → has p.placed.list x ≡ true → x < p.placed.size) → ((x : ℕ) → x < p.placed.size → has p.placed.list x ≡ true) → IsInnerFirst g p.placed.list
+pub order_at_end : (g : List (List ℕ)) (p : Placing) → IsPlacing g p → ((x : ℕ) → has p.placed.list x ≡ true → x < p.placed.size)
+    → ((x : ℕ) → x < p.placed.size → has p.placed.list x ≡ true) → IsInnerFirst g p.placed.list
 order_at_end g p i below whole =
     let size = i.size in
     record {

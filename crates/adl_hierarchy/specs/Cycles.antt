@@ -11,7 +11,8 @@ pub record AreCycleNumbers (g : List (List ℕ)) (number rank : ℕ → ℕ) : T
 -- the type of an instance holds the component that the instance stands in exactly where both have one number
 pub record TellCycles (g : List (List ℕ)) (numbers : List ℕ) : Type 0 where
   pub size : length numbers ≡ length g
-  pub exact : (a c : ℕ) → a < length g → has (inner_of g a) c ≡ true → (slice_index numbers c ≡ slice_index numbers a) ↔ Holds g c a
+  pub exact : (a c : ℕ) → a < length g → has (inner_of g a) c ≡ true → (slice_index numbers c ≡ slice_index numbers a)
+      ↔ Holds g c a
 
 abbrev pub MayTell : List (List ℕ) → Option (List ℕ) → Type 0
 MayTell g None = Unit {0}

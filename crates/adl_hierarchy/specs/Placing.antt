@@ -14,12 +14,15 @@ pub record IsPlacing (g : List (List ℕ)) (p : Placing) : Type 0 where
   pub pasts : length p.past.items ≡ length g
   pub lists : length p.waiting.items ≡ length g
   pub laid : IsLaid g p.placed.list
-  pub past : (a c : ℕ) → a < length g → has (take (slice_index p.past.items a) (inner_of g a)) c ≡ true → has p.placed.list c ≡ true
+  pub past : (a c : ℕ) → a < length g → has (take (slice_index p.past.items a) (inner_of g a)) c ≡ true
+      → has p.placed.list c ≡ true
   pub below : (a c : ℕ) → has (inner_of p.waiting.items c) a ≡ true → a < length g
 
 -- the component is placed, or waits for an inner one that isn't among the first n
 abbrev pub Waits : List (List ℕ) → ℕ → Placing → ℕ → Type 0
-Waits g n p a = (has p.placed.list a ≡ true) ⊎ ((c : ℕ) × (has (inner_of g a) c ≡ true) × (has (inner_of p.waiting.items c) a ≡ true) × (has (take n p.placed.list) c ≡ false))
+Waits g n p a = (has p.placed.list a ≡ true)
+    ⊎ ((c : ℕ) × (has (inner_of g a) c ≡ true) × (has (inner_of p.waiting.items c) a ≡ true)
+    × (has (take n p.placed.list) c ≡ false))
 
 -- each of the components came to wait or was placed, and each other one still is or does
 pub record Settles (g : List (List ℕ)) (old new : Placing) (P : ℕ → Type 0) : Type 0 where
@@ -29,7 +32,8 @@ pub record Settles (g : List (List ℕ)) (old new : Placing) (P : ℕ → Type 0
 
 -- each component is placed or has an inner one that isn't
 abbrev pub IsAtEnd : List (List ℕ) → List ℕ → Type 0
-IsAtEnd g order = (a : ℕ) → a < length g → (has order a ≡ true) ⊎ ((c : ℕ) × (has (inner_of g a) c ≡ true) × (has order c ≡ false))
+IsAtEnd g order = (a : ℕ) → a < length g
+    → (has order a ≡ true) ⊎ ((c : ℕ) × (has (inner_of g a) c ≡ true) × (has order c ≡ false))
 
 -- the new set has the old one as its front, and the numbers of more besides
 pub record HasMore (more : List ℕ) (old new : Numbers) : Type 0 where

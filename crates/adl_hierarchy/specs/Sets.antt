@@ -9,7 +9,8 @@ pub record Numbers : Type 0 where
   pub list : List ℕ
 
 abbrev pub coded_numbers : Coded Numbers
-coded_numbers = code_by (ℕ × List ℕ) (coded× coded_ℕ (coded_list coded_ℕ)) (λ s. (s.size, s.list)) (λ p. record { size = p.0; list = p.1 }) (λ _. refl)
+coded_numbers = code_by (ℕ × List ℕ) (coded× coded_ℕ (coded_list coded_ℕ)) (λ s. (s.size, s.list))
+    (λ p. record { size = p.0; list = p.1 }) (λ _. refl)
 
 -- the marks are those of the numbers in the list, each of which stands once
 pub record AreMarks (marks : List Bool) (list : List ℕ) : Type 0 where

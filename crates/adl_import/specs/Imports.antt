@@ -13,9 +13,7 @@ use Rattle.adl_import.specs.Folding.{is_slash, import_name}
 
 abbrev pub import_of : Item → List Import
 import_of (items.Import import) = import ∷ []
-import_of (items.Procedure procedure) = []
-import_of (items.Component component) = []
-import_of (items.Assembly assembly) = []
+import_of _ = []
 
 abbrev pub imports_in : List Ended → List Import
 imports_in = flat_map (λ ended. import_of ended.item)

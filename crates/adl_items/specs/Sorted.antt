@@ -6,7 +6,8 @@ use Rattle.adl_meaning.specs.Items as of
 use Rattle.adl_items.specs.Located.{located}
 use Rattle.adl_items.specs.declared.located.Located.{Located}
 
-pub record AreSorted (items : List (Located Item)) (procedures : List (Located Procedure)) (components : List (Located Component)) (assemblies : List (Located Assembly)) (s : Source) : Type 0 where
+pub record AreSorted (items : List (Located Item)) (procedures : List (Located Procedure)) (components : List (Located Component))
+    (assemblies : List (Located Assembly)) (s : Source) : Type 0 where
   pub items_are : map located items ≡ of.items_of s
   pub procedures_are : map located procedures ≡ of.procedures s
   pub components_are : map located components ≡ of.components s

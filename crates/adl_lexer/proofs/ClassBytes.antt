@@ -12,7 +12,8 @@ use Rattle.adl_lexer.specs.Classes.{class_of, class_in, sign_class, sign_rows, m
 use Rattle.adl_lexer.proofs.Classes.{if_has, sign_has}
 
 -- what is true of each row is true of a byte and the class that is given
-class_in_pairs : (R : ℕ → ℕ → Bool) (rows : List (ℕ × ℕ)) (c b : ℕ) → list_all (λ row. R row.0 row.1) rows ≡ true → R b c ≡ true → R b (class_in rows c b) ≡ true
+class_in_pairs : (R : ℕ → ℕ → Bool) (rows : List (ℕ × ℕ)) (c b : ℕ) → list_all (λ row. R row.0 row.1) rows ≡ true → R b c ≡ true
+    → R b (class_in rows c b) ≡ true
 class_in_pairs R [] c b h g = g
 class_in_pairs R (row ∷ rows) c b h g =
     let p = and_parts (R row.0 row.1) (list_all (λ row. R row.0 row.1) rows) h in
@@ -29,14 +30,20 @@ only_other : (k v b c : ℕ) → (k == c) ≡ false → only k v b c ≡ true
 only_other k v b c h = if_false (k == c) (b == v) true h
 
 -- where the tables give the class k to the byte v alone, a byte of that class is v
-pub byte_of : (k v : ℕ) → list_all (λ row. only k v row.0 row.1) sign_rows ≡ true → list_all (λ row. only k v row.0 row.1) mark_rows ≡ true → list_all (λ row. only k v row.0 row.1) left_out_rows ≡ true → (k == 0) ≡ false → (k == 1) ≡ false → (k == 2) ≡ false → (k == 3) ≡ false → (k == 4) ≡ false → (k == 25) ≡ false → (b : ℕ) → class_of b ≡ k → b ≡ v
+pub byte_of : (k v : ℕ) → list_all (λ row. only k v row.0 row.1) sign_rows ≡ true
+    → list_all (λ row. only k v row.0 row.1) mark_rows ≡ true → list_all (λ row. only k v row.0 row.1) left_out_rows ≡ true
+    → (k == 0) ≡ false → (k == 1) ≡ false → (k == 2) ≡ false → (k == 3) ≡ false → (k == 4) ≡ false → (k == 25) ≡ false → (b : ℕ)
+    → class_of b ≡ k → b ≡ v
 unfolding class_of
 byte_of k v s m l r0 r1 r2 r3 r4 r25 b e =
     only_is k v b (class_of b) (
-    if_has (only k v b) (is_digit b) (cond (b == 48) 3 4) _ (if_has (only k v b) (b == 48) 3 4 (only_other k v b 3 r3) (only_other k v b 4 r4))
+    if_has (only k v b) (is_digit b) (cond (b == 48) 3 4) _ (if_has (only k v b) (b == 48) 3 4 (only_other k v b 3 r3)
+    (only_other k v b 4 r4))
     (if_has (only k v b) (is_hex_digit b) 1 _ (only_other k v b 1 r1)
-    (if_has (only k v b) (is_letter b) (cond (b == 120 || b == 88) 2 0) (sign_class b) (if_has (only k v b) (b == 120 || b == 88) 2 0 (only_other k v b 2 r2) (only_other k v b 0 r0))
-    (class_in_pairs (only k v) sign_rows (mark_class b) b s (class_in_pairs (only k v) mark_rows (left_out_class b) b m (class_in_pairs (only k v) left_out_rows 25 b l (only_other k v b 25 r25)))))))
+    (if_has (only k v b) (is_letter b) (cond (b == 120 || b == 88) 2 0) (sign_class b) (if_has (only k v b) (b == 120 || b == 88)
+    2 0 (only_other k v b 2 r2) (only_other k v b 0 r0))
+    (class_in_pairs (only k v) sign_rows (mark_class b) b s (class_in_pairs (only k v) mark_rows (left_out_class b) b m
+    (class_in_pairs (only k v) left_out_rows 25 b l (only_other k v b 25 r25)))))))
     e
 
 leb_up : (b m n : ℕ) → leb b m ≡ true → m ≤ n → leb b n ≡ true
@@ -67,26 +74,37 @@ no_word_class b d n = elim (cases_Bool (is_hex_digit b)) [
   | inl h ↦ true_is_not_false (is_letter b) (hex_is_letter b d h) n
   | inr h ↦
       let c : class_of b ≡ sign_class b =
-      if_false (is_digit b) (cond (b == 48) 3 4) (cond (is_hex_digit b) 1 (cond (is_letter b) (cond (b == 120 || b == 88) 2 0) (sign_class b))) d
+      if_false (is_digit b) (cond (b == 48) 3 4)
+      (cond (is_hex_digit b) 1 (cond (is_letter b) (cond (b == 120 || b == 88) 2 0) (sign_class b))) d
       ∙ if_false (is_hex_digit b) 1 (cond (is_letter b) (cond (b == 120 || b == 88) 2 0) (sign_class b)) h
       ∙ if_false (is_letter b) (cond (b == 120 || b == 88) 2 0) (sign_class b) n in
-      ap (among word_bytes) c ∙ not-true (among word_bytes (sign_class b)) (sign_has (λ c. not (among word_bytes c)) b refl refl refl refl)
+      ap (among word_bytes) c ∙ not-true (among word_bytes (sign_class b)) (sign_has (λ c. not (among word_bytes c)) b refl
+      refl refl refl)
 ]
 
 digit_no_letter : (b : ℕ) → is_digit b ≡ true → among letters (class_of b) ≡ false
 unfolding class_of
 digit_no_letter b d =
-    ap (among letters) (if_true (is_digit b) (cond (b == 48) 3 4) (cond (is_hex_digit b) 1 (cond (is_letter b) (cond (b == 120 || b == 88) 2 0) (sign_class b))) d)
+    ap (among letters) (if_true (is_digit b) (cond (b == 48) 3 4)
+    (cond (is_hex_digit b) 1 (cond (is_letter b) (cond (b == 120 || b == 88) 2 0) (sign_class b))) d)
     ∙ not-true (among letters (cond (b == 48) 3 4)) (if_has (λ c. not (among letters c)) (b == 48) 3 4 refl refl)
 
 pub word_byte_of : (b : ℕ) → among word_bytes (class_of b) ≡ true → is_word_byte b ≡ true
 word_byte_of b h = elim (cases_Bool (is_digit b)) [
   | inl d ↦ or_right (is_letter b) (is_digit b) d
-  | inr d ↦ elim (cases_Bool (is_letter b)) [ inl n ↦ rw n refl | inr n ↦ true_is_not_false (among word_bytes (class_of b)) h (no_word_class b d n) ]
+  | inr d ↦ elim (cases_Bool (is_letter b)) [
+    | inl n ↦ rw n refl
+    | inr n ↦ true_is_not_false (among word_bytes (class_of b)) h
+        (no_word_class b d n)
+  ]
 ]
 
 pub letter_of : (b : ℕ) → among letters (class_of b) ≡ true → is_letter b ≡ true
 letter_of b h = elim (cases_Bool (is_digit b)) [
   | inl d ↦ true_is_not_false (among letters (class_of b)) h (digit_no_letter b d)
-  | inr d ↦ elim (cases_Bool (is_letter b)) [ inl n ↦ n | inr n ↦ true_is_not_false (among word_bytes (class_of b)) (among-left letters digits (class_of b) h) (no_word_class b d n) ]
+  | inr d ↦ elim (cases_Bool (is_letter b)) [
+    | inl n ↦ n
+    | inr n ↦ true_is_not_false (among word_bytes (class_of b))
+        (among-left letters digits (class_of b) h) (no_word_class b d n)
+  ]
 ]

@@ -12,24 +12,37 @@ use Rattle.adl_lexer.specs.Classes.{class_of, class_in, sign_class, sign_rows, m
 
 -- the class of each byte, as the code has it
 abbrev class_table : List ℕ
-class_table = 25 ∷ 25 ∷ 25 ∷ 25 ∷ 25 ∷ 25 ∷ 25 ∷ 25 ∷ 25 ∷ 5 ∷ 6 ∷ 25 ∷ 25 ∷ 5 ∷ 25 ∷ 25 ∷ 25 ∷ 25 ∷ 25 ∷ 25 ∷ 25 ∷ 25 ∷ 25 ∷ 25 ∷ 25 ∷ 25 ∷ 25 ∷ 25 ∷ 25 ∷ 25 ∷ 25 ∷ 25 ∷ 5 ∷ 24 ∷ 11 ∷ 24 ∷ 25 ∷ 24 ∷ 24 ∷ 25 ∷ 16 ∷ 17 ∷ 24 ∷ 24 ∷ 21 ∷ 9 ∷ 13 ∷ 7 ∷ 3 ∷ 4 ∷ 4 ∷ 4 ∷ 4 ∷ 4 ∷ 4 ∷ 4 ∷ 4 ∷ 4 ∷ 23 ∷ 20 ∷ 8 ∷ 22 ∷ 10 ∷ 24 ∷ 25 ∷ 1 ∷ 1 ∷ 1 ∷ 1 ∷ 1 ∷ 1 ∷ 0 ∷ 0 ∷ 0 ∷ 0 ∷ 0 ∷ 0 ∷ 0 ∷ 0 ∷ 0 ∷ 0 ∷ 0 ∷ 0 ∷ 0 ∷ 0 ∷ 0 ∷ 0 ∷ 0 ∷ 2 ∷ 0 ∷ 0 ∷ 18 ∷ 12 ∷ 19 ∷ 24 ∷ 0 ∷ 25 ∷ 1 ∷ 1 ∷ 1 ∷ 1 ∷ 1 ∷ 1 ∷ 0 ∷ 0 ∷ 0 ∷ 0 ∷ 0 ∷ 0 ∷ 0 ∷ 0 ∷ 0 ∷ 0 ∷ 0 ∷ 0 ∷ 0 ∷ 0 ∷ 0 ∷ 0 ∷ 0 ∷ 2 ∷ 0 ∷ 0 ∷ 14 ∷ 24 ∷ 15 ∷ 24 ∷ 25 ∷ 25 ∷ 25 ∷ 25 ∷ 25 ∷ 25 ∷ 25 ∷ 25 ∷ 25 ∷ 25 ∷ 25 ∷ 25 ∷ 25 ∷ 25 ∷ 25 ∷ 25 ∷ 25 ∷ 25 ∷ 25 ∷ 25 ∷ 25 ∷ 25 ∷ 25 ∷ 25 ∷ 25 ∷ 25 ∷ 25 ∷ 25 ∷ 25 ∷ 25 ∷ 25 ∷ 25 ∷ 25 ∷ 25 ∷ 25 ∷ 25 ∷ 25 ∷ 25 ∷ 25 ∷ 25 ∷ 25 ∷ 25 ∷ 25 ∷ 25 ∷ 25 ∷ 25 ∷ 25 ∷ 25 ∷ 25 ∷ 25 ∷ 25 ∷ 25 ∷ 25 ∷ 25 ∷ 25 ∷ 25 ∷ 25 ∷ 25 ∷ 25 ∷ 25 ∷ 25 ∷ 25 ∷ 25 ∷ 25 ∷ 25 ∷ 25 ∷ 25 ∷ 25 ∷ 25 ∷ 25 ∷ 25 ∷ 25 ∷ 25 ∷ 25 ∷ 25 ∷ 25 ∷ 25 ∷ 25 ∷ 25 ∷ 25 ∷ 25 ∷ 25 ∷ 25 ∷ 25 ∷ 25 ∷ 25 ∷ 25 ∷ 25 ∷ 25 ∷ 25 ∷ 25 ∷ 25 ∷ 25 ∷ 25 ∷ 25 ∷ 25 ∷ 25 ∷ 25 ∷ 25 ∷ 25 ∷ 25 ∷ 25 ∷ 25 ∷ 25 ∷ 25 ∷ 25 ∷ 25 ∷ 25 ∷ 25 ∷ 25 ∷ 25 ∷ 25 ∷ 25 ∷ 25 ∷ 25 ∷ 25 ∷ 25 ∷ 25 ∷ 25 ∷ 25 ∷ 25 ∷ 25 ∷ 25 ∷ 25 ∷ 25 ∷ 25 ∷ 25 ∷ 25 ∷ 25 ∷ []
+class_table = 25 ∷ 25 ∷ 25 ∷ 25 ∷ 25 ∷ 25 ∷ 25 ∷ 25 ∷ 25 ∷ 5 ∷ 6 ∷ 25 ∷ 25 ∷ 5 ∷ 25 ∷ 25 ∷ 25 ∷ 25 ∷ 25 ∷ 25 ∷ 25 ∷ 25 ∷ 25 ∷ 25
+    ∷ 25 ∷ 25 ∷ 25 ∷ 25 ∷ 25 ∷ 25 ∷ 25 ∷ 25 ∷ 5 ∷ 24 ∷ 11 ∷ 24 ∷ 25 ∷ 24 ∷ 24 ∷ 25 ∷ 16 ∷ 17 ∷ 24 ∷ 24 ∷ 21 ∷ 9 ∷ 13 ∷ 7 ∷ 3 ∷ 4
+    ∷ 4 ∷ 4 ∷ 4 ∷ 4 ∷ 4 ∷ 4 ∷ 4 ∷ 4 ∷ 23 ∷ 20 ∷ 8 ∷ 22 ∷ 10 ∷ 24 ∷ 25 ∷ 1 ∷ 1 ∷ 1 ∷ 1 ∷ 1 ∷ 1 ∷ 0 ∷ 0 ∷ 0 ∷ 0 ∷ 0 ∷ 0 ∷ 0 ∷ 0 ∷ 0
+    ∷ 0 ∷ 0 ∷ 0 ∷ 0 ∷ 0 ∷ 0 ∷ 0 ∷ 0 ∷ 2 ∷ 0 ∷ 0 ∷ 18 ∷ 12 ∷ 19 ∷ 24 ∷ 0 ∷ 25 ∷ 1 ∷ 1 ∷ 1 ∷ 1 ∷ 1 ∷ 1 ∷ 0 ∷ 0 ∷ 0 ∷ 0 ∷ 0 ∷ 0 ∷ 0
+    ∷ 0 ∷ 0 ∷ 0 ∷ 0 ∷ 0 ∷ 0 ∷ 0 ∷ 0 ∷ 0 ∷ 0 ∷ 2 ∷ 0 ∷ 0 ∷ 14 ∷ 24 ∷ 15 ∷ 24 ∷ 25 ∷ 25 ∷ 25 ∷ 25 ∷ 25 ∷ 25 ∷ 25 ∷ 25 ∷ 25 ∷ 25 ∷ 25
+    ∷ 25 ∷ 25 ∷ 25 ∷ 25 ∷ 25 ∷ 25 ∷ 25 ∷ 25 ∷ 25 ∷ 25 ∷ 25 ∷ 25 ∷ 25 ∷ 25 ∷ 25 ∷ 25 ∷ 25 ∷ 25 ∷ 25 ∷ 25 ∷ 25 ∷ 25 ∷ 25 ∷ 25 ∷ 25
+    ∷ 25 ∷ 25 ∷ 25 ∷ 25 ∷ 25 ∷ 25 ∷ 25 ∷ 25 ∷ 25 ∷ 25 ∷ 25 ∷ 25 ∷ 25 ∷ 25 ∷ 25 ∷ 25 ∷ 25 ∷ 25 ∷ 25 ∷ 25 ∷ 25 ∷ 25 ∷ 25 ∷ 25 ∷ 25
+    ∷ 25 ∷ 25 ∷ 25 ∷ 25 ∷ 25 ∷ 25 ∷ 25 ∷ 25 ∷ 25 ∷ 25 ∷ 25 ∷ 25 ∷ 25 ∷ 25 ∷ 25 ∷ 25 ∷ 25 ∷ 25 ∷ 25 ∷ 25 ∷ 25 ∷ 25 ∷ 25 ∷ 25 ∷ 25
+    ∷ 25 ∷ 25 ∷ 25 ∷ 25 ∷ 25 ∷ 25 ∷ 25 ∷ 25 ∷ 25 ∷ 25 ∷ 25 ∷ 25 ∷ 25 ∷ 25 ∷ 25 ∷ 25 ∷ 25 ∷ 25 ∷ 25 ∷ 25 ∷ 25 ∷ 25 ∷ 25 ∷ 25 ∷ 25
+    ∷ 25 ∷ 25 ∷ 25 ∷ 25 ∷ 25 ∷ 25 ∷ 25 ∷ 25 ∷ 25 ∷ 25 ∷ 25 ∷ 25 ∷ 25 ∷ 25 ∷ 25 ∷ 25 ∷ 25 ∷ 25 ∷ []
 
 classes_are : class_table ≡ map class_of (range_with_len 0 256)
 unfolding class_of
 classes_are = refl
 
 pub class_in_table : (b : ℕ) → b < 256 → get_or class_table b 0 ≡ class_of b
-class_in_table b h = ap (λ (cs : List ℕ). get_or cs b 0) classes_are ∙ get_or-map-range_with_len class_of 0 256 b b 0 h (omega arith)
+class_in_table b h = ap (λ (cs : List ℕ). get_or cs b 0) classes_are ∙ get_or-map-range_with_len class_of 0 256 b b 0 h
+    (omega arith)
 
 -- what is true of each row's class and of c is true of the class that is given
-class_in_has : (Q : ℕ → Bool) (rows : List (ℕ × ℕ)) (c b : ℕ) → list_all (λ row. Q row.1) rows ≡ true → Q c ≡ true → Q (class_in rows c b) ≡ true
+class_in_has : (Q : ℕ → Bool) (rows : List (ℕ × ℕ)) (c b : ℕ) → list_all (λ row. Q row.1) rows ≡ true → Q c ≡ true
+    → Q (class_in rows c b) ≡ true
 class_in_has Q [] c b h g = g
 class_in_has Q (row ∷ rows) c b h g =
     let p = and_parts (Q row.1) (list_all (λ row. Q row.1) rows) h in
     elim (cases_Bool (b == row.0)) [ inl e ↦ rw e p.0 | inr e ↦ rw e (class_in_has Q rows c b p.1 g) ]
 
-pub sign_has : (Q : ℕ → Bool) (b : ℕ) → list_all (λ row. Q row.1) sign_rows ≡ true → list_all (λ row. Q row.1) mark_rows ≡ true → list_all (λ row. Q row.1) left_out_rows ≡ true → Q 25 ≡ true → Q (sign_class b) ≡ true
-sign_has Q b h g k l = class_in_has Q sign_rows (mark_class b) b h (class_in_has Q mark_rows (left_out_class b) b g (class_in_has Q left_out_rows 25 b k l))
+pub sign_has : (Q : ℕ → Bool) (b : ℕ) → list_all (λ row. Q row.1) sign_rows ≡ true → list_all (λ row. Q row.1) mark_rows ≡ true
+    → list_all (λ row. Q row.1) left_out_rows ≡ true → Q 25 ≡ true → Q (sign_class b) ≡ true
+sign_has Q b h g k l = class_in_has Q sign_rows (mark_class b) b h (class_in_has Q mark_rows (left_out_class b) b g
+    (class_in_has Q left_out_rows 25 b k l))
 
 -- what is true of both is true of either
 pub if_has : (Q : ℕ → Bool) (p : Bool) (x y : ℕ) → Q x ≡ true → Q y ≡ true → Q (cond p x y) ≡ true
@@ -41,7 +54,8 @@ in_line : (b : ℕ) → among (6 ∷ line_bytes) (class_of b) ≡ true
 unfolding class_of
 in_line b =
     if_has (among (6 ∷ line_bytes)) (is_digit b) (cond (b == 48) 3 4) _ (if_has (among (6 ∷ line_bytes)) (b == 48) 3 4 refl refl)
-    (if_has (among (6 ∷ line_bytes)) (is_hex_digit b) 1 _ refl (if_has (among (6 ∷ line_bytes)) (is_letter b) (cond (b == 120 || b == 88) 2 0) (sign_class b) (if_has (among (6 ∷ line_bytes)) (b == 120 || b == 88) 2 0 refl refl)
+    (if_has (among (6 ∷ line_bytes)) (is_hex_digit b) 1 _ refl (if_has (among (6 ∷ line_bytes)) (is_letter b)
+    (cond (b == 120 || b == 88) 2 0) (sign_class b) (if_has (among (6 ∷ line_bytes)) (b == 120 || b == 88) 2 0 refl refl)
     (sign_has (among (6 ∷ line_bytes)) b refl refl refl refl)))
 
 -- the class of a byte that is no digit
@@ -52,8 +66,10 @@ no_digit b = cond (is_hex_digit b) 1 (cond (is_letter b) (cond (b == 120 || b ==
 digit_alone : (b : ℕ) → is_digit b ≡ false → among digits (class_of b) ≡ false
 unfolding class_of
 digit_alone b h =
-    not-true (among digits (class_of b)) (subst (λ (c : ℕ). not (among digits c) ≡ true) (sym (if_false (is_digit b) (cond (b == 48) 3 4) (no_digit b) h)) (
-    if_has (λ c. not (among digits c)) (is_hex_digit b) 1 _ refl (if_has (λ c. not (among digits c)) (is_letter b) (cond (b == 120 || b == 88) 2 0) (sign_class b) (if_has (λ c. not (among digits c)) (b == 120 || b == 88) 2 0 refl refl)
+    not-true (among digits (class_of b)) (subst (λ (c : ℕ). not (among digits c) ≡ true)
+    (sym (if_false (is_digit b) (cond (b == 48) 3 4) (no_digit b) h)) (
+    if_has (λ c. not (among digits c)) (is_hex_digit b) 1 _ refl (if_has (λ c. not (among digits c)) (is_letter b)
+    (cond (b == 120 || b == 88) 2 0) (sign_class b) (if_has (λ c. not (among digits c)) (b == 120 || b == 88) 2 0 refl refl)
     (sign_has (λ c. not (among digits c)) b refl refl refl refl))))
 
 pub digit_class : (b : ℕ) → is_digit b ≡ true → among digits (class_of b) ≡ true
@@ -76,7 +92,8 @@ unfolding class_of
 zero_class b h = elim (cases_Bool (is_digit b)) [
   | inl d ↦ elim (cases_Bool (b == 48)) [
     | inl e ↦ eqb-true b 48 e
-    | inr e ↦ four_is_not_three (class_of b) (class_of b) (if_true (is_digit b) (cond (b == 48) 3 4) (no_digit b) d ∙ if_false (b == 48) 3 4 e) h refl
+    | inr e ↦ four_is_not_three (class_of b) (class_of b) (if_true (is_digit b) (cond (b == 48) 3 4) (no_digit b) d
+        ∙ if_false (b == 48) 3 4 e) h refl
   ]
   | inr d ↦ true_is_not_false (among digits (class_of b)) (rw h refl) (digit_alone b d)
 ]
@@ -104,17 +121,28 @@ one_of c d h = elim (cases_Bool (c == d)) [ inl e ↦ eqb-true c d e | inr e ↦
 
 -- the classes of digits
 pub digit_cases : (c : ℕ) → among digits c ≡ true → (c ≡ 3) ⊎ (c ≡ 4)
-digit_cases c h = elim (cases_Bool (c == 3)) [ inl e ↦ inl (eqb-true c 3 e) | inr e ↦ inr (one_of c 4 (sym (if_false (c == 3) true (among (4 ∷ []) c) e) ∙ h)) ]
+digit_cases c h = elim (cases_Bool (c == 3)) [
+  | inl e ↦ inl (eqb-true c 3 e)
+  | inr e ↦
+      inr (one_of c 4 (sym (if_false (c == 3) true (among (4 ∷ []) c) e) ∙ h))
+]
 
 pub blank_cases : (c : ℕ) → among blanks c ≡ true → (c ≡ 5) ⊎ (c ≡ 6)
-blank_cases c h = elim (cases_Bool (c == 5)) [ inl e ↦ inl (eqb-true c 5 e) | inr e ↦ inr (one_of c 6 (sym (if_false (c == 5) true (among (6 ∷ []) c) e) ∙ h)) ]
+blank_cases c h = elim (cases_Bool (c == 5)) [
+  | inl e ↦ inl (eqb-true c 5 e)
+  | inr e ↦
+      inr (one_of c 6 (sym (if_false (c == 5) true (among (6 ∷ []) c) e) ∙ h))
+]
 
 pub letter_cases : (c : ℕ) → among letters c ≡ true → (c ≡ 0) ⊎ ((c ≡ 1) ⊎ (c ≡ 2))
 letter_cases c h = elim (cases_Bool (c == 0)) [
   | inl e ↦ inl (eqb-true c 0 e)
   | inr e ↦ elim (cases_Bool (c == 1)) [
     | inl f ↦ inr (inl (eqb-true c 1 f))
-    | inr f ↦ inr (inr (one_of c 2 (sym (if_false (c == 1) true (among (2 ∷ []) c) f) ∙ sym (if_false (c == 0) true (among (1 ∷ 2 ∷ []) c) e) ∙ h)))
+    | inr f ↦
+        inr
+        (inr (one_of c 2 (sym (if_false (c == 1) true (among (2 ∷ []) c) f)
+        ∙ sym (if_false (c == 0) true (among (1 ∷ 2 ∷ []) c) e) ∙ h)))
   ]
 ]
 

@@ -19,26 +19,35 @@ gap_class b cs ds e = elim (cases_Bool (among blanks (class_of b))) [
   | inl h ↦ elim (blank_cases (class_of b) h) [ inl c ↦ rw c refl | inr c ↦ rw c refl ]
   | inr h ↦ elim (cases_Bool (class_of b == slash)) [
     | inl g ↦ rw (eqb-true (class_of b) slash g) refl
-    | inr g ↦ none_is_not ds (sym (if_false (class_of b == slash) (after_comment cs) None g) ∙ sym (if_false (among blanks (class_of b)) (Some cs) (cond (class_of b == slash) (after_comment cs) None) h) ∙ e)
+    | inr g ↦ none_is_not ds (sym (if_false (class_of b == slash) (after_comment cs) None g)
+        ∙ sym (if_false (among blanks (class_of b)) (Some cs) (cond (class_of b == slash) (after_comment cs) None) h) ∙ e)
   ]
 ]
 
 after_line_le : (bs : List ℕ) → length (after_line bs) ≤ length bs
 after_line_le [] = omega arith
-after_line_le (b ∷ bs) = elim (cases_Bool (b == 10)) [ inl h ↦ rw h (omega arith) | inr h ↦ let le = after_line_le bs in rw h (omega arith) ]
+after_line_le (b ∷ bs) = elim (cases_Bool (b == 10)) [
+  | inl h ↦ rw h (omega arith)
+  | inr h ↦ let le = after_line_le bs in
+      rw h (omega arith)
+]
 
 after_close_le : (bs cs : List ℕ) → after_close bs ≡ Some cs → length cs ≤ length bs
 after_close_le [] cs e = none_is_not cs e
 after_close_le (a ∷ []) cs e = none_is_not cs e
 after_close_le (a ∷ b ∷ bs) cs e = elim (cases_Bool (a == 42 && b == 47)) [
-  | inl h ↦ let same = some_of bs cs (sym (if_true (a == 42 && b == 47) (Some bs) (after_close (b ∷ bs)) h) ∙ e) in rw (← same) (omega arith)
-  | inr h ↦ let le = after_close_le (b ∷ bs) cs (sym (if_false (a == 42 && b == 47) (Some bs) (after_close (b ∷ bs)) h) ∙ e) in omega arith
+  | inl h ↦ let same = some_of bs cs (sym (if_true (a == 42 && b == 47) (Some bs) (after_close (b ∷ bs)) h) ∙ e) in
+      rw (← same) (omega arith)
+  | inr h ↦ let le = after_close_le (b ∷ bs) cs (sym (if_false (a == 42 && b == 47) (Some bs) (after_close (b ∷ bs)) h) ∙ e) in
+      omega arith
 ]
 
 after_comment_le : (bs cs : List ℕ) → after_comment bs ≡ Some cs → length cs ≤ length bs
 after_comment_le [] cs e = none_is_not cs e
 after_comment_le (b ∷ bs) cs e = elim (cases_Bool (b == 47)) [
-  | inl h ↦ let same = some_of (after_line bs) cs (sym (if_true (b == 47) (Some (after_line bs)) (cond (b == 42) (after_close bs) None) h) ∙ e) in let le = after_line_le bs in rw (← same) (omega arith)
+  | inl h ↦ let same =
+      some_of (after_line bs) cs (sym (if_true (b == 47) (Some (after_line bs)) (cond (b == 42) (after_close bs) None) h) ∙ e) in
+      let le = after_line_le bs in rw (← same) (omega arith)
   | inr h ↦ go (b == 42) (sym (if_false (b == 47) (Some (after_line bs)) (cond (b == 42) (after_close bs) None) h) ∙ e)
 ]
   where
@@ -52,7 +61,8 @@ unfolding one_gap
 gap_eats [] cs e = none_is_not cs e
 gap_eats (b ∷ bs) cs e = go (among blanks (class_of b)) (class_of b == slash) e
   where
-    go : (is_blank is_slash : Bool) → cond is_blank (Some bs) (cond is_slash (after_comment bs) None) ≡ Some cs → length cs < length (b ∷ bs)
+    go : (is_blank is_slash : Bool) → cond is_blank (Some bs) (cond is_slash (after_comment bs) None) ≡ Some cs
+        → length cs < length (b ∷ bs)
     go true is_slash q = let same = some_of bs cs q in rw (← same) (omega arith)
     go false true q = let le = after_comment_le bs cs q in omega arith
     go false false q = none_is_not cs q
@@ -69,7 +79,10 @@ pub fault_no_gap : (bs cs : List ℕ) (f : Code × List ℕ) → fault_at bs ≡
 unfolding fault_at one_gap
 fault_no_gap [] cs f h e = none_is_not cs e
 fault_no_gap (b ∷ bs) cs f h e = elim (cases_Bool (among blanks (class_of b))) [
-  | inl g ↦ elim (blank_cases (class_of b) g) [ inl c ↦ none_fault f (sym (let p : fault_at (b ∷ bs) ≡ None = rw c refl in p) ∙ h) | inr c ↦ none_fault f (sym (let p : fault_at (b ∷ bs) ≡ None = rw c refl in p) ∙ h) ]
+  | inl g ↦ elim (blank_cases (class_of b) g) [
+    | inl c ↦ none_fault f (sym (let p : fault_at (b ∷ bs) ≡ None = rw c refl in p) ∙ h)
+    | inr c ↦ none_fault f (sym (let p : fault_at (b ∷ bs) ≡ None = rw c refl in p) ∙ h)
+  ]
   | inr g ↦ elim (cases_Bool (class_of b == slash)) [
     | inl k ↦
         let c = eqb-true (class_of b) slash k in
@@ -77,6 +90,7 @@ fault_no_gap (b ∷ bs) cs f h e = elim (cases_Bool (among blanks (class_of b)))
         let p : fault_at (b ∷ bs) ≡ slash_fault (b ∷ bs) = rw c refl in
         let q : slash_fault (b ∷ bs) ≡ None = rw gap refl in
         none_fault f (sym (p ∙ q) ∙ h)
-    | inr k ↦ none_is_not cs (sym (if_false (class_of b == slash) (after_comment bs) None k) ∙ sym (if_false (among blanks (class_of b)) (Some bs) (cond (class_of b == slash) (after_comment bs) None) g) ∙ e)
+    | inr k ↦ none_is_not cs (sym (if_false (class_of b == slash) (after_comment bs) None k)
+        ∙ sym (if_false (among blanks (class_of b)) (Some bs) (cond (class_of b == slash) (after_comment bs) None) g) ∙ e)
   ]
 ]

@@ -18,26 +18,31 @@ abbrev other_word : List ℕ → Keyword → Type 0
 other_word word k = word ≢ spelling k
 
 -- the keyword of a word stands in a row where a row has the word
-stands : (rows : List Keyword) (word : List ℕ) (k : Keyword) → keyword_of word ≡ Some k → list_any (has_word word) rows ≡ true → Contains rows k
+stands : (rows : List Keyword) (word : List ℕ) (k : Keyword) → keyword_of word ≡ Some k → list_any (has_word word) rows ≡ true
+    → Contains rows k
 stands [] word k e h = absurd cc
 stands (j ∷ rows) word k e h = elim (cases_Bool (has_word word j)) [
   | inl own ↦
       let f : Some k ≡ Some j = sym e ∙ is_found word j own in
       let same : k ≡ j = cc in
       subst (λ (i : Keyword). Contains (i ∷ rows) k) same (Contains-append_left (k ∷ []) rows k (Contains-push [] k))
-  | inr other ↦ Contains-append_right (j ∷ []) rows k (stands rows word k e (sym (ap (λ b. b || list_any (has_word word) rows) other) ∙ h))
+  | inr other ↦
+      Contains-append_right (j ∷ []) rows k (stands rows word k e (sym (ap (λ b. b || list_any (has_word word) rows) other) ∙ h))
 ]
 
-pub is_row : (rows : List Keyword) (word : List ℕ) (k : Keyword) → keyword_of word ≡ Some k → list_any (λ j. bytes_eq (spelling j) word) rows ≡ true → IsRowOf rows word (Some k)
+pub is_row : (rows : List Keyword) (word : List ℕ) (k : Keyword) → keyword_of word ≡ Some k
+    → list_any (λ j. bytes_eq (spelling j) word) rows ≡ true → IsRowOf rows word (Some k)
 is_row rows word k e h = (stands rows word k e h, (keyword_is word k).0 e)
 
 -- no row has the word
-pub is_no_row : (rows : List Keyword) (word : List ℕ) → list_any (λ j. bytes_eq (spelling j) word) rows ≡ false → IsRowOf rows word None
+pub is_no_row : (rows : List Keyword) (word : List ℕ) → list_any (λ j. bytes_eq (spelling j) word) rows ≡ false
+    → IsRowOf rows word None
 is_no_row [] word h = All-nil (other_word word)
 is_no_row (j ∷ rows) word h = elim (cases_Bool (has_word word j)) [
   | inl own ↦ true_is_not_false (list_any (has_word word) (j ∷ rows)) (ap (λ b. b || list_any (has_word word) rows) own) h
   | inr other ↦
-      All-cons (other_word word) j rows (λ w. true_is_not_false (has_word word j) ((bytes_eq-Decides (spelling j) word).1 (sym w)) other)
+      All-cons (other_word word) j rows
+      (λ w. true_is_not_false (has_word word j) ((bytes_eq-Decides (spelling j) word).1 (sym w)) other)
       (is_no_row rows word (sym (ap (λ b. b || list_any (has_word word) rows) other) ∙ h))
 ]
 

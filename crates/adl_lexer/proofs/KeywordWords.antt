@@ -14,7 +14,8 @@ use Rattle.adl_lexer.specs.Keywords.{spelling, all_keywords, named_by, keyword_o
 found : (ks : List Keyword) (word : List ℕ) (k : Keyword) → named_by ks word ≡ Some k → bytes_eq (spelling k) word ≡ true
 found [] word k e = absurd cc
 found (j ∷ ks) word k e = elim (cases_Bool (bytes_eq (spelling j) word)) [
-  | inl h ↦ let same : Some j ≡ Some k = sym (if_true (bytes_eq (spelling j) word) (Some j) (named_by ks word) h) ∙ e in subst (λ (i : Keyword). bytes_eq (spelling i) word ≡ true) (let p : j ≡ k = cc in p) h
+  | inl h ↦ let same : Some j ≡ Some k = sym (if_true (bytes_eq (spelling j) word) (Some j) (named_by ks word) h) ∙ e in
+      subst (λ (i : Keyword). bytes_eq (spelling i) word ≡ true) (let p : j ≡ k = cc in p) h
   | inr h ↦ found ks word k (sym (if_false (bytes_eq (spelling j) word) (Some j) (named_by ks word) h) ∙ e)
 ]
 
@@ -52,13 +53,18 @@ own_word keys.KUses = refl
 
 pub keyword_is : (word : List ℕ) (k : Keyword) → (keyword_of word ≡ Some k) ↔ (word ≡ spelling k)
 unfolding keyword_of
-keyword_is word k = (λ e. sym ((bytes_eq-Decides (spelling k) word).0 (found all_keywords word k e)), λ e. ap keyword_of e ∙ own_word k)
+keyword_is word k = (
+  λ e. sym ((bytes_eq-Decides (spelling k) word).0 (found all_keywords word k e)),
+  λ e. ap keyword_of e
+      ∙ own_word k,
+)
 
 -- a word that no keyword has is none, and the other way round
 pub no_keyword : (word : List ℕ) → (keyword_of word ≡ None) ↔ ((k : Keyword) → word ≡ spelling k → ⊥)
 no_keyword word = (λ e k w. some_keyword (keyword_is word k) e w, λ h. go (keyword_of word) refl h)
   where
-    some_keyword : {k : Keyword} → ((keyword_of word ≡ Some k) ↔ (word ≡ spelling k)) → keyword_of word ≡ None → word ≡ spelling k → ⊥
+    some_keyword : {k : Keyword} → ((keyword_of word ≡ Some k) ↔ (word ≡ spelling k)) → keyword_of word ≡ None
+        → word ≡ spelling k → ⊥
     some_keyword {k = k} is e w = let f : Some k ≡ None = sym (is.1 w) ∙ e in absurd cc
 
     go : (o : Option Keyword) → keyword_of word ≡ o → ((k : Keyword) → word ≡ spelling k → ⊥) → o ≡ None
@@ -115,7 +121,8 @@ is_no_candidate word c = go (keyword_of word) refl
     go (Some k) e = let f : Some k ≡ None = sym (its_candidate word k e) ∙ c in absurd cc
 
 -- a word that isn't that of its candidate is no keyword
-pub is_other_word : (word : List ℕ) (k : Keyword) → candidate word ≡ Some k → bytes_eq (spelling k) word ≡ false → keyword_of word ≡ None
+pub is_other_word : (word : List ℕ) (k : Keyword) → candidate word ≡ Some k → bytes_eq (spelling k) word ≡ false
+    → keyword_of word ≡ None
 is_other_word word k c h = go (keyword_of word) refl
   where
     go : (o : Option Keyword) → keyword_of word ≡ o → o ≡ None
@@ -123,4 +130,5 @@ is_other_word word k c h = go (keyword_of word) refl
     go (Some j) e =
         let f : Some j ≡ Some k = sym (its_candidate word j e) ∙ c in
         let same : j ≡ k = cc in
-        true_is_not_false (bytes_eq (spelling k) word) ((bytes_eq-Decides (spelling k) word).1 (ap spelling (sym same) ∙ sym ((keyword_is word j).0 e))) h
+        true_is_not_false (bytes_eq (spelling k) word) ((bytes_eq-Decides (spelling k) word).1 (ap spelling (sym same)
+        ∙ sym ((keyword_is word j).0 e))) h

@@ -6,8 +6,10 @@ use Rattle.std.specs.Str.{bytes_eq}
 use Rattle.cam_base.proofs.Bytes.{other_length}
 use Rattle.adl_lexer.specs.LexFaults.{is_left_out_word}
 
-not_connector : (word : List ℕ) → (length word ≡ 9 → ⊥) → is_left_out_word word ≡ (bytes_eq word (codes "struct") || (bytes_eq word (codes "enum") || false))
-not_connector word n = ap (λ (b : Bool). b || (bytes_eq word (codes "struct") || (bytes_eq word (codes "enum") || false))) (other_length word (codes "connector") n)
+not_connector : (word : List ℕ) → (length word ≡ 9 → ⊥)
+    → is_left_out_word word ≡ (bytes_eq word (codes "struct") || (bytes_eq word (codes "enum") || false))
+not_connector word n = ap (λ (b : Bool). b || (bytes_eq word (codes "struct") || (bytes_eq word (codes "enum") || false)))
+    (other_length word (codes "connector") n)
 
 not_struct : (word : List ℕ) (b : Bool) → (length word ≡ 6 → ⊥) → (bytes_eq word (codes "struct") || b) ≡ b
 not_struct word b n = ap (λ (c : Bool). c || b) (other_length word (codes "struct") n)
@@ -17,7 +19,8 @@ not_enum word n = ap (λ (b : Bool). b || false) (other_length word (codes "enum
 
 pub of_nine : (word : List ℕ) → length word ≡ 9 → is_left_out_word word ≡ bytes_eq word (codes "connector")
 of_nine word h =
-    ap (λ (b : Bool). bytes_eq word (codes "connector") || b) (not_struct word (bytes_eq word (codes "enum") || false) (λ e. absurd (omega (arith, h, e))) ∙ not_enum word (λ e. absurd (omega (arith, h, e))))
+    ap (λ (b : Bool). bytes_eq word (codes "connector") || b) (not_struct word (bytes_eq word (codes "enum") || false)
+    (λ e. absurd (omega (arith, h, e))) ∙ not_enum word (λ e. absurd (omega (arith, h, e))))
     ∙ or-false (bytes_eq word (codes "connector"))
 
 pub of_six : (word : List ℕ) → length word ≡ 6 → is_left_out_word word ≡ bytes_eq word (codes "struct")
@@ -32,5 +35,7 @@ of_four word h =
     ∙ not_struct word (bytes_eq word (codes "enum") || false) (λ e. absurd (omega (arith, h, e)))
     ∙ or-false (bytes_eq word (codes "enum"))
 
-pub of_another : (word : List ℕ) → (length word ≡ 9 → ⊥) → (length word ≡ 6 → ⊥) → (length word ≡ 4 → ⊥) → is_left_out_word word ≡ false
-of_another word nine six four = not_connector word nine ∙ not_struct word (bytes_eq word (codes "enum") || false) six ∙ not_enum word four
+pub of_another : (word : List ℕ) → (length word ≡ 9 → ⊥) → (length word ≡ 6 → ⊥) → (length word ≡ 4 → ⊥)
+    → is_left_out_word word ≡ false
+of_another word nine six four = not_connector word nine ∙ not_struct word (bytes_eq word (codes "enum") || false) six
+    ∙ not_enum word four

@@ -77,7 +77,10 @@ word_no_byte word = elim (cases_Bool (nat_lt 127 (length word))) [
 number_no_byte : (o : Option ℕ) (text rest : List ℕ) → is_byte (number_fault_by o text rest) ≡ false
 unfolding is_byte is_code
 number_no_byte None text rest = refl
-number_no_byte (Some n) text rest = elim (cases_Bool (list_all is_digit text && is_fraction rest)) [ inl h ↦ rw h refl | inr h ↦ rw h refl ]
+number_no_byte (Some n) text rest = elim (cases_Bool (list_all is_digit text && is_fraction rest)) [
+  | inl h ↦ rw h refl
+  | inr h ↦ rw h refl
+]
 
 not_that : (c d : ℕ) → among (d ∷ []) c ≡ false → (c == d) ≡ false
 not_that c d h = elim (cases_Bool (c == d)) [ inl e ↦ true_is_not_false (among (d ∷ []) c) (rw e refl) h | inr e ↦ e ]
@@ -104,18 +107,23 @@ is_stopped : Result (Kind × List ℕ) Stop → Bool
 is_stopped (Ok x) = false
 is_stopped (Err e) = true
 
-no_angle : (b : ℕ) (bs : List ℕ) → class_of b ≡ less → after_byte minus bs ≡ None → after_angle bs ≡ None → is_stopped (reads less_line (b ∷ bs)) ≡ true
+no_angle : (b : ℕ) (bs : List ℕ) → class_of b ≡ less → after_byte minus bs ≡ None → after_angle bs ≡ None
+    → is_stopped (reads less_line (b ∷ bs)) ≡ true
 unfolding less_line is_stopped
 no_angle b [] h g e = rw h refl
 no_angle b (c ∷ bs) h g e = elim (cases_Bool (among angle_first (class_of c))) [
-  | inl f ↦ ends (after_run angle_bytes bs) refl f (sym (if_true (among angle_first (class_of c)) (after_byte greater (after_run angle_bytes bs)) None f) ∙ e)
+  | inl f ↦
+      ends (after_run angle_bytes bs) refl f
+      (sym (if_true (among angle_first (class_of c)) (after_byte greater (after_run angle_bytes bs)) None f) ∙ e)
   | inr f ↦ rw (h, not_one_byte minus (c ∷ bs) g, f) refl
 ]
   where
-    ends : (r : List ℕ) → after_run angle_bytes bs ≡ r → among angle_first (class_of c) ≡ true → after_byte greater (after_run angle_bytes bs) ≡ None → is_stopped (reads less_line (b ∷ c ∷ bs)) ≡ true
+    ends : (r : List ℕ) → after_run angle_bytes bs ≡ r → among angle_first (class_of c) ≡ true
+        → after_byte greater (after_run angle_bytes bs) ≡ None → is_stopped (reads less_line (b ∷ c ∷ bs)) ≡ true
     ends [] p f n = rw (h, not_one_byte minus (c ∷ bs) g, f, run_is angle_bytes bs, p) refl
     ends (d ∷ r) p f n =
-        let last : among (greater ∷ []) (class_of d) ≡ false = not_one_byte greater (d ∷ r) (sym (ap (after_byte greater) p) ∙ n) in
+        let last : among (greater ∷ []) (class_of d) ≡ false =
+        not_one_byte greater (d ∷ r) (sym (ap (after_byte greater) p) ∙ n) in
         rw (h, not_one_byte minus (c ∷ bs) g, f, run_is angle_bytes bs, p, last) refl
 
 less_exact : Exact class_of flat [] too_deep less_line
@@ -127,7 +135,8 @@ unfolding less_line
 less_ends = refl
 
 -- a < that begins a token is at no such fault
-less_no_byte : (k : Kind) (b : ℕ) (bs a rest : List ℕ) → b ∷ bs ≡ (b ∷ a) ++ rest → Spells class_of flat less_line k (b ∷ a) → is_byte (fault_at (b ∷ bs)) ≡ false
+less_no_byte : (k : Kind) (b : ℕ) (bs a rest : List ℕ) → b ∷ bs ≡ (b ∷ a) ++ rest → Spells class_of flat less_line k (b ∷ a)
+    → is_byte (fault_at (b ∷ bs)) ≡ false
 unfolding fault_at is_byte is_code is_stopped
 less_no_byte k b bs a rest p s = go (after_byte minus bs) (after_angle bs) refl refl
   where
@@ -139,16 +148,19 @@ less_no_byte k b bs a rest p s = go (after_byte minus bs) (after_angle bs) refl 
 
     go : (o q : Option (List ℕ)) → after_byte minus bs ≡ o → after_angle bs ≡ q → is_byte (fault_at (b ∷ bs)) ≡ false
     go (Some x) q e f = ap is_byte (fault ∙ ap (λ w. unless (or_else w (after_angle bs)) code.Byte (b ∷ [])) e)
-    go None (Some x) e f = ap is_byte (fault ∙ ap (λ w. unless (or_else w (after_angle bs)) code.Byte (b ∷ [])) e ∙ ap (λ w. unless w code.Byte (b ∷ [])) f)
+    go None (Some x) e f = ap is_byte (fault ∙ ap (λ w. unless (or_else w (after_angle bs)) code.Byte (b ∷ [])) e
+        ∙ ap (λ w. unless w code.Byte (b ∷ [])) f)
     go None None e f =
-        let read : reads less_line (b ∷ bs) ≡ Ok (k, rest) = ap (reads less_line) p ∙ less_exact.complete k (b ∷ a) rest s (subst (λ (cs : List ℕ). starts class_of cs rest ≡ false) (sym less_ends) (starts_none class_of rest)) in
+        let read : reads less_line (b ∷ bs) ≡ Ok (k, rest) = ap (reads less_line) p ∙ less_exact.complete k (b ∷ a) rest s
+        (subst (λ (cs : List ℕ). starts class_of cs rest ≡ false) (sym less_ends) (starts_none class_of rest)) in
         true_is_not_false (is_stopped (reads less_line (b ∷ bs))) (no_angle b bs c e f) (ap is_stopped read)
 
 module _ (k : Kind) (b : ℕ) (a rest bs : List ℕ) (p : b ∷ bs ≡ (b ∷ a) ++ rest) where
   token_no_byte : Spells class_of flat token_form k (b ∷ a) → is_byte (fault_at (b ∷ bs)) ≡ false
   unfolding fault_at is_code
   token_no_byte (inl s) = ap is_byte (word_start (b ∷ bs) (word_first k b a s)).1 ∙ word_no_byte (run word_bytes (b ∷ bs))
-  token_no_byte (inr (inl s)) = ap is_byte (number_start (b ∷ bs) (number_first k b a s)).1 ∙ number_no_byte (number_value (run word_bytes (b ∷ bs))) (run word_bytes (b ∷ bs)) (after_run word_bytes (b ∷ bs))
+  token_no_byte (inr (inl s)) = ap is_byte (number_start (b ∷ bs) (number_first k b a s)).1
+      ∙ number_no_byte (number_value (run word_bytes (b ∷ bs))) (run word_bytes (b ∷ bs)) (after_run word_bytes (b ∷ bs))
   token_no_byte (inr (inr (inl s))) =
       let c = text_first k b a s in
       let fault : fault_at (b ∷ bs) ≡ text_fault (b ∷ bs) = rw c refl in
@@ -161,7 +173,8 @@ module _ (k : Kind) (b : ℕ) (a rest bs : List ℕ) (p : b ∷ bs ≡ (b ∷ a)
   token_no_byte (inr (inr (inr (inr (inr s))))) = mark_no_byte b bs (mark_first k b a s)
 
 -- where such a fault stands, no token's bytes do
-pub byte_begins_nothing : (bs text : List ℕ) → fault_at bs ≡ Some (code.Byte, text) → (k : Kind) (a rest : List ℕ) → bs ≡ a ++ rest → Spells class_of flat token_form k a → ⊥
+pub byte_begins_nothing : (bs text : List ℕ) → fault_at bs ≡ Some (code.Byte, text) → (k : Kind) (a rest : List ℕ)
+    → bs ≡ a ++ rest → Spells class_of flat token_form k a → ⊥
 unfolding is_byte is_code
 byte_begins_nothing bs text e k [] rest p s = true_is_not_false (can_be_empty token_form) (token_exact.null k s) token_full
 byte_begins_nothing bs text e k (b ∷ a) rest p s =

@@ -7,7 +7,8 @@ use Rattle.adl_lexer.specs.Places.{PlacesRise}
 use Rattle.adl_lexer.proofs.Gaps.{gap_le}
 use Rattle.adl_lexer.proofs.Steps.{token_eats}
 
-pub rise_from : (file total at : ℕ) (bs : List ℕ) (ts : List Token) → length bs ≤ total → at ≤ total - length bs → LexesFrom file total bs ts → PlacesRise file total at ts
+pub rise_from : (file total at : ℕ) (bs : List ℕ) (ts : List Token) → length bs ≤ total → at ≤ total - length bs
+    → LexesFrom file total bs ts → PlacesRise file total at ts
 rise_from file total at bs [] within le l = omega (arith, within, le)
 rise_from file total at bs (t ∷ ts) within le l =
     let here = l.0 in

@@ -39,8 +39,11 @@ module _ (b : ℕ) (bs : List ℕ) (clean : fault_at (b ∷ bs) ≡ None) where
   number_progress h = go (number_value (run word_bytes (b ∷ bs))) refl
     where
       go : (o : Option ℕ) → number_value (run word_bytes (b ∷ bs)) ≡ o → HasToken (b ∷ bs)
-      go None e = some_is_not (code.Number, run word_bytes (b ∷ bs)) (sym (ap (λ o. number_fault_by o (run word_bytes (b ∷ bs)) (after_run word_bytes (b ∷ bs))) e) ∙ sym (number_start (b ∷ bs) h).1 ∙ clean)
-      go (Some n) e = read_token (b ∷ bs) (kinds.Number n) (after_run word_bytes (b ∷ bs)) ((number_start (b ∷ bs) h).0 ∙ number_read (b ∷ bs) n h e) clean
+      go None e = some_is_not (code.Number, run word_bytes (b ∷ bs))
+          (sym (ap (λ o. number_fault_by o (run word_bytes (b ∷ bs)) (after_run word_bytes (b ∷ bs))) e)
+          ∙ sym (number_start (b ∷ bs) h).1 ∙ clean)
+      go (Some n) e = read_token (b ∷ bs) (kinds.Number n) (after_run word_bytes (b ∷ bs)) ((number_start (b ∷ bs) h).0
+          ∙ number_read (b ∷ bs) n h e) clean
 
   text_progress : class_of b ≡ quote → HasToken (b ∷ bs)
   unfolding fault_at
@@ -63,22 +66,31 @@ module _ (b : ℕ) (bs : List ℕ) (clean : fault_at (b ∷ bs) ≡ None) where
   less_progress c =
       let fault : fault_at (b ∷ bs) ≡ less_fault (b ∷ bs) = rw c refl in
       let start : reads token_form (b ∷ bs) ≡ reads less_line (b ∷ bs) = rw c refl in
-      go (after_byte minus bs) refl start (has_rest (or_else (after_byte minus bs) (after_angle bs)) code.Byte (b ∷ []) (sym fault ∙ clean))
+      go (after_byte minus bs) refl start (has_rest (or_else (after_byte minus bs) (after_angle bs)) code.Byte (b ∷ [])
+      (sym fault ∙ clean))
     where
-      go : (o : Option (List ℕ)) → after_byte minus bs ≡ o → reads token_form (b ∷ bs) ≡ reads less_line (b ∷ bs) → (rest : List ℕ) × (or_else (after_byte minus bs) (after_angle bs) ≡ Some rest) → HasToken (b ∷ bs)
+      go : (o : Option (List ℕ)) → after_byte minus bs ≡ o → reads token_form (b ∷ bs) ≡ reads less_line (b ∷ bs)
+          → (rest : List ℕ) × (or_else (after_byte minus bs) (after_angle bs) ≡ Some rest) → HasToken (b ∷ bs)
       go (Some x) e start r = read_token (b ∷ bs) (kinds.Mark marks.Back) x (start ∙ back_read b bs x c e) clean
-      go None e start r = read_token (b ∷ bs) kinds.Angle r.0 (start ∙ angle_read b bs r.0 c e (sym (ap (λ o. or_else o (after_angle bs)) e) ∙ r.1)) clean
+      go None e start r =
+          read_token (b ∷ bs) kinds.Angle r.0 (start ∙ angle_read b bs r.0 c e (sym (ap (λ o. or_else o (after_angle bs)) e)
+          ∙ r.1)) clean
 
   slash_progress : class_of b ≡ slash → one_gap (b ∷ bs) ≡ None → HasToken (b ∷ bs)
   unfolding fault_at one_gap
   slash_progress c gap =
       let fault : fault_at (b ∷ bs) ≡ slash_fault (b ∷ bs) = rw c refl in
       let none_left : one_gap (b ∷ bs) ≡ after_comment bs = rw c refl in
-      let r = has_rest (after_comment bs) (cond (is_star bs) code.Unclosed code.LeftOut) (cond (is_star bs) (b ∷ bs) (b ∷ [])) (sym fault ∙ clean) in
+      let r = has_rest (after_comment bs) (cond (is_star bs) code.Unclosed code.LeftOut) (cond (is_star bs) (b ∷ bs) (b ∷ []))
+      (sym fault ∙ clean) in
       some_is_not r.0 (sym r.1 ∙ sym none_left ∙ gap)
 
 first_or_later : (c : ℕ) (cs : List ℕ) (x : ℕ) → among (c ∷ cs) x ≡ true → (x ≡ c) ⊎ (among cs x ≡ true)
-first_or_later c cs x h = elim (cases_Bool (x == c)) [ inl e ↦ inl (eqb-true x c e) | inr e ↦ inr (sym (if_false (x == c) true (among cs x) e) ∙ h) ]
+first_or_later c cs x h = elim (cases_Bool (x == c)) [
+  | inl e ↦ inl (eqb-true x c e)
+  | inr e ↦
+      inr (sym (if_false (x == c) true (among cs x) e) ∙ h)
+]
 
 mark_read : (b : ℕ) (bs : List ℕ) → among mark_bytes (class_of b) ≡ true → (k : Kind) × (reads mark_line (b ∷ bs) ≡ Ok (k, bs))
 unfolding mark_line
@@ -113,7 +125,8 @@ mark_read b bs h =
                                                           elim (first_or_later 22 (23 ∷ []) (class_of b) h) [
                                                             | inl c ↦ (kinds.Mark marks.Equals, rw c refl)
                                                             | inr h ↦
-                                                                let c = one_of (class_of b) 23 h in (kinds.Mark marks.Colon, rw c refl)
+                                                                let c = one_of (class_of b) 23 h in
+                                                                (kinds.Mark marks.Colon, rw c refl)
                                                           ]
                                                     ]
                                               ]
@@ -128,13 +141,16 @@ mark_read b bs h =
 faultless_sign : (b : ℕ) (bs : List ℕ) → sign_fault (b ∷ bs) ≡ None → among mark_bytes (class_of b) ≡ true
 faultless_sign b bs e = go (class_of b == left_out) (among mark_bytes (class_of b)) e
   where
-    go : (is_left_out is_mark : Bool) → cond {A = Found} is_left_out (Some (code.LeftOut, b ∷ [])) (cond {A = Found} is_mark None (Some (code.Byte, b ∷ []))) ≡ None → is_mark ≡ true
+    go : (is_left_out is_mark : Bool) → cond {A = Found} is_left_out (Some (code.LeftOut, b ∷ []))
+        (cond {A = Found} is_mark None (Some (code.Byte, b ∷ []))) ≡ None → is_mark ≡ true
     go true is_mark q = some_is_not (code.LeftOut, b ∷ []) q
     go false true q = refl
     go false false q = some_is_not (code.Byte, b ∷ []) q
 
 module _ (b : ℕ) (bs : List ℕ) (gap : one_gap (b ∷ bs) ≡ None) (clean : fault_at (b ∷ bs) ≡ None) where
-  sign_progress : among letters (class_of b) ≡ false → among digits (class_of b) ≡ false → among blanks (class_of b) ≡ false → (class_of b == slash) ≡ false → (class_of b == less) ≡ false → (class_of b == minus) ≡ false → (class_of b == quote) ≡ false → HasToken (b ∷ bs)
+  sign_progress : among letters (class_of b) ≡ false → among digits (class_of b) ≡ false → among blanks (class_of b) ≡ false
+      → (class_of b == slash) ≡ false → (class_of b == less) ≡ false → (class_of b == minus) ≡ false
+      → (class_of b == quote) ≡ false → HasToken (b ∷ bs)
   unfolding fault_at
   sign_progress h1 h2 h3 h4 h5 h6 h7 =
       let fault : fault_at (b ∷ bs) ≡ sign_fault (b ∷ bs) = rw (h1, h2, h3, h4, h5, h6, h7) refl in
@@ -144,7 +160,9 @@ module _ (b : ℕ) (bs : List ℕ) (gap : one_gap (b ∷ bs) ≡ None) (clean : 
 
   blank_progress : among blanks (class_of b) ≡ true → HasToken (b ∷ bs)
   unfolding one_gap
-  blank_progress h = some_is_not bs (sym (if_true (among blanks (class_of b)) (Some bs) (cond (class_of b == slash) (after_comment bs) None) h) ∙ gap)
+  blank_progress h =
+      some_is_not bs (sym (if_true (among blanks (class_of b)) (Some bs) (cond (class_of b == slash) (after_comment bs) None) h)
+      ∙ gap)
 
   -- where no blank and no comment begins and no fault stands, a token does
   pub progress : HasToken (b ∷ bs)
@@ -167,7 +185,12 @@ module _ (b : ℕ) (bs : List ℕ) (gap : one_gap (b ∷ bs) ≡ None) (clean : 
                                     elim (cases_Bool (class_of b == minus)) [
                                       | inl h ↦ minus_progress b bs clean (eqb-true (class_of b) minus h)
                                       | inr h6 ↦
-                                          elim (cases_Bool (class_of b == quote)) [ inl h ↦ text_progress b bs clean (eqb-true (class_of b) quote h) | inr h7 ↦ sign_progress h1 h2 h3 h4 h5 h6 h7 ]
+                                          elim (cases_Bool (class_of b == quote)) [
+                                            | inl h ↦
+                                                text_progress b bs clean (eqb-true (class_of b) quote h)
+                                            | inr h7 ↦
+                                                sign_progress h1 h2 h3 h4 h5 h6 h7
+                                          ]
                                     ]
                               ]
                         ]

@@ -26,7 +26,8 @@ letter_is_word : (c : ℕ) → among letters c ≡ true → among word_bytes c �
 letter_is_word c h = among-left letters digits c h
 
 -- a word is read whole
-pub word_read : (bs : List ℕ) → starts class_of letters bs ≡ true → reads word_line bs ≡ Ok (word_kind (run word_bytes bs), after_run word_bytes bs)
+pub word_read : (bs : List ℕ) → starts class_of letters bs ≡ true
+    → reads word_line bs ≡ Ok (word_kind (run word_bytes bs), after_run word_bytes bs)
 unfolding word_line
 word_read [] h = absurd cc
 word_read (b ∷ bs) h = rw (h, letter_is_word (class_of b) h, run_is word_bytes bs) refl
@@ -43,7 +44,11 @@ some_of x y e = cc
 one_byte : (c : ℕ) (bs rest : List ℕ) → after_byte c bs ≡ Some rest → (b : ℕ) × (bs ≡ b ∷ rest) × (class_of b ≡ c)
 one_byte c [] rest e = none_is_not rest e
 one_byte c (b ∷ bs) rest e = elim (cases_Bool (class_of b == c)) [
-  | inl f ↦ (b, ap (λ (w : List ℕ). b ∷ w) (some_of bs rest (sym (if_true (class_of b == c) (Some bs) None f) ∙ e)), eqb-true (class_of b) c f)
+  | inl f ↦ (
+    b,
+    ap (λ (w : List ℕ). b ∷ w) (some_of bs rest (sym (if_true (class_of b == c) (Some bs) None f) ∙ e)),
+    eqb-true (class_of b) c f,
+  )
   | inr f ↦ none_is_not rest (sym (if_false (class_of b == c) (Some bs) None f) ∙ e)
 ]
 
@@ -55,21 +60,27 @@ not_one_byte c (b ∷ bs) e = elim (cases_Bool (class_of b == c)) [
 ]
 
 -- an angle name is read whole
-pub angle_read : (b : ℕ) (bs rest : List ℕ) → class_of b ≡ less → after_byte minus bs ≡ None → after_angle bs ≡ Some rest → reads less_line (b ∷ bs) ≡ Ok (kinds.Angle, rest)
+pub angle_read : (b : ℕ) (bs rest : List ℕ) → class_of b ≡ less → after_byte minus bs ≡ None → after_angle bs ≡ Some rest
+    → reads less_line (b ∷ bs) ≡ Ok (kinds.Angle, rest)
 unfolding less_line
 angle_read b [] rest h g e = none_is_not rest e
 angle_read b (c ∷ bs) rest h g e = elim (cases_Bool (among angle_first (class_of c))) [
   | inl f ↦
-      let end = one_byte greater (after_run angle_bytes bs) rest (sym (if_true (among angle_first (class_of c)) (after_byte greater (after_run angle_bytes bs)) None f) ∙ e) in
+      let end = one_byte greater (after_run angle_bytes bs) rest
+      (sym (if_true (among angle_first (class_of c)) (after_byte greater (after_run angle_bytes bs)) None f) ∙ e) in
       rw (h, not_one_byte minus (c ∷ bs) g, f, run_is angle_bytes bs, end.1, end.2) refl
-  | inr f ↦ none_is_not rest (sym (if_false (among angle_first (class_of c)) (after_byte greater (after_run angle_bytes bs)) None f) ∙ e)
+  | inr f ↦
+      none_is_not rest (sym (if_false (among angle_first (class_of c)) (after_byte greater (after_run angle_bytes bs)) None f)
+      ∙ e)
 ]
 
-pub back_read : (b : ℕ) (bs rest : List ℕ) → class_of b ≡ less → after_byte minus bs ≡ Some rest → reads less_line (b ∷ bs) ≡ Ok (kinds.Mark marks.Back, rest)
+pub back_read : (b : ℕ) (bs rest : List ℕ) → class_of b ≡ less → after_byte minus bs ≡ Some rest
+    → reads less_line (b ∷ bs) ≡ Ok (kinds.Mark marks.Back, rest)
 unfolding less_line
 back_read b bs rest h e = let s = one_byte minus bs rest e in rw (h, s.1, s.2) refl
 
-pub arrow_read : (b : ℕ) (bs rest : List ℕ) → class_of b ≡ minus → after_byte greater bs ≡ Some rest → reads arrow_line (b ∷ bs) ≡ Ok (kinds.Mark marks.Arrow, rest)
+pub arrow_read : (b : ℕ) (bs rest : List ℕ) → class_of b ≡ minus → after_byte greater bs ≡ Some rest
+    → reads arrow_line (b ∷ bs) ≡ Ok (kinds.Mark marks.Arrow, rest)
 unfolding arrow_line
 arrow_read b bs rest h e = let s = one_byte greater bs rest e in rw (h, s.1, s.2) refl
 
@@ -86,30 +97,36 @@ item_full = refl
 abbrev items : Reader ℕ (List (Unit {0}))
 items = many class_of (backslash ∷ plain_bytes) (reads text_item)
 
-item_step : (bs after : List ℕ) → starts class_of (backslash ∷ plain_bytes) bs ≡ true → reads text_item bs ≡ Ok (tt, after) → (xs : List (Unit {0})) (rest : List ℕ) → items after ≡ Ok (xs, rest) → items bs ≡ Ok (tt ∷ xs, rest)
+item_step : (bs after : List ℕ) → starts class_of (backslash ∷ plain_bytes) bs ≡ true → reads text_item bs ≡ Ok (tt, after)
+    → (xs : List (Unit {0})) (rest : List ℕ) → items after ≡ Ok (xs, rest) → items bs ≡ Ok (tt ∷ xs, rest)
 item_step bs after h e xs rest f =
     many_more class_of (backslash ∷ plain_bytes) (reads text_item) (λ ts x k. consumes item_exact ts x item_full k) bs h
     ∙ ap (and_more items) e ∙ ap (λ v. v >>= λ ys. Ok (tt ∷ ys.0, ys.1)) f
 
-plain_item : (b : ℕ) (bs : List ℕ) → (class_of b == backslash) ≡ false → among plain_bytes (class_of b) ≡ true → reads text_item (b ∷ bs) ≡ Ok (tt, bs)
+plain_item : (b : ℕ) (bs : List ℕ) → (class_of b == backslash) ≡ false → among plain_bytes (class_of b) ≡ true
+    → reads text_item (b ∷ bs) ≡ Ok (tt, bs)
 unfolding text_item
 plain_item b bs h g = rw (h, g) refl
 
-escaped_item : (b c : ℕ) (bs : List ℕ) → class_of b ≡ backslash → among line_bytes (class_of c) ≡ true → reads text_item (b ∷ c ∷ bs) ≡ Ok (tt, bs)
+escaped_item : (b c : ℕ) (bs : List ℕ) → class_of b ≡ backslash → among line_bytes (class_of c) ≡ true
+    → reads text_item (b ∷ c ∷ bs) ≡ Ok (tt, bs)
 unfolding text_item
 escaped_item b c bs h g = rw (h, g) refl
 
 no_item : (b : ℕ) (bs : List ℕ) → class_of b ≡ quote → items (b ∷ bs) ≡ Ok ([], b ∷ bs)
 no_item b bs h = many_none class_of (backslash ∷ plain_bytes) (reads text_item) (b ∷ bs) (rw h refl)
 
-is_plain : (b : ℕ) → (class_of b == quote) ≡ false → (class_of b == line_feed) ≡ false → (class_of b == backslash) ≡ false → among plain_bytes (class_of b) ≡ true
+is_plain : (b : ℕ) → (class_of b == quote) ≡ false → (class_of b == line_feed) ≡ false → (class_of b == backslash) ≡ false
+    → among plain_bytes (class_of b) ≡ true
 is_plain b h g f =
-    sym (if_false (class_of b == backslash) true (among plain_bytes (class_of b)) f) ∙ sym (if_false (class_of b == quote) true (among (backslash ∷ plain_bytes) (class_of b)) h) ∙ line_goes_on b g
+    sym (if_false (class_of b == backslash) true (among plain_bytes (class_of b)) f)
+    ∙ sym (if_false (class_of b == quote) true (among (backslash ∷ plain_bytes) (class_of b)) h) ∙ line_goes_on b g
 
 abbrev IsBody : List ℕ → List ℕ → Type 0
 IsBody bs rest = (xs : List (Unit {0})) × (q : ℕ) × (items bs ≡ Ok (xs, q ∷ rest)) × (class_of q ≡ quote)
 
-body_step : (bs after rest : List ℕ) → starts class_of (backslash ∷ plain_bytes) bs ≡ true → reads text_item bs ≡ Ok (tt, after) → IsBody after rest → IsBody bs rest
+body_step : (bs after rest : List ℕ) → starts class_of (backslash ∷ plain_bytes) bs ≡ true → reads text_item bs ≡ Ok (tt, after)
+    → IsBody after rest → IsBody bs rest
 body_step bs after rest h e p = (tt ∷ p.0, p.1, item_step bs after h e p.0 (p.1 ∷ rest) p.2, p.3)
 
 text_body : (bs rest : List ℕ) → after_text bs ≡ Some rest → IsBody bs rest
@@ -139,14 +156,16 @@ text_body (b ∷ c ∷ bs) rest e = elim (cases_Bool (class_of b == quote)) [
           ]
       | inr f ↦
           let p = is_plain b h g f in
-          body_step (b ∷ c ∷ bs) (c ∷ bs) rest (among-right (backslash ∷ []) plain_bytes (class_of b) p) (plain_item b (c ∷ bs) f p)
+          body_step (b ∷ c ∷ bs) (c ∷ bs) rest (among-right (backslash ∷ []) plain_bytes (class_of b) p)
+          (plain_item b (c ∷ bs) f p)
           (text_body (c ∷ bs) rest (sym (let q : after_text (b ∷ c ∷ bs) ≡ after_text (c ∷ bs) = rw (h, g, f) refl in q) ∙ e))
     ]
   ]
 ]
 
 -- a text is read whole
-pub text_read : (b : ℕ) (bs rest : List ℕ) → class_of b ≡ quote → after_text bs ≡ Some rest → reads text_line (b ∷ bs) ≡ Ok (kinds.Text, rest)
+pub text_read : (b : ℕ) (bs rest : List ℕ) → class_of b ≡ quote → after_text bs ≡ Some rest
+    → reads text_line (b ∷ bs) ≡ Ok (kinds.Text, rest)
 unfolding text_line
 text_read b bs rest h e = let p = text_body bs rest e in rw (h, p.2, p.3) refl
 
@@ -160,24 +179,30 @@ fits_only : (b : Bool) (m n : ℕ) → fits b m ≡ Some n → b ≡ true
 fits_only true m n e = refl
 fits_only false m n e = absurd cc
 
-zero_read : (b : ℕ) (cs : List ℕ) → class_of b ≡ 3 → starts class_of (cross ∷ []) cs ≡ false → reads number_line (b ∷ cs) ≡ Ok (number_kind (b ∷ []), cs)
+zero_read : (b : ℕ) (cs : List ℕ) → class_of b ≡ 3 → starts class_of (cross ∷ []) cs ≡ false
+    → reads number_line (b ∷ cs) ≡ Ok (number_kind (b ∷ []), cs)
 unfolding number_line hex_line
 zero_read b cs h g = rw (h, g) refl
 
-hex_read : (b x d : ℕ) (cs : List ℕ) → class_of b ≡ 3 → class_of x ≡ 2 → among hex_digits (class_of d) ≡ true → reads number_line (b ∷ x ∷ d ∷ cs) ≡ Ok (number_kind (b ∷ x ∷ d ∷ run hex_digits cs), after_run hex_digits cs)
+hex_read : (b x d : ℕ) (cs : List ℕ) → class_of b ≡ 3 → class_of x ≡ 2 → among hex_digits (class_of d) ≡ true
+    → reads number_line (b ∷ x ∷ d ∷ cs) ≡ Ok (number_kind (b ∷ x ∷ d ∷ run hex_digits cs), after_run hex_digits cs)
 unfolding number_line hex_line
 hex_read b x d cs h g f = rw (h, g, f, run_is hex_digits cs) refl
 
-digits_read : (b : ℕ) (cs : List ℕ) → class_of b ≡ 4 → reads number_line (b ∷ cs) ≡ Ok (number_kind (b ∷ run digits cs), after_run digits cs)
+digits_read : (b : ℕ) (cs : List ℕ) → class_of b ≡ 4
+    → reads number_line (b ∷ cs) ≡ Ok (number_kind (b ∷ run digits cs), after_run digits cs)
 unfolding number_line
 digits_read b cs h = rw (h, run_is digits cs) refl
 
 -- a run all of whose bytes are of fewer classes is their run too
-all_run : (cs : List ℕ) (is : ℕ → Bool) → ((b : ℕ) → is b ≡ true → among cs (class_of b) ≡ true) → within cs word_bytes ≡ true → (bs : List ℕ) → list_all is (run word_bytes bs) ≡ true → (run cs bs ≡ run word_bytes bs) × (after_run cs bs ≡ after_run word_bytes bs)
+all_run : (cs : List ℕ) (is : ℕ → Bool) → ((b : ℕ) → is b ≡ true → among cs (class_of b) ≡ true) → within cs word_bytes ≡ true
+    → (bs : List ℕ) → list_all is (run word_bytes bs) ≡ true → (run cs bs ≡ run word_bytes bs)
+    × (after_run cs bs ≡ after_run word_bytes bs)
 all_run cs is up w [] h = (refl, refl)
 all_run cs is up w (b ∷ bs) h = elim (cases_Bool (among word_bytes (class_of b))) [
   | inl f ↦
-      let g : list_all is (b ∷ run word_bytes bs) ≡ true = subst (λ (r : List ℕ). list_all is r ≡ true) (if_true (among word_bytes (class_of b)) (b ∷ run word_bytes bs) [] f) h in
+      let g : list_all is (b ∷ run word_bytes bs) ≡ true = subst (λ (r : List ℕ). list_all is r ≡ true)
+      (if_true (among word_bytes (class_of b)) (b ∷ run word_bytes bs) [] f) h in
       let p = and_parts (is b) (list_all is (run word_bytes bs)) g in
       let r = all_run cs is up w bs p.1 in
       rw (f, up b p.0, r.0, r.1) (refl, refl)
@@ -191,7 +216,8 @@ run_none cs (b ∷ bs) e = elim (cases_Bool (among cs (class_of b))) [
   | inr h ↦ (h, rw h refl)
 ]
 
-run_some : (cs bs : List ℕ) (x : ℕ) (r : List ℕ) → run cs bs ≡ x ∷ r → (more : List ℕ) × (bs ≡ x ∷ more) × (run cs more ≡ r) × (after_run cs bs ≡ after_run cs more)
+run_some : (cs bs : List ℕ) (x : ℕ) (r : List ℕ) → run cs bs ≡ x ∷ r → (more : List ℕ) × (bs ≡ x ∷ more) × (run cs more ≡ r)
+    × (after_run cs bs ≡ after_run cs more)
 run_some cs [] x r e = no_nil x r (sym e)
 run_some cs (b ∷ bs) x r e = elim (cases_Bool (among cs (class_of b))) [
   | inl h ↦
@@ -208,13 +234,15 @@ decimal_digits b (x ∷ r) n h e =
     (and_parts (is_digit b) (list_all is_digit (x ∷ r)) (fits_only _ _ n (sym p ∙ e))).1
 
 module _ (b : ℕ) (n : ℕ) (zero : class_of b ≡ 3) where
-  hex_whole : (x : ℕ) (r cs : List ℕ) → run word_bytes cs ≡ x ∷ r → class_of x ≡ 2 → is_hexadecimal r ≡ true → number_value (b ∷ x ∷ r) ≡ Some n → reads number_line (b ∷ cs) ≡ Ok (kinds.Number n, after_run word_bytes cs)
+  hex_whole : (x : ℕ) (r cs : List ℕ) → run word_bytes cs ≡ x ∷ r → class_of x ≡ 2 → is_hexadecimal r ≡ true
+      → number_value (b ∷ x ∷ r) ≡ Some n → reads number_line (b ∷ cs) ≡ Ok (kinds.Number n, after_run word_bytes cs)
   hex_whole x [] cs p c h e = absurd cc
   hex_whole x (d ∷ r) cs p c h e =
       let q = and_parts (is_hex_digit d) (list_all is_hex_digit r) h in
       let one = run_some word_bytes cs x (d ∷ r) p in
       let two = run_some word_bytes one.0 d r one.2 in
-      let all = all_run hex_digits is_hex_digit hex_class refl two.0 (subst (λ (w : List ℕ). list_all is_hex_digit w ≡ true) (sym two.2) q.1) in
+      let all = all_run hex_digits is_hex_digit hex_class refl two.0 (subst (λ (w : List ℕ). list_all is_hex_digit w ≡ true)
+      (sym two.2) q.1) in
       let text : run hex_digits two.0 ≡ r = all.0 ∙ two.2 in
       let after : after_run hex_digits two.0 ≡ after_run word_bytes cs = all.1 ∙ sym two.3 ∙ sym one.3 in
       let bytes : cs ≡ x ∷ d ∷ two.0 = one.1 ∙ ap (λ (w : List ℕ). x ∷ w) two.1 in
@@ -223,10 +251,12 @@ module _ (b : ℕ) (n : ℕ) (zero : class_of b ≡ 3) where
       ∙ ap (λ (w : List ℕ). Ok (number_kind (b ∷ x ∷ d ∷ r), w)) after
       ∙ ap (λ k. Ok (k, after_run word_bytes cs)) (number_kind_is (b ∷ x ∷ d ∷ r) n e)
 
-  zero_whole : (r cs : List ℕ) → run word_bytes cs ≡ r → number_value (b ∷ r) ≡ Some n → reads number_line (b ∷ cs) ≡ Ok (kinds.Number n, after_run word_bytes cs)
+  zero_whole : (r cs : List ℕ) → run word_bytes cs ≡ r → number_value (b ∷ r) ≡ Some n
+      → reads number_line (b ∷ cs) ≡ Ok (kinds.Number n, after_run word_bytes cs)
   zero_whole [] cs p e =
       let s = run_none word_bytes cs p in
-      zero_read b cs zero (no_cross cs s.0) ∙ ap (λ (w : List ℕ). Ok (number_kind (b ∷ []), w)) (sym s.1) ∙ ap (λ k. Ok (k, after_run word_bytes cs)) (number_kind_is (b ∷ []) n e)
+      zero_read b cs zero (no_cross cs s.0) ∙ ap (λ (w : List ℕ). Ok (number_kind (b ∷ []), w)) (sym s.1)
+      ∙ ap (λ k. Ok (k, after_run word_bytes cs)) (number_kind_is (b ∷ []) n e)
     where
       no_cross : (cs : List ℕ) → starts class_of word_bytes cs ≡ false → starts class_of (cross ∷ []) cs ≡ false
       no_cross [] h = refl
@@ -236,15 +266,20 @@ module _ (b : ℕ) (n : ℕ) (zero : class_of b ≡ 3) where
       let e' : number_value (48 ∷ x ∷ r) ≡ Some n = subst (λ (y : ℕ). number_value (y ∷ x ∷ r) ≡ Some n) z e in
       elim (cases_Bool (x == 120 || x == 88)) [
         | inl h ↦
-            let f : fits (is_hexadecimal r) (digits_value 16 r) ≡ Some n = sym (if_true (x == 120 || x == 88) (fits (is_hexadecimal r) (digits_value 16 r)) _ h) ∙ e' in
+            let f : fits (is_hexadecimal r) (digits_value 16 r) ≡ Some n =
+            sym (if_true (x == 120 || x == 88) (fits (is_hexadecimal r) (digits_value 16 r)) _ h) ∙ e' in
             hex_whole x r cs p (cross_class x h) (fits_only (is_hexadecimal r) (digits_value 16 r) n f) e
         | inr h ↦
-            let f : fits (is_decimal (48 ∷ x ∷ r)) (digits_value 10 (48 ∷ x ∷ r)) ≡ Some n = sym (if_false (x == 120 || x == 88) (fits (is_hexadecimal r) (digits_value 16 r)) (fits (is_decimal (48 ∷ x ∷ r)) (digits_value 10 (48 ∷ x ∷ r))) h) ∙ e' in
-            let none_left : length (x ∷ r) ≡ 0 = eqb-true (length (x ∷ r)) 0 (fits_only (is_decimal (48 ∷ x ∷ r)) (digits_value 10 (48 ∷ x ∷ r)) n f) in
+            let f : fits (is_decimal (48 ∷ x ∷ r)) (digits_value 10 (48 ∷ x ∷ r)) ≡ Some n =
+            sym (if_false (x == 120 || x == 88) (fits (is_hexadecimal r) (digits_value 16 r))
+            (fits (is_decimal (48 ∷ x ∷ r)) (digits_value 10 (48 ∷ x ∷ r))) h) ∙ e' in
+            let none_left : length (x ∷ r) ≡ 0 =
+            eqb-true (length (x ∷ r)) 0 (fits_only (is_decimal (48 ∷ x ∷ r)) (digits_value 10 (48 ∷ x ∷ r)) n f) in
             absurd (omega (arith, none_left))
       ]
 
-digits_whole : (b : ℕ) (cs : List ℕ) (n : ℕ) → class_of b ≡ 4 → number_value (b ∷ run word_bytes cs) ≡ Some n → reads number_line (b ∷ cs) ≡ Ok (kinds.Number n, after_run word_bytes cs)
+digits_whole : (b : ℕ) (cs : List ℕ) (n : ℕ) → class_of b ≡ 4 → number_value (b ∷ run word_bytes cs) ≡ Some n
+    → reads number_line (b ∷ cs) ≡ Ok (kinds.Number n, after_run word_bytes cs)
 digits_whole b cs n h e =
     let all = all_run digits is_digit digit_class refl cs (decimal_digits b (run word_bytes cs) n (not_zero_class b h) e) in
     digits_read b cs h
@@ -253,7 +288,8 @@ digits_whole b cs n h e =
     ∙ ap (λ k. Ok (k, after_run word_bytes cs)) (number_kind_is (b ∷ run word_bytes cs) n e)
 
 -- a number is read whole, with its value
-pub number_read : (bs : List ℕ) (n : ℕ) → starts class_of digits bs ≡ true → number_value (run word_bytes bs) ≡ Some n → reads number_line bs ≡ Ok (kinds.Number n, after_run word_bytes bs)
+pub number_read : (bs : List ℕ) (n : ℕ) → starts class_of digits bs ≡ true → number_value (run word_bytes bs) ≡ Some n
+    → reads number_line bs ≡ Ok (kinds.Number n, after_run word_bytes bs)
 number_read [] n h e = absurd cc
 number_read (b ∷ cs) n h e =
     let w : among word_bytes (class_of b) ≡ true = among-right letters digits (class_of b) h in

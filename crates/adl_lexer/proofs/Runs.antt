@@ -11,7 +11,8 @@ use Rattle.cam_base.proofs.Repeats.{and_more, many_more, many_none}
 use Rattle.adl_lexer.specs.Classes.{class_of, run, after_run, line_bytes}
 use Rattle.adl_lexer.proofs.Classes.{line_byte}
 
-run_step : (cs : List ℕ) (b : ℕ) (bs : List ℕ) → among cs (class_of b) ≡ true → many class_of cs (one class_of cs) (b ∷ bs) ≡ and_more (many class_of cs (one class_of cs)) (Ok (b, bs))
+run_step : (cs : List ℕ) (b : ℕ) (bs : List ℕ) → among cs (class_of b) ≡ true
+    → many class_of cs (one class_of cs) (b ∷ bs) ≡ and_more (many class_of cs (one class_of cs)) (Ok (b, bs))
 run_step cs b bs h =
     many_more class_of cs (one class_of cs) (λ ts x e. consumes (IsRead-one class_of cs) ts x refl e) (b ∷ bs) h
     ∙ ap (and_more (many class_of cs (one class_of cs))) (let p : one class_of cs (b ∷ bs) ≡ Ok (b, bs) = rw h refl in p)
@@ -39,7 +40,8 @@ after_run_le cs bs = let e = ap length (run_after cs bs) in omega (arith, length
 
 -- the bytes before what is behind a run are the run
 pub run_taken : (cs bs : List ℕ) → take (length bs - length (after_run cs bs)) bs ≡ run cs bs
-run_taken cs bs = subst (λ (w : List ℕ). take (length w - length (after_run cs bs)) w ≡ run cs bs) (run_after cs bs) (take-front (run cs bs) (after_run cs bs))
+run_taken cs bs = subst (λ (w : List ℕ). take (length w - length (after_run cs bs)) w ≡ run cs bs) (run_after cs bs)
+    (take-front (run cs bs) (after_run cs bs))
 
 -- a line goes on with each byte but a line feed
 pub line_goes_on : (b : ℕ) → (class_of b == 6) ≡ false → among line_bytes (class_of b) ≡ true

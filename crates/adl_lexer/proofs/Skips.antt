@@ -14,7 +14,8 @@ first_absent wanted (b ∷ bs) never = elim (cases_Bool (b == wanted)) [
   | inr other ↦ rw other (first_absent wanted bs (λ k low high. never (suc k) (omega arith) (omega arith)))
 ]
 
-first_from : (wanted : ℕ) (bs : List ℕ) (k : ℕ) → k < length bs → Passes (is_byte wanted) bs k → Nowhere (Passes (is_byte wanted) bs) 0 k
+first_from : (wanted : ℕ) (bs : List ℕ) (k : ℕ) → k < length bs → Passes (is_byte wanted) bs k
+    → Nowhere (Passes (is_byte wanted) bs) 0 k
     → after_first wanted bs ≡ Some (drop (suc k) bs)
 first_from wanted [] k high is before = absurd (omega arith)
 first_from wanted (b ∷ bs) zero high is before = rw is refl
@@ -24,8 +25,10 @@ first_from wanted (b ∷ bs) (suc k) high is before = elim (cases_Bool (b == wan
 ]
 
 -- what is behind a byte's first place
-pub first_found : (wanted : ℕ) (bs : List ℕ) (k : ℕ) → IsFirstByte (is_byte wanted) bs (Some k) → after_first wanted bs ≡ Some (drop (k + 1) bs)
-first_found wanted bs k first = first_from wanted bs k first.0.high first.1 first.0.before ∙ ap (λ n. Some (drop n bs)) (sym (add-one k))
+pub first_found : (wanted : ℕ) (bs : List ℕ) (k : ℕ) → IsFirstByte (is_byte wanted) bs (Some k)
+    → after_first wanted bs ≡ Some (drop (k + 1) bs)
+first_found wanted bs k first = first_from wanted bs k first.0.high first.1 first.0.before ∙ ap (λ n. Some (drop n bs))
+    (sym (add-one k))
 
 -- it is less than the whole
 pub first_less : (wanted : ℕ) (bs cs : List ℕ) → after_first wanted bs ≡ Some cs → length cs < length bs

@@ -26,7 +26,8 @@ no_longer [] b le = refl
 no_longer (x ∷ a) b le = absurd (omega (arith, length-append a b))
 
 -- what is read is a token, and the longest one
-pub token_at : (bs : List ℕ) (k : Kind) (rest : List ℕ) → reads token_form bs ≡ Ok (k, rest) → fault_at bs ≡ None → IsTokenAt bs k rest
+pub token_at : (bs : List ℕ) (k : Kind) (rest : List ℕ) → reads token_form bs ≡ Ok (k, rest) → fault_at bs ≡ None
+    → IsTokenAt bs k rest
 token_at bs k rest e clean =
     let s = token_exact.sound bs (k, rest) e in
     record {
@@ -36,14 +37,16 @@ token_at bs k rest e clean =
       longest = λ longer after l p q.
           let all : bs ≡ (s.0 ++ longer) ++ after = s.1 ∙ ap (λ (w : List ℕ). s.0 ++ w) p ∙ sym (append_assoc s.0 longer after) in
           let n = token_exact.passes (s.0 ++ longer) after (token_exact.begun l (s.0 ++ longer) q) in
-          let n' : left (reads token_form bs) ≤ length after = subst (λ (w : List ℕ). left (reads token_form w) ≤ length after) (sym all) n in
+          let n' : left (reads token_form bs) ≤ length after = subst (λ (w : List ℕ). left (reads token_form w) ≤ length after)
+          (sym all) n in
           let n'' : length rest ≤ length after = (rw e at n') in
           no_longer longer after (rw p at n'');
       clean = clean;
     }
 
 -- two tokens at one place are one
-one_token : (bs : List ℕ) (k l : Kind) (rest after : List ℕ) → IsTokenAt bs k rest → IsTokenAt bs l after → length rest ≤ length after → (k ≡ l) × (rest ≡ after)
+one_token : (bs : List ℕ) (k l : Kind) (rest after : List ℕ) → IsTokenAt bs k rest → IsTokenAt bs l after
+    → length rest ≤ length after → (k ≡ l) × (rest ≡ after)
 one_token bs k l rest after t u le =
     let r = longer_front t.text u.text rest after (sym t.parts ∙ u.parts) le in
     let same : r.0 ≡ [] = u.longest r.0 rest k r.2 (subst (λ (w : List ℕ). Spells class_of flat token_form k w) r.1 t.kind) in
@@ -53,7 +56,8 @@ one_token bs k l rest after t u le =
     let e : (k, []) ≡ (l, []) = ok_is (k, []) (l, []) (sym p ∙ ap (λ (w : List ℕ). reads token_form (w ++ [])) texts ∙ q) in
     (ap (λ (w : Kind × List ℕ). w.0) e, sym (r.2 ∙ ap (λ (w : List ℕ). w ++ rest) same))
 
-pub one_token_of : (bs : List ℕ) (k l : Kind) (rest after : List ℕ) → IsTokenAt bs k rest → IsTokenAt bs l after → (k ≡ l) × (rest ≡ after)
+pub one_token_of : (bs : List ℕ) (k l : Kind) (rest after : List ℕ) → IsTokenAt bs k rest → IsTokenAt bs l after
+    → (k ≡ l) × (rest ≡ after)
 one_token_of bs k l rest after t u = elim (le_or rest after) [
   | inl le ↦ one_token bs k l rest after t u le
   | inr le ↦ let r = one_token bs l k after rest u t le in (sym r.0, sym r.1)
@@ -65,12 +69,20 @@ one_token_of bs k l rest after t u = elim (le_or rest after) [
     le_or (x ∷ a) (y ∷ b) = elim (le_or a b) [ inl p ↦ inl (omega arith) | inr p ↦ inr (omega arith) ]
 
 -- the first byte of a token
-token_byte : (bs : List ℕ) (k : Kind) (rest : List ℕ) → IsTokenAt bs k rest → (b : ℕ) × (cs : List ℕ) × (bs ≡ b ∷ cs) × (among token_first (class_of b) ≡ true)
+token_byte : (bs : List ℕ) (k : Kind) (rest : List ℕ) → IsTokenAt bs k rest → (b : ℕ) × (cs : List ℕ) × (bs ≡ b ∷ cs)
+    × (among token_first (class_of b) ≡ true)
 token_byte bs k rest t = go t.text t.kind t.parts
   where
-    go : (text : List ℕ) → Spells class_of flat token_form k text → bs ≡ text ++ rest → (b : ℕ) × (cs : List ℕ) × (bs ≡ b ∷ cs) × (among token_first (class_of b) ≡ true)
+    go : (text : List ℕ) → Spells class_of flat token_form k text → bs ≡ text ++ rest → (b : ℕ) × (cs : List ℕ) × (bs ≡ b ∷ cs)
+        × (among token_first (class_of b) ≡ true)
     go [] s p = true_is_not_false (can_be_empty token_form) (token_exact.null k s) token_full
-    go (b ∷ text) s p = (b, text ++ rest, p, subst (λ (cs : List ℕ). among cs (class_of b) ≡ true) token_first_is (spelled_starts token_exact k b text s))
+    go (b ∷ text) s p = (
+      b,
+      text ++ rest,
+      p,
+      subst (λ (cs : List ℕ). among cs (class_of b) ≡ true) token_first_is
+          (spelled_starts token_exact k b text s),
+    )
 
 -- where a token stands, no gap does
 pub token_no_gap : (bs : List ℕ) (k : Kind) (rest cs : List ℕ) → IsTokenAt bs k rest → one_gap bs ≡ Some cs → ⊥
@@ -121,7 +133,8 @@ gap_and_blanks bs after e = more e (blanks_gap after)
 -- ---- one step over a token
 
 module _ (bs : List ℕ) (k : Kind) (after : List ℕ) (token : IsTokenAt bs k after) where
-  pub lexes_token : (file total : ℕ) (t : Token) (ts : List Token) → t.kind ≡ k → t.place ≡ place_of file total bs after → LexesFrom file total after ts → LexesFrom file total bs (t ∷ ts)
+  pub lexes_token : (file total : ℕ) (t : Token) (ts : List Token) → t.kind ≡ k → t.place ≡ place_of file total bs after
+      → LexesFrom file total after ts → LexesFrom file total bs (t ∷ ts)
   lexes_token file total t ts p q l = (bs, after, none, rw p token, q, l)
 
   pub reached_token : (x : List ℕ) → Reached after x → Reached bs x

@@ -31,21 +31,29 @@ ends_in_some bs x cs e p = subst (λ (w : List ℕ). EndsIn bs w) (some_of x cs 
 
 after_line_ends : (bs : List ℕ) → EndsIn bs (after_line bs)
 after_line_ends [] = ([], refl)
-after_line_ends (b ∷ bs) = elim (cases_Bool (b == 10)) [ inl h ↦ rw h (b ∷ [], refl) | inr h ↦ rw h (ends_later b bs (after_line bs) (after_line_ends bs)) ]
+after_line_ends (b ∷ bs) = elim (cases_Bool (b == 10)) [
+  | inl h ↦ rw h (b ∷ [], refl)
+  | inr h ↦
+      rw h (ends_later b bs (after_line bs) (after_line_ends bs))
+]
 
 after_close_ends : (bs cs : List ℕ) → after_close bs ≡ Some cs → EndsIn bs cs
 after_close_ends [] cs e = none_is_not cs e
 after_close_ends (a ∷ []) cs e = none_is_not cs e
 after_close_ends (a ∷ b ∷ bs) cs e = elim (cases_Bool (a == 42 && b == 47)) [
-  | inl h ↦ ends_in_some (a ∷ b ∷ bs) bs cs (a ∷ b ∷ [], refl) (sym (if_true (a == 42 && b == 47) (Some bs) (after_close (b ∷ bs)) h) ∙ e)
-  | inr h ↦ ends_later a (b ∷ bs) cs (after_close_ends (b ∷ bs) cs (sym (if_false (a == 42 && b == 47) (Some bs) (after_close (b ∷ bs)) h) ∙ e))
+  | inl h ↦ ends_in_some (a ∷ b ∷ bs) bs cs (a ∷ b ∷ [], refl)
+      (sym (if_true (a == 42 && b == 47) (Some bs) (after_close (b ∷ bs)) h) ∙ e)
+  | inr h ↦
+      ends_later a (b ∷ bs) cs
+      (after_close_ends (b ∷ bs) cs (sym (if_false (a == 42 && b == 47) (Some bs) (after_close (b ∷ bs)) h) ∙ e))
 ]
 
 after_comment_ends : (bs cs : List ℕ) → after_comment bs ≡ Some cs → EndsIn bs cs
 after_comment_ends [] cs e = none_is_not cs e
 after_comment_ends (b ∷ bs) cs e = go (b == 47) (b == 42) e
   where
-    go : (is_line is_star : Bool) → cond is_line (Some (after_line bs)) (cond is_star (after_close bs) None) ≡ Some cs → EndsIn (b ∷ bs) cs
+    go : (is_line is_star : Bool) → cond is_line (Some (after_line bs)) (cond is_star (after_close bs) None) ≡ Some cs
+        → EndsIn (b ∷ bs) cs
     go true is_star q = ends_in_some (b ∷ bs) (after_line bs) cs (ends_later b bs (after_line bs) (after_line_ends bs)) q
     go false true q = ends_later b bs cs (after_close_ends bs cs q)
     go false false q = none_is_not cs q
@@ -55,7 +63,8 @@ unfolding one_gap
 gap_ends [] cs e = none_is_not cs e
 gap_ends (b ∷ bs) cs e = go (among blanks (class_of b)) (class_of b == slash) e
   where
-    go : (is_blank is_slash : Bool) → cond is_blank (Some bs) (cond is_slash (after_comment bs) None) ≡ Some cs → EndsIn (b ∷ bs) cs
+    go : (is_blank is_slash : Bool) → cond is_blank (Some bs) (cond is_slash (after_comment bs) None) ≡ Some cs
+        → EndsIn (b ∷ bs) cs
     go true is_slash q = ends_in_some (b ∷ bs) bs cs (b ∷ [], refl) q
     go false true q = ends_later b bs cs (after_comment_ends bs cs q)
     go false false q = none_is_not cs q
@@ -71,19 +80,27 @@ front_dropped : (a rest : List ℕ) (n : ℕ) → n ≡ length a → drop n (a +
 front_dropped a rest n e = rw e (drop-append_seam a rest)
 
 -- a place cuts out the bytes between
-cut_out : (file : ℕ) (bytes here text rest : List ℕ) → EndsIn bytes here → here ≡ text ++ rest → text_at bytes (place_of file (length bytes) here rest) ≡ text
+cut_out : (file : ℕ) (bytes here text rest : List ℕ) → EndsIn bytes here → here ≡ text ++ rest
+    → text_at bytes (place_of file (length bytes) here rest) ≡ text
 cut_out file bytes here text rest e p =
     let all = ap length e.1 in
     let part = ap length p in
     let first : length bytes - length here ≡ length e.0 = omega (arith, all, length-append e.0 here) in
-    let long : (length bytes - length rest) - (length bytes - length here) ≡ length text = omega (arith, all, part, length-append e.0 here, length-append text rest) in
-    let dropped : drop (length bytes - length here) bytes ≡ here = ap (drop (length bytes - length here)) e.1 ∙ front_dropped e.0 here (length bytes - length here) first in
-    ap (take ((length bytes - length rest) - (length bytes - length here))) (dropped ∙ p) ∙ front_taken text rest ((length bytes - length rest) - (length bytes - length here)) long
+    let long : (length bytes - length rest) - (length bytes - length here) ≡ length text =
+    omega (arith, all, part, length-append e.0 here, length-append text rest) in
+    let dropped : drop (length bytes - length here) bytes ≡ here = ap (drop (length bytes - length here)) e.1
+    ∙ front_dropped e.0 here (length bytes - length here) first in
+    ap (take ((length bytes - length rest) - (length bytes - length here))) (dropped ∙ p)
+    ∙ front_taken text rest ((length bytes - length rest) - (length bytes - length here)) long
 
-pub texts_of_kinds : (file : ℕ) (bytes bs : List ℕ) (ts : List Token) → EndsIn bytes bs → LexesFrom file (length bytes) bs ts → All (λ t. IsTextOf t.kind (text_at bytes t.place)) ts
+pub texts_of_kinds : (file : ℕ) (bytes bs : List ℕ) (ts : List Token) → EndsIn bytes bs → LexesFrom file (length bytes) bs ts
+    → All (λ t. IsTextOf t.kind (text_at bytes t.place)) ts
 texts_of_kinds file bytes bs [] e l = All-nil (λ t. IsTextOf t.kind (text_at bytes t.place))
 texts_of_kinds file bytes bs (t ∷ ts) e l =
     let token = l.3 in
     let to_here : EndsIn bytes l.0 = ends_in_end bytes bs l.0 e (gaps_end bs l.0 l.2) in
-    let text : text_at bytes t.place ≡ token.text = ap (text_at bytes) l.4 ∙ cut_out file bytes l.0 token.text l.1 to_here token.parts in
-    All-cons (λ t. IsTextOf t.kind (text_at bytes t.place)) t ts (subst (λ (w : List ℕ). IsTextOf t.kind w) (sym text) (text_of_kind l.0 t.kind l.1 token)) (texts_of_kinds file bytes l.1 ts (ends_in_end bytes l.0 l.1 to_here (token.text, token.parts)) l.5)
+    let text : text_at bytes t.place ≡ token.text = ap (text_at bytes) l.4 ∙ cut_out file bytes l.0 token.text l.1 to_here
+    token.parts in
+    All-cons (λ t. IsTextOf t.kind (text_at bytes t.place)) t ts (subst (λ (w : List ℕ). IsTextOf t.kind w) (sym text)
+    (text_of_kind l.0 t.kind l.1 token))
+    (texts_of_kinds file bytes l.1 ts (ends_in_end bytes l.0 l.1 to_here (token.text, token.parts)) l.5)

@@ -34,7 +34,8 @@ use Rattle.adl_lexer.proofs.Steps.{token_at, one_token_of}
 
 -- ---- words
 
-pub word_start : (bs : List ℕ) → starts class_of letters bs ≡ true → (reads token_form bs ≡ reads word_line bs) × (fault_at bs ≡ word_fault (run word_bytes bs))
+pub word_start : (bs : List ℕ) → starts class_of letters bs ≡ true → (reads token_form bs ≡ reads word_line bs)
+    × (fault_at bs ≡ word_fault (run word_bytes bs))
 unfolding fault_at
 word_start [] h = absurd cc
 word_start (b ∷ bs) h = elim (letter_cases (class_of b) h) [
@@ -42,7 +43,8 @@ word_start (b ∷ bs) h = elim (letter_cases (class_of b) h) [
   | inr d ↦ elim d [ inl c ↦ (rw c refl, rw c refl) | inr c ↦ (rw c refl, rw c refl) ]
 ]
 
-pub number_start : (bs : List ℕ) → starts class_of digits bs ≡ true → (reads token_form bs ≡ reads number_line bs) × (fault_at bs ≡ number_fault (run word_bytes bs) (after_run word_bytes bs))
+pub number_start : (bs : List ℕ) → starts class_of digits bs ≡ true → (reads token_form bs ≡ reads number_line bs)
+    × (fault_at bs ≡ number_fault (run word_bytes bs) (after_run word_bytes bs))
 unfolding fault_at
 number_start [] h = absurd cc
 number_start (b ∷ bs) h = elim (digit_cases (class_of b) h) [ inl c ↦ (rw c refl, rw c refl) | inr c ↦ (rw c refl, rw c refl) ]
@@ -56,7 +58,10 @@ some_is_not x e = absurd cc
 
 short_word : (word : List ℕ) → word_fault word ≡ None → nat_lt 127 (length word) ≡ false
 short_word word e = elim (cases_Bool (nat_lt 127 (length word))) [
-  | inl h ↦ some_is_not (code.Limit, word) (sym (if_true (nat_lt 127 (length word)) (Some (code.Limit, word)) (cond (is_left_out_word word) (Some (code.LeftOut, word)) None) h) ∙ e)
+  | inl h ↦
+      some_is_not (code.Limit, word)
+      (sym (if_true (nat_lt 127 (length word)) (Some (code.Limit, word)) (cond (is_left_out_word word) (Some (code.LeftOut, word))
+      None) h) ∙ e)
   | inr h ↦ h
 ]
 
@@ -65,11 +70,13 @@ each_is : (P : ℕ → Type 0) (xs a : List ℕ) → Each (λ x ts. P x × (ts �
 each_is P [] a e = e
 each_is P (x ∷ xs) a e = e.2 ∙ ap (λ (w : List ℕ). w ++ e.1) e.3.1 ∙ ap (λ (w : List ℕ). x ∷ w) (each_is P xs e.1 e.4)
 
-each_word_byte : (xs a : List ℕ) → Each (λ x ts. (among word_bytes (class_of x) ≡ true) × (ts ≡ x ∷ [])) xs a → list_all is_word_byte xs ≡ true
+each_word_byte : (xs a : List ℕ) → Each (λ x ts. (among word_bytes (class_of x) ≡ true) × (ts ≡ x ∷ [])) xs a
+    → list_all is_word_byte xs ≡ true
 each_word_byte [] a e = refl
 each_word_byte (x ∷ xs) a e = rw (word_byte_of x e.3.0, each_word_byte xs e.1 e.4) refl
 
-name_of_word : (x : ℕ) (xs : List ℕ) → among letters (class_of x) ≡ true → list_all is_word_byte xs ≡ true → word_fault (x ∷ xs) ≡ None → is_name (x ∷ xs) ≡ true
+name_of_word : (x : ℕ) (xs : List ℕ) → among letters (class_of x) ≡ true → list_all is_word_byte xs ≡ true
+    → word_fault (x ∷ xs) ≡ None → is_name (x ∷ xs) ≡ true
 name_of_word x xs h g f =
     let le : length (x ∷ xs) ≤ 127 = ltb-false 127 (length (x ∷ xs)) (short_word (x ∷ xs) f) in
     rw (le-leb (length xs) 126 (omega (arith, le)), letter_of x h, g) refl
@@ -104,18 +111,24 @@ no_line c h = elim (cases_Bool (c == line_feed)) [
   | inr e ↦ e
 ]
 
-escaped_step : (b c : ℕ) (bs : List ℕ) → class_of b ≡ backslash → (class_of c == line_feed) ≡ false → after_text bs ≡ Some [] → after_text (b ∷ c ∷ bs) ≡ Some []
+escaped_step : (b c : ℕ) (bs : List ℕ) → class_of b ≡ backslash → (class_of c == line_feed) ≡ false → after_text bs ≡ Some []
+    → after_text (b ∷ c ∷ bs) ≡ Some []
 escaped_step b c bs h l m = rw (h, l) m
 
-plain_step : (b c : ℕ) (bs : List ℕ) → (class_of b == quote) ≡ false → (class_of b == line_feed) ≡ false → (class_of b == backslash) ≡ false → after_text (c ∷ bs) ≡ Some [] → after_text (b ∷ c ∷ bs) ≡ Some []
+plain_step : (b c : ℕ) (bs : List ℕ) → (class_of b == quote) ≡ false → (class_of b == line_feed) ≡ false
+    → (class_of b == backslash) ≡ false → after_text (c ∷ bs) ≡ Some [] → after_text (b ∷ c ∷ bs) ≡ Some []
 plain_step b c bs f g h m = rw (f, g, h) m
 
-plain_front : (y q : ℕ) (rest : List ℕ) → among plain_bytes (class_of y) ≡ true → after_text (rest ++ q ∷ []) ≡ Some [] → after_text (y ∷ (rest ++ q ∷ [])) ≡ Some []
-plain_front y q [] h m = plain_step y q [] (no_plain quote (class_of y) refl h) (no_plain line_feed (class_of y) refl h) (no_plain backslash (class_of y) refl h) m
-plain_front y q (c ∷ cs) h m = plain_step y c (cs ++ q ∷ []) (no_plain quote (class_of y) refl h) (no_plain line_feed (class_of y) refl h) (no_plain backslash (class_of y) refl h) m
+plain_front : (y q : ℕ) (rest : List ℕ) → among plain_bytes (class_of y) ≡ true → after_text (rest ++ q ∷ []) ≡ Some []
+    → after_text (y ∷ (rest ++ q ∷ [])) ≡ Some []
+plain_front y q [] h m = plain_step y q [] (no_plain quote (class_of y) refl h) (no_plain line_feed (class_of y) refl h)
+    (no_plain backslash (class_of y) refl h) m
+plain_front y q (c ∷ cs) h m = plain_step y c (cs ++ q ∷ []) (no_plain quote (class_of y) refl h)
+    (no_plain line_feed (class_of y) refl h) (no_plain backslash (class_of y) refl h) m
 
 -- a text ends with the quote behind its items
-text_closed : (xs : List (Unit {0})) (a : List ℕ) (q : ℕ) → class_of q ≡ quote → Each (Spells class_of flat text_item) xs a → after_text (a ++ q ∷ []) ≡ Some []
+text_closed : (xs : List (Unit {0})) (a : List ℕ) (q : ℕ) → class_of q ≡ quote → Each (Spells class_of flat text_item) xs a
+    → after_text (a ++ q ∷ []) ≡ Some []
 unfolding text_item
 text_closed [] a q h e = rw (e, h) refl
 text_closed (x ∷ xs) a q h e =
@@ -126,18 +139,23 @@ text_closed (x ∷ xs) a q h e =
           let y = s.0 in
           let p = s.2 in
           let item : e.0 ≡ y.0 ∷ y.1 ∷ [] = p.2 ∙ ap (λ (w : List ℕ). w ++ p.1) p.3.1 ∙ ap (λ (w : List ℕ). y.0 ∷ w) p.4.1 in
-          subst (λ (w : List ℕ). after_text ((w ++ e.1) ++ q ∷ []) ≡ Some []) (sym item) (escaped_step y.0 y.1 (e.1 ++ q ∷ []) (one_of (class_of y.0) backslash p.3.0) (no_line (class_of y.1) p.4.0) more)
+          subst (λ (w : List ℕ). after_text ((w ++ e.1) ++ q ∷ []) ≡ Some []) (sym item)
+          (escaped_step y.0 y.1 (e.1 ++ q ∷ []) (one_of (class_of y.0) backslash p.3.0) (no_line (class_of y.1) p.4.0) more)
       | inr s ↦ subst (λ (w : List ℕ). after_text ((w ++ e.1) ++ q ∷ []) ≡ Some []) (sym s.2.1) (plain_front s.0 q e.1 s.2.0 more)
     ])
 
 -- an angle name ends with the bracket behind its bytes
-angle_closed : (xs a : List ℕ) (g : ℕ) → class_of g ≡ greater → Each (λ x ts. (among angle_bytes (class_of x) ≡ true) × (ts ≡ x ∷ [])) xs a → after_byte greater (after_run angle_bytes (a ++ g ∷ [])) ≡ Some []
+angle_closed : (xs a : List ℕ) (g : ℕ) → class_of g ≡ greater
+    → Each (λ x ts. (among angle_bytes (class_of x) ≡ true) × (ts ≡ x ∷ [])) xs a
+    → after_byte greater (after_run angle_bytes (a ++ g ∷ [])) ≡ Some []
 angle_closed [] a g h e = rw (e, h, h) refl
 angle_closed (x ∷ xs) a g h e =
-    subst (λ (w : List ℕ). after_byte greater (after_run angle_bytes (w ++ g ∷ [])) ≡ Some []) (sym (e.2 ∙ ap (λ (w : List ℕ). w ++ e.1) e.3.1))
+    subst (λ (w : List ℕ). after_byte greater (after_run angle_bytes (w ++ g ∷ [])) ≡ Some [])
+    (sym (e.2 ∙ ap (λ (w : List ℕ). w ++ e.1) e.3.1))
     (rw e.3.0 (angle_closed xs e.1 g h e.4))
 
-angle_whole : (f : ℕ) (bs : List ℕ) → among angle_first (class_of f) ≡ true → after_byte greater (after_run angle_bytes bs) ≡ Some [] → after_angle (f ∷ bs) ≡ Some []
+angle_whole : (f : ℕ) (bs : List ℕ) → among angle_first (class_of f) ≡ true
+    → after_byte greater (after_run angle_bytes bs) ≡ Some [] → after_angle (f ∷ bs) ≡ Some []
 angle_whole f bs h m = rw h m
 
 module _ (bs : List ℕ) (k : Kind) (rest : List ℕ) (t : IsTokenAt bs k rest) where
@@ -152,13 +170,16 @@ module _ (bs : List ℕ) (k : Kind) (rest : List ℕ) (t : IsTokenAt bs k rest) 
   word_text s =
       let x = s.0 in
       let p = s.2 in
-      let text : t.text ≡ x.0 ∷ x.1 = p.2 ∙ ap (λ (w : List ℕ). w ++ p.1) p.3.1 ∙ ap (λ (w : List ℕ). x.0 ∷ w) (each_is (λ y. among word_bytes (class_of y) ≡ true) x.1 p.1 p.4) in
-      let begins : starts class_of letters bs ≡ true = subst (λ (w : List ℕ). starts class_of letters w ≡ true) (sym (t.parts ∙ ap (λ (w : List ℕ). w ++ rest) text)) p.3.0 in
+      let text : t.text ≡ x.0 ∷ x.1 = p.2 ∙ ap (λ (w : List ℕ). w ++ p.1) p.3.1 ∙ ap (λ (w : List ℕ). x.0 ∷ w)
+      (each_is (λ y. among word_bytes (class_of y) ≡ true) x.1 p.1 p.4) in
+      let begins : starts class_of letters bs ≡ true = subst (λ (w : List ℕ). starts class_of letters w ≡ true)
+      (sym (t.parts ∙ ap (λ (w : List ℕ). w ++ rest) text)) p.3.0 in
       let w = word_start bs begins in
       let all = as_run (word_kind (run word_bytes bs)) (w.0 ∙ word_read bs begins) in
       let fault : word_fault (x.0 ∷ x.1) ≡ None = ap word_fault (sym text ∙ all.1) ∙ sym w.1 ∙ t.clean in
       let named : is_name t.text ≡ true = ap is_name text ∙ name_of_word x.0 x.1 p.3.0 (each_word_byte x.1 p.1 p.4) fault in
-      subst (λ (l : Kind). IsTextOf l t.text) (sym (s.1 ∙ ap word_kind (sym text))) (word_kind_text (keyword_of t.text) t.text refl named)
+      subst (λ (l : Kind). IsTextOf l t.text) (sym (s.1 ∙ ap word_kind (sym text)))
+      (word_kind_text (keyword_of t.text) t.text refl named)
 
   number_begins : Spells class_of flat number_line k t.text → starts class_of digits bs ≡ true
   unfolding number_line
@@ -174,7 +195,8 @@ module _ (bs : List ℕ) (k : Kind) (rest : List ℕ) (t : IsTokenAt bs k rest) 
       go : (o : Option ℕ) → number_value (run word_bytes bs) ≡ o → IsTextOf k t.text
       go None e =
           let w = number_start bs begins in
-          some_is_not (code.Number, run word_bytes bs) (sym (ap (λ o. number_fault_by o (run word_bytes bs) (after_run word_bytes bs)) e) ∙ sym w.1 ∙ t.clean)
+          some_is_not (code.Number, run word_bytes bs)
+          (sym (ap (λ o. number_fault_by o (run word_bytes bs) (after_run word_bytes bs)) e) ∙ sym w.1 ∙ t.clean)
       go (Some n) e =
           let w = number_start bs begins in
           let all = as_run (kinds.Number n) (w.0 ∙ number_read bs n begins e) in
@@ -187,9 +209,14 @@ module _ (bs : List ℕ) (k : Kind) (rest : List ℕ) (t : IsTokenAt bs k rest) 
       let p = s.2 in
       let q = p.4 in
       let opened : x.0 ≡ 34 = quote_is x.0 (one_of (class_of x.0) quote p.3.0) in
-      let text : t.text ≡ x.0 ∷ q.0 ++ x.1.1 ∷ [] = p.2 ∙ ap (λ (w : List ℕ). w ++ p.1) p.3.1 ∙ ap (λ (w : List ℕ). x.0 ∷ w) (q.2 ∙ ap (λ (w : List ℕ). q.0 ++ w) q.4.1) in
-      subst (λ (l : Kind). IsTextOf l t.text) (sym s.1)
-      (q.0 ++ x.1.1 ∷ [], text ∙ ap (λ (z : ℕ). z ∷ q.0 ++ x.1.1 ∷ []) opened, text_closed x.1.0 q.0 x.1.1 (one_of (class_of x.1.1) quote q.4.0) q.3)
+      let text : t.text ≡ x.0 ∷ q.0 ++ x.1.1 ∷ [] = p.2 ∙ ap (λ (w : List ℕ). w ++ p.1) p.3.1 ∙ ap (λ (w : List ℕ). x.0 ∷ w)
+      (q.2 ∙ ap (λ (w : List ℕ). q.0 ++ w) q.4.1) in
+      subst (λ (l : Kind). IsTextOf l t.text) (sym s.1) (
+        q.0 ++ x.1.1 ∷ [],
+        text ∙ ap (λ (z : ℕ). z ∷ q.0 ++ x.1.1 ∷ []) opened,
+        text_closed x.1.0 q.0 x.1.1
+            (one_of (class_of x.1.1) quote q.4.0) q.3,
+      )
 
   arrow_text : Spells class_of flat arrow_line k t.text → IsTextOf k t.text
   unfolding arrow_line
@@ -198,7 +225,8 @@ module _ (bs : List ℕ) (k : Kind) (rest : List ℕ) (t : IsTokenAt bs k rest) 
       let p = s.2 in
       let text : t.text ≡ x.0 ∷ x.1 ∷ [] = p.2 ∙ ap (λ (w : List ℕ). w ++ p.1) p.3.1 ∙ ap (λ (w : List ℕ). x.0 ∷ w) p.4.1 in
       subst (λ (l : Kind). IsTextOf l t.text) (sym s.1)
-      (text ∙ ap (λ (z : ℕ). z ∷ x.1 ∷ []) (minus_is x.0 (one_of (class_of x.0) minus p.3.0)) ∙ ap (λ (z : ℕ). 45 ∷ z ∷ []) (greater_is x.1 (one_of (class_of x.1) greater p.4.0)))
+      (text ∙ ap (λ (z : ℕ). z ∷ x.1 ∷ []) (minus_is x.0 (one_of (class_of x.0) minus p.3.0)) ∙ ap (λ (z : ℕ). 45 ∷ z ∷ [])
+      (greater_is x.1 (one_of (class_of x.1) greater p.4.0)))
 
   less_text : Spells class_of flat less_line k t.text → IsTextOf k t.text
   unfolding less_line
@@ -209,33 +237,50 @@ module _ (bs : List ℕ) (k : Kind) (rest : List ℕ) (t : IsTokenAt bs k rest) 
       let text : t.text ≡ 60 ∷ p.1 = p.2 ∙ ap (λ (w : List ℕ). w ++ p.1) p.3.1 ∙ ap (λ (z : ℕ). z ∷ p.1) opened in
       elim p.4 [
         | inl b ↦
-            subst (λ (l : Kind). IsTextOf l t.text) (sym (s.1 ∙ b.1)) (text ∙ ap (λ (w : List ℕ). 60 ∷ w) b.2.1 ∙ ap (λ (z : ℕ). 60 ∷ z ∷ []) (minus_is b.0 (one_of (class_of b.0) minus b.2.0)))
+            subst (λ (l : Kind). IsTextOf l t.text) (sym (s.1 ∙ b.1)) (text ∙ ap (λ (w : List ℕ). 60 ∷ w) b.2.1
+            ∙ ap (λ (z : ℕ). 60 ∷ z ∷ []) (minus_is b.0 (one_of (class_of b.0) minus b.2.0)))
         | inr a ↦
             let q = a.2 in
             let r = q.4 in
             let body : List ℕ = r.0 ++ a.0.1.1 ∷ [] in
-            let rest_is : p.1 ≡ a.0.0 ∷ body = q.2 ∙ ap (λ (w : List ℕ). w ++ q.1) q.3.1 ∙ ap (λ (w : List ℕ). a.0.0 ∷ w) (r.2 ∙ ap (λ (w : List ℕ). r.0 ++ w) r.4.1) in
-            subst (λ (l : Kind). IsTextOf l t.text) (sym (s.1 ∙ a.1))
-            (a.0.0 ∷ body, text ∙ ap (λ (w : List ℕ). 60 ∷ w) rest_is, angle_whole a.0.0 body q.3.0 (angle_closed a.0.1.0 r.0 a.0.1.1 (one_of (class_of a.0.1.1) greater r.4.0) r.3))
+            let rest_is : p.1 ≡ a.0.0 ∷ body = q.2 ∙ ap (λ (w : List ℕ). w ++ q.1) q.3.1 ∙ ap (λ (w : List ℕ). a.0.0 ∷ w)
+            (r.2 ∙ ap (λ (w : List ℕ). r.0 ++ w) r.4.1) in
+            subst (λ (l : Kind). IsTextOf l t.text) (sym (s.1 ∙ a.1)) (
+              a.0.0 ∷ body,
+              text ∙ ap (λ (w : List ℕ). 60 ∷ w) rest_is,
+              angle_whole a.0.0 body q.3.0
+                  (angle_closed a.0.1.0 r.0 a.0.1.1 (one_of (class_of a.0.1.1) greater r.4.0) r.3),
+            )
       ]
 
-  one_mark : (m : Mark) (c v : ℕ) → ((b : ℕ) → class_of b ≡ c → b ≡ v) → mark_text m ≡ v ∷ [] → Spells class_of flat (mark c m) k t.text → IsTextOf k t.text
+  one_mark : (m : Mark) (c v : ℕ) → ((b : ℕ) → class_of b ≡ c → b ≡ v) → mark_text m ≡ v ∷ []
+      → Spells class_of flat (mark c m) k t.text → IsTextOf k t.text
   one_mark m c v is e s =
-      subst (λ (l : Kind). IsTextOf l t.text) (sym s.1) (s.2.1 ∙ ap (λ (z : ℕ). z ∷ []) (is s.0 (one_of (class_of s.0) c s.2.0)) ∙ sym e)
+      subst (λ (l : Kind). IsTextOf l t.text) (sym s.1) (s.2.1 ∙ ap (λ (z : ℕ). z ∷ []) (is s.0 (one_of (class_of s.0) c s.2.0))
+      ∙ sym e)
 
   mark_line_text : Spells class_of flat mark_line k t.text → IsTextOf k t.text
   unfolding mark_line
   mark_line_text (inl s) = one_mark marks.Dot 13 46 (byte_of 13 46 refl refl refl refl refl refl refl refl refl) refl s
   mark_line_text (inr (inl s)) = one_mark marks.BraceL 14 123 (byte_of 14 123 refl refl refl refl refl refl refl refl refl) refl s
-  mark_line_text (inr (inr (inl s))) = one_mark marks.BraceR 15 125 (byte_of 15 125 refl refl refl refl refl refl refl refl refl) refl s
-  mark_line_text (inr (inr (inr (inl s)))) = one_mark marks.ParenL 16 40 (byte_of 16 40 refl refl refl refl refl refl refl refl refl) refl s
-  mark_line_text (inr (inr (inr (inr (inl s))))) = one_mark marks.ParenR 17 41 (byte_of 17 41 refl refl refl refl refl refl refl refl refl) refl s
-  mark_line_text (inr (inr (inr (inr (inr (inl s)))))) = one_mark marks.SquareL 18 91 (byte_of 18 91 refl refl refl refl refl refl refl refl refl) refl s
-  mark_line_text (inr (inr (inr (inr (inr (inr (inl s))))))) = one_mark marks.SquareR 19 93 (byte_of 19 93 refl refl refl refl refl refl refl refl refl) refl s
-  mark_line_text (inr (inr (inr (inr (inr (inr (inr (inl s)))))))) = one_mark marks.Semi 20 59 (byte_of 20 59 refl refl refl refl refl refl refl refl refl) refl s
-  mark_line_text (inr (inr (inr (inr (inr (inr (inr (inr (inl s))))))))) = one_mark marks.Comma 21 44 (byte_of 21 44 refl refl refl refl refl refl refl refl refl) refl s
-  mark_line_text (inr (inr (inr (inr (inr (inr (inr (inr (inr (inl s)))))))))) = one_mark marks.Equals 22 61 (byte_of 22 61 refl refl refl refl refl refl refl refl refl) refl s
-  mark_line_text (inr (inr (inr (inr (inr (inr (inr (inr (inr (inr s)))))))))) = one_mark marks.Colon 23 58 (byte_of 23 58 refl refl refl refl refl refl refl refl refl) refl s
+  mark_line_text (inr (inr (inl s))) =
+      one_mark marks.BraceR 15 125 (byte_of 15 125 refl refl refl refl refl refl refl refl refl) refl s
+  mark_line_text (inr (inr (inr (inl s)))) =
+      one_mark marks.ParenL 16 40 (byte_of 16 40 refl refl refl refl refl refl refl refl refl) refl s
+  mark_line_text (inr (inr (inr (inr (inl s))))) =
+      one_mark marks.ParenR 17 41 (byte_of 17 41 refl refl refl refl refl refl refl refl refl) refl s
+  mark_line_text (inr (inr (inr (inr (inr (inl s)))))) =
+      one_mark marks.SquareL 18 91 (byte_of 18 91 refl refl refl refl refl refl refl refl refl) refl s
+  mark_line_text (inr (inr (inr (inr (inr (inr (inl s))))))) =
+      one_mark marks.SquareR 19 93 (byte_of 19 93 refl refl refl refl refl refl refl refl refl) refl s
+  mark_line_text (inr (inr (inr (inr (inr (inr (inr (inl s)))))))) =
+      one_mark marks.Semi 20 59 (byte_of 20 59 refl refl refl refl refl refl refl refl refl) refl s
+  mark_line_text (inr (inr (inr (inr (inr (inr (inr (inr (inl s))))))))) =
+      one_mark marks.Comma 21 44 (byte_of 21 44 refl refl refl refl refl refl refl refl refl) refl s
+  mark_line_text (inr (inr (inr (inr (inr (inr (inr (inr (inr (inl s)))))))))) =
+      one_mark marks.Equals 22 61 (byte_of 22 61 refl refl refl refl refl refl refl refl refl) refl s
+  mark_line_text (inr (inr (inr (inr (inr (inr (inr (inr (inr (inr s)))))))))) =
+      one_mark marks.Colon 23 58 (byte_of 23 58 refl refl refl refl refl refl refl refl refl) refl s
 
   -- a token's bytes are those of its kind
   pub text_of_kind : IsTextOf k t.text

@@ -97,21 +97,24 @@ class_in (row ∷ rows) c b = if b == row.0 then row.1 else class_in rows c b
 
 -- # + * % & | ^ ! ~ ?
 abbrev pub left_out_rows : List (ℕ × ℕ)
-left_out_rows = (35, left_out) ∷ (43, left_out) ∷ (42, left_out) ∷ (37, left_out) ∷ (38, left_out) ∷ (124, left_out) ∷ (94, left_out) ∷ (33, left_out) ∷ (126, left_out) ∷ (63, left_out) ∷ []
+left_out_rows = (35, left_out) ∷ (43, left_out) ∷ (42, left_out) ∷ (37, left_out) ∷ (38, left_out) ∷ (124, left_out)
+    ∷ (94, left_out) ∷ (33, left_out) ∷ (126, left_out) ∷ (63, left_out) ∷ []
 
 abbrev pub left_out_class : ℕ → ℕ
 left_out_class = class_in left_out_rows other
 
 -- . { } ( ) [ ] ; , = :
 abbrev pub mark_rows : List (ℕ × ℕ)
-mark_rows = (46, dot) ∷ (123, brace_l) ∷ (125, brace_r) ∷ (40, paren_l) ∷ (41, paren_r) ∷ (91, square_l) ∷ (93, square_r) ∷ (59, semi) ∷ (44, comma) ∷ (61, equals) ∷ (58, colon) ∷ []
+mark_rows = (46, dot) ∷ (123, brace_l) ∷ (125, brace_r) ∷ (40, paren_l) ∷ (41, paren_r) ∷ (91, square_l) ∷ (93, square_r)
+    ∷ (59, semi) ∷ (44, comma) ∷ (61, equals) ∷ (58, colon) ∷ []
 
 abbrev pub mark_class : ℕ → ℕ
 mark_class b = class_in mark_rows (left_out_class b) b
 
 -- space, tab, carriage return, line feed, / < - > " and the backslash
 abbrev pub sign_rows : List (ℕ × ℕ)
-sign_rows = (32, blank) ∷ (9, blank) ∷ (13, blank) ∷ (10, line_feed) ∷ (47, slash) ∷ (60, less) ∷ (45, minus) ∷ (62, greater) ∷ (34, quote) ∷ (92, backslash) ∷ []
+sign_rows = (32, blank) ∷ (9, blank) ∷ (13, blank) ∷ (10, line_feed) ∷ (47, slash) ∷ (60, less) ∷ (45, minus) ∷ (62, greater)
+    ∷ (34, quote) ∷ (92, backslash) ∷ []
 
 abbrev pub sign_class : ℕ → ℕ
 sign_class b = class_in sign_rows (mark_class b) b
@@ -153,7 +156,8 @@ mark_bytes = dot ∷ brace_l ∷ brace_r ∷ paren_l ∷ paren_r ∷ square_l �
 
 -- any byte but a line feed, a quote and a backslash
 abbrev pub plain_bytes : List ℕ
-plain_bytes = letter ∷ hex_letter ∷ cross ∷ zero_digit ∷ digit ∷ blank ∷ slash ∷ less ∷ minus ∷ greater ∷ left_out ∷ other ∷ mark_bytes
+plain_bytes = letter ∷ hex_letter ∷ cross ∷ zero_digit ∷ digit ∷ blank ∷ slash ∷ less ∷ minus ∷ greater ∷ left_out
+    ∷ other ∷ mark_bytes
 
 -- any byte but a line feed
 abbrev pub line_bytes : List ℕ

@@ -24,7 +24,8 @@ is_left_out_word word = list_any (bytes_eq word) (codes "connector" ∷ codes "s
 
 -- a word of more than 127 bytes, or a word that is left out
 abbrev pub word_fault : List ℕ → Found
-word_fault word = if nat_lt 127 (length word) then Some (code.Limit, word) else if is_left_out_word word then Some (code.LeftOut, word) else None
+word_fault word = if nat_lt 127 (length word) then Some (code.Limit, word) else if is_left_out_word word then Some
+    (code.LeftOut, word) else None
 
 -- a dot and a digit
 abbrev pub is_fraction : List ℕ → Bool
@@ -96,7 +97,8 @@ is_star (b ∷ bs) = b == 42
 -- a comment without its end, up to the end of the bytes; or a slash that begins no comment
 abbrev pub slash_fault : List ℕ → Found
 slash_fault [] = None
-slash_fault (b ∷ bs) = unless (after_comment bs) (if is_star bs then code.Unclosed else code.LeftOut) (if is_star bs then b ∷ bs else b ∷ [])
+slash_fault (b ∷ bs) = unless (after_comment bs) (if is_star bs then code.Unclosed else code.LeftOut) (if is_star bs then b
+    ∷ bs else b ∷ [])
 
 -- a byte that is left out; or one that begins no token, no blank and no comment
 abbrev pub sign_fault : List ℕ → Found

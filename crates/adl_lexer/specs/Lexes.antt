@@ -19,7 +19,8 @@ pub record IsTokenAt (bs : List ℕ) (k : Kind) (rest : List ℕ) : Type 0 where
   pub text : List ℕ
   pub parts : bs ≡ text ++ rest
   pub kind : Spells class_of flat token_form k text
-  pub longest : (longer : List ℕ) (after : List ℕ) (l : Kind) → rest ≡ longer ++ after → Spells class_of flat token_form l (text ++ longer) → longer ≡ []
+  pub longest : (longer : List ℕ) (after : List ℕ) (l : Kind) → rest ≡ longer ++ after
+      → Spells class_of flat token_form l (text ++ longer) → longer ≡ []
   pub clean : fault_at bs ≡ None
 
 -- the place from here to the rest, where there are so many bytes in all
@@ -29,7 +30,8 @@ place_of file total here rest = record { file = file; first = total - length her
 -- The tokens of the last bytes of a file of so many: blanks and whole comments before, between and after them.
 abbrev pub LexesFrom : ℕ → ℕ → List ℕ → List Token → Type 0
 LexesFrom file total bs [] = IsGap bs []
-LexesFrom file total bs (t ∷ ts) = (here : List ℕ) × (rest : List ℕ) × IsGap bs here × IsTokenAt here t.kind rest × (t.place ≡ place_of file total here rest) × LexesFrom file total rest ts
+LexesFrom file total bs (t ∷ ts) = (here : List ℕ) × (rest : List ℕ) × IsGap bs here × IsTokenAt here t.kind rest
+    × (t.place ≡ place_of file total here rest) × LexesFrom file total rest ts
 
 -- The file's bytes are these tokens, with blanks and whole comments before, between and after them.
 abbrev pub Lexes : ℕ → List ℕ → List Token → Type 0
@@ -46,7 +48,11 @@ pub record IsFirstFault (file : ℕ) (bytes : List ℕ) (f : Fault) : Type 0 whe
   pub text : List ℕ
   pub reached : Reached bytes rest
   pub stands : fault_at rest ≡ Some (f.code, text)
-  pub place : f.place ≡ record { file = file; first = length bytes - length rest; end = (length bytes - length rest) + length text }
+  pub place : f.place ≡ record {
+    file = file;
+    first = length bytes - length rest;
+    end = (length bytes - length rest) + length text;
+  }
   pub name : f.name ≡ name_in f.code text
 
 -- What a lexer answers: the tokens, where no fault stands; or the first fault; or that memory ran out.

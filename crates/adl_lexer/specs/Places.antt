@@ -6,4 +6,5 @@ use Rattle.cam_base.specs.declared.token.Token.{Token}
 -- the last ends within the file, which has so many bytes.
 abbrev pub PlacesRise : ℕ → ℕ → ℕ → List Token → Type 0
 PlacesRise file total at [] = at ≤ total
-PlacesRise file total at (t ∷ ts) = (t.place.file ≡ file) × (at ≤ t.place.first) × (t.place.first < t.place.end) × PlacesRise file total t.place.end ts
+PlacesRise file total at (t ∷ ts) = (t.place.file ≡ file) × (at ≤ t.place.first) × (t.place.first < t.place.end)
+    × PlacesRise file total t.place.end ts

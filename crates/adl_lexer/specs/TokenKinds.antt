@@ -37,7 +37,9 @@ word_line = As (λ x. word_kind (x.0 ∷ x.1)) (Then (One letters) (Many (One wo
 
 -- x or X and one or more hexadecimal digits, or nothing
 unfoldable pub hex_line : Bytes (List ℕ)
-hex_line = Or (Starts (cross ∷ []) (As (λ x. x.0 ∷ x.1.0 ∷ x.1.1) (Then (token cross) (Then (One hex_digits) (Many (One hex_digits)))))) (Give [])
+hex_line =
+    Or (Starts (cross ∷ []) (As (λ x. x.0 ∷ x.1.0 ∷ x.1.1) (Then (token cross) (Then (One hex_digits) (Many (One hex_digits))))))
+    (Give [])
 
 -- 0, or a hexadecimal number, or a digit from 1 to 9 and digits
 unfoldable pub number_line : Bytes Kind
@@ -54,7 +56,10 @@ text_line = As (λ x. kinds.Text) (Then (token quote) (Then (Many (Starts (backs
 
 -- behind < stands - or an angle name's bytes and >
 unfoldable pub less_line : Bytes Kind
-less_line = As (λ x. x.1) (Then (token less) (Or (As (λ b. kinds.Mark marks.Back) (token minus)) (As (λ x. kinds.Angle) (Then (One angle_first) (Then (Many (One angle_bytes)) (token greater))))))
+less_line =
+    As (λ x. x.1)
+    (Then (token less) (Or (As (λ b. kinds.Mark marks.Back) (token minus))
+    (As (λ x. kinds.Angle) (Then (One angle_first) (Then (Many (One angle_bytes)) (token greater))))))
 
 unfoldable pub arrow_line : Bytes Kind
 arrow_line = As (λ x. kinds.Mark marks.Arrow) (Then (token minus) (token greater))
@@ -63,11 +68,24 @@ abbrev pub mark : ℕ → Mark → Bytes Kind
 mark c m = As (λ b. kinds.Mark m) (token c)
 
 unfoldable pub mark_line : Bytes Kind
-mark_line = Or (mark dot marks.Dot) (Or (mark brace_l marks.BraceL) (Or (mark brace_r marks.BraceR) (Or (mark paren_l marks.ParenL) (Or (mark paren_r marks.ParenR) (Or (mark square_l marks.SquareL) (Or (mark square_r marks.SquareR) (Or (mark semi marks.Semi) (Or (mark comma marks.Comma) (Or (mark equals marks.Equals) (mark colon marks.Colon))))))))))
+mark_line =
+    Or (mark dot marks.Dot)
+    (Or (mark brace_l marks.BraceL)
+    (Or (mark brace_r marks.BraceR)
+    (Or (mark paren_l marks.ParenL)
+    (Or (mark paren_r marks.ParenR)
+    (Or (mark square_l marks.SquareL)
+    (Or (mark square_r marks.SquareR)
+    (Or (mark semi marks.Semi)
+    (Or (mark comma marks.Comma) (Or (mark equals marks.Equals) (mark colon marks.Colon))))))))))
 
 -- any token
 abbrev pub token_form : Bytes Kind
-token_form = Or (Starts letters word_line) (Or (Starts digits number_line) (Or (Starts (quote ∷ []) text_line) (Or (Starts (less ∷ []) less_line) (Or (Starts (minus ∷ []) arrow_line) (Starts mark_bytes mark_line)))))
+token_form =
+    Or (Starts letters word_line)
+    (Or (Starts digits number_line)
+    (Or (Starts (quote ∷ []) text_line)
+    (Or (Starts (less ∷ []) less_line) (Or (Starts (minus ∷ []) arrow_line) (Starts mark_bytes mark_line)))))
 
 -- no line of these stands within itself
 abbrev pub flat : Meaning ℕ (Unit {0})

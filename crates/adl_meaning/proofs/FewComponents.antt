@@ -12,7 +12,8 @@ use Rattle.adl_meaning.specs.Items.{items_in, items_of, components, as_component
 length-items : (n : ℕ) (f : SourceFile) → length (items_in (n, f)) ≡ length f.tree.items
 length-items n f = length-map (enumerate_from 0 f.tree.items) _ ∙ length-enumerate_from 0 f.tree.items
 
-few_items : (n : ℕ) (fs : List SourceFile) → All (λ f. length f.tree.items ≤ 1048576) fs → length (flat_map items_in (enumerate_from n fs)) ≤ length fs * 1048576
+few_items : (n : ℕ) (fs : List SourceFile) → All (λ f. length f.tree.items ≤ 1048576) fs
+    → length (flat_map items_in (enumerate_from n fs)) ≤ length fs * 1048576
 few_items n [] h = omega arith
 few_items n (f ∷ fs) h =
     let one : length f.tree.items ≤ 1048576 = All-head (λ (f : SourceFile). length f.tree.items ≤ 1048576) f fs h in

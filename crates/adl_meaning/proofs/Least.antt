@@ -23,10 +23,12 @@ lex_one : (a b c x y z : ℕ) → lex a b c x y z ≡ true → lex x y z a b c �
 lex_one a b c x y z p = grind (arith, nat_tests)
 
 chain : (f g h : Fault) → precedes f g ≡ true → precedes g h ≡ true → precedes f h ≡ true
-chain f g h = lex_chain f.place.file f.place.first (number_of f.code) g.place.file g.place.first (number_of g.code) h.place.file h.place.first (number_of h.code)
+chain f g h = lex_chain f.place.file f.place.first (number_of f.code) g.place.file g.place.first (number_of g.code) h.place.file
+    h.place.first (number_of h.code)
 
 back : (f g h : Fault) → precedes f g ≡ false → precedes g h ≡ false → precedes f h ≡ false
-back f g h = lex_back f.place.file f.place.first (number_of f.code) g.place.file g.place.first (number_of g.code) h.place.file h.place.first (number_of h.code)
+back f g h = lex_back f.place.file f.place.first (number_of f.code) g.place.file g.place.first (number_of g.code) h.place.file
+    h.place.first (number_of h.code)
 
 itself : (f : Fault) → precedes f f ≡ false
 itself f = lex_self f.place.file f.place.first (number_of f.code)
@@ -34,11 +36,14 @@ itself f = lex_self f.place.file f.place.first (number_of f.code)
 one_way : (f g : Fault) → precedes f g ≡ true → precedes g f ≡ false
 one_way f g = lex_one f.place.file f.place.first (number_of f.code) g.place.file g.place.first (number_of g.code)
 
-assoc_step : (f g h : Fault) (p q r : Bool) → precedes g f ≡ p → precedes h g ≡ q → precedes h f ≡ r → earlier (cond p (Some g) (Some f)) (Some h) ≡ earlier (Some f) (cond q (Some h) (Some g))
-assoc_step f g h true true r a b c = ap (λ z. cond z (Some h) (Some g)) b ∙ sym (ap (λ z. cond z (Some h) (Some f)) (chain h g f b a))
+assoc_step : (f g h : Fault) (p q r : Bool) → precedes g f ≡ p → precedes h g ≡ q → precedes h f ≡ r
+    → earlier (cond p (Some g) (Some f)) (Some h) ≡ earlier (Some f) (cond q (Some h) (Some g))
+assoc_step f g h true true r a b c = ap (λ z. cond z (Some h) (Some g)) b
+    ∙ sym (ap (λ z. cond z (Some h) (Some f)) (chain h g f b a))
 assoc_step f g h true false r a b c = ap (λ z. cond z (Some h) (Some g)) b ∙ sym (ap (λ z. cond z (Some g) (Some f)) a)
 assoc_step f g h false true r a b c = refl
-assoc_step f g h false false r a b c = ap (λ z. cond z (Some h) (Some f)) (back h g f b a) ∙ sym (ap (λ z. cond z (Some g) (Some f)) a)
+assoc_step f g h false false r a b c = ap (λ z. cond z (Some h) (Some f)) (back h g f b a)
+    ∙ sym (ap (λ z. cond z (Some g) (Some f)) a)
 
 pub earlier_none : (a : Option Fault) → earlier a None ≡ a
 earlier_none None = refl
@@ -64,7 +69,8 @@ pub noted-none : (fs : List Fault) → noted None fs ≡ least fs
 noted-none fs = noted-earlier None fs
 
 -- what the first fault of a list is
-first_step : (f g : Fault) (fs : List Fault) (b : Bool) → precedes g f ≡ b → IsIn g fs → ((h : Fault) → IsIn h fs → precedes h g ≡ false) → (r : Fault) → cond b (Some g) (Some f) ≡ Some r
+first_step : (f g : Fault) (fs : List Fault) (b : Bool) → precedes g f ≡ b → IsIn g fs
+    → ((h : Fault) → IsIn h fs → precedes h g ≡ false) → (r : Fault) → cond b (Some g) (Some f) ≡ Some r
     → IsIn r (f ∷ fs) × ((h : Fault) → IsIn h (f ∷ fs) → precedes h r ≡ false)
 first_step f g fs true e i m r q =
     let t : g ≡ r = cc in
@@ -88,12 +94,21 @@ pub none_stands : (fs : List Fault) → least fs ≡ None → (f : Fault) → Is
 none_stands [] e f i = i
 none_stands (g ∷ fs) e f i = not_none g (least fs) e
 
-first_go : (f : Fault) (fs : List Fault) (o : Option Fault) (r : Fault) → least fs ≡ o → ((g : Fault) → least fs ≡ Some g → IsIn g fs × ((h : Fault) → IsIn h fs → precedes h g ≡ false)) → earlier (Some f) o ≡ Some r
+first_go : (f : Fault) (fs : List Fault) (o : Option Fault) (r : Fault) → least fs ≡ o
+    → ((g : Fault) → least fs ≡ Some g → IsIn g fs × ((h : Fault) → IsIn h fs → precedes h g ≡ false))
+    → earlier (Some f) o ≡ Some r
     → IsIn r (f ∷ fs) × ((h : Fault) → IsIn h (f ∷ fs) → precedes h r ≡ false)
 first_go f fs None r e ih q =
     let t : f ≡ r = cc in
     let P : Fault → Type 0 = λ x. IsIn x (f ∷ fs) × ((h : Fault) → IsIn h (f ∷ fs) → precedes h x ≡ false) in
-    subst P t (inl refl, λ h j. elim j [ inl s ↦ ap (λ z. precedes z f) (sym s) ∙ itself f | inr s ↦ absurd (none_stands fs e h s) ])
+    subst P t (
+      inl refl,
+      λ h j. elim j [
+        | inl s ↦ ap (λ z. precedes z f) (sym s) ∙ itself f
+        | inr s ↦
+            absurd (none_stands fs e h s)
+      ],
+    )
 first_go f fs (Some g) r e ih q = let k = ih g e in first_step f g fs (precedes g f) refl k.0 k.1 r q
 
 -- the first fault is one of them, and none comes before it

@@ -34,13 +34,22 @@ names_sound s e =
     let m = both_empty (a ++ b ++ c) d k.0 in
     let n = both_empty (a ++ b) c m.0 in
     let o = both_empty a b n.0 in
-    record { one_assembly = o.0; an_assembly = o.1; no_duplicates = n.1; all_known = m.1; none_recursive = k.1; bodies_fit = f.1; exports_fit = g.1 }
+    record {
+      one_assembly = o.0;
+      an_assembly = o.1;
+      no_duplicates = n.1;
+      all_known = m.1;
+      none_recursive = k.1;
+      bodies_fit = f.1;
+      exports_fit = g.1;
+    }
 
 -- then there is one assembly
 pub one_assembly : (s : Source) → AreNamesSound s → (x : ItemAt × Assembly) × (assemblies s ≡ x ∷ [])
 one_assembly s sound = by_case (assemblies s) refl sound.one_assembly sound.an_assembly
   where
-    by_case : (xs : List (ItemAt × Assembly)) → assemblies s ≡ xs → second_of xs ≡ [] → none_of xs ≡ [] → (x : ItemAt × Assembly) × (assemblies s ≡ x ∷ [])
+    by_case : (xs : List (ItemAt × Assembly)) → assemblies s ≡ xs → second_of xs ≡ [] → none_of xs ≡ []
+        → (x : ItemAt × Assembly) × (assemblies s ≡ x ∷ [])
     by_case [] e p q = cc
     by_case (x ∷ []) e p q = (x, e)
     by_case (x ∷ y ∷ zs) e p q = cc

@@ -17,7 +17,8 @@ group_or (Some g) rest = Some (g ∷ [])
 -- the path of the outermost group above a path inside body k
 abbrev pub group_above : Hierarchy → ℕ → Path → Option Path
 group_above h k [] = None
-group_above h k (n ∷ p) = option_and_then (λ x. group_or x.group (option_map (λ q. n ∷ q) (group_above h x.kind p))) (part_named (body h k).parts n)
+group_above h k (n ∷ p) = option_and_then (λ x. group_or x.group (option_map (λ q. n ∷ q) (group_above h x.kind p)))
+    (part_named (body h k).parts n)
 
 abbrev pub domain_of : Hierarchy → Path → Path
 domain_of h p = unwrap_or (group_above h (top_number h) p) p

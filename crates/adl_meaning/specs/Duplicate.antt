@@ -28,7 +28,8 @@ use Rattle.adl_meaning.specs.Members.{declared_in, compositions, configurations}
 -- the words whose name an earlier one has, where met says which names stand before the first
 abbrev pub repeats_after : (Name → Bool) → List Id → List Fault
 repeats_after met [] = []
-repeats_after met (w ∷ ws) = where_true (met w.name) (at_word code.Duplicate w) ++ repeats_after (λ n. met n || bytes_eq n w.name) ws
+repeats_after met (w ∷ ws) = where_true (met w.name) (at_word code.Duplicate w)
+    ++ repeats_after (λ n. met n || bytes_eq n w.name) ws
 
 -- the words whose name an earlier one of the list has
 abbrev pub repeats : List Id → List Fault

@@ -77,7 +77,8 @@ default_size = 4096
 
 -- one kind, one type word, one size; `maybe` isn't compared
 abbrev pub same_interface : Interface → Interface → Bool
-same_interface i j = same_kind i.kind j.kind && (bytes_eq i.word.name j.word.name && unwrap_or i.size default_size == unwrap_or j.size default_size)
+same_interface i j = same_kind i.kind j.kind && (bytes_eq i.word.name j.word.name && unwrap_or i.size default_size == unwrap_or
+    j.size default_size)
 
 abbrev pub differs : Option Interface → Option Interface → Bool
 differs (Some i) (Some j) = not (same_interface i j)
@@ -131,11 +132,13 @@ abbrev pub is_misfit : (Name → Option Known) → Option Known → (Name → Op
 is_misfit types owner held targets inners x = is_misfit_at types owner (port_of held x.words) targets inners x
 
 -- the exports at fault, where targets and inners say what the exports in front of them have
-abbrev pub misfits_after : (Name → Option Known) → Option Known → (Name → Option Held) → (Name → Bool) → (Port → Bool) → List Export → List Fault
+abbrev pub misfits_after : (Name → Option Known) → Option Known → (Name → Option Held) → (Name → Bool) → (Port → Bool)
+    → List Export → List Fault
 misfits_after types owner held targets inners [] = []
 misfits_after types owner held targets inners (x ∷ xs) =
     where_true (is_misfit types owner held targets inners x) (export_fault x.words x.place)
-    ++ misfits_after types owner held (λ n. targets n || bytes_eq n x.target.name) (λ p. inners p || is_port (inner_of types (port_of held x.words)) p) xs
+    ++ misfits_after types owner held (λ n. targets n || bytes_eq n x.target.name)
+    (λ p. inners p || is_port (inner_of types (port_of held x.words)) p) xs
 
 abbrev pub unled_end : (Name → Option Known) → (Name → Option Held) → End → List Fault
 unled_end types held e = where_true (is_unled types (port_of held e.words)) (export_fault e.words e.place)
@@ -144,7 +147,8 @@ abbrev pub unled_ends : (Name → Option Known) → (Name → Option Held) → C
 unled_ends types held k = flat_map (unled_end types held) k.ends
 
 abbrev pub misfits_in_composition : (Name → Option Known) → Option Known → Composition → List Fault
-misfits_in_composition types owner k = misfits_after types owner (held_as k) (λ n. false) (λ p. false) (exports_in k) ++ flat_map (unled_ends types (held_as k)) (connections_in k)
+misfits_in_composition types owner k = misfits_after types owner (held_as k) (λ n. false) (λ p. false) (exports_in k)
+    ++ flat_map (unled_ends types (held_as k)) (connections_in k)
 
 abbrev pub misfits_in_item : (Name → Option Known) → Item → List Fault
 misfits_in_item types (items.Import i) = []

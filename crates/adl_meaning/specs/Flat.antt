@@ -70,7 +70,12 @@ member_number h x i = option_map_or (λ c. place_by (is_interface i) c.members) 
 
 -- an end of a connection of the composition at q, at the interface that it joins
 abbrev pub flat_end : Hierarchy → Path → End → Reached → FlatEnd
-flat_end h q e r = record { role = e.role; leaf = leaf_number h (q ++ r.path); member = member_number h r.part r.interface; place = e.place }
+flat_end h q e r = record {
+  role = e.role;
+  leaf = leaf_number h (q ++ r.path);
+  member = member_number h r.part r.interface;
+  place = e.place;
+}
 
 -- an end that joins nothing is left out; where no fault of names stands, each joins an interface
 abbrev pub flat_ends : Hierarchy → Strung → List FlatEnd

@@ -60,7 +60,8 @@ behind n r = record r { path = n ∷ r.path }
 abbrev pub reached_by : Hierarchy → (ℕ → Name × Name → Option Reached) → Name → Part → Option Reached
 reached_by h f j x =
     if is_composite h x.kind
-    then option_map (behind (name_of x)) (option_and_then (f x.kind) (option_and_then (λ e. port_in e.words) (export_named (exports_of (body h x.kind)) j)))
+    then option_map (behind (name_of x))
+    (option_and_then (f x.kind) (option_and_then (λ e. port_in e.words) (export_named (exports_of (body h x.kind)) j)))
     else Some (record { path = name_of x ∷ []; part = x; interface = j })
 
 -- the interface of a leaf that c.j means in body k, over at most n levels
@@ -95,7 +96,8 @@ strung_by f x = map (further (name_of x)) (f x.kind)
 -- The connections in body k at paths of at most n names: its own in their order, then those of its instances in theirs.
 abbrev pub connections_within : Hierarchy → ℕ → ℕ → List Strung
 connections_within h zero k = map (strung k) (wires_of (body h k))
-connections_within h (suc n) k = map (strung k) (wires_of (body h k)) ++ flat_map (strung_by (connections_within h n)) (body h k).parts
+connections_within h (suc n) k = map (strung k) (wires_of (body h k)) ++ flat_map (strung_by (connections_within h n))
+    (body h k).parts
 
 abbrev pub connections_in : Hierarchy → ℕ → List Strung
 connections_in h k = connections_within h (length h.bodies) k

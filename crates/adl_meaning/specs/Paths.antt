@@ -41,7 +41,10 @@ outside n x = record x { path = n ∷ x.path }
 
 -- the leaves that an instance stands for: itself, or the leaves of its component, which f gives
 abbrev pub placed_by : Hierarchy → (ℕ → List Placed) → Part → List Placed
-placed_by h f x = if is_composite h x.kind then map (outside (name_of x)) (f x.kind) else record { path = name_of x ∷ []; part = x } ∷ []
+placed_by h f x = if is_composite h x.kind then map (outside (name_of x)) (f x.kind) else record {
+  path = name_of x ∷ [];
+  part = x;
+} ∷ []
 
 -- The leaves in body k at paths of at most n names: those of its instances in their order, the leaves of a composite in
 -- the place of the composite.

@@ -17,7 +17,8 @@ use Rattle.adl_meaning.specs.Joins.{Strung, connections}
 use Rattle.adl_meaning.specs.Paths.{Placed, leaves}
 
 abbrev pub misplaced_device : Hierarchy → Placed → List Fault
-misplaced_device h x = where_true (is_hardware h x.part && is_some (group_above h (top_number h) x.path)) (at_word code.Placement x.part.instance.id)
+misplaced_device h x = where_true (is_hardware h x.part && is_some (group_above h (top_number h) x.path))
+    (at_word code.Placement x.part.instance.id)
 
 -- the domain of the leaf that an end joins
 abbrev pub domain_at : Flat → FlatEnd → Option ℕ
@@ -42,7 +43,8 @@ is_direct Mmio = false
 is_direct Interrupt = false
 
 abbrev pub parted_call : Hierarchy → Flat → Strung → List Fault
-parted_call h flat x = where_true (is_direct x.wire.0 && not (in_one_domain flat (flat_ends h x))) (at_word code.Placement x.wire.1.id)
+parted_call h flat x = where_true (is_direct x.wire.0 && not (in_one_domain flat (flat_ends h x)))
+    (at_word code.Placement x.wire.1.id)
 
 abbrev pub misplaced_in : Hierarchy → List Fault
 misplaced_in h = flat_map (misplaced_device h) (leaves h) ++ flat_map (parted_call h (flattened h)) (connections h)

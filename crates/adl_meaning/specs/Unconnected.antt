@@ -21,7 +21,8 @@ may_stay i = i.maybe || not (same_kind i.kind kinds.Uses)
 
 -- a member of a leaf, by its place
 abbrev pub unjoined_member : List JoinedEnd → ℕ → ℕ × Member → List Fault
-unjoined_member all leaf (m, members.Interface i) = where_false (may_stay i || list_any (is_at leaf m) all) (at_word code.Unconnected i.id)
+unjoined_member all leaf (m, members.Interface i) = where_false (may_stay i || list_any (is_at leaf m) all)
+    (at_word code.Unconnected i.id)
 unjoined_member all leaf (m, members.Control p) = []
 unjoined_member all leaf (m, members.Hardware p) = []
 unjoined_member all leaf (m, members.Include i) = []
@@ -32,7 +33,8 @@ unjoined_member all leaf (m, members.Configuration f) = []
 
 -- a leaf, by its number
 abbrev pub unjoined_at : Hierarchy → List JoinedEnd → ℕ × Placed → List Fault
-unjoined_at h all x = option_map_or (λ c. flat_map (unjoined_member all x.0) (enumerate_from 0 c.members)) (body h x.1.part.kind).component []
+unjoined_at h all x = option_map_or (λ c. flat_map (unjoined_member all x.0) (enumerate_from 0 c.members))
+    (body h x.1.part.kind).component []
 
 abbrev pub unconnected_in : Hierarchy → List Fault
 unconnected_in h = flat_map (unjoined_at h (joined_ends h)) (enumerate_from 0 (leaves h))

@@ -170,7 +170,8 @@ unknown_word scope after w (v ∷ u ∷ more) = unknown_inner scope w
 -- the words from here on, of which the first is looked up in the scope
 abbrev pub unknown_in_setting : (Name → Option Known) → Scope → List Id → List Fault
 unknown_in_setting types scope [] = []
-unknown_in_setting types scope (w ∷ more) = unknown_word scope (scope_behind types scope w.name) w more ++ unknown_in_setting types (scope_behind types scope w.name) more
+unknown_in_setting types scope (w ∷ more) = unknown_word scope (scope_behind types scope w.name) w more
+    ++ unknown_in_setting types (scope_behind types scope w.name) more
 
 -- the attribute that a setting refers to, by what is known of the owner
 abbrev pub unknown_attribute : Option Known → Setter → List Fault
@@ -185,7 +186,8 @@ unknown_target owner t = unless_known (is_some (option_and_then (λ c. c.interfa
 abbrev pub unknown_in_line : (Name → Option Known) → Option Known → (Name → Option Held) → Line → List Fault
 unknown_in_line types owner held (lines.Instance i) = unknown_type types i
 unknown_in_line types owner held (lines.Group g) = flat_map (unknown_type types) g.instances
-unknown_in_line types owner held (lines.Connection x) = unknown_connector x ++ flat_map (λ e. unknown_in_dotted types held e.words) x.ends
+unknown_in_line types owner held (lines.Connection x) = unknown_connector x
+    ++ flat_map (λ e. unknown_in_dotted types held e.words) x.ends
 unknown_in_line types owner held (lines.Export x) = unknown_in_dotted types held x.words ++ unknown_target owner x.target
 
 abbrev pub unknown_in_composition : (Name → Option Known) → Option Known → Composition → List Fault
@@ -205,14 +207,16 @@ unknown_in_member types procedures owner (members.Interface i) = unknown_procedu
 unknown_in_member types procedures owner (members.Attribute a) = []
 unknown_in_member types procedures owner (members.Lock l) = []
 unknown_in_member types procedures owner (members.Composition k) = unknown_in_composition types (Some owner) k
-unknown_in_member types procedures owner (members.Configuration f) = unknown_in_configuration types (Some owner) (scope_of_held owner.holds) f
+unknown_in_member types procedures owner (members.Configuration f) = unknown_in_configuration types (Some owner)
+    (scope_of_held owner.holds) f
 
 abbrev pub unknown_if_configured : (Name → Option Known) → Scope → Option Configuration → List Fault
 unknown_if_configured types scope None = []
 unknown_if_configured types scope (Some f) = unknown_in_configuration types None scope f
 
 abbrev pub unknown_in_assembly : (Name → Option Known) → Assembly → List Fault
-unknown_in_assembly types a = unknown_in_composition types None a.composition ++ unknown_if_configured types (within (held_as a.composition)) a.configuration
+unknown_in_assembly types a = unknown_in_composition types None a.composition ++ unknown_if_configured types
+    (within (held_as a.composition)) a.configuration
 
 abbrev pub unknown_in_item : (Name → Option Known) → (Name → Bool) → Item → List Fault
 unknown_in_item types procedures (items.Import i) = []

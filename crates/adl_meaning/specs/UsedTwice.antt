@@ -13,7 +13,11 @@ abbrev pub clashes : JoinedEnd → JoinedEnd → Bool
 clashes e f = is_at e.end.leaf e.end.member f && (e.once || f.connection == e.connection)
 
 abbrev pub used_twice : List JoinedEnd → JoinedEnd → List Fault
-used_twice all e = where_true (nat_le 2 (count_by (clashes e) all)) (record { code = code.UsedTwice; place = e.end.place; name = e.word })
+used_twice all e = where_true (nat_le 2 (count_by (clashes e) all)) (record {
+  code = code.UsedTwice;
+  place = e.end.place;
+  name = e.word;
+})
 
 abbrev pub used_twice_in : Hierarchy → List Fault
 used_twice_in h = flat_map (used_twice (joined_ends h)) (joined_ends h)

@@ -20,23 +20,29 @@ pub ruleset walks = (noted-append, flat_map-map)
 
 pub ruleset composite_walks = (walks, composite_held, copied_some)
 
-pub body_at : (bs : List Body) (xs : List Item) (k : ℕ) → map item_of bs ≡ xs → slice_get xs k ≡ option_map item_of (slice_get bs k)
+pub body_at : (bs : List Body) (xs : List Item) (k : ℕ) → map item_of bs ≡ xs
+    → slice_get xs k ≡ option_map item_of (slice_get bs k)
 body_at bs xs k e = ap (λ z. slice_get z k) (sym e) ∙ slice_get-map item_of bs k
 
 -- the component of the number of a name, where the items from the number i on are these
-numbered : (n : Name) (all : List Item) (xs : List (ItemAt × Item)) (i : ℕ) → ((j k : ℕ) → k ≡ i + j → slice_get all k ≡ slice_get (map (λ x. x.1) xs) j)
-    → component_at all (option_map (λ x. x.0) (find (λ x. is_named n x.1) (enumerate_from i (map (λ x. x.1) xs)))) ≡ option_map (λ c. c.1) (find (λ c. bytes_eq n c.1.id.name) (filter_map as_component xs))
+numbered : (n : Name) (all : List Item) (xs : List (ItemAt × Item)) (i : ℕ)
+    → ((j k : ℕ) → k ≡ i + j → slice_get all k ≡ slice_get (map (λ x. x.1) xs) j)
+    → component_at all (option_map (λ x. x.0) (find (λ x. is_named n x.1) (enumerate_from i (map (λ x. x.1) xs)))) ≡ option_map
+    (λ c. c.1) (find (λ c. bytes_eq n c.1.id.name) (filter_map as_component xs))
 numbered n all [] i h = refl
 numbered n all ((at, items.Component c) ∷ xs) i h =
     let later = find (λ (x : ℕ × Item). is_named n x.1) (enumerate_from (i + 1) (map (λ (x : ItemAt × Item). x.1) xs)) in
     let named = find (λ (c : ItemAt × Component). bytes_eq n c.1.id.name) (filter_map as_component xs) in
-    elim (bytes_eq n c.id.name) as (λ b. component_at all (option_map (λ (x : ℕ × Item). x.0) (cond b (Some (i, items.Component c)) later)) ≡ option_map (λ (c : ItemAt × Component). c.1) (cond b (Some (at, c)) named)) [
+    elim (bytes_eq n c.id.name) as
+    (λ b. component_at all (option_map (λ (x : ℕ × Item). x.0) (cond b (Some (i, items.Component c)) later)) ≡ option_map
+    (λ (c : ItemAt × Component). c.1) (cond b (Some (at, c)) named)) [
       | true ↦ ap (option_and_then item_component) (h 0 i (omega arith))
       | false ↦ numbered n all xs (i + 1) (λ j k e. h (suc j) k (omega (arith, e)))
     ]
 numbered n all (x ∷ xs) i h = numbered n all xs (i + 1) (λ j k e. h (suc j) k (omega (arith, e)))
 
-pub component_numbered : (s : Source) (n : Name) → component_at (map (λ x. x.1) (items_of s)) (item_number (map (λ x. x.1) (items_of s)) n) ≡ component_of s n
+pub component_numbered : (s : Source) (n : Name)
+    → component_at (map (λ x. x.1) (items_of s)) (item_number (map (λ x. x.1) (items_of s)) n) ≡ component_of s n
 component_numbered s n =
     let all = map (λ (x : ItemAt × Item). x.1) (items_of s) in
     numbered n all (items_of s) 0 (λ j k e. let same : k ≡ j = omega (arith, e) in ap (slice_get all) same)

@@ -11,7 +11,12 @@ abbrev pub item_of : Body → Item
 item_of (body.Import i) = items.Import i.now
 item_of (body.Procedure p) = items.Procedure p.now
 item_of (body.Component c) = items.Component c
-item_of (body.Assembly a k) = items.Assembly (record { place = a.now.place; id = a.now.id; composition = k; configuration = a.now.configuration })
+item_of (body.Assembly a k) = items.Assembly (record {
+  place = a.now.place;
+  id = a.now.id;
+  composition = k;
+  configuration = a.now.configuration;
+})
 
 abbrev pub item_component : Item → Option Component
 item_component (items.Component c) = Some c
@@ -29,7 +34,8 @@ abbrev pub component_at : List Item → Option ℕ → Option Component
 component_at xs number = option_and_then (λ k. option_and_then item_component (slice_get xs k)) number
 
 -- the tables tell what the names of a source stand for
-pub record AreKnown (bodies : List Body) (numbers : List (Name × ℕ)) (procedures : List (Name × Unit {0})) (s : Source) : Type 0 where
+pub record AreKnown (bodies : List Body) (numbers : List (Name × ℕ)) (procedures : List (Name × Unit {0}))
+    (s : Source) : Type 0 where
   pub items_are : map item_of bodies ≡ map (λ x. x.1) (items_of s)
   pub components : (n : Name) → component_at (map (λ x. x.1) (items_of s)) (found numbers n) ≡ component_of s n
   pub are_procedures : (n : Name) → has_name procedures n ≡ is_procedure s n

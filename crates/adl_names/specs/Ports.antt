@@ -15,4 +15,5 @@ is_port_among keys p = list_any (λ k. p.0.id.place.first == k.0 && bytes_eq p.1
 
 -- the exports of a composition at fault, behind those that have taken targets and inner interfaces
 abbrev pub misfits_from : Source → Option (Bor Component) → Composition → Taken → List Export → List Fault
-misfits_from s owner k taken exports = misfits_after (known_in s) (owner_of owner) (held_as k) (is_among taken.targets) (is_port_among taken.inners.keys) exports
+misfits_from s owner k taken exports = misfits_after (known_in s) (owner_of owner) (held_as k) (is_among taken.targets)
+    (is_port_among taken.inners.keys) exports

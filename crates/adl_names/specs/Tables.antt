@@ -42,7 +42,8 @@ abbrev pub IsHolding : List (Name × Held) → Composition → Type 0
 IsHolding table k = (n : Name) → holding_told table n ≡ held_as k n
 
 -- the tables tell what the names of a component stand for
-pub record AreTold (declared : List (Name × Declared)) (holdings : List Composition) (targets : List Name) (c : Component) : Type 0 where
+pub record AreTold (declared : List (Name × Declared)) (holdings : List Composition) (targets : List Name)
+    (c : Component) : Type 0 where
   pub declares : (n : Name) → declaring_told declared n ≡ declared_as c n
   pub holds : holdings ≡ compositions c
   pub exports : (n : Name) → is_among targets n ≡ is_exported (slice_get holdings 0) n

@@ -24,12 +24,22 @@ module _ (bytes : List ℕ) (tokens slice : List Token) (is : slice ≡ tokens) 
   all_ok x e = whole_found token_code nested_line opens nested_is file_line file_decides limit (see bytes tokens) x e
 
   pub file_ok : (x : File) → whole (reads file_line) (see bytes slice) ≡ Ok x → IsFileIn bytes tokens (Ok x)
-  file_ok x e = subst (λ (z : List Token). whole (reads file_line) (see bytes z) ≡ Ok x → IsFileIn bytes tokens (Ok x)) (sym is) (all_ok x) e
+  file_ok x e = subst (λ (z : List Token). whole (reads file_line) (see bytes z) ≡ Ok x → IsFileIn bytes tokens (Ok x))
+      (sym is) (all_ok x) e
 
-  all_refused : (e : ReadError) (r : Refused Fault) → Fails e (whole (reads file_line) (see bytes tokens)) → IsRefusalOf bytes tokens e r → IsFileIn bytes tokens (Err r)
+  all_refused : (e : ReadError) (r : Refused Fault) → Fails e (whole (reads file_line) (see bytes tokens))
+      → IsRefusalOf bytes tokens e r → IsFileIn bytes tokens (Err r)
   all_refused e refusals.NoMemory h q = tt
   all_refused errors.NoMemory (refusals.Fault g) h q = absurd q
-  all_refused (errors.Stop stop) (refusals.Fault g) h q = (stop.why, stop.left, q, file_stops token_code nested_line opens nested_is file_line file_decides limit (see bytes tokens) stop.why stop.left h)
+  all_refused (errors.Stop stop) (refusals.Fault g) h q = (
+    stop.why,
+    stop.left,
+    q,
+    file_stops token_code nested_line opens nested_is file_line file_decides limit (see bytes tokens)
+        stop.why stop.left h,
+  )
 
-  pub file_refused : (e : ReadError) (r : Refused Fault) → Fails e (whole (reads file_line) (see bytes slice)) → IsRefusalOf bytes slice e r → IsFileIn bytes tokens (Err r)
-  file_refused e r h q = subst (λ (z : List Token). Fails e (whole (reads file_line) (see bytes z)) → IsRefusalOf bytes z e r → IsFileIn bytes tokens (Err r)) (sym is) (all_refused e r) h q
+  pub file_refused : (e : ReadError) (r : Refused Fault) → Fails e (whole (reads file_line) (see bytes slice))
+      → IsRefusalOf bytes slice e r → IsFileIn bytes tokens (Err r)
+  file_refused e r h q = subst (λ (z : List Token). Fails e (whole (reads file_line) (see bytes z)) → IsRefusalOf bytes z e r
+      → IsFileIn bytes tokens (Err r)) (sym is) (all_refused e r) h q

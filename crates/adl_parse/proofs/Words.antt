@@ -46,7 +46,10 @@ word_or_sign kind text h = elim (eqb_tells (word_code text) (kind_code kind []))
 
 -- codes of kinds that aren't one are different
 pub other_code : (a b : Kind) (s t : List ℕ) → (without_value a ≡ without_value b → ⊥) → (kind_code a s == kind_code b t) ≡ false
-other_code a b s t n = elim (eqb_tells (kind_code a s) (kind_code b t)) [ inl e ↦ absurd (n (same_code a b s t e.1)) | inr e ↦ e.0 ]
+other_code a b s t n = elim (eqb_tells (kind_code a s) (kind_code b t)) [
+  | inl e ↦ absurd (n (same_code a b s t e.1))
+  | inr e ↦ e.0
+]
 
 no_word_code : (kind : Kind) (text word : List ℕ) → is_word kind ≡ false → (kind_code kind text == word_code word) ≡ false
 no_word_code kind text word h = elim (eqb_tells (kind_code kind text) (word_code word)) [
@@ -67,7 +70,8 @@ no_buf kind text h = no_word_code kind text (codes "Buf") h
 among_two : (c d e : ℕ) → (c == d) ≡ false → (c == e) ≡ false → cond (c == d) true (cond (c == e) true false) ≡ false
 among_two c d e p q = ap (λ (b : Bool). cond b true (cond (c == e) true false)) p ∙ ap (λ (b : Bool). cond b true false) q
 
-pub no_sign_has : (words : WordKind) (kind : Kind) (text : List ℕ) → is_word kind ≡ false → among (codes_of words) (kind_code kind text) ≡ false
+pub no_sign_has : (words : WordKind) (kind : Kind) (text : List ℕ) → is_word kind ≡ false
+    → among (codes_of words) (kind_code kind text) ≡ false
 no_sign_has Void kind text h = ap (λ (b : Bool). cond b true false) (no_void kind text h)
 no_sign_has NotVoid kind text h = among_two (kind_code kind text) 0 2 (no_plain kind text h) (no_buf kind text h)
 no_sign_has Buf kind text h = ap (λ (b : Bool). cond b true false) (no_buf kind text h)

@@ -14,7 +14,8 @@ use Rattle.adl_parse.specs.Faults.{fault_of}
 
 -- The file is spelled by the tokens; or the fault stands where they stop being those of a file; or memory ran out.
 abbrev pub IsFileIn : List ℕ → List Token → Result File (Refused Fault) → Type 0
-IsFileIn bytes tokens result = IsFileRead token_code nested_line file_line limit (see bytes tokens) (fault_of bytes tokens) (λ x. x) result
+IsFileIn bytes tokens result = IsFileRead token_code nested_line file_line limit (see bytes tokens) (fault_of bytes tokens)
+    (λ x. x) result
 
 -- the answer isn't want of memory
 abbrev pub IsSettled : Result File (Refused Fault) → Type 0

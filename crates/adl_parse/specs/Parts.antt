@@ -14,8 +14,10 @@ use Rattle.adl_parse.specs.Faults.{fault_of}
 -- The tree is spelled by the tokens from the position at up to the position that is answered; or the fault stands where
 -- the tokens from at on stop being those of the part; or memory ran out.
 abbrev pub IsPartAt : {A : Type 0} → Rule A → List ℕ → List Token → ℕ → Result (A × ℕ) (Refused Fault) → Type 0
-IsPartAt f bytes tokens at result = IsPartRead token_code nested_line f limit (drop at (see bytes tokens)) (fault_of bytes tokens) (λ x. (x.0, drop x.1 (see bytes tokens))) result
+IsPartAt f bytes tokens at result = IsPartRead token_code nested_line f limit (drop at (see bytes tokens)) (fault_of bytes tokens)
+    (λ x. (x.0, drop x.1 (see bytes tokens))) result
 
 -- Parsing a part has one fault at most.
 abbrev pub FaultIsOne : {A : Type 0} → Rule A → Type 0
-FaultIsOne f = (bytes : List ℕ) (tokens : List Token) (at : ℕ) (x y : Fault) → IsPartAt f bytes tokens at (Err (refusals.Fault x)) → IsPartAt f bytes tokens at (Err (refusals.Fault y)) → x ≡ y
+FaultIsOne f = (bytes : List ℕ) (tokens : List Token) (at : ℕ) (x y : Fault) → IsPartAt f bytes tokens at (Err (refusals.Fault x))
+    → IsPartAt f bytes tokens at (Err (refusals.Fault y)) → x ≡ y

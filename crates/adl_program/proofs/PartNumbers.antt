@@ -3,7 +3,8 @@ use Rattle.adl_program.proofs.Common.{Bool, Hierarchy, IsIn, List, Name, None, P
 use Rattle.cam_base.proofs.NumberedLists.{found}
 
 -- a search that tells numbers too finds the same
-finds_same : {X : Type 0} (p : X → Bool) (a : ℕ) (xs : List X) → option_map (λ (x : ℕ × X). x.1) (find (λ (x : ℕ × X). p x.1) (enumerate_from a xs)) ≡ find p xs
+finds_same : {X : Type 0} (p : X → Bool) (a : ℕ) (xs : List X)
+    → option_map (λ (x : ℕ × X). x.1) (find (λ (x : ℕ × X). p x.1) (enumerate_from a xs)) ≡ find p xs
 finds_same p a [] = refl
 finds_same p a (x ∷ xs) = grind (arith, common_steps, finds_same p (a + 1) xs)
 
@@ -19,7 +20,8 @@ pub is_named : (h : Hierarchy) (k : ℕ) (n : Name) (a : PartAt) → part_from 0
 is_named h k n a e =
     let parts = (body h k).parts in
     let p : Part → Bool = λ x. bytes_eq n x.instance.id.name in
-    let m = map_some (λ (x : ℕ × Part). let b : PartAt = record { number = x.0; kind = x.1.kind } in b) (find (λ (x : ℕ × Part). p x.1) (enumerate_from 0 parts)) a e in
+    let m = map_some (λ (x : ℕ × Part). let b : PartAt = record { number = x.0; kind = x.1.kind } in
+    b) (find (λ (x : ℕ × Part). p x.1) (enumerate_from 0 parts)) a e in
     let f = from_enumerate 0 parts m.0 (found (λ (x : ℕ × Part). p x.1) (enumerate_from 0 parts) m.0 m.1).0 in
     let j : a.number ≡ f.0 = ap (λ (b : PartAt). b.number) (sym m.2) ∙ f.1 ∙ omega arith in
     let at : slice_get parts a.number ≡ Some m.0.1 = ap (slice_get parts) j ∙ f.2 in

@@ -19,18 +19,21 @@ body_seen t = record {
 
 -- the first instance of the name, by its number and that of its component, counted from this number
 abbrev pub part_from : ℕ → List Part → Name → Option PartAt
-part_from i xs n = option_map (λ x. record { number = x.0; kind = x.1.kind }) (find (λ x. bytes_eq n x.1.instance.id.name) (enumerate_from i xs))
+part_from i xs n = option_map (λ x. record { number = x.0; kind = x.1.kind }) (find (λ x. bytes_eq n x.1.instance.id.name)
+    (enumerate_from i xs))
 
 -- the tables of a composition agree with it
 pub record IsComposed (o : Option Composition) (t : Composed) : Type 0 where
   pub parts_by_name : (n : Name) → found t.named n ≡ part_from 0 t.parts.items n
-  pub groups_by_name : (n : Name) → is_some (found t.groups n) ≡ list_any (λ x. option_map_or (bytes_eq n) x.group false) t.parts.items
+  pub groups_by_name : (n : Name) → is_some (found t.groups n) ≡ list_any (λ x. option_map_or (bytes_eq n) x.group false)
+      t.parts.items
   pub wires_are : t.wires.items ≡ filter_map wire_of (option_map_or connections_in o [])
 
 -- those of a component's members agree with it
 pub record AreMembers (o : Option Component) (t : Members) : Type 0 where
   pub declared_by_name : (n : Name) → declaring_told t.declared n ≡ option_and_then (λ c. declared_as c n) o
-  pub places_by_name : (n : Name) → unwrap_or (found t.places n) t.count ≡ option_map_or (λ c. place_by (is_interface n) c.members) o 0
+  pub places_by_name : (n : Name) → unwrap_or (found t.places n) t.count ≡ option_map_or
+      (λ c. place_by (is_interface n) c.members) o 0
   pub hardware_is : t.hardware ≡ option_map_or is_device o false
 
 -- all tables agree with the body

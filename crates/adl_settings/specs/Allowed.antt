@@ -59,7 +59,8 @@ no_access = record { read = false; write = false }
 abbrev pub access_named : List ℕ → Option Access
 access_named t =
     if bytes_eq t (codes "R") then Some (record { read = true; write = false })
-    else (if bytes_eq t (codes "W") then Some (record { read = false; write = true }) else (if bytes_eq t (codes "RW") then Some read_and_write else None))
+    else (if bytes_eq t (codes "W") then Some (record { read = false; write = true }) else
+    (if bytes_eq t (codes "RW") then Some read_and_write else None))
 
 abbrev pub access_in : Value → Option Access
 access_in v = option_and_then access_named (text_in v.kind)

@@ -19,7 +19,11 @@ own_badge f = if has_badge f.joint then badge_of f else None
 abbrev pub badge_twice_at : (ℕ → Bool) → Found → List Fault
 badge_twice_at twice f =
     option_map_or
-    (λ n. where_true (twice n) (record { code = code.BadgeTwice; place = f.joint.end.place; name = last_in f.joint.connection.path }))
+    (λ n. where_true (twice n) (record {
+      code = code.BadgeTwice;
+      place = f.joint.end.place;
+      name = last_in f.joint.connection.path;
+    }))
     (own_badge f) []
 
 -- those of a connection

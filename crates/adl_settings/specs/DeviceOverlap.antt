@@ -19,7 +19,8 @@ region_from f bytes first g = record {
 
 -- the region of an end, where both numbers are allowed
 abbrev pub region_of : Found → Option DeviceRegion
-region_of f = option_and_then (λ bytes. option_and_then (λ first. option_map (region_from f bytes first) f.paddr) (paddr_of f)) (bytes_of f)
+region_of f = option_and_then (λ bytes. option_and_then (λ first. option_map (region_from f bytes first) f.paddr)
+    (paddr_of f)) (bytes_of f)
 
 abbrev pub regions : List (List Found) → List DeviceRegion
 regions connections = filter_map region_of (flat_map (λ ends. ends) connections)

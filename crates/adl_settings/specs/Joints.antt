@@ -28,7 +28,8 @@ as_component _ = None
 
 -- the component that stands at the place
 abbrev pub component_at : Source → ItemAt → Option Component
-component_at s a = option_and_then (λ f. option_and_then (λ x. as_component x.item) (slice_get f.tree.items a.item)) (slice_get s.files a.file)
+component_at s a = option_and_then (λ f. option_and_then (λ x. as_component x.item) (slice_get f.tree.items a.item))
+    (slice_get s.files a.file)
 
 abbrev pub as_interface : Member → Option Interface
 as_interface (members.Interface i) = Some i
@@ -36,7 +37,8 @@ as_interface _ = None
 
 -- the interface that is this member of the leaf's component
 abbrev pub interface_at : Source → Leaf → ℕ → Option Interface
-interface_at s leaf member = option_and_then (λ c. option_and_then as_interface (slice_get c.members member)) (component_at s leaf.component)
+interface_at s leaf member = option_and_then (λ c. option_and_then as_interface (slice_get c.members member))
+    (component_at s leaf.component)
 
 -- ---- ends with their interfaces
 
@@ -58,7 +60,8 @@ abbrev pub positioned : List FlatEnd → List (ℕ × FlatEnd)
 positioned es = positioned_after 0 es
 
 abbrev pub joint_at : Source → FlatConnection → ℕ × FlatEnd → Leaf → Option Joint
-joint_at s k x leaf = option_map (λ i. record { connection = k; position = x.0; end = x.1; leaf = leaf; interface = i }) (interface_at s leaf x.1.member)
+joint_at s k x leaf = option_map (λ i. record { connection = k; position = x.0; end = x.1; leaf = leaf; interface = i })
+    (interface_at s leaf x.1.member)
 
 abbrev pub joint_of : Source → Flat → FlatConnection → ℕ × FlatEnd → Option Joint
 joint_of s flat k x = option_and_then (joint_at s k x) (slice_get flat.leaves x.1.leaf)
@@ -97,7 +100,8 @@ abbrev pub value_of : Hierarchy → Joint → Name → Option Given
 value_of h j setting = value_at h j.leaf.path (j.interface.id.name ++ setting)
 
 abbrev pub size_of : Hierarchy → Joint → Option Given
-size_of h j = if is_shared j.connection.connector then value_at h j.connection.path (codes "size") else where_set (is_device_memory j) (value_of h j (codes "_size"))
+size_of h j = if is_shared j.connection.connector then value_at h j.connection.path (codes "size") else where_set
+    (is_device_memory j) (value_of h j (codes "_size"))
 
 abbrev pub found_at : Hierarchy → Joint → Found
 found_at h j = record {

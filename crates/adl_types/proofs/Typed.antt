@@ -18,14 +18,17 @@ none_below h (suc n) k e l = elim (cases_eq k n) [
 ]
 
 -- the ends of each connection are as the connector wants them
-pub well_typed : (s : Source) → AreNamesSound s → first_type_fault s ≡ None → (x : Strung) → IsIn x (connections (hierarchy_of s)) → IsWellTyped (hierarchy_of s) x
+pub well_typed : (s : Source) → AreNamesSound s → first_type_fault s ≡ None → (x : Strung) → IsIn x (connections (hierarchy_of s))
+    → IsWellTyped (hierarchy_of s) x
 well_typed s sound none x i =
     let h = hierarchy_of s in
     let there = (connections_stand s sound x).0 i in
-    let low : x.inside ≤ length h.bodies = body_in h (sound_is_finite s sound) (top_number h) x.inside x.path (omega arith) there.0 in
+    let low : x.inside ≤ length h.bodies = body_in h (sound_is_finite s sound) (top_number h) x.inside x.path
+    (omega arith) there.0 in
     let all = none_below h (top_number h + 1) x.inside (least-empty (type_faults s) none) (omega (arith, low)) in
     let wire : wire_faults h x.inside x.wire ≡ [] = none_in (wire_faults h x.inside) _ x.wire (none_left _ _ all) there.1 in
-    let each : (e : End) → IsIn e x.wire.1.ends → end_faults h x.inside x.wire.0 (first_leaf h x.inside x.wire.1.ends) e ≡ [] = λ e j. none_in _ _ e (none_left _ _ wire) j in
+    let each : (e : End) → IsIn e x.wire.1.ends → end_faults h x.inside x.wire.0 (first_leaf h x.inside x.wire.1.ends) e ≡ [] =
+    λ e j. none_in _ _ e (none_left _ _ wire) j in
     record {
       kinds = λ e j. so true _ _ refl (none_left _ _ (each e j));
       types = λ e j t. so _ _ _ t (none_right _ _ (each e j));

@@ -31,7 +31,8 @@ has_one_type _ = true
 
 -- one type word and one size
 abbrev pub same_type : LeafInterface → LeafInterface → Bool
-same_type l m = bytes_eq l.interface.word.name m.interface.word.name && unwrap_or l.interface.size default_size == unwrap_or m.interface.size default_size
+same_type l m = bytes_eq l.interface.word.name m.interface.word.name && unwrap_or l.interface.size default_size == unwrap_or
+    m.interface.size default_size
 
 -- whether two ends agree; an end that joins no interface agrees with all
 abbrev pub agree : Option LeafInterface → Option LeafInterface → Bool
@@ -59,7 +60,8 @@ abbrev pub may_have : Connector → List End → Bool
 may_have c ends = allows (end_rule c From) (count_of From ends) && allows (end_rule c To) (count_of To ends)
 
 abbrev pub wire_faults : Hierarchy → ℕ → Wire → List Fault
-wire_faults h k w = flat_map (end_faults h k w.0 (first_leaf h k w.1.ends)) w.1.ends ++ where_true (not (may_have w.0 w.1.ends)) (at_word code.EndCount w.1.id)
+wire_faults h k w = flat_map (end_faults h k w.0 (first_leaf h k w.1.ends)) w.1.ends ++ where_true (not (may_have w.0 w.1.ends))
+    (at_word code.EndCount w.1.id)
 
 -- ---- sizes
 
@@ -73,7 +75,8 @@ size_faults _ = []
 -- ---- bodies
 
 abbrev pub body_faults : Hierarchy → ℕ → List Fault
-body_faults h k = flat_map (wire_faults h k) (wires_of (body h k)) ++ option_map_or (λ c. flat_map size_faults c.members) (body h k).component []
+body_faults h k = flat_map (wire_faults h k) (wires_of (body h k)) ++ option_map_or (λ c. flat_map size_faults c.members)
+    (body h k).component []
 
 -- those of the first n bodies
 abbrev pub faults_below : Hierarchy → ℕ → List Fault

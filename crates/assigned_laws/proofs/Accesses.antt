@@ -1,25 +1,14 @@
 -- The access that an end has in the flat system is that of the interface that it joins.
-use Rattle.std.proofs.Common.{◌≡◌, ◌∙◌, ◌&&◌, ◌++◌, not, ℕ, zero, suc, Bool, true, false, cond, List, [], ◌∷◌, codes, Option, Some, None, refl, sym, ap, subst, true≢false, unwrap_or}
-use Rattle.adl_meaning.specs.Prelude.{AreNamesSound, Body, Ended, Given, Interface, Item, Placed, Role, Source, SourceFile, Strung, bytes_eq, flat_of, hierarchy_of, is_interface, leaf_of}
-use Rattle.adl_meaning.specs.declared.connector.Connector.{Connector}
-use Rattle.adl_meaning.specs.declared.flat.FlatConnection.{FlatConnection}
-use Rattle.adl_meaning.specs.declared.flat.FlatEnd.{FlatEnd}
-use Rattle.adl_meaning.specs.declared.flat.Leaf.{Leaf}
-use Rattle.adl_meaning.specs.declared.item_at.ItemAt.{ItemAt}
+use Rattle.assigned_laws.proofs.Common.{AreDotted, AreNamesSound, Authority, Body, Connector, EndAt, EndOf, Ended, FlatConnection, FlatEnd, Given, Interface, Item, ItemAt, LabelNumbers, Leaf, None, ObjectKind, Option, Placed, Role, Some, Source}
+use Rattle.assigned_laws.proofs.Common.{SourceFile, Strung, access_of, allows, and_from, and_parts, ap, body_number, bytes_eq, codes, cond, false, first_type_fault, flat_of, get_map, gives, hierarchy_of, implied, implies, is_interface, is_some}
+use Rattle.assigned_laws.proofs.Common.{items_of_file, leaf_component, leaf_number_is, leaf_of, list_all, list_all-places, members_at, members_in, members_of, members_of_part, not, not-true, option_and_then, option_map_or, over_object, place_by}
+use Rattle.assigned_laws.proofs.Common.{place_of, refl, same_kind, settled_of, slice_get, subst, sym, tables_with, true, true≢false, unwrap_or, value_at, ℕ, ◌&&◌, ◌++◌, ◌∙◌, ◌≡◌}
 use Rattle.adl_meaning.specs.declared.settled.EndSetting.{EndSetting}
-use Rattle.adl_meaning.specs.Prelude.{list_all, option_and_then, option_map_or, place_by, same_kind, slice_get, value_at}
-use Rattle.std.specs.Prelude.{is_some}
-use Rattle.std.proofs.lemmas.Bool.{and_from, and_parts, not-true}
 use Rattle.std.proofs.lemmas.Slice.Eq.{bytes_eq-Decides}
-use Rattle.cam_base.proofs.Lists.{list_all-places}
 use Rattle.adl_ast.specs.declared.component.InterfaceKind.{InterfaceKind}
 use Rattle.adl_ast.specs.declared.component.InterfaceKind.TheVariants.{Uses, Provides, Emits, Consumes, Dataport}
 use Rattle.adl_ast.specs.declared.component.Member.TheVariants as members
 use Rattle.adl_ast.specs.declared.file.Item.TheVariants as items
-use Rattle.adl_hierarchy.proofs.Bodies.{body_number}
-use Rattle.adl_hierarchy.proofs.DomainNames.{leaf_number_is}
-use Rattle.adl_hierarchy.specs.Leads.{AreDotted}
-use Rattle.cam_base.proofs.NumberedLists.{get_map}
 use Rattle.adl_meaning.specs.Paths.{leaves as tree_leaves}
 use Rattle.adl_settings.specs.Allowed.{access_in, no_access, read_and_write}
 use Rattle.adl_settings.specs.EndMeaning.{access_at, end_setting}
@@ -27,38 +16,16 @@ use Rattle.adl_settings.specs.Joints.{as_component, as_interface, component_at, 
 use Rattle.adl_settings.specs.declared.found.Found.{Found}
 use Rattle.adl_settings.specs.Meant.{meant, where_set}
 use Rattle.adl_settings.specs.NumberedEnds.{joins_interface}
-use Rattle.adl_settings.specs.Settled.{settled_of}
 use Rattle.adl_settings.specs.declared.access.Access.{Access}
 use Rattle.adl_settings.proofs.EndNumbers.{setting_at_number}
-use Rattle.adl_types.specs.TypeFaults.{first_type_fault}
-use Rattle.arch_policy.specs.Ends.{EndAt}
-use Rattle.arch_policy.specs.Gives.{gives, leaves}
-use Rattle.arch_policy.proofs.Given.{implied, implies, over_object}
-use Rattle.assigned_laws.specs.Assigned.{EndOf, access_of, allows}
-use Rattle.assigned_laws.specs.Named.{tables_with}
+use Rattle.arch_policy.specs.Gives.{leaves}
 use Rattle.assigned_laws.proofs.Joined.{Matches}
-use Rattle.cap_model.specs.declared.authority.Authority.{Authority}
-use Rattle.cap_model.specs.declared.authority.Authority.TheVariants.{Read, Write}
+use Rattle.authorities.specs.declared.authority.Authority.TheVariants.{Read, Write}
 use Rattle.conn_rules.specs.Ends.{end_rule}
-use Rattle.conn_rules.specs.declared.rule.ObjectKind.{ObjectKind}
-use Rattle.cspace_layout.specs.Members.{items_of_file, members_at, members_in, members_of}
+use Rattle.flat_laws.proofs.EndMembers.{place_by-passes}
 use Rattle.flat_laws.specs.Typed.{IsTypedEnd}
 use Rattle.flat_laws.proofs.AreTyped.{ends_typed}
-use Rattle.flat_laws.proofs.FlatLeaves.{leaf_component, members_of_part}
-use Rattle.cam_base.proofs.Gathered.{place_of}
 use Rattle.cspace_layout.specs.Lookups.{setting_of}
-use Rattle.arch_policy.specs.declared.numbers.LabelNumbers.{LabelNumbers}
-
--- ---- lists
-
--- what stands at the place of the first that passes the test passes it
-placed_passes : {X : Type 0} (p : X → Bool) (xs : List X) (x : X) → slice_get xs (place_by p xs) ≡ Some x → p x ≡ true
-placed_passes p [] x e = absurd cc
-placed_passes {X} p (y ∷ ys) x e = go (p y) refl (placed_passes p ys x) e where
-  go : (b : Bool) → p y ≡ b → (slice_get ys (place_by p ys) ≡ Some x → p x ≡ true)
-      → slice_get (y ∷ ys) (cond b zero (suc (place_by p ys))) ≡ Some x → p x ≡ true
-  go true h rest e = let same : y ≡ x = cc in ap p (sym same) ∙ h
-  go false h rest e = rest e
 
 -- ---- interfaces by number
 
@@ -166,7 +133,7 @@ module _ (s : Source) (sound : AreNamesSound s) (dotted : AreDotted (hierarchy_o
       let at : slice_get c.0.1.members (place_by (is_interface w.reach.interface) c.0.1.members) ≡ Some
       (members.Interface d.interface) =
       ap (slice_get c.0.1.members) (sym number) ∙ ap (λ ms. slice_get ms x.end.member) (sym ms) ∙ d.joined in
-      let is : bytes_eq w.reach.interface d.interface.id.name ≡ true = placed_passes (is_interface w.reach.interface)
+      let is : bytes_eq w.reach.interface d.interface.id.name ≡ true = place_by-passes (is_interface w.reach.interface)
       c.0.1.members (members.Interface d.interface) at in
       sym ((bytes_eq-Decides w.reach.interface d.interface.id.name).0 is) ∙ sym w.interface
 

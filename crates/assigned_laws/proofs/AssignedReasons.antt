@@ -1,29 +1,15 @@
 -- What a source assigns has a reason in its flat system, and the other way round.
-use Rattle.std.proofs.Common.{◌≡◌, ◌∙◌, ◌↔◌, ℕ, true, Some, None, refl, sym, ap, subst}
-use Rattle.adl_meaning.specs.Prelude.{AreNamesSound, From, Path, Role, Source, Strung, To, connections, domain_of, flat_of, hierarchy_of, slice_get}
-use Rattle.adl_meaning.specs.declared.connector.Connector.{Connector}
+use Rattle.assigned_laws.proofs.Common.{AreApart, AreDotted, AreNamesSound, ArePathsApart, AtOtherEnd, Authority, BindReason, Bound, CallReason, Called, Cause, Connector, Direct, DirectReason, Edge, EndAt, EndOf, FlatConnection, From, Handles}
+use Rattle.assigned_laws.proofs.Common.{IsAssigned, IsEnd, IsNamed, IsReasoned, LabelNumbers, LockReason, Locked, NoObject, None, ObjectKind, OfDevice, OfEndpoint, OfFrames, OfIrq, OfNotification, Path, Reason, Role, Some, Source, Strung, Tables, To}
+use Rattle.assigned_laws.proofs.Common.{ap, bound, by_bind, by_call, by_direct, by_lock, called, connection_label, connection_path, connections, direct, domain_label, domain_of, edge, first_type_fault, flat_of, gives, has_label, hierarchy_of}
+use Rattle.assigned_laws.proofs.Common.{labelled_endpoint, labelled_frames, labelled_notification, leaf_label, locked, opposite, owner, refl, slice_get, subst, sym, tables_with, true, ℕ, ◌↔◌, ◌∙◌, ◌≡◌}
 use Rattle.adl_meaning.specs.declared.connector.Connector.TheVariants.{Interrupt, Notification, Rpc}
-use Rattle.adl_meaning.specs.declared.flat.FlatConnection.{FlatConnection}
-use Rattle.adl_hierarchy.specs.Leads.{AreDotted}
-use Rattle.adl_types.specs.TypeFaults.{first_type_fault}
-use Rattle.arch_policy.specs.Ends.{EndAt, IsEnd}
-use Rattle.arch_policy.specs.Gives.{gives, opposite}
-use Rattle.arch_policy.specs.Owners.{has_label}
-use Rattle.arch_policy.specs.Tables.{AreApart, Tables, connection_label, domain_label, leaf_label}
-use Rattle.arch_policy.specs.Reasons.{AtOtherEnd as FlatOther, BindReason, CallReason, DirectReason, Handles as FlatHandles, IsReasoned, LeadsTo as FlatLeads, LockReason, Reason, by_bind, by_call, by_direct, by_lock}
-use Rattle.assigned_laws.specs.Assigned.{AtOtherEnd, Bound, Called, Cause, Direct, EndOf, Handles, IsAssigned, LeadsTo, Locked, bound, called, connection_path, direct, locked, owner}
-use Rattle.assigned_laws.specs.Named.{ArePathsApart, IsNamed, tables_with}
+use Rattle.arch_policy.specs.Reasons.{AtOtherEnd as FlatOther, Handles as FlatHandles, LeadsTo as FlatLeads}
+use Rattle.assigned_laws.specs.Assigned.{LeadsTo}
 use Rattle.assigned_laws.proofs.Accesses.{access_left}
 use Rattle.assigned_laws.proofs.Joined.{Matches, met, put, strung_at, strung_here}
 use Rattle.assigned_laws.proofs.Locks.{lock_at, lock_of}
 use Rattle.assigned_laws.proofs.Naming.{connection_named, number_is, path_is}
-use Rattle.cap_model.specs.Edges.{edge}
-use Rattle.cap_model.specs.declared.authority.Authority.{Authority}
-use Rattle.cap_model.specs.declared.edge.Edge.{Edge}
-use Rattle.conn_rules.specs.declared.rule.ObjectKind.{ObjectKind}
-use Rattle.conn_rules.specs.declared.rule.ObjectKind.TheVariants.{NoObject, OfEndpoint, OfNotification, OfFrames, OfDevice, OfIrq}
-use Rattle.arch_policy.specs.declared.numbers.LabelNumbers.{LabelNumbers}
-use Rattle.arch_policy.proofs.Given.{labelled_endpoint, labelled_frames, labelled_notification}
 
 -- ---- of the table
 

@@ -1,20 +1,11 @@
 -- Where tokens spell the files of a source, the names of labels' paths are identifiers.
-use Rattle.std.proofs.Common.{◌≡◌, ◌∙◌, ◌++◌, ℕ, Bool, true, false, cond, List, [], ◌∷◌, Some, refl, sym, subst, inl, inr}
+use Rattle.assigned_laws.proofs.Common.{AreNamesSound, AreSpelled, Bool, Composition, Connection, Group, HasPath, Held, Id, Instance, IsIn, IsOne, Line, List, Name, Owner, Part, Path, Some, Source, [], a_connection, as_held, at, body, cond, false}
+use Rattle.assigned_laws.proofs.Common.{first_on, flat_of, from_flat_map, from_map, held_by, held_in, hierarchy_of, in_append, inl, inr, is_name, line_spelled, name_of, named_in, one_of, part_of_body, refl, subst, sym, top_number, true, ℕ, ◌++◌, ◌∙◌}
+use Rattle.assigned_laws.proofs.Common.{◌∷◌, ◌≡◌}
 use Rattle.adl_ast.specs.Forms.{word, connection_line, composition_member_line, group_line, instance_form, instance_line}
 use Rattle.adl_ast.specs.Seeing.{named}
-use Rattle.adl_meaning.specs.Prelude.{AreNamesSound, Composition, Connection, Group, Held, Id, Instance, Line, Name, Part, Path, Source, a_connection, as_held, at, body, flat_of, held_by, held_in, hierarchy_of, name_of, top_number}
 use Rattle.adl_ast.specs.declared.composition.Line.TheVariants as lines
-use Rattle.adl_hierarchy.proofs.Bodies.{part_of_body}
-use Rattle.adl_hierarchy.proofs.PartsAt.{first_on, named_in}
-use Rattle.adl_hierarchy.proofs.Spelled.{IsOne, line_spelled, one_of}
-use Rattle.adl_hierarchy.specs.Spelled.{AreSpelled}
-use Rattle.arch_policy.specs.declared.owner.Owner.{Owner}
 use Rattle.assigned_laws.proofs.LabelPaths.{Ends, held_instance, label_ends}
-use Rattle.assigned_laws.specs.Named.{HasPath}
-use Rattle.cam_base.specs.Names.{is_name}
-use Rattle.cam_base.proofs.Gathered.{in_append}
-use Rattle.cam_base.proofs.NumberedLists.{from_flat_map, from_map}
-use Rattle.cam_base.specs.Gather.{IsIn}
 
 abbrev pub IsIdentifier : Name → Type 0
 IsIdentifier n = is_name n ≡ true

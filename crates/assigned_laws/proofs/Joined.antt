@@ -1,23 +1,9 @@
 -- Ends of the flat system are ends of connections by the hierarchy, and the other way round.
-use Rattle.std.proofs.Common.{◌≡◌, ◌∙◌, ◌<◌, ◌++◌, ℕ, length, Some, refl, sym, ap, subst}
-use Rattle.adl_meaning.specs.Prelude.{AreNamesSound, End, Path, Placed, Reached, Source, Strung, Wire, connections, flat_connection, flat_end, flat_ends, flat_of, hierarchy_of, leaf_number, leaves, slice_get}
-use Rattle.adl_meaning.specs.declared.flat.FlatConnection.{FlatConnection}
-use Rattle.adl_meaning.specs.declared.flat.FlatEnd.{FlatEnd}
-use Rattle.std.proofs.lemmas.Option.{slice_get_within}
-use Rattle.adl_hierarchy.proofs.Connections.{connections_stand}
-use Rattle.adl_hierarchy.proofs.DomainNames.{leaf_number_is}
+use Rattle.assigned_laws.proofs.Common.{AreDotted, AreNamesSound, End, EndAt, EndOf, FlatConnection, FlatEnd, IsIn, IsNamed, LabelNumbers, Path, Placed, Reached, Some, Source, Strung, Tables, Wire, ap, at_place, connections, connections_stand}
+use Rattle.assigned_laws.proofs.Common.{flat_connection, flat_end, flat_ends, flat_of, from_get_map, get_map, hierarchy_of, in_get, leaf_label, leaf_number, leaf_number_is, leaves, length, owner, place_of, refl, slice_get, slice_get_within, subst}
+use Rattle.assigned_laws.proofs.Common.{sym, tables_with, ℕ, ◌++◌, ◌<◌, ◌∙◌, ◌≡◌}
 use Rattle.adl_hierarchy.proofs.Joining.{all_joined, end_numbers_kept, ends_kept, joined, joins_joined}
-use Rattle.adl_hierarchy.specs.Leads.{AreDotted}
-use Rattle.adl_hierarchy.proofs.Lists.{in_get}
-use Rattle.cam_base.proofs.NumberedLists.{get_map, at_place, from_get_map}
-use Rattle.cam_base.specs.Gather.{IsIn}
-use Rattle.arch_policy.specs.Ends.{EndAt}
-use Rattle.assigned_laws.specs.Assigned.{EndOf, owner}
-use Rattle.assigned_laws.specs.Named.{IsNamed, tables_with}
 use Rattle.assigned_laws.proofs.Naming.{leaf_named}
-use Rattle.arch_policy.specs.Tables.{Tables, leaf_label}
-use Rattle.arch_policy.specs.declared.numbers.LabelNumbers.{LabelNumbers}
-use Rattle.cam_base.proofs.Gathered.{place_of}
 
 module _ (s : Source) (sound : AreNamesSound s) (dotted : AreDotted (hierarchy_of s)) (numbers : LabelNumbers) where
   abbrev t : Tables

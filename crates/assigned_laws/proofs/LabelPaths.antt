@@ -1,34 +1,19 @@
 -- No two labels of a source in which no fault of names stands have one path. The last name of a label's path is that of an
 -- instance, of a group or of a connection of one composition, and these differ in name.
-use Rattle.std.proofs.Common.{◌≡◌, ◌∙◌, ◌++◌, ℕ, Bool, true, false, cond, List, [], ◌∷◌, map, Option, Some, None, refl, sym, ap, subst, inl, inr, true≢false, unwrap_or}
-use Rattle.adl_meaning.specs.Prelude.{AreNamesSound, Composition, Connection, Held, Hierarchy, Id, Instance, Line, Name, Part, Path, Placed, Source, Strung, a_group, an_instance, as_connection, as_held, at, body}
-use Rattle.adl_meaning.specs.declared.flat.Domain.{Domain}
-use Rattle.adl_meaning.specs.declared.flat.FlatConnection.{FlatConnection}
-use Rattle.adl_meaning.specs.declared.flat.Leaf.{Leaf}
-use Rattle.adl_meaning.specs.Prelude.{bytes_eq, connections, domain_number, domain_of, domains, filter_map, find, flat_connection, flat_domain, flat_map, flat_of, group_above, held_by, held_in, hierarchy_of, instances_by, is_hardware, kind_named}
-use Rattle.adl_meaning.specs.Prelude.{leaf_number, leaf_of, leaves, member_of, name_of, option_and_then, part_named, part_of, parts_by, parts_in, place_by, same_path, slice_get, top_number}
-use Rattle.std.proofs.lemmas.Option.{option_and_then_some, same_Some}
-use Rattle.cam_base.proofs.Lists.{snoc_same}
+use Rattle.assigned_laws.proofs.Common.{AreNamesSound, ArePathsApart, Bool, Composition, Connection, Domain, FlatConnection, HasPath, Held, Hierarchy, Id, Instance, IsIn, Leaf, Line, List, Name, None, OfConnection, OfDomain, OfLeaf, Option, Owner}
+use Rattle.assigned_laws.proofs.Common.{Part, Path, Placed, Some, Source, Strung, [], a_group, an_instance, ap, as_connection, as_held, at, body, bytes_eq, cond, connections, connections_once, connections_stand, domain_number, domain_number_is}
+use Rattle.assigned_laws.proofs.Common.{domain_of, domains, domains_are, false, filter_map, find, flat_connection, flat_domain, flat_map, flat_of, from_filter_map, from_flat_map, from_get_map, get_map, group_above, held_by, held_in, hierarchy_of}
+use Rattle.assigned_laws.proofs.Common.{in_flat_map, in_get, in_map, inl, inr, instances_by, is_hardware, kind_named, last_of, leaf_number, leaf_number_is, leaf_of, leaves, leaves_stand, map, map_some, member_of, name_of, named_in, option_and_then}
+use Rattle.assigned_laws.proofs.Common.{option_and_then_some, part_named, part_of, part_of_body, parts_by, parts_in, parts_of, place_by, place_of, refl, same_Some, same_path, same_path-Decides, slice_get, snoc_same, subst, sym, top_number, true}
+use Rattle.assigned_laws.proofs.Common.{true≢false, unwrap_or, ℕ, ◌++◌, ◌∙◌, ◌∷◌, ◌≡◌}
 use Rattle.adl_ast.specs.declared.composition.Line.TheVariants as lines
 use Rattle.adl_hierarchy.specs.PartAt.{part_at}
-use Rattle.adl_hierarchy.proofs.Bodies.{part_of_body, parts_of}
-use Rattle.adl_hierarchy.proofs.Connections.{connections_once, connections_stand}
-use Rattle.adl_hierarchy.proofs.DomainNames.{domain_number_is, domains_are, leaf_number_is, same_path-Decides}
 use Rattle.adl_hierarchy.proofs.Grouping.{above_outermost}
 use Rattle.adl_hierarchy.proofs.Leading.{own_connection}
-use Rattle.adl_hierarchy.proofs.Leaves.{leaves_stand}
 use Rattle.adl_hierarchy.proofs.PartNames.{held_name, held_once, no_duplicates}
-use Rattle.adl_hierarchy.proofs.PartsAt.{last_of, named_in}
 use Rattle.adl_hierarchy.proofs.Places.{place_is}
 use Rattle.adl_hierarchy.proofs.Repeats.{find_once}
-use Rattle.adl_hierarchy.proofs.Lists.{in_get}
-use Rattle.cam_base.proofs.NumberedLists.{from_filter_map, from_flat_map, get_map, in_flat_map, in_map, map_some, from_get_map}
 use Rattle.adl_meaning.specs.Holding.{a_connection as held_connection}
-use Rattle.cam_base.specs.Gather.{IsIn}
-use Rattle.arch_policy.specs.declared.owner.Owner.{Owner}
-use Rattle.arch_policy.specs.declared.owner.Owner.TheVariants.{OfConnection, OfDomain, OfLeaf}
-use Rattle.assigned_laws.specs.Named.{ArePathsApart, HasPath}
-use Rattle.cam_base.proofs.Gathered.{place_of}
 
 -- ---- lists
 

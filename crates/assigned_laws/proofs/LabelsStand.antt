@@ -1,28 +1,10 @@
 -- Who has a label by the hierarchy has a number, and the other way round.
-use Rattle.std.proofs.Common.{◌≡◌, ◌∙◌, ◌↔◌, ℕ, Bool, true, false, List, cond, None, Some, refl, sym, ap, subst, inl, inr}
-use Rattle.adl_meaning.specs.Prelude.{AreNamesSound, IsLeaf, Path, Placed, Source, Strung, connections, domain_number, domain_of, domains, flat_connection, flat_domain, flat_of, hierarchy_of, is_hardware, leaf_of, leaves, slice_get, top_number}
-use Rattle.adl_meaning.specs.declared.flat.Domain.{Domain}
-use Rattle.adl_meaning.specs.declared.flat.FlatConnection.{FlatConnection}
-use Rattle.adl_meaning.specs.declared.flat.Leaf.{Leaf}
-use Rattle.adl_hierarchy.proofs.Connections.{connections_stand}
-use Rattle.adl_hierarchy.proofs.DomainNames.{domains_are}
-use Rattle.adl_hierarchy.proofs.Leaves.{paths_are_leaves}
-use Rattle.adl_settings.specs.Settled.{settled_of}
-use Rattle.arch_policy.specs.Labels.{label_lines, label_numbers}
-use Rattle.arch_policy.specs.Owners.{has_label}
-use Rattle.arch_policy.specs.Tables.{Tables, connection_label, leaf_label, tables_of}
-use Rattle.arch_policy.specs.declared.numbers.LabelNumbers.{LabelNumbers}
-use Rattle.arch_policy.specs.declared.owner.Owner.{Owner}
-use Rattle.arch_policy.specs.declared.owner.Owner.TheVariants.{OfConnection, OfDomain, OfLeaf}
+use Rattle.assigned_laws.proofs.Common.{AreNamesSound, Bool, Domain, FlatConnection, HasLabel, HasPath, IsIn, IsLabelText, IsLeaf, IsNamed, LabelNumbers, Leaf, List, None, OfConnection, OfDomain, OfLeaf, Owner, Path, Placed, Some, Source, Strung}
+use Rattle.assigned_laws.proofs.Common.{Tables, ap, cond, connection_label, connections, connections_stand, domain_number, domain_of, domains, domains_are, false, flat_connection, flat_domain, flat_of, from_get_map, from_map, has_label, hierarchy_of}
+use Rattle.assigned_laws.proofs.Common.{in_get, in_map, inl, inr, is_hardware, label_lines, label_numbers, leaf_label, leaf_of, leaves, owner, paths_are_leaves, place_of, refl, settled_of, slice_get, subst, sym, tables_of, tables_with, top_number}
+use Rattle.assigned_laws.proofs.Common.{true, ℕ, ◌↔◌, ◌∙◌, ◌≡◌}
 use Rattle.assigned_laws.proofs.Naming.{connection_named, device_is, leaf_named}
 use Rattle.assigned_laws.proofs.Ranked.{called_line, line_called}
-use Rattle.assigned_laws.specs.Assigned.{HasLabel, owner}
-use Rattle.assigned_laws.specs.Named.{HasPath, IsNamed, tables_with}
-use Rattle.assigned_laws.specs.Texts.{IsLabelText}
-use Rattle.adl_hierarchy.proofs.Lists.{in_get}
-use Rattle.cam_base.proofs.Gathered.{place_of}
-use Rattle.cam_base.proofs.NumberedLists.{from_get_map, from_map, in_map}
-use Rattle.cam_base.specs.Gather.{IsIn}
 
 module _ (s : Source) (sound : AreNamesSound s) where
   -- ---- of leaves

@@ -1,3 +1,4 @@
+pub mod Common
 pub mod Accesses
 pub mod AssignedReasons
 pub mod Identifiers

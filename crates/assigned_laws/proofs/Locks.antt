@@ -1,30 +1,10 @@
 -- Locks of the flat system are locks of leaves by the hierarchy, and the other way round.
-use Rattle.std.proofs.Common.{◌≡◌, ◌∙◌, ◌↔◌, ℕ, Bool, true, false, cond, Some, None, refl, sym, ap, subst}
-use Rattle.adl_meaning.specs.Prelude.{AreNamesSound, Body, Component, Path, Placed, Source, at, body, domain_number, domain_of, domains, flat_domain, flat_of, hierarchy_of, is_device, is_hardware, item_of, leaf_of, leaves, option_map_or}
-use Rattle.adl_meaning.specs.declared.flat.Leaf.{Leaf}
-use Rattle.adl_meaning.specs.declared.item_at.ItemAt.{ItemAt}
-use Rattle.adl_meaning.specs.Prelude.{slice_get, top_number}
+use Rattle.assigned_laws.proofs.Common.{AreApart, AreNamesSound, Authority, Body, Bool, Component, IsIn, IsLockEdge, IsNamed, ItemAt, LabelNumbers, Leaf, LockAt, LockOf, None, OfDomain, Path, Placed, Some, Source, Tables, WithLock, ap, at, at_part}
+use Rattle.assigned_laws.proofs.Common.{body, body_number, cond, domain_found, domain_label, domain_number, domain_of, domains, domains_are, edge, false, flat_domain, flat_of, from_get_map, from_map, get_map, hierarchy_of, in_get, is_device}
+use Rattle.assigned_laws.proofs.Common.{is_hardware, item_of, leaf_component, leaf_of, leaves, leaves_stand, members_at, members_of_part, option_map_or, paths_are_leaves, place_of, refl, slice_get, subst, sym, tables_with, top_number, true, ℕ, ◌↔◌}
+use Rattle.assigned_laws.proofs.Common.{◌∙◌, ◌≡◌}
 use Rattle.adl_ast.specs.declared.component.Member.TheVariants as members
-use Rattle.adl_hierarchy.proofs.Bodies.{body_number}
-use Rattle.adl_hierarchy.proofs.DomainNames.{domain_found, domains_are}
-use Rattle.adl_hierarchy.proofs.Leaves.{leaves_stand, paths_are_leaves}
-use Rattle.adl_hierarchy.proofs.PartsAt.{at_part}
-use Rattle.adl_hierarchy.proofs.Lists.{in_get}
-use Rattle.cam_base.proofs.NumberedLists.{from_map, get_map, from_get_map}
-use Rattle.cam_base.specs.Gather.{IsIn}
-use Rattle.arch_policy.specs.Ends.{LockAt}
-use Rattle.arch_policy.specs.declared.owner.Owner.TheVariants.{OfDomain}
-use Rattle.assigned_laws.specs.Assigned.{LockOf, WithLock}
-use Rattle.assigned_laws.specs.Named.{IsNamed, tables_with}
 use Rattle.assigned_laws.proofs.Naming.{path_is}
-use Rattle.cap_model.specs.Edges.{edge}
-use Rattle.cap_model.specs.declared.authority.Authority.{Authority}
-use Rattle.cspace_layout.specs.Members.{members_at}
-use Rattle.flat_laws.proofs.FlatLeaves.{leaf_component, members_of_part}
-use Rattle.cam_base.proofs.Gathered.{place_of}
-use Rattle.arch_policy.specs.Policies.{IsLockEdge}
-use Rattle.arch_policy.specs.Tables.{AreApart, Tables, domain_label}
-use Rattle.arch_policy.specs.declared.numbers.LabelNumbers.{LabelNumbers}
 
 module _ (s : Source) (sound : AreNamesSound s) (numbers : LabelNumbers) where
   abbrev t : Tables

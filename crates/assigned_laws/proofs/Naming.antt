@@ -1,21 +1,7 @@
 -- Labels by number and by path.
-use Rattle.std.proofs.Common.{◌≡◌, ◌∙◌, ℕ, Bool, true, false, cond, Option, Some, None, refl, sym, ap, subst}
-use Rattle.adl_meaning.specs.Prelude.{AreNamesSound, Path, Placed, Source, Strung, body, connections, domain_number, domain_of, domains, flat_connection, flat_domain, flat_of, hierarchy_of, is_device, is_hardware, leaf_of, leaves}
-use Rattle.adl_meaning.specs.declared.flat.Flat.{Flat}
-use Rattle.adl_meaning.specs.declared.flat.Leaf.{Leaf}
-use Rattle.adl_meaning.specs.Prelude.{option_map_or, slice_get, top_number}
-use Rattle.adl_hierarchy.proofs.DomainNames.{domain_found, domains_are}
-use Rattle.adl_hierarchy.proofs.Leaves.{leaves_stand}
-use Rattle.adl_hierarchy.proofs.PartsAt.{at_part}
-use Rattle.adl_hierarchy.proofs.Lists.{in_get}
-use Rattle.cam_base.proofs.NumberedLists.{get_map}
-use Rattle.arch_policy.specs.declared.owner.Owner.{Owner}
-use Rattle.arch_policy.specs.Owners.{has_label, owner_in}
-use Rattle.arch_policy.specs.declared.owner.Owner.TheVariants.{OfConnection, OfDomain, OfLeaf}
-use Rattle.arch_policy.specs.Tables.{AreApart, IsThere, Tables, connection_label, leaf_label, number_of}
-use Rattle.assigned_laws.specs.Assigned.{connection_path, device_at, owner}
-use Rattle.assigned_laws.specs.Named.{ArePathsApart, HasPath, IsNamed, tables_with}
-use Rattle.arch_policy.specs.declared.numbers.LabelNumbers.{LabelNumbers}
+use Rattle.assigned_laws.proofs.Common.{AreApart, AreNamesSound, ArePathsApart, Bool, Flat, HasPath, IsNamed, IsThere, LabelNumbers, Leaf, None, OfConnection, OfDomain, OfLeaf, Option, Owner, Path, Placed, Some, Source, Strung, Tables, ap, at_part}
+use Rattle.assigned_laws.proofs.Common.{body, cond, connection_label, connection_path, connections, device_at, domain_found, domain_number, domain_of, domains, domains_are, false, flat_connection, flat_domain, flat_of, get_map, has_label}
+use Rattle.assigned_laws.proofs.Common.{hierarchy_of, in_get, is_device, is_hardware, leaf_label, leaf_of, leaves, leaves_stand, number_of, option_map_or, owner, owner_in, refl, slice_get, subst, sym, tables_with, top_number, true, ℕ, ◌∙◌, ◌≡◌}
 
 -- the label of whose a leaf is that is told so
 abbrev option_label : Tables → ℕ → Option Leaf → ℕ

@@ -1,30 +1,12 @@
 -- The edges of a policy are the triples that its source assigns.
-use Rattle.std.proofs.Common.{◌≡◌, ℕ, List, [], None, map, get_or, refl, sym, subst, arith}
-use Rattle.std.proofs.lemmas.Option.{get_or_from_slice_get, slice_get-get_or}
-use Rattle.std.specs.List.{AllPairs}
+use Rattle.assigned_laws.proofs.Common.{AllPairs, AreNamesSound, AreSpelled, Authority, Before, Edge, IsAssignedText, IsIn, IsNamed, IsPolicyOf, List, None, Path, Source, Tables, [], arith, edge, first_type_fault, flat_of, from_get_map, from_map}
+use Rattle.assigned_laws.proofs.Common.{get_or, get_or_from_slice_get, has_in, in_has, in_map, in_place, joined, label_lines, label_numbers, label_texts, map, refl, settled_of, slice_get-get_or, spelled_dotted, subst, sym, tables_of, ℕ, ◌≡◌}
 use Rattle.std.specs.Prelude.{◌↔◌}
-use Rattle.adl_hierarchy.proofs.Spelled.{spelled_dotted}
-use Rattle.adl_hierarchy.specs.Spelled.{AreSpelled}
-use Rattle.adl_meaning.specs.Prelude.{AreNamesSound, Path, Source, flat_of, joined}
-use Rattle.adl_settings.specs.Settled.{settled_of}
-use Rattle.adl_types.specs.TypeFaults.{first_type_fault}
-use Rattle.arch_policy.proofs.Lists.{has_in, in_has}
-use Rattle.arch_policy.specs.Labels.{label_lines, label_numbers, label_texts}
-use Rattle.arch_policy.specs.Policies.{IsPolicyOf}
-use Rattle.arch_policy.specs.Tables.{Tables, tables_of}
 use Rattle.assigned_laws.proofs.Ranked.{called_line, line_place, lines_apart, lines_fall, lines_rise}
 use Rattle.assigned_laws.proofs.ReasonLabels.{reason_paths}
 use Rattle.assigned_laws.proofs.TextReasons.{assigned_texts}
-use Rattle.assigned_laws.specs.Named.{IsNamed}
-use Rattle.assigned_laws.specs.Texts.{IsAssignedText}
 use Rattle.assigned_laws.specs.Triples.{AreAll, Precedes, Triple, name_at, triple}
-use Rattle.cap_model.specs.Edges.{Before, edge}
 use Rattle.cap_model.specs.Tables.{IsSorted}
-use Rattle.cap_model.specs.declared.authority.Authority.{Authority}
-use Rattle.cap_model.specs.declared.edge.Edge.{Edge}
-use Rattle.cam_base.proofs.Gathered.{in_place}
-use Rattle.cam_base.proofs.NumberedLists.{from_get_map, from_map, in_map}
-use Rattle.cam_base.specs.Gather.{IsIn}
 
 module _ (s : Source) (names : AreNamesSound s) (spelled : AreSpelled s) (types : first_type_fault s ≡ None)
     (edges : List Edge) (policy : IsPolicyOf (tables_of s (flat_of s) (settled_of s)) edges) (sorted : IsSorted edges) where

@@ -1,32 +1,19 @@
 -- Numbers of labels are the places of their texts, and tell the texts.
-use Rattle.std.proofs.Common.{◌≡◌, ◌↔◌, ◌∙◌, ◌+◌, ◌++◌, ◌<◌, ◌≤◌, ◌==◌, ℕ, zero, suc, Bool, true, false, cond, List, [], ◌∷◌, Some, None, Less, refl, sym, ap, subst, inl, inr, arith}
+use Rattle.assigned_laws.proofs.Common.{AreApart, AreTextsApart, Bool, Domain, Flat, FlatConnection, HasPath, IsCalled, IsIn, IsThere, Leaf, Less, List, None, OfConnection, OfDomain, OfLeaf, Owner, Path, Some, Tables, [], ap, arith, comes_before}
+use Rattle.assigned_laws.proofs.Common.{cond, connection_numbers, connection_texts, count_by, device_numbers, device_texts, domain_numbers, domain_texts, eq-eqb, eqb-true, false, from_gather, from_ones, from_where, get_ones, get_or_from_slice_get}
+use Rattle.assigned_laws.proofs.Common.{has_label, in_append, in_gather, in_left, in_place, in_right, in_where, inl, inr, joined, label_lines, label_numbers, label_texts, ltb-false, ltb-true, number_of, place_of, rank, refl, slice_get, subst, suc}
+use Rattle.assigned_laws.proofs.Common.{sym, texts, true, zero, ℕ, ◌++◌, ◌+◌, ◌<◌, ◌==◌, ◌↔◌, ◌∙◌, ◌∷◌, ◌≡◌, ◌≤◌}
 use Rattle.std.specs.Cmp.Lexicographic.{slice_cmp}
-use Rattle.adl_meaning.specs.Prelude.{Path, count_by, joined, slice_get}
-use Rattle.adl_meaning.specs.declared.flat.Domain.{Domain}
-use Rattle.adl_meaning.specs.declared.flat.Flat.{Flat}
-use Rattle.adl_meaning.specs.declared.flat.FlatConnection.{FlatConnection}
-use Rattle.adl_meaning.specs.declared.flat.Leaf.{Leaf}
 use Rattle.std.specs.Ordering.{is_lt, nat_cmp, ordering_reverse}
-use Rattle.std.proofs.lemmas.Bool.{eq-eqb, eqb-true, ltb-false, ltb-true}
 use Rattle.std.specs.List.{find}
 use Rattle.std.specs.Prelude.{nat_lt as ltb}
 use Rattle.std.specs.Option.{option_map}
 use Rattle.cap_model.specs.Policies.{label_name}
 use Rattle.std.proofs.lemmas.Cmp.{nat_list_cmp_total, tied_itself}
 use Rattle.std.proofs.lemmas.List.Sums.{sum_by-cons}
-use Rattle.std.proofs.lemmas.Option.{get_or_from_slice_get}
 use Rattle.arch_policy.proofs.Ordering.{Above, Rises, order_rises, to_order, from_order}
-use Rattle.arch_policy.specs.Labels.{comes_before, connection_numbers, device_numbers, domain_numbers, label_lines, label_numbers, label_texts, rank}
-use Rattle.arch_policy.specs.Owners.{connection_texts, device_texts, domain_texts, has_label, is_device, texts}
-use Rattle.arch_policy.specs.Tables.{AreApart, IsThere, Tables, number_of}
+use Rattle.arch_policy.specs.Owners.{is_device}
 use Rattle.arch_policy.specs.Where.{where_true}
-use Rattle.arch_policy.specs.declared.owner.Owner.{Owner}
-use Rattle.arch_policy.specs.declared.owner.Owner.TheVariants.{OfConnection, OfDomain, OfLeaf}
-use Rattle.arch_policy.proofs.Lists.{from_where, in_where}
-use Rattle.assigned_laws.specs.Named.{HasPath}
-use Rattle.assigned_laws.specs.Texts.{AreTextsApart, IsCalled}
-use Rattle.cam_base.proofs.Gathered.{from_gather, from_ones, get_ones, in_append, in_gather, in_left, in_place, in_right, place_of}
-use Rattle.cam_base.specs.Gather.{IsIn}
 
 -- ---- lists
 

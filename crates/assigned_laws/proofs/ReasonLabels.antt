@@ -1,25 +1,10 @@
 -- The labels of edges that have a reason, or that locks confer, are those of paths.
-use Rattle.std.proofs.Common.{◌≡◌, ◌∙◌, ℕ, true, sym, ap, subst}
-use Rattle.adl_meaning.specs.Prelude.{AreNamesSound, Path, Source, domain_of, flat_of, hierarchy_of}
-use Rattle.adl_meaning.specs.declared.flat.FlatConnection.{FlatConnection}
-use Rattle.adl_hierarchy.specs.Leads.{AreDotted}
-use Rattle.arch_policy.proofs.Given.{labelled_endpoint, labelled_frames, labelled_notification}
-use Rattle.arch_policy.specs.Ends.{EndAt, LockAt}
-use Rattle.arch_policy.specs.Gives.{gives}
-use Rattle.arch_policy.specs.Owners.{has_label}
-use Rattle.arch_policy.specs.Policies.{IsLockEdge}
-use Rattle.arch_policy.specs.Reasons.{LeadsTo, Reason, by_bind, by_call, by_direct, by_lock}
-use Rattle.arch_policy.specs.Tables.{Tables, connection_label, domain_label, leaf_label}
-use Rattle.arch_policy.specs.declared.numbers.LabelNumbers.{LabelNumbers}
+use Rattle.assigned_laws.proofs.Common.{AreDotted, AreNamesSound, Authority, Edge, EndAt, FlatConnection, IsLockEdge, IsNamed, LabelNumbers, LeadsTo, LockAt, NoObject, ObjectKind, OfDevice, OfEndpoint, OfFrames, OfIrq, OfNotification, Path, Reason}
+use Rattle.assigned_laws.proofs.Common.{Source, Tables, ap, by_bind, by_call, by_direct, by_lock, connection_label, connection_path, domain_label, domain_of, flat_of, gives, has_label, hierarchy_of, labelled_endpoint, labelled_frames}
+use Rattle.assigned_laws.proofs.Common.{labelled_notification, leaf_label, owner, subst, sym, tables_with, true, ℕ, ◌∙◌, ◌≡◌}
 use Rattle.assigned_laws.proofs.Joined.{met, strung_at}
 use Rattle.assigned_laws.proofs.Locks.{lock_of}
 use Rattle.assigned_laws.proofs.Naming.{connection_named}
-use Rattle.assigned_laws.specs.Assigned.{connection_path, owner}
-use Rattle.assigned_laws.specs.Named.{IsNamed, tables_with}
-use Rattle.cap_model.specs.declared.authority.Authority.{Authority}
-use Rattle.cap_model.specs.declared.edge.Edge.{Edge}
-use Rattle.conn_rules.specs.declared.rule.ObjectKind.{ObjectKind}
-use Rattle.conn_rules.specs.declared.rule.ObjectKind.TheVariants.{NoObject, OfDevice, OfEndpoint, OfFrames, OfIrq, OfNotification}
 
 module _ (s : Source) (sound : AreNamesSound s) (dotted : AreDotted (hierarchy_of s)) (numbers : LabelNumbers) where
   abbrev t : Tables

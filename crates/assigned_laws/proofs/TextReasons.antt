@@ -1,25 +1,12 @@
 -- What a source assigns, by the texts of labels.
-use Rattle.std.proofs.Common.{◌≡◌, ◌≢◌, ◌↔◌, ℕ, List, None, refl}
-use Rattle.adl_meaning.specs.Prelude.{AreNamesSound, Path, Source, flat_of, hierarchy_of, joined}
-use Rattle.adl_hierarchy.proofs.Spelled.{spelled_dotted}
-use Rattle.adl_hierarchy.specs.Spelled.{AreSpelled}
-use Rattle.adl_settings.specs.Settled.{settled_of}
-use Rattle.adl_types.specs.TypeFaults.{first_type_fault}
-use Rattle.arch_policy.specs.Labels.{label_lines, label_numbers}
-use Rattle.arch_policy.specs.Policies.{IsLockEdge}
-use Rattle.arch_policy.specs.Reasons.{DirectReason, IsReasoned}
-use Rattle.arch_policy.specs.Tables.{AreApart, Tables, tables_of}
+use Rattle.assigned_laws.proofs.Common.{AreApart, AreNamesSound, AreSpelled, Authority, Direct, DirectReason, IsAssigned, IsAssignedText, IsDirectText, IsLockEdge, IsLockText, IsNamed, IsReasoned, List, None, OfTexts, Path, Source, Tables, WithLock}
+use Rattle.assigned_laws.proofs.Common.{edge, first_type_fault, flat_of, hierarchy_of, joined, label_lines, label_numbers, refl, settled_of, spelled_dotted, tables_of, ℕ, ◌↔◌, ◌≡◌, ◌≢◌}
 use Rattle.assigned_laws.proofs.AssignedReasons.{assigned_reasoned, direct_reasoned}
 use Rattle.assigned_laws.proofs.LabelPaths.{paths_apart}
 use Rattle.assigned_laws.proofs.LabelTexts.{texts_apart}
 use Rattle.assigned_laws.proofs.Locks.{lock_held}
 use Rattle.assigned_laws.proofs.Ranked.{called_line, line_called, lines_apart, numbers_apart}
 use Rattle.assigned_laws.proofs.Undotted.{undotted}
-use Rattle.assigned_laws.specs.Assigned.{Direct, IsAssigned, WithLock}
-use Rattle.assigned_laws.specs.Named.{IsNamed}
-use Rattle.assigned_laws.specs.Texts.{IsAssignedText, IsDirectText, IsLockText, OfTexts}
-use Rattle.cap_model.specs.Edges.{edge}
-use Rattle.cap_model.specs.declared.authority.Authority.{Authority}
 
 module _ (s : Source) (sound : AreNamesSound s) (spelled : AreSpelled s) where
   abbrev t : Tables

@@ -1,12 +1,7 @@
 -- Where tokens spell the files of a source, its names are identifiers, so no name of a label's path has a dot.
-use Rattle.std.proofs.Common.{◌≡◌, ◌∙◌, ◌&&◌, ℕ, true, List, [], ◌∷◌, length, sym, ap, inl, inr, true≢false}
-use Rattle.std.specs.Prelude.{leb}
-use Rattle.adl_meaning.specs.Prelude.{AreNamesSound, Name, Source, flat_of, list_all}
-use Rattle.std.proofs.lemmas.Bool.{and_parts, or_left}
-use Rattle.adl_hierarchy.specs.Spelled.{AreSpelled}
+use Rattle.assigned_laws.proofs.Common.{AreNamesSound, AreSpelled, AreUndotted, IsUndotted, List, Name, Source, [], and_parts, ap, flat_of, inl, inr, is_letter, is_name, is_word_byte, leb, length, list_all, or_left, sym, true, true≢false, ℕ, ◌&&◌}
+use Rattle.assigned_laws.proofs.Common.{◌∙◌, ◌∷◌, ◌≡◌}
 use Rattle.assigned_laws.proofs.Identifiers.{identifiers}
-use Rattle.assigned_laws.specs.Texts.{AreUndotted, IsUndotted}
-use Rattle.cam_base.specs.Names.{is_letter, is_name, is_word_byte}
 
 no_dot : (b : ℕ) → is_word_byte b ≡ true → b ≡ 46 → ⊥
 no_dot b h e = true≢false (sym h ∙ ap is_word_byte e)

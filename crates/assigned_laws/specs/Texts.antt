@@ -6,7 +6,7 @@ use Rattle.cam_base.specs.Gather.{IsIn}
 use Rattle.arch_policy.specs.declared.owner.Owner.{Owner}
 use Rattle.assigned_laws.specs.Assigned.{Direct, HasLabel, IsAssigned, WithLock}
 use Rattle.assigned_laws.specs.Named.{HasPath, IsNamed}
-use Rattle.cap_model.specs.declared.authority.Authority.{Authority}
+use Rattle.authorities.specs.declared.authority.Authority.{Authority}
 use Rattle.arch_policy.specs.Tables.{Tables}
 
 -- the number of the label with this text

@@ -2,8 +2,8 @@
 use Rattle.std.specs.Prelude.{◌≡◌, ◌≤◌, ◌↔◌, ℕ, false, true, List, [], AllPairs, slice_index_or}
 use Rattle.adl_meaning.specs.declared.flat.Flat.{Flat}
 use Rattle.arch_policy.specs.Labels.{comes_before, label_texts}
-use Rattle.cap_model.specs.Authorities.{number_of}
-use Rattle.cap_model.specs.declared.authority.Authority.{Authority}
+use Rattle.authorities.specs.Authorities.{number_of}
+use Rattle.authorities.specs.declared.authority.Authority.{Authority}
 use Rattle.cap_model.specs.declared.edge.Edge.{Edge}
 use Rattle.cam_base.specs.Gather.{IsIn}
 

@@ -17,7 +17,7 @@ ghost use Rattle.assigned_laws.specs.Texts.{AreTextsApart, AreUndotted, IsAssign
 ghost use Rattle.assigned_laws.specs.Triples.{AreAll, triple};
 ghost use Rattle.cap_model.specs.Edges.{edge};
 ghost use Rattle.cap_model.specs.Tables.{IsSorted};
-ghost use Rattle.cap_model.specs.declared.authority.Authority.{Authority};
+ghost use Rattle.authorities.specs.declared.authority.Authority.{Authority};
 ghost use Rattle.cap_model.specs.declared.edge.Edge.{Edge};
 ghost use Rattle.cam_base.specs.Gather.{IsIn};
 ghost use Rattle.std.specs.Prelude.{◌≡◌, ◌≢◌, ◌↔◌, ℕ, List, None, map};

@@ -1,16 +1,6 @@
 -- Offsets of regions that are laid end to end, the greatest first.
-use Rattle.std.proofs.Common.{◌≡◌, ◌∙◌, refl, sym, ap, subst, inl, inr, ⊎_elim, ◌⊎◌, ℕ, suc, ◌+◌, ◌-◌, ◌<◌, ◌≤◌, ◌^◌, ◌&&◌, ◌||◌, Bool, true, false, not, leb, nat_lt, List, [], ◌∷◌, length, get_or, arith}
-use Rattle.std.specs.List.{list_any}
-use Rattle.std.specs.List.Sorted.{IsPermutation}
-use Rattle.std.proofs.lemmas.Bool.{and_parts, and_from, cases_lt, le-leb}
-use Rattle.std.proofs.lemmas.Bool.Decides.{nat_tests}
-use Rattle.std.proofs.lemmas.List.Sorted.{list_any-IsPermutation}
-use Rattle.std.proofs.lemmas.List.Sums.{sum_by-cons}
-use Rattle.boot_plan.specs.Packing.{IsInOrder, address}
-use Rattle.boot_plan.specs.Placed.{Apart, Bytes, LieIn, LieInOne, bytes_end}
-use Rattle.boot_plan.specs.Regions.{are_regions, is_region, region_end}
-use Rattle.boot_plan.specs.Rooms.{had, rank, room_bytes}
-use Rattle.boot_plan.specs.declared.untyped.Untyped.{Untyped}
+use Rattle.boot_plan.proofs.Common.{Apart, Bool, Bytes, IsInOrder, IsPermutation, LieIn, LieInOne, List, Untyped, [], address, and_from, and_parts, ap, are_regions, arith, bytes_end, cases_lt, false, get_or, had, inl, inr, is_region, le-leb, leb}
+use Rattle.boot_plan.proofs.Common.{length, list_any, list_any-IsPermutation, nat_lt, nat_tests, not, rank, refl, region_end, room_bytes, subst, suc, sum_by-cons, sym, true, ℕ, ⊎_elim, ◌&&◌, ◌+◌, ◌-◌, ◌<◌, ◌^◌, ◌||◌, ◌∙◌, ◌∷◌, ◌≡◌, ◌≤◌, ◌⊎◌}
 use Rattle.boot_plan.proofs.Multiples.{Multiple, multiple_add, multiple_coarse, multiple_from, multiple_gap, multiple_one, multiple_sub, power_pos}
 use Rattle.boot_plan.proofs.Solo.{Solo, solo_apart, solo_rest}
 use Rattle.boot_plan.proofs.Usual.{region_parts}
@@ -18,7 +8,8 @@ use Rattle.boot_plan.proofs.Usual.{region_parts}
 -- 2^s bytes at an offset lie in one of the regions, at a multiple of their size
 pub InRoom : List Untyped → ℕ → ℕ → Type 0
 InRoom [] v s = ⊥
-InRoom (r ∷ rs) v s = ((v + 2 ^ s ≤ room_bytes 0 r) × Multiple s (r.paddr + v)) ⊎ ((room_bytes 0 r ≤ v) × InRoom rs (v - room_bytes 0 r) s)
+InRoom (r ∷ rs) v s = ((v + 2 ^ s ≤ room_bytes 0 r) × Multiple s (r.paddr + v))
+    ⊎ ((room_bytes 0 r ≤ v) × InRoom rs (v - room_bytes 0 r) s)
 
 -- ---- what a region has
 
@@ -35,7 +26,8 @@ zero_below : (n : ℕ) → leb 0 n ≡ true
 zero_below n = le-leb 0 n (omega arith)
 
 -- regions behind a small one have no room for greater blocks
-none_behind : (s k : ℕ) (rs : List Untyped) → are_regions rs ≡ true → 47 < s + k → ((j : ℕ) (d : Untyped) → j < length rs → k ≤ rank (get_or rs j d)) → had s rs ≡ 0
+none_behind : (s k : ℕ) (rs : List Untyped) → are_regions rs ≡ true → 47 < s + k
+    → ((j : ℕ) (d : Untyped) → j < length rs → k ≤ rank (get_or rs j d)) → had s rs ≡ 0
 none_behind s k [] sound h order = refl
 none_behind s k (r ∷ rs) sound h order =
     let p = and_parts (is_region r.paddr r.bits) (are_regions rs) sound in
@@ -54,10 +46,13 @@ none_behind s k (r ∷ rs) sound h order =
 
 -- ---- blocks lie in one region
 
-pub in_room : (rs : List Untyped) (v s : ℕ) → are_regions rs ≡ true → IsInOrder rs → Multiple s v → v + 2 ^ s ≤ had s rs → InRoom rs v s
+pub in_room : (rs : List Untyped) (v s : ℕ) → are_regions rs ≡ true → IsInOrder rs → Multiple s v → v + 2 ^ s ≤ had s rs
+    → InRoom rs v s
 unfolding InRoom
 in_room [] v s sound order m h = let p = power_pos s in absurd (omega arith)
-in_room (r ∷ rs) v s sound order m h = by_kind r.device refl (λ w n k. in_room rs w s (and_parts (is_region r.paddr r.bits) (are_regions rs) sound).1 (λ i j d a b. order (suc i) (suc j) d (omega arith) (omega arith)) n k)
+in_room (r ∷ rs) v s sound order m h =
+    by_kind r.device refl (λ w n k. in_room rs w s (and_parts (is_region r.paddr r.bits) (are_regions rs) sound).1
+    (λ i j d a b. order (suc i) (suc j) d (omega arith) (omega arith)) n k)
   where
     parts : (is_region r.paddr r.bits ≡ true) × (are_regions rs ≡ true)
     parts = let p = and_parts (is_region r.paddr r.bits) (are_regions rs) sound in (p.0, p.1)
@@ -74,28 +69,33 @@ in_room (r ∷ rs) v s sound order m h = by_kind r.device refl (λ w n k. in_roo
     less : (n : ℕ) → leb s n ≡ false → n < s
     less n l = grind (arith, nat_tests)
 
-    behind : (k : ℕ) → room_bytes 0 r ≡ k → room_bytes s r ≡ k → Multiple s k → k ≤ v → ((w : ℕ) → Multiple s w → w + 2 ^ s ≤ had s rs → InRoom rs w s)
+    behind : (k : ℕ) → room_bytes 0 r ≡ k → room_bytes s r ≡ k → Multiple s k → k ≤ v
+        → ((w : ℕ) → Multiple s w → w + 2 ^ s ≤ had s rs → InRoom rs w s)
         → ((v + 2 ^ s ≤ room_bytes 0 r) × Multiple s (r.paddr + v)) ⊎ ((room_bytes 0 r ≤ v) × InRoom rs (v - room_bytes 0 r) s)
     behind k e f n le ih = inr (omega (arith, e), rw e (ih (v - k) (multiple_sub s v k m n le) (omega (arith, f, both, h))))
 
-    by_size : r.device ≡ false → (l : Bool) → leb s r.bits ≡ l → ((w : ℕ) → Multiple s w → w + 2 ^ s ≤ had s rs → InRoom rs w s) → ((v + 2 ^ s ≤ room_bytes 0 r) × Multiple s (r.paddr + v)) ⊎ ((room_bytes 0 r ≤ v) × InRoom rs (v - room_bytes 0 r) s)
+    by_size : r.device ≡ false → (l : Bool) → leb s r.bits ≡ l → ((w : ℕ) → Multiple s w → w + 2 ^ s ≤ had s rs → InRoom rs w s)
+        → ((v + 2 ^ s ≤ room_bytes 0 r) × Multiple s (r.paddr + v)) ⊎ ((room_bytes 0 r ≤ v) × InRoom rs (v - room_bytes 0 r) s)
     by_size d true l ih =
         let whole = great_room 0 r d (zero_below r.bits) in
         let n = multiple_coarse s r.bits (2 ^ r.bits) (big r.bits l) (multiple_one r.bits) in
         ⊎_elim
         (λ lt. let g = multiple_gap s v (2 ^ r.bits) m n lt in
-        let paddr = multiple_coarse s r.bits r.paddr (big r.bits l) (multiple_from r.bits r.paddr (region_parts r.paddr r.bits parts.0).2) in
+        let paddr = multiple_coarse s r.bits r.paddr (big r.bits l)
+        (multiple_from r.bits r.paddr (region_parts r.paddr r.bits parts.0).2) in
         inl (omega (arith, g, whole), multiple_add s r.paddr v paddr m))
         (λ ge. behind (2 ^ r.bits) whole (great_room s r d l) n ge ih)
         (cases_lt v (2 ^ r.bits))
     by_size d false l ih =
         let e : rank r ≡ 47 - r.bits = rw d refl in
         let lt = less r.bits l in
-        let none = none_behind s (rank r) rs parts.1 (omega (arith, e, few, lt)) (λ j d n. order 0 (suc j) d (omega arith) (omega arith)) in
+        let none = none_behind s (rank r) rs parts.1 (omega (arith, e, few, lt))
+        (λ j d n. order 0 (suc j) d (omega arith) (omega arith)) in
         let this = small_room s r l d in
         let p = power_pos s in absurd (omega (arith, none, this, both, h))
 
-    by_kind : (d : Bool) → r.device ≡ d → ((w : ℕ) → Multiple s w → w + 2 ^ s ≤ had s rs → InRoom rs w s) → ((v + 2 ^ s ≤ room_bytes 0 r) × Multiple s (r.paddr + v)) ⊎ ((room_bytes 0 r ≤ v) × InRoom rs (v - room_bytes 0 r) s)
+    by_kind : (d : Bool) → r.device ≡ d → ((w : ℕ) → Multiple s w → w + 2 ^ s ≤ had s rs → InRoom rs w s)
+        → ((v + 2 ^ s ≤ room_bytes 0 r) × Multiple s (r.paddr + v)) ⊎ ((room_bytes 0 r ≤ v) × InRoom rs (v - room_bytes 0 r) s)
     by_kind true d ih = behind 0 (device_room 0 r d) (device_room s r d) (record { times = 0; is = omega arith }) (omega arith) ih
     by_kind false d ih = by_size d (leb s r.bits) refl ih
 
@@ -104,7 +104,8 @@ in_room (r ∷ rs) v s sound order m h = by_kind r.device refl (λ w n k. in_roo
 first_address : (r : Untyped) (rs : List Untyped) (v : ℕ) → v < room_bytes 0 r → address (r ∷ rs) v ≡ r.paddr + v
 first_address r rs v h = let t : nat_lt v (room_bytes 0 r) ≡ true = grind (arith, nat_tests) in rw t refl
 
-later_address : (r : Untyped) (rs : List Untyped) (v : ℕ) → room_bytes 0 r ≤ v → address (r ∷ rs) v ≡ address rs (v - room_bytes 0 r)
+later_address : (r : Untyped) (rs : List Untyped) (v : ℕ) → room_bytes 0 r ≤ v
+    → address (r ∷ rs) v ≡ address rs (v - room_bytes 0 r)
 later_address r rs v h = let t : nat_lt v (room_bytes 0 r) ≡ false = grind (arith, nat_tests) in rw t refl
 
 -- a region that has room is no device's, and has 2^bits bytes
@@ -139,7 +140,8 @@ aligned (r ∷ rs) v s (inr (le, h)) = subst (Multiple s) (sym (later_address r 
 
 -- ---- apart at offsets, apart at addresses
 
-pub offsets_apart : (rs : List Untyped) (v s w t : ℕ) → Solo rs → v + 2 ^ s ≤ w → InRoom rs v s → InRoom rs w t → Apart (block rs v s) (block rs w t)
+pub offsets_apart : (rs : List Untyped) (v s w t : ℕ) → Solo rs → v + 2 ^ s ≤ w → InRoom rs v s → InRoom rs w t
+    → Apart (block rs v s) (block rs w t)
 unfolding InRoom block
 offsets_apart [] v s w t solo h a b = absurd a
 offsets_apart (r ∷ rs) v s w t solo h (inl (a, m)) (inl (b, n)) =
@@ -153,7 +155,11 @@ offsets_apart (r ∷ rs) v s w t solo h (inl (a, m)) (inr (le, b)) =
     let room = has_room r (omega (arith, p)) in
     let at = first_address r rs v (omega (arith, p)) in
     let to = later_address r rs w le in
-    let lie : LieIn false (block (r ∷ rs) v s) r = record { kind = room.0; low = omega (arith, at); high = omega (arith, at, room.1) } in
+    let lie : LieIn false (block (r ∷ rs) v s) r = record {
+      kind = room.0;
+      low = omega (arith, at);
+      high = omega (arith, at, room.1);
+    } in
     let P : ℕ → Type 0 = λ k. LieInOne false (record { first = k; bits = t }) rs in
     let there : LieInOne false (block (r ∷ rs) w t) rs = subst P (sym to) (lies rs (w - room_bytes 0 r) t b) in
     solo_apart false false (block (r ∷ rs) v s) (block (r ∷ rs) w t) r rs solo lie there
@@ -171,7 +177,8 @@ test b r = not r.device && (leb r.paddr b.first && leb (bytes_end b) (region_end
 
 lie_tested : (b : Bytes) (r : Untyped) → LieIn false b r → test b r ≡ true
 unfolding test
-lie_tested b r l = and_from (not r.device) _ (ap not l.kind) (and_from (leb r.paddr b.first) _ (le-leb r.paddr b.first l.low) (le-leb (bytes_end b) (region_end r) l.high))
+lie_tested b r l = and_from (not r.device) _ (ap not l.kind) (and_from (leb r.paddr b.first) _ (le-leb r.paddr b.first l.low)
+    (le-leb (bytes_end b) (region_end r) l.high))
 
 tested_lie : (b : Bytes) (r : Untyped) → test b r ≡ true → LieIn false b r
 unfolding test

@@ -1,3 +1,4 @@
+pub mod Common
 pub mod Bases
 pub mod Filling
 pub mod Multiples

@@ -1,7 +1,5 @@
 -- Multiples of powers of two.
-use Rattle.std.proofs.Common.{◌≡◌, ◌∙◌, ap, ℕ, ◌+◌, ◌-◌, ◌*◌, ◌/◌, ◌%◌, ◌<◌, ◌≤◌, ◌^◌, lit<, arith, ⊎_elim}
-use Rattle.std.proofs.Math.Nat.{le_of_mul-le-mul_right, mul-le-mul_right, mul-mod_left, one-le-pow}
-use Rattle.std.proofs.lemmas.Bool.{cases_lt}
+use Rattle.boot_plan.proofs.Common.{ap, arith, cases_lt, le_of_mul-le-mul_right, lit<, mul-le-mul_right, mul-mod_left, one-le-pow, ℕ, ⊎_elim, ◌%◌, ◌*◌, ◌+◌, ◌-◌, ◌/◌, ◌<◌, ◌^◌, ◌∙◌, ◌≡◌, ◌≤◌}
 use Rattle.std.proofs.lemmas.Nat.{pow-add, div-add-mod'}
 
 pub record Multiple (s n : ℕ) : Type 0 where
@@ -28,7 +26,8 @@ multiple_add s n m a b = let e = a.is in let f = b.is in record { times = a.time
 
 pub multiple_sub : (s n m : ℕ) → Multiple s n → Multiple s m → m ≤ n → Multiple s (n - m)
 multiple_sub s n m a b le =
-    let few : b.times ≤ a.times = le_of_mul-le-mul_right {m = b.times} {n = a.times} {k = 2 ^ s} (omega (arith, a.is, b.is)) (power_pos s) in
+    let few : b.times ≤ a.times = le_of_mul-le-mul_right {m = b.times} {n = a.times} {k = 2 ^ s} (omega (arith, a.is, b.is))
+    (power_pos s) in
     let k = a.times - b.times in
     let back : a.times ≡ k + b.times = omega arith in
     let whole : a.times * 2 ^ s ≡ (k + b.times) * 2 ^ s = ap (λ t. t * 2 ^ s) back in

@@ -1,18 +1,6 @@
 -- A need more that is packed.
-use Rattle.std.proofs.Common.{◌≡◌, ◌∙◌, sym, ap, subst, ℕ, ◌+◌, ◌*◌, ◌<◌, ◌≤◌, ◌^◌, true, List, [], ◌∷◌, ◌++◌, append_assoc, length, get_or, drop, Option, Result, Ok, Err, arith}
-use Rattle.std.specs.Prelude.{IfOk}
-use Rattle.std.specs.List.Sorted.{IsPermutation}
-use Rattle.std.proofs.lemmas.Bool.{and_parts}
-use Rattle.std.proofs.lemmas.List.{drop_more}
-use Rattle.std.proofs.lemmas.List.Sorted.{sum_by-IsPermutation}
-use Rattle.std.proofs.lemmas.List.Sums.{sum_by-cons}
-use Rattle.boot_plan.specs.Needs.{are_usual}
-use Rattle.boot_plan.specs.Packing.{AllFit, AreStarts, packed, place_of, starts_behind}
-use Rattle.boot_plan.specs.Placed.{Placed}
-use Rattle.boot_plan.specs.Regions.{are_regions, is_region}
-use Rattle.boot_plan.specs.Rooms.{HasRoom, had, room_bytes}
-use Rattle.boot_plan.specs.declared.need.Need.{Need}
-use Rattle.boot_plan.specs.declared.untyped.Untyped.{Untyped}
+use Rattle.boot_plan.proofs.Common.{AllFit, AreStarts, Err, HasRoom, IfOk, IsPermutation, List, Need, Ok, Option, Placed, Result, Untyped, [], and_parts, ap, append_assoc, are_regions, are_usual, arith, drop, drop_more, get_or, had, is_region}
+use Rattle.boot_plan.proofs.Common.{length, packed, place_of, room_bytes, starts_behind, subst, sum_by-IsPermutation, sum_by-cons, sym, true, ℕ, ◌*◌, ◌++◌, ◌+◌, ◌<◌, ◌^◌, ◌∙◌, ◌∷◌, ◌≡◌, ◌≤◌}
 use Rattle.boot_plan.proofs.Offsets.{all_fit, fits_rest}
 use Rattle.boot_plan.proofs.Usual.{room_small, usual_got}
 
@@ -20,14 +8,17 @@ pub record PackStep (rooms : List Untyped) (starts : List ℕ) (ns : List Need) 
   pub fit : AllFit rooms starts ns
   pub so_far : places ++ packed rooms starts ns ≡ all
 
-pub pack_step : (rooms : List Untyped) (starts behind : List ℕ) (ns : List Need) (i : ℕ) (d : Need) (places more all : List (Option ℕ)) (p : Option ℕ) → i < length ns → are_usual ns ≡ true → AllFit rooms starts (drop i ns)
-    → p ≡ place_of rooms starts (get_or ns i d) → behind ≡ starts_behind starts (get_or ns i d) → more ≡ places ++ p ∷ [] → places ++ packed rooms starts (drop i ns) ≡ all → PackStep rooms behind (drop (i + 1) ns) more all
+pub pack_step : (rooms : List Untyped) (starts behind : List ℕ) (ns : List Need) (i : ℕ) (d : Need)
+    (places more all : List (Option ℕ)) (p : Option ℕ) → i < length ns → are_usual ns ≡ true → AllFit rooms starts (drop i ns)
+    → p ≡ place_of rooms starts (get_or ns i d) → behind ≡ starts_behind starts (get_or ns i d) → more ≡ places ++ p ∷ []
+    → places ++ packed rooms starts (drop i ns) ≡ all → PackStep rooms behind (drop (i + 1) ns) more all
 pack_step rooms starts behind ns i d places more all p l usual fit is moved pushed so_far =
     let n = get_or ns i d in
     let rest = drop (i + 1) ns in
     let next : drop i ns ≡ n ∷ rest = drop_more ns i d l in
     record {
-      fit = subst (λ s. AllFit rooms s rest) (sym moved) (fits_rest rooms starts n rest (usual_got ns i d usual l) (subst (AllFit rooms starts) next fit));
+      fit = subst (λ s. AllFit rooms s rest) (sym moved) (fits_rest rooms starts n rest (usual_got ns i d usual l)
+          (subst (AllFit rooms starts) next fit));
       so_far = ap (λ ps. ps ++ packed rooms behind rest) pushed
           ∙ append_assoc places (p ∷ []) (packed rooms behind rest)
           ∙ ap (λ q. places ++ q ∷ packed rooms behind rest) is
@@ -45,13 +36,17 @@ had_small (r ∷ rs) h =
     omega (arith, ih, this, sum_by-cons (room_bytes 0) r rs)
 
 -- all regions have less than 64 bits can count
-pub few_bytes : (rs rooms : List Untyped) → are_regions rs ≡ true → length rs ≤ 4096 → IsPermutation rs rooms → had 0 rooms < 2 ^ 64
+pub few_bytes : (rs rooms : List Untyped) → are_regions rs ≡ true → length rs ≤ 4096 → IsPermutation rs rooms
+    → had 0 rooms < 2 ^ 64
 few_bytes rs rooms sound few perm = omega (arith, had_small rs sound, few, sum_by-IsPermutation (room_bytes 0) rs rooms perm)
 
-pub fit_all : (ns : List Need) (rs rooms : List Untyped) (starts : List ℕ) → HasRoom ns rs → IsPermutation rs rooms → AreStarts ns starts → AllFit rooms starts ns
-fit_all ns rs rooms starts room perm s = all_fit ns rooms starts s (omega (arith, room 0, sum_by-IsPermutation (room_bytes 0) rs rooms perm))
+pub fit_all : (ns : List Need) (rs rooms : List Untyped) (starts : List ℕ) → HasRoom ns rs → IsPermutation rs rooms
+    → AreStarts ns starts → AllFit rooms starts ns
+fit_all ns rs rooms starts room perm s =
+    all_fit ns rooms starts s (omega (arith, room 0, sum_by-IsPermutation (room_bytes 0) rs rooms perm))
 
 -- what a writer of packed places answers
-pub told : {E : Type 0} (ns : List Need) (rs rooms : List Untyped) (starts : List ℕ) (result : Result (List (Option ℕ)) E) → Placed ns rs (packed rooms starts ns) → IfOk result (λ places. places ≡ packed rooms starts ns) → IfOk result (Placed ns rs)
+pub told : {E : Type 0} (ns : List Need) (rs rooms : List Untyped) (starts : List ℕ) (result : Result (List (Option ℕ)) E)
+    → Placed ns rs (packed rooms starts ns) → IfOk result (λ places. places ≡ packed rooms starts ns) → IfOk result (Placed ns rs)
 told ns rs rooms starts (Ok places) p e = subst (Placed ns rs) (sym e) p
 told ns rs rooms starts (Err x) p e = tt

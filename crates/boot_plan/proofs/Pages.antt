@@ -1,28 +1,15 @@
 -- Pages of devices: which regions have them, and which are needed already.
-use Rattle.std.proofs.Common.{◌≡◌, ◌∙◌, refl, sym, ap, subst, ⊎_elim, ℕ, ◌+◌, ◌%◌, ◌<◌, ◌≤◌, ◌^◌, ◌==◌, ◌&&◌, ◌||◌, Bool, true, false, cond, not, leb, nat_lt, List, [], ◌∷◌, ◌++◌, length, get_or, take, drop, Option, Some, None, Result, Ok, Err, arith}
-use Rattle.std.specs.Prelude.{IfOk}
-use Rattle.std.specs.List.{list_any}
-use Rattle.std.specs.List.Sorted.{IsPermutation}
-use Rattle.std.proofs.lemmas.Bool.{and_parts, cases_lt, eqb-true, le-leb, lt-ltb, le-ltb}
-use Rattle.std.proofs.lemmas.Bool.Decides.{nat_tests}
-use Rattle.std.proofs.lemmas.List.{at_drop_all, at_drop_more, take_all, take_more, append-nil}
-use Rattle.std.proofs.lemmas.List.Folds.{list_any-append, list_any_more}
-use Rattle.std.proofs.lemmas.List.Sorted.{list_any-IsPermutation}
-use Rattle.boot_plan.specs.Devices.{device_refusal, has_page, is_needed}
+use Rattle.boot_plan.proofs.Common.{Block, Bool, DevicePage, Err, IfOk, IsIndexOf, IsPermutation, IsSetOf, List, Need, NoDevice, None, Nothing, Ok, Option, PlanRefusal, Result, SharedFrame, Some, Untyped, [], and_parts, ap, are_usual, arith}
+use Rattle.boot_plan.proofs.Common.{at_drop_all, at_drop_more, cases_lt, cond, device_refusal, drop, eqb-true, false, get_or, has_page, has_pages, is_needed, is_region, is_usual, le-leb, le-ltb, leb, length, list_any, list_any-IsPermutation}
+use Rattle.boot_plan.proofs.Common.{list_any-append, list_any_more, lt-ltb, nat_lt, nat_tests, not, page, pages_of, refl, region_end, subst, sym, take, take_all, take_more, true, ℕ, ⊎_elim, ◌%◌, ◌&&◌, ◌++◌, ◌+◌, ◌<◌, ◌==◌, ◌^◌, ◌||◌, ◌∙◌, ◌∷◌, ◌≡◌}
+use Rattle.boot_plan.proofs.Common.{◌≤◌}
+use Rattle.std.proofs.lemmas.List.{append-nil}
 use Rattle.std.specs.BTreeSet.{BTreeSet, contains}
 use Rattle.std.specs.Ordering.{is_eq, nat_cmp}
 use Rattle.std.proofs.Math.Bool.{or-false}
 use Rattle.cam_base.proofs.Orders.{is_eq-nat_cmp}
-use Rattle.boot_plan.specs.DevicesTold.{IsIndexOf, IsSetOf, has_pages, page, pages_of}
-use Rattle.boot_plan.specs.Regions.{is_region, region_end}
-use Rattle.boot_plan.specs.declared.need.Need.{Need}
-use Rattle.boot_plan.specs.declared.need.Need.TheVariants.{Nothing, DevicePage, Block}
-use Rattle.boot_plan.specs.declared.plan_refusal.PlanRefusal.{PlanRefusal}
-use Rattle.boot_plan.specs.declared.plan_refusal.PlanRefusal.TheVariants.{NoDevice, SharedFrame}
-use Rattle.boot_plan.specs.declared.untyped.Untyped.{Untyped}
 use Rattle.boot_plan.proofs.Multiples.{Multiple, multiple_add, multiple_coarse, multiple_from, multiple_gap, multiple_one}
 use Rattle.boot_plan.proofs.Powers.{pow_le}
-use Rattle.boot_plan.specs.Needs.{are_usual, is_usual}
 use Rattle.boot_plan.proofs.Usual.{region_parts, usual_got}
 use Rattle.name_tables.specs.Sharing.{shares}
 use Rattle.name_tables.specs.declared.region.Region.{Region}
@@ -31,7 +18,8 @@ no_le : (n m : ℕ) → m < n → leb n m ≡ false
 no_le n m h = grind (arith, nat_tests)
 
 -- a great region of a device shares something with a page where it has the page
-pub great_region : (paddr : ℕ) (r : Untyped) → is_region r.paddr r.bits ≡ true → 12 ≤ r.bits → r.device ≡ true → paddr % 4096 ≡ 0 → shares (page paddr) (pages_of r) ≡ has_page paddr r
+pub great_region : (paddr : ℕ) (r : Untyped) → is_region r.paddr r.bits ≡ true → 12 ≤ r.bits → r.device ≡ true → paddr % 4096 ≡ 0
+    → shares (page paddr) (pages_of r) ≡ has_page paddr r
 great_region paddr r sound great device at = ⊎_elim
     (λ a. ⊎_elim (λ b. within a b) (λ b. behind a b) (cases_lt r.paddr (paddr + 4096)))
     (λ a. ⊎_elim (λ b. in_front a b) (λ b. absurd (omega (arith, a, b))) (cases_lt r.paddr (paddr + 4096)))
@@ -50,7 +38,8 @@ great_region paddr r sound great device at = ⊎_elim
     here = multiple_from 12 paddr at
 
     begins : r.paddr < paddr + 4096 → r.paddr ≤ paddr
-    begins b = ⊎_elim (λ lt. let g = multiple_gap 12 paddr r.paddr here begin lt in absurd (omega (arith, g, b, size))) (λ ge. ge) (cases_lt paddr r.paddr)
+    begins b = ⊎_elim (λ lt. let g = multiple_gap 12 paddr r.paddr here begin lt in absurd (omega (arith, g, b, size))) (λ ge. ge)
+        (cases_lt paddr r.paddr)
 
     within : paddr < region_end r → r.paddr < paddr + 4096 → shares (page paddr) (pages_of r) ≡ has_page paddr r
     within a b =
@@ -82,7 +71,8 @@ small_region paddr r small = go r.device (leb r.paddr paddr) refl (leb (paddr + 
     le : (n m : ℕ) → leb n m ≡ true → n ≤ m
     le n m h = grind (arith, nat_tests)
 
-    go : (d : Bool) (a : Bool) → leb r.paddr paddr ≡ a → (b : Bool) → leb (paddr + 4096) (region_end r) ≡ b → (d && (a && b)) ≡ false
+    go : (d : Bool) (a : Bool) → leb r.paddr paddr ≡ a → (b : Bool) → leb (paddr + 4096) (region_end r) ≡ b
+        → (d && (a && b)) ≡ false
     go d true e true f =
         let few = pow_le r.bits 11 (omega arith) in
         let size : 2 ^ 11 ≡ 2048 = refl in
@@ -101,13 +91,15 @@ device_only paddr r d = rw d refl
 
 -- what is found of the first so many regions
 pub AreFound : List Untyped → ℕ → List Region → Type 0
-AreFound rs i found = (paddr : ℕ) → paddr % 4096 ≡ 0 → list_any (shares (page paddr)) found ≡ list_any (has_page paddr) (take i rs)
+AreFound rs i found = (paddr : ℕ) → paddr % 4096 ≡ 0
+    → list_any (shares (page paddr)) found ≡ list_any (has_page paddr) (take i rs)
 
 pub found_none : (rs : List Untyped) → AreFound rs 0 []
 unfolding AreFound
 found_none rs = λ paddr h. refl
 
-pub found_more : (rs : List Untyped) (i : ℕ) (d : Untyped) (found new : List Region) → i < length rs → is_region (get_or rs i d).paddr (get_or rs i d).bits ≡ true → 12 ≤ (get_or rs i d).bits → (get_or rs i d).device ≡ true
+pub found_more : (rs : List Untyped) (i : ℕ) (d : Untyped) (found new : List Region) → i < length rs
+    → is_region (get_or rs i d).paddr (get_or rs i d).bits ≡ true → 12 ≤ (get_or rs i d).bits → (get_or rs i d).device ≡ true
     → AreFound rs i found → new ≡ found ++ pages_of (get_or rs i d) ∷ [] → AreFound rs (i + 1) new
 unfolding AreFound
 found_more rs i d found new l sound great device so_far pushed = λ paddr at.
@@ -118,7 +110,8 @@ found_more rs i d found new l sound great device so_far pushed = λ paddr at.
     ∙ ap (λ t. list_any (has_page paddr) (take i rs) || t) (great_region paddr (get_or rs i d) sound great device at)
     ∙ sym (list_any_more (has_page paddr) rs i d l)
 
-pub found_still : (rs : List Untyped) (i : ℕ) (d : Untyped) (found : List Region) → i < length rs → ((paddr : ℕ) → has_page paddr (get_or rs i d) ≡ false) → AreFound rs i found → AreFound rs (i + 1) found
+pub found_still : (rs : List Untyped) (i : ℕ) (d : Untyped) (found : List Region) → i < length rs
+    → ((paddr : ℕ) → has_page paddr (get_or rs i d) ≡ false) → AreFound rs i found → AreFound rs (i + 1) found
 unfolding AreFound
 found_still rs i d found l none so_far = λ paddr at.
     so_far paddr at
@@ -127,7 +120,8 @@ found_still rs i d found l none so_far = λ paddr at.
     ∙ sym (list_any_more (has_page paddr) rs i d l)
 
 -- a region that has pages, and one that has none
-pub found_pages : (rs : List Untyped) (i : ℕ) (d : Untyped) (found new : List Region) → i < length rs → is_region (get_or rs i d).paddr (get_or rs i d).bits ≡ true → has_pages (get_or rs i d) ≡ true
+pub found_pages : (rs : List Untyped) (i : ℕ) (d : Untyped) (found new : List Region) → i < length rs
+    → is_region (get_or rs i d).paddr (get_or rs i d).bits ≡ true → has_pages (get_or rs i d) ≡ true
     → AreFound rs i found → new ≡ found ++ pages_of (get_or rs i d) ∷ [] → AreFound rs (i + 1) new
 found_pages rs i d found new l sound has so_far pushed =
     let p = and_parts (get_or rs i d).device (leb 12 (get_or rs i d).bits) has in
@@ -147,22 +141,29 @@ no_pages r h paddr = go r.device refl (leb 12 r.bits) refl
     go true d false e = small_region paddr r (less 12 r.bits e)
     go true d true e = let s : has_pages r ≡ true = rw (d, e) refl in absurd cc
 
-pub found_no_pages : (rs : List Untyped) (i : ℕ) (d : Untyped) (found : List Region) → i < length rs → has_pages (get_or rs i d) ≡ false → AreFound rs i found → AreFound rs (i + 1) found
+pub found_no_pages : (rs : List Untyped) (i : ℕ) (d : Untyped) (found : List Region) → i < length rs
+    → has_pages (get_or rs i d) ≡ false → AreFound rs i found → AreFound rs (i + 1) found
 found_no_pages rs i d found l none so_far = found_still rs i d found l (λ paddr. no_pages (get_or rs i d) none paddr) so_far
 
 -- what the index tells of the page of an object
-pub page_told : (rs : List Untyped) (index : List Region) (ns : List Need) (i : ℕ) (d : Need) (paddr : ℕ) (b : Bool) → IsIndexOf rs index → i < length ns → are_usual ns ≡ true → get_or ns i d ≡ DevicePage paddr
+pub page_told : (rs : List Untyped) (index : List Region) (ns : List Need) (i : ℕ) (d : Need) (paddr : ℕ) (b : Bool)
+    → IsIndexOf rs index → i < length ns → are_usual ns ≡ true → get_or ns i d ≡ DevicePage paddr
     → b ≡ list_any (shares (page paddr)) index → list_any (has_page paddr) rs ≡ b
 page_told rs index ns i d paddr b told l usual is e =
     let u : is_usual (DevicePage paddr) ≡ true = subst (λ n. is_usual n ≡ true) is (usual_got ns i d usual l) in
     sym (told paddr (eqb-true (paddr % 4096) 0 u)) ∙ sym e
 
-indexed : (rs : List Untyped) (i : ℕ) (found index : List Region) → length rs ≤ i → AreFound rs i found → IsPermutation found index → IsIndexOf rs index
+indexed : (rs : List Untyped) (i : ℕ) (found index : List Region) → length rs ≤ i → AreFound rs i found
+    → IsPermutation found index → IsIndexOf rs index
 unfolding AreFound
-indexed rs i found index l so_far perm = λ paddr at. sym (list_any-IsPermutation (shares (page paddr)) found index perm) ∙ so_far paddr at ∙ ap (list_any (has_page paddr)) (take_all i rs l)
+indexed rs i found index l so_far perm = λ paddr at. sym (list_any-IsPermutation (shares (page paddr)) found index perm)
+    ∙ so_far paddr at ∙ ap (list_any (has_page paddr)) (take_all i rs l)
 
-pub index_told : {E : Type 0} (rs : List Untyped) (i : ℕ) (found all : List Region) (result : Result (List Region) E) → length rs ≤ i → AreFound rs i found → all ≡ found → IfOk result (λ index. IsPermutation all index) → IfOk result (IsIndexOf rs)
-index_told rs i found all (Ok index) l so_far e perm = indexed rs i found index l so_far (subst (λ regions. IsPermutation regions index) e perm)
+pub index_told : {E : Type 0} (rs : List Untyped) (i : ℕ) (found all : List Region) (result : Result (List Region) E)
+    → length rs ≤ i → AreFound rs i found → all ≡ found → IfOk result (λ index. IsPermutation all index)
+    → IfOk result (IsIndexOf rs)
+index_told rs i found all (Ok index) l so_far e perm =
+    indexed rs i found index l so_far (subst (λ regions. IsPermutation regions index) e perm)
 index_told rs i found all (Err x) l so_far e perm = tt
 
 -- ---- the pages that are needed already
@@ -185,10 +186,12 @@ pages_append (Block bits ∷ ns) ms = pages_append ns ms
 pub refusal_from : List Untyped → List Need → ℕ → Option PlanRefusal
 refusal_from rs ns i = device_refusal rs (pages (take i ns)) i (drop i ns)
 
-pages_next : (ns : List Need) (i : ℕ) (d : Need) → i < length ns → pages (take (i + 1) ns) ≡ pages (take i ns) ++ pages (get_or ns i d ∷ [])
+pages_next : (ns : List Need) (i : ℕ) (d : Need) → i < length ns → pages (take (i + 1) ns) ≡ pages (take i ns)
+    ++ pages (get_or ns i d ∷ [])
 pages_next ns i d l = ap pages (take_more ns i d l) ∙ pages_append (take i ns) (get_or ns i d ∷ [])
 
-at_next : (rs : List Untyped) (ns : List Need) (i : ℕ) (d : Need) → i < length ns → refusal_from rs ns i ≡ device_refusal rs (pages (take i ns)) i (get_or ns i d ∷ drop (i + 1) ns)
+at_next : (rs : List Untyped) (ns : List Need) (i : ℕ) (d : Need) → i < length ns
+    → refusal_from rs ns i ≡ device_refusal rs (pages (take i ns)) i (get_or ns i d ∷ drop (i + 1) ns)
 unfolding refusal_from
 at_next rs ns i d l = at_drop_more (device_refusal rs (pages (take i ns)) i) ns i d l
 
@@ -197,18 +200,23 @@ pub record Skips (rs : List Untyped) (ns : List Need) (i : ℕ) : Type 0 where
   pub before : pages (take (i + 1) ns) ≡ pages (take i ns)
 
 -- an object that needs no page of a device
-pub skip : (rs : List Untyped) (ns : List Need) (i : ℕ) (d : Need) → i < length ns → ((paddr : ℕ) → get_or ns i d ≡ DevicePage paddr → ⊥) → Skips rs ns i
+pub skip : (rs : List Untyped) (ns : List Need) (i : ℕ) (d : Need) → i < length ns
+    → ((paddr : ℕ) → get_or ns i d ≡ DevicePage paddr → ⊥) → Skips rs ns i
 unfolding refusal_from pages
 skip rs ns i d l none = go (get_or ns i d) refl
   where
     here : (n : Need) → get_or ns i d ≡ n → pages (n ∷ []) ≡ [] → pages (take (i + 1) ns) ≡ pages (take i ns)
-    here n e f = pages_next ns i d l ∙ ap (λ k. pages (take i ns) ++ k) (ap (λ m. pages (m ∷ [])) e ∙ f) ∙ append-nil (pages (take i ns))
+    here n e f = pages_next ns i d l ∙ ap (λ k. pages (take i ns) ++ k) (ap (λ m. pages (m ∷ [])) e ∙ f)
+        ∙ append-nil (pages (take i ns))
 
-    made : (n : Need) → get_or ns i d ≡ n → pages (n ∷ []) ≡ [] → ((before : List ℕ) (ms : List Need) → device_refusal rs before i (n ∷ ms) ≡ device_refusal rs before (i + 1) ms) → Skips rs ns i
+    made : (n : Need) → get_or ns i d ≡ n → pages (n ∷ []) ≡ []
+        → ((before : List ℕ) (ms : List Need) → device_refusal rs before i (n ∷ ms) ≡ device_refusal rs before (i + 1) ms)
+        → Skips rs ns i
     made n e f g =
         let same = here n e f in
         record {
-          refusal = at_next rs ns i d l ∙ ap (λ m. device_refusal rs (pages (take i ns)) i (m ∷ drop (i + 1) ns)) e ∙ g (pages (take i ns)) (drop (i + 1) ns)
+          refusal = at_next rs ns i d l ∙ ap (λ m. device_refusal rs (pages (take i ns)) i (m ∷ drop (i + 1) ns)) e
+              ∙ g (pages (take i ns)) (drop (i + 1) ns)
               ∙ ap (λ b. device_refusal rs b (i + 1) (drop (i + 1) ns)) (sym same);
           before = same;
         }
@@ -219,13 +227,17 @@ skip rs ns i d l none = go (get_or ns i d) refl
     go (Block bits) e = made (Block bits) e refl (λ before ms. refl)
 
 page_here : (rs : List Untyped) (ns : List Need) (i : ℕ) (d : Need) (paddr : ℕ) → i < length ns → get_or ns i d ≡ DevicePage paddr
-    → refusal_from rs ns i ≡ cond (not (list_any (has_page paddr) rs)) (Some (NoDevice i)) (cond (is_needed paddr (pages (take i ns))) (Some (SharedFrame i)) (device_refusal rs (pages (take i ns) ++ paddr ∷ []) (i + 1) (drop (i + 1) ns)))
+    → refusal_from rs ns i ≡ cond (not (list_any (has_page paddr) rs)) (Some (NoDevice i))
+    (cond (is_needed paddr (pages (take i ns))) (Some (SharedFrame i)) (device_refusal rs (pages (take i ns) ++ paddr ∷ [])
+    (i + 1) (drop (i + 1) ns)))
 page_here rs ns i d paddr l e = at_next rs ns i d l ∙ ap (λ m. device_refusal rs (pages (take i ns)) i (m ∷ drop (i + 1) ns)) e
 
-pub no_page : (rs : List Untyped) (ns : List Need) (i : ℕ) (d : Need) (paddr : ℕ) → i < length ns → get_or ns i d ≡ DevicePage paddr → list_any (has_page paddr) rs ≡ false → refusal_from rs ns i ≡ Some (NoDevice i)
+pub no_page : (rs : List Untyped) (ns : List Need) (i : ℕ) (d : Need) (paddr : ℕ) → i < length ns
+    → get_or ns i d ≡ DevicePage paddr → list_any (has_page paddr) rs ≡ false → refusal_from rs ns i ≡ Some (NoDevice i)
 no_page rs ns i d paddr l e f = page_here rs ns i d paddr l e ∙ rw f refl
 
-pub shared_page : (rs : List Untyped) (ns : List Need) (i : ℕ) (d : Need) (paddr : ℕ) → i < length ns → get_or ns i d ≡ DevicePage paddr → list_any (has_page paddr) rs ≡ true → is_needed paddr (pages (take i ns)) ≡ true
+pub shared_page : (rs : List Untyped) (ns : List Need) (i : ℕ) (d : Need) (paddr : ℕ) → i < length ns
+    → get_or ns i d ≡ DevicePage paddr → list_any (has_page paddr) rs ≡ true → is_needed paddr (pages (take i ns)) ≡ true
     → refusal_from rs ns i ≡ Some (SharedFrame i)
 shared_page rs ns i d paddr l e f g = page_here rs ns i d paddr l e ∙ rw (f, g) refl
 
@@ -233,10 +245,13 @@ pub record Goes (rs : List Untyped) (ns : List Need) (i paddr : ℕ) : Type 0 wh
   pub refusal : refusal_from rs ns i ≡ refusal_from rs ns (i + 1)
   pub before : pages (take (i + 1) ns) ≡ pages (take i ns) ++ paddr ∷ []
 
-pub new_page : (rs : List Untyped) (ns : List Need) (i : ℕ) (d : Need) (paddr : ℕ) → i < length ns → get_or ns i d ≡ DevicePage paddr → list_any (has_page paddr) rs ≡ true → is_needed paddr (pages (take i ns)) ≡ false → Goes rs ns i paddr
+pub new_page : (rs : List Untyped) (ns : List Need) (i : ℕ) (d : Need) (paddr : ℕ) → i < length ns
+    → get_or ns i d ≡ DevicePage paddr → list_any (has_page paddr) rs ≡ true → is_needed paddr (pages (take i ns)) ≡ false
+    → Goes rs ns i paddr
 unfolding refusal_from pages
 new_page rs ns i d paddr l e f g =
-    let before : pages (take (i + 1) ns) ≡ pages (take i ns) ++ paddr ∷ [] = pages_next ns i d l ∙ ap (λ m. pages (take i ns) ++ pages (m ∷ [])) e in
+    let before : pages (take (i + 1) ns) ≡ pages (take i ns) ++ paddr ∷ [] = pages_next ns i d l
+    ∙ ap (λ m. pages (take i ns) ++ pages (m ∷ [])) e in
     record {
       refusal = page_here rs ns i d paddr l e ∙ rw (f, g) (ap (λ b. device_refusal rs b (i + 1) (drop (i + 1) ns)) (sym before));
       before = before;
@@ -262,13 +277,17 @@ or_cond true false = refl
 or_cond false true = refl
 or_cond false false = refl
 
-pub set_more : (before after : List ℕ) (old new : BTreeSet ℕ) (paddr : ℕ) → IsSetOf before old → ((q : ℕ) → contains nat_cmp new q ≡ cond (is_eq (nat_cmp paddr q)) true (contains nat_cmp old q)) → after ≡ before ++ paddr ∷ [] → IsSetOf after new
+pub set_more : (before after : List ℕ) (old new : BTreeSet ℕ) (paddr : ℕ) → IsSetOf before old
+    → ((q : ℕ) → contains nat_cmp new q ≡ cond (is_eq (nat_cmp paddr q)) true (contains nat_cmp old q))
+    → after ≡ before ++ paddr ∷ [] → IsSetOf after new
 set_more before after old new paddr so_far step is = λ q.
-    step q ∙ ap (λ a. cond a true (contains nat_cmp old q)) (is_eq-nat_cmp paddr q) ∙ ap (cond (paddr == q) true) (so_far q) ∙ or_cond (paddr == q) (is_needed q before)
+    step q ∙ ap (λ a. cond a true (contains nat_cmp old q)) (is_eq-nat_cmp paddr q) ∙ ap (cond (paddr == q) true) (so_far q)
+    ∙ or_cond (paddr == q) (is_needed q before)
     ∙ sym (list_any-append (λ p. p == q) before (paddr ∷ [])) ∙ ap (is_needed q) (sym is)
 
 -- a page is new in the set, or not
-pub set_told : (before : List ℕ) (set : BTreeSet ℕ) (paddr : ℕ) (new b : Bool) → IsSetOf before set → new ≡ not (contains nat_cmp set paddr) → new ≡ not b → is_needed paddr before ≡ b
+pub set_told : (before : List ℕ) (set : BTreeSet ℕ) (paddr : ℕ) (new b : Bool) → IsSetOf before set
+    → new ≡ not (contains nat_cmp set paddr) → new ≡ not b → is_needed paddr before ≡ b
 set_told before set paddr new b so_far is e = sym (so_far paddr) ∙ same (contains nat_cmp set paddr) b (sym is ∙ e)
   where
     same : (x y : Bool) → not x ≡ not y → x ≡ y

@@ -1,23 +1,7 @@
 -- Packed blocks are a placement.
-use Rattle.std.proofs.Common.{◌≡◌, ◌∙◌, refl, sym, ap, subst, inl, inr, ⊎_elim, ◌⊎◌, ℕ, ◌+◌, ◌%◌, ◌≤◌, ◌^◌, ◌==◌, ◌&&◌, Bool, true, false, leb, List, [], ◌∷◌, ◌++◌, length, Some, None, arith}
-use Rattle.std.specs.List.{AllByRecursion, list_any, slice_index}
-use Rattle.std.specs.Prelude.{slice_set}
-use Rattle.std.specs.List.Sorted.{IsPermutation}
-use Rattle.std.proofs.lemmas.Bool.{and_parts, cases_lt, eqb-true, or_parts}
-use Rattle.std.proofs.lemmas.Bool.Decides.{nat_tests}
-use Rattle.std.proofs.lemmas.List.Folds.{list_any-append}
-use Rattle.std.proofs.lemmas.List.Sorted.{sum_by-IsPermutation}
-use Rattle.boot_plan.specs.Devices.{device_refusal, has_page, is_needed}
-use Rattle.boot_plan.specs.Needs.{are_usual, is_usual}
-use Rattle.boot_plan.specs.Packing.{AreStarts, IsInOrder, address, packed}
-use Rattle.boot_plan.specs.Placed.{AllApart, AllSuit, Apart, Bytes, LieInOne, Placed, Suits, all_bytes}
-use Rattle.boot_plan.specs.Plans.{AreFree}
-use Rattle.boot_plan.specs.Regions.{are_regions, region_end}
-use Rattle.boot_plan.specs.Rooms.{HasRoom, had, needed, room_bytes}
-use Rattle.boot_plan.specs.declared.need.Need.{Need}
-use Rattle.boot_plan.specs.declared.need.Need.TheVariants.{Nothing, DevicePage, Block}
-use Rattle.boot_plan.specs.declared.plan_refusal.PlanRefusal.TheVariants.{NoDevice, SharedFrame}
-use Rattle.boot_plan.specs.declared.untyped.Untyped.{Untyped}
+use Rattle.boot_plan.proofs.Common.{AllApart, AllByRecursion, AllSuit, Apart, AreFree, AreStarts, Block, Bool, Bytes, DevicePage, HasRoom, IsInOrder, IsPermutation, LieInOne, List, Need, NoDevice, None, Nothing, Placed, SharedFrame, Some, Suits}
+use Rattle.boot_plan.proofs.Common.{Untyped, [], address, all_bytes, and_parts, ap, are_regions, are_usual, arith, cases_lt, device_refusal, eqb-true, false, had, has_page, inl, inr, is_needed, is_usual, leb, length, list_any, list_any-append}
+use Rattle.boot_plan.proofs.Common.{nat_tests, needed, or_parts, packed, refl, region_end, room_bytes, slice_index, slice_set, subst, sum_by-IsPermutation, sym, true, ℕ, ⊎_elim, ◌%◌, ◌&&◌, ◌++◌, ◌+◌, ◌==◌, ◌^◌, ◌∙◌, ◌∷◌, ◌≡◌, ◌≤◌, ◌⊎◌}
 use Rattle.boot_plan.proofs.Bases.{regions_permuted}
 use Rattle.boot_plan.proofs.Filling.{InRoom, aligned, block, in_room, lie_permuted, lies, offsets_apart}
 use Rattle.boot_plan.proofs.Multiples.{Multiple, multiple_from, multiple_gap, multiple_rem}
@@ -26,19 +10,27 @@ use Rattle.boot_plan.proofs.Solo.{Solo, apart_sym, kinds_apart, solo_from, solo_
 
 -- ---- pages of devices
 
-page_in : (paddr : ℕ) (rs : List Untyped) → list_any (has_page paddr) rs ≡ true → LieInOne true (record { first = paddr; bits = 12 }) rs
+page_in : (paddr : ℕ) (rs : List Untyped) → list_any (has_page paddr) rs ≡ true
+    → LieInOne true (record { first = paddr; bits = 12 }) rs
 page_in paddr [] e = absurd cc
 page_in paddr (r ∷ rs) e = go (has_page paddr r) refl (λ k. page_in paddr rs k)
   where
     le : (n m : ℕ) → leb n m ≡ true → n ≤ m
     le n m h = grind (arith, nat_tests)
 
-    go : (b : Bool) → has_page paddr r ≡ b → (list_any (has_page paddr) rs ≡ true → LieInOne true (record { first = paddr; bits = 12 }) rs) → LieInOne true (record { first = paddr; bits = 12 }) (r ∷ rs)
+    go : (b : Bool) → has_page paddr r ≡ b
+        → (list_any (has_page paddr) rs ≡ true → LieInOne true (record { first = paddr; bits = 12 }) rs)
+        → LieInOne true (record { first = paddr; bits = 12 }) (r ∷ rs)
     go true t ih =
         let p = and_parts r.device (leb r.paddr paddr && leb (paddr + 4096) (region_end r)) t in
         let q = and_parts (leb r.paddr paddr) (leb (paddr + 4096) (region_end r)) p.1 in
         let size : 2 ^ 12 ≡ 4096 = refl in
-        inl (record { kind = p.0; low = le r.paddr paddr q.0; high = let h = le (paddr + 4096) (region_end r) q.1 in omega (arith, h, size) })
+        inl (record {
+          kind = p.0;
+          low = le r.paddr paddr q.0;
+          high = let h = le (paddr + 4096) (region_end r) q.1 in
+              omega (arith, h, size);
+        })
     go false t ih = inr (ih (rw t at e))
 
 pub record PageFree (rs : List Untyped) (before : List ℕ) (k paddr : ℕ) (ns : List Need) : Type 0 where
@@ -46,20 +38,24 @@ pub record PageFree (rs : List Untyped) (before : List ℕ) (k paddr : ℕ) (ns 
   pub new : is_needed paddr before ≡ false
   pub rest : device_refusal rs (before ++ paddr ∷ []) (k + 1) ns ≡ None
 
-page_free : (rs : List Untyped) (before : List ℕ) (k paddr : ℕ) (ns : List Need) → device_refusal rs before k (DevicePage paddr ∷ ns) ≡ None → PageFree rs before k paddr ns
+page_free : (rs : List Untyped) (before : List ℕ) (k paddr : ℕ) (ns : List Need)
+    → device_refusal rs before k (DevicePage paddr ∷ ns) ≡ None → PageFree rs before k paddr ns
 page_free rs before k paddr ns e = first (list_any (has_page paddr) rs) refl
   where
     second : (b : Bool) → list_any (has_page paddr) rs ≡ true → is_needed paddr before ≡ b → PageFree rs before k paddr ns
-    second true f h = let s : device_refusal rs before k (DevicePage paddr ∷ ns) ≡ Some (SharedFrame k) = rw (f, h) refl in absurd cc
+    second true f h = let s : device_refusal rs before k (DevicePage paddr ∷ ns) ≡ Some (SharedFrame k) =
+        rw (f, h) refl in absurd cc
     second false f h = record { there = f; new = h; rest = rw (f, h) at e }
 
     first : (b : Bool) → list_any (has_page paddr) rs ≡ b → PageFree rs before k paddr ns
     first true h = second (is_needed paddr before) h refl
     first false h = let s : device_refusal rs before k (DevicePage paddr ∷ ns) ≡ Some (NoDevice k) = rw h refl in absurd cc
 
-not_before : (paddr q : ℕ) (before : List ℕ) → is_needed paddr (before ++ q ∷ []) ≡ false → (is_needed paddr before ≡ false) × ((q == paddr) ≡ false)
+not_before : (paddr q : ℕ) (before : List ℕ) → is_needed paddr (before ++ q ∷ []) ≡ false → (is_needed paddr before ≡ false)
+    × ((q == paddr) ≡ false)
 not_before paddr q before e =
-    let p = or_parts (is_needed paddr before) (is_needed paddr (q ∷ [])) (sym (list_any-append (λ p. p == paddr) before (q ∷ [])) ∙ e) in
+    let p = or_parts (is_needed paddr before) (is_needed paddr (q ∷ []))
+    (sym (list_any-append (λ p. p == paddr) before (q ∷ [])) ∙ e) in
     (p.0, (or_parts (q == paddr) false p.1).0)
 
 -- ---- what is laid later
@@ -88,38 +84,69 @@ map_all P Q (x ∷ xs) f h = (f x h.0, map_all P Q xs f h.1)
 page_multiple : (paddr : ℕ) → is_usual (DevicePage paddr) ≡ true → Multiple 12 paddr
 page_multiple paddr u = multiple_from 12 paddr (eqb-true (paddr % 4096) 0 u)
 
-grown : (all : List Need) (starts : List ℕ) (b : ℕ) (c : ℕ) → length starts ≡ 21 → b ≤ 20 → slice_index starts c ≤ slice_index (slice_set starts b (slice_index starts b + 2 ^ b)) c
+grown : (all : List Need) (starts : List ℕ) (b : ℕ) (c : ℕ) → length starts ≡ 21 → b ≤ 20
+    → slice_index starts c ≤ slice_index (slice_set starts b (slice_index starts b + 2 ^ b)) c
 grown all starts b c n h = same_or_not c b _
     (λ e. let P : ℕ → Type 0 = λ k. slice_index starts k ≤ slice_index (slice_set starts b (slice_index starts b + 2 ^ b)) k in
     subst P (sym e) (omega (arith, set_same starts b (slice_index starts b + 2 ^ b) n h)))
     (λ ne. omega (arith, set_other starts b (slice_index starts b + 2 ^ b) c ne))
 
 module _ (all : List Need) (rs rooms : List Untyped) where
-  pub later_all : (starts : List ℕ) (before : List ℕ) (k : ℕ) (ns : List Need) → are_usual ns ≡ true → Laid all starts ns → device_refusal rs before k ns ≡ None
+  pub later_all : (starts : List ℕ) (before : List ℕ) (k : ℕ) (ns : List Need) → are_usual ns ≡ true → Laid all starts ns
+      → device_refusal rs before k ns ≡ None
       → AllByRecursion (Later all rs rooms starts before) (all_bytes ns (packed rooms starts ns))
   unfolding Later block
   later_all starts before k [] u l e = tt
-  later_all starts before k (Nothing ∷ ns) u l e = later_all starts before (k + 1) ns u (laid_skip all starts Nothing ns (λ b. refl) l) e
+  later_all starts before k (Nothing ∷ ns) u l e =
+      later_all starts before (k + 1) ns u (laid_skip all starts Nothing ns (λ b. refl) l) e
   later_all starts before k (DevicePage paddr ∷ ns) u l e =
       let p = and_parts (is_usual (DevicePage paddr)) (are_usual ns) u in
       let f = page_free rs before k paddr ns e in
-      let page : LaterPage rs before (record { first = paddr; bits = 12 }) = record { bits = refl; lies = page_in paddr rs f.there; multiple = page_multiple paddr p.0; new = f.new } in
-      let ih = later_all starts (before ++ paddr ∷ []) (k + 1) ns p.1 (laid_skip all starts (DevicePage paddr) ns (λ b. refl) l) f.rest in
-      (inl page, map_all (Later all rs rooms starts (before ++ paddr ∷ [])) (Later all rs rooms starts before) (all_bytes ns (packed rooms starts ns)) (λ c h. weaker c h) ih)
+      let page : LaterPage rs before (record { first = paddr; bits = 12 }) =
+      record { bits = refl; lies = page_in paddr rs f.there; multiple = page_multiple paddr p.0; new = f.new } in
+      let ih = later_all starts (before ++ paddr ∷ []) (k + 1) ns p.1 (laid_skip all starts (DevicePage paddr) ns
+      (λ b. refl) l) f.rest in (
+        inl page,
+        map_all (Later all rs rooms starts (before ++ paddr ∷ [])) (Later all rs rooms starts before)
+            (all_bytes ns (packed rooms starts ns)) (λ c h. weaker c h) ih,
+      )
     where
       weaker : (c : Bytes) → Later all rs rooms starts (before ++ paddr ∷ []) c → Later all rs rooms starts before c
-      weaker c (inl h) = inl (record { bits = h.bits; lies = h.lies; multiple = h.multiple; new = (not_before c.first paddr before h.new).0 })
+      weaker c (inl h) =
+          inl (record { bits = h.bits; lies = h.lies; multiple = h.multiple; new = (not_before c.first paddr before h.new).0 })
       weaker c (inr h) = inr h
   later_all starts before k (Block b ∷ ns) u l e =
       let p = and_parts (is_usual (Block b)) (are_usual ns) u in
       let small = small_block b p.0 in
-      let here : LaterBlock all rooms starts (block rooms (slice_index starts b) b) = record { offset = slice_index starts b; is = refl; small = small; low = omega arith; high = block_end all starts b ns small l; multiple = l.multiple b small } in
-      let ih = later_all (slice_set starts b (slice_index starts b + 2 ^ b)) before (k + 1) ns p.1 (laid_block all starts b ns small l) e in
-      (inr here, map_all (Later all rs rooms (slice_set starts b (slice_index starts b + 2 ^ b)) before) (Later all rs rooms starts before) (all_bytes ns (packed rooms (slice_set starts b (slice_index starts b + 2 ^ b)) ns)) (λ c h. weaker small c h) ih)
+      let here : LaterBlock all rooms starts (block rooms (slice_index starts b) b) = record {
+        offset = slice_index starts b;
+        is = refl;
+        small = small;
+        low = omega arith;
+        high = block_end all starts b ns small l;
+        multiple = l.multiple b small;
+      } in
+      let ih = later_all (slice_set starts b (slice_index starts b + 2 ^ b)) before (k + 1) ns p.1
+      (laid_block all starts b ns small l) e in (
+        inr here,
+        map_all (Later all rs rooms (slice_set starts b (slice_index starts b + 2 ^ b)) before)
+            (Later all rs rooms starts before) (all_bytes ns (packed rooms (slice_set starts b (slice_index starts b + 2 ^ b))
+            ns)) (λ c h. weaker small c h) ih,
+      )
     where
-      weaker : b ≤ 20 → (c : Bytes) → Later all rs rooms (slice_set starts b (slice_index starts b + 2 ^ b)) before c → Later all rs rooms starts before c
+      weaker : b ≤ 20 → (c : Bytes) → Later all rs rooms (slice_set starts b (slice_index starts b + 2 ^ b)) before c
+          → Later all rs rooms starts before c
       weaker small c (inl h) = inl h
-      weaker small c (inr h) = inr (record { offset = h.offset; is = h.is; small = h.small; low = let g = grown all starts b c.bits l.count small in omega (arith, g, h.low); high = h.high; multiple = h.multiple })
+      weaker small c (inr h) =
+          inr (record {
+            offset = h.offset;
+            is = h.is;
+            small = h.small;
+            low = let g = grown all starts b c.bits l.count small in
+                omega (arith, g, h.low);
+            high = h.high;
+            multiple = h.multiple;
+          })
 
   -- the regions and what is known of them
   pub record Rooms : Type 0 where
@@ -134,7 +161,8 @@ module _ (all : List Need) (rs rooms : List Untyped) where
   there r v s m h = in_room rooms v s r.sound r.order m (omega (arith, r.room s, h))
 
   -- a block that is laid, and one that is laid behind it
-  blocks_apart : Rooms → (starts : List ℕ) (b : ℕ) (ns : List Need) → b ≤ 20 → Laid all starts (Block b ∷ ns) → (t w : ℕ) → t ≤ 20 → Multiple t w → slice_index (slice_set starts b (slice_index starts b + 2 ^ b)) t ≤ w
+  blocks_apart : Rooms → (starts : List ℕ) (b : ℕ) (ns : List Need) → b ≤ 20 → Laid all starts (Block b ∷ ns) → (t w : ℕ) → t ≤ 20
+      → Multiple t w → slice_index (slice_set starts b (slice_index starts b + 2 ^ b)) t ≤ w
       → w + 2 ^ t ≤ needed t all → Apart (block rooms (slice_index starts b) b) (block rooms w t)
   blocks_apart r starts b ns small l t w st m low high =
       let v = slice_index starts b in
@@ -147,15 +175,21 @@ module _ (all : List Need) (rs rooms : List Untyped) where
       offsets_apart rooms v b w t r.rooms_solo (omega (arith, ends, room, was, low)) here behind)
       (λ ge. ⊎_elim
       (λ lt. let room = needed_less (b + 1) t all (omega arith) in
-      apart_sym (block rooms w t) (block rooms v b) (offsets_apart rooms w t v b r.rooms_solo (omega (arith, high, room, l.low b small)) behind here))
+      apart_sym (block rooms w t) (block rooms v b) (offsets_apart rooms w t v b r.rooms_solo
+      (omega (arith, high, room, l.low b small)) behind here))
       (λ le. let same : t ≡ b = omega arith in
       let P : ℕ → Type 0 = λ k. slice_index (slice_set starts b (slice_index starts b + 2 ^ b)) k ≤ w in
       let put = subst P same low in
-      offsets_apart rooms v b w t r.rooms_solo (omega (arith, set_same starts b (slice_index starts b + 2 ^ b) l.count small, put)) here behind)
+      offsets_apart rooms v b w t r.rooms_solo (omega (
+        arith,
+        set_same starts b (slice_index starts b + 2 ^ b) l.count small,
+        put,
+      )) here behind)
       (cases_lt b t))
       (cases_lt t b)
 
-  pages_apart : (b c : Bytes) → b.bits ≡ 12 → c.bits ≡ 12 → Multiple 12 b.first → Multiple 12 c.first → (b.first == c.first) ≡ false → Apart b c
+  pages_apart : (b c : Bytes) → b.bits ≡ 12 → c.bits ≡ 12 → Multiple 12 b.first → Multiple 12 c.first
+      → (b.first == c.first) ≡ false → Apart b c
   pages_apart b c eb ec mb mc ne =
       let size : (n : ℕ) → n ≡ 12 → 2 ^ n ≡ 4096 = λ n e. ap (λ k. 2 ^ k) e in
       let sb = size b.bits eb in
@@ -179,59 +213,81 @@ module _ (all : List Need) (rs rooms : List Untyped) where
       let P : Bytes → Type 0 = λ k. LieInOne false k rs in
       subst P (sym h.is) (lies_in r h.offset c.bits (there r h.offset c.bits h.multiple h.high))
 
-  pub apart_all : Rooms → (starts : List ℕ) (before : List ℕ) (k : ℕ) (ns : List Need) → are_usual ns ≡ true → Laid all starts ns → device_refusal rs before k ns ≡ None → AllApart (all_bytes ns (packed rooms starts ns))
+  pub apart_all : Rooms → (starts : List ℕ) (before : List ℕ) (k : ℕ) (ns : List Need) → are_usual ns ≡ true → Laid all starts ns
+      → device_refusal rs before k ns ≡ None → AllApart (all_bytes ns (packed rooms starts ns))
   unfolding Later block
   apart_all r starts before k [] u l e = tt
-  apart_all r starts before k (Nothing ∷ ns) u l e = apart_all r starts before (k + 1) ns u (laid_skip all starts Nothing ns (λ b. refl) l) e
+  apart_all r starts before k (Nothing ∷ ns) u l e =
+      apart_all r starts before (k + 1) ns u (laid_skip all starts Nothing ns (λ b. refl) l) e
   apart_all r starts before k (DevicePage paddr ∷ ns) u l e =
       let p = and_parts (is_usual (DevicePage paddr)) (are_usual ns) u in
       let f = page_free rs before k paddr ns e in
       let rest : Laid all starts ns = laid_skip all starts (DevicePage paddr) ns (λ b. refl) l in (
-        map_all (Later all rs rooms starts (before ++ paddr ∷ [])) (Apart (record { first = paddr; bits = 12 })) (all_bytes ns (packed rooms starts ns)) (λ c h. this p.0 f c h) (later_all starts (before ++ paddr ∷ []) (k + 1) ns p.1 rest f.rest),
+        map_all (Later all rs rooms starts (before ++ paddr ∷ [])) (Apart (record { first = paddr; bits = 12 }))
+            (all_bytes ns (packed rooms starts ns)) (λ c h. this p.0 f c h) (later_all starts (before ++ paddr ∷ []) (k + 1) ns
+            p.1 rest f.rest),
         apart_all r starts (before ++ paddr ∷ []) (k + 1) ns p.1 rest f.rest,
       )
     where
-      this : is_usual (DevicePage paddr) ≡ true → PageFree rs before k paddr ns → (c : Bytes) → Later all rs rooms starts (before ++ paddr ∷ []) c → Apart (record { first = paddr; bits = 12 }) c
-      this u f c (inl h) = pages_apart (record { first = paddr; bits = 12 }) c refl h.bits (page_multiple paddr u) h.multiple (not_before c.first paddr before h.new).1
-      this u f c (inr h) = kinds_apart (record { first = paddr; bits = 12 }) c rs r.solo (page_in paddr rs f.there) (later_lies r starts c h)
+      this : is_usual (DevicePage paddr) ≡ true → PageFree rs before k paddr ns → (c : Bytes)
+          → Later all rs rooms starts (before ++ paddr ∷ []) c → Apart (record { first = paddr; bits = 12 }) c
+      this u f c (inl h) = pages_apart (record { first = paddr; bits = 12 }) c refl h.bits (page_multiple paddr u) h.multiple
+          (not_before c.first paddr before h.new).1
+      this u f c (inr h) = kinds_apart (record { first = paddr; bits = 12 }) c rs r.solo (page_in paddr rs f.there)
+          (later_lies r starts c h)
   apart_all r starts before k (Block b ∷ ns) u l e =
       let p = and_parts (is_usual (Block b)) (are_usual ns) u in
       let small = small_block b p.0 in
       let rest = laid_block all starts b ns small l in (
-        map_all (Later all rs rooms (slice_set starts b (slice_index starts b + 2 ^ b)) before) (Apart (record { first = address rooms (slice_index starts b); bits = b })) (all_bytes ns (packed rooms (slice_set starts b (slice_index starts b + 2 ^ b)) ns))
+        map_all (Later all rs rooms (slice_set starts b (slice_index starts b + 2 ^ b)) before)
+            (Apart (record { first = address rooms (slice_index starts b); bits = b }))
+            (all_bytes ns (packed rooms (slice_set starts b (slice_index starts b + 2 ^ b)) ns))
             (λ c h. this small c h) (later_all (slice_set starts b (slice_index starts b + 2 ^ b)) before (k + 1) ns p.1 rest e),
         apart_all r (slice_set starts b (slice_index starts b + 2 ^ b)) before (k + 1) ns p.1 rest e,
       )
     where
-      this : b ≤ 20 → (c : Bytes) → Later all rs rooms (slice_set starts b (slice_index starts b + 2 ^ b)) before c → Apart (record { first = address rooms (slice_index starts b); bits = b }) c
+      this : b ≤ 20 → (c : Bytes) → Later all rs rooms (slice_set starts b (slice_index starts b + 2 ^ b)) before c
+          → Apart (record { first = address rooms (slice_index starts b); bits = b }) c
       this small c (inl h) =
           let ends : slice_index starts b + 2 ^ b ≤ needed b all = block_end all starts b ns small l in
-          apart_sym c (block rooms (slice_index starts b) b) (kinds_apart c (block rooms (slice_index starts b) b) rs r.solo h.lies (lies_in r (slice_index starts b) b (there r (slice_index starts b) b (l.multiple b small) ends)))
+          apart_sym c (block rooms (slice_index starts b) b) (kinds_apart c (block rooms (slice_index starts b) b) rs r.solo
+          h.lies (lies_in r (slice_index starts b) b (there r (slice_index starts b) b (l.multiple b small) ends)))
       this small c (inr h) =
           let P : Bytes → Type 0 = λ k. Apart (block rooms (slice_index starts b) b) k in
           subst P (sym h.is) (blocks_apart r starts b ns small l c.bits h.offset h.small h.multiple h.low h.high)
 
-  pub suit_all : Rooms → (starts : List ℕ) (before : List ℕ) (k : ℕ) (ns : List Need) → are_usual ns ≡ true → Laid all starts ns → device_refusal rs before k ns ≡ None → AllSuit rs ns (packed rooms starts ns)
+  pub suit_all : Rooms → (starts : List ℕ) (before : List ℕ) (k : ℕ) (ns : List Need) → are_usual ns ≡ true → Laid all starts ns
+      → device_refusal rs before k ns ≡ None → AllSuit rs ns (packed rooms starts ns)
   unfolding block
   suit_all r starts before k [] u l e = tt
-  suit_all r starts before k (Nothing ∷ ns) u l e = (refl, suit_all r starts before (k + 1) ns u (laid_skip all starts Nothing ns (λ b. refl) l) e)
+  suit_all r starts before k (Nothing ∷ ns) u l e =
+      (refl, suit_all r starts before (k + 1) ns u (laid_skip all starts Nothing ns (λ b. refl) l) e)
   suit_all r starts before k (DevicePage paddr ∷ ns) u l e =
       let p = and_parts (is_usual (DevicePage paddr)) (are_usual ns) u in
-      let f = page_free rs before k paddr ns e in
-      ((refl, page_in paddr rs f.there), suit_all r starts (before ++ paddr ∷ []) (k + 1) ns p.1 (laid_skip all starts (DevicePage paddr) ns (λ b. refl) l) f.rest)
+      let f = page_free rs before k paddr ns e in (
+        (refl, page_in paddr rs f.there),
+        suit_all r starts (before ++ paddr ∷ []) (k + 1) ns p.1
+            (laid_skip all starts (DevicePage paddr) ns (λ b. refl) l) f.rest,
+      )
   suit_all r starts before k (Block b ∷ ns) u l e =
       let p = and_parts (is_usual (Block b)) (are_usual ns) u in
-      let small = small_block b p.0 in
-      (first small, suit_all r (slice_set starts b (slice_index starts b + 2 ^ b)) before (k + 1) ns p.1 (laid_block all starts b ns small l) e)
+      let small = small_block b p.0 in (
+        first small,
+        suit_all r (slice_set starts b (slice_index starts b + 2 ^ b)) before (k + 1) ns p.1
+            (laid_block all starts b ns small l) e,
+      )
     where
       first : b ≤ 20 → Suits rs (Block b) (Some (address rooms (slice_index starts b)))
       first small =
           let ends : slice_index starts b + 2 ^ b ≤ needed b all = block_end all starts b ns small l in
-          let here = there r (slice_index starts b) b (l.multiple b small) ends in
-          (multiple_rem b (address rooms (slice_index starts b)) (aligned rooms (slice_index starts b) b here), lies_in r (slice_index starts b) b here)
+          let here = there r (slice_index starts b) b (l.multiple b small) ends in (
+            multiple_rem b (address rooms (slice_index starts b)) (aligned rooms (slice_index starts b) b here),
+            lies_in r (slice_index starts b) b here,
+          )
 
 -- packed needs are placed, where nothing refuses it
-pub packed_placed : (all : List Need) (rs rooms : List Untyped) (starts : List ℕ) → are_usual all ≡ true → are_regions rs ≡ true → AreFree all rs → HasRoom all rs → IsPermutation rs rooms → IsInOrder rooms → AreStarts all starts
+pub packed_placed : (all : List Need) (rs rooms : List Untyped) (starts : List ℕ) → are_usual all ≡ true → are_regions rs ≡ true
+    → AreFree all rs → HasRoom all rs → IsPermutation rs rooms → IsInOrder rooms → AreStarts all starts
     → Placed all rs (packed rooms starts all)
 packed_placed all rs rooms starts usual sound free room perm order s =
     let solo = solo_from rs free.regions in

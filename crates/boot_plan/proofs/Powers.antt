@@ -1,7 +1,5 @@
 -- Powers of two.
-use Rattle.std.proofs.Common.{◌≡◌, ℕ, ◌<◌, ◌≤◌, ◌^◌, nat_lt, true, lit<, arith}
-use Rattle.std.proofs.Math.Nat.{pow-le-pow_right}
-use Rattle.std.proofs.lemmas.Bool.Decides.{nat_tests}
+use Rattle.boot_plan.proofs.Common.{arith, lit<, nat_lt, nat_tests, pow-le-pow_right, true, ℕ, ◌<◌, ◌^◌, ◌≡◌, ◌≤◌}
 
 pub pow_le : (i j : ℕ) → i ≤ j → 2 ^ i ≤ 2 ^ j
 pow_le i j h = pow-le-pow_right {n = 2} (lit< tt) {i = i} {j = j} h

@@ -1,18 +1,9 @@
 -- Regions of which no two share an address: each address lies in one of them at most.
-use Rattle.std.proofs.Common.{◌≡◌, ◌∙◌, refl, sym, subst, inl, inr, ⊎_elim, ℕ, ◌+◌, ◌<◌, ◌≤◌, ◌&&◌, Bool, true, false, cond, leb, nat_lt, List, [], ◌∷◌, ◌++◌, append_assoc, append-nil, Option, Some, None, arith}
-use Rattle.std.specs.List.{position, position_from, sum_by}
-use Rattle.std.specs.List.Sorted.{IsPermutation}
-use Rattle.std.specs.Option.{option_map}
-use Rattle.std.proofs.lemmas.Bool.{cases_lt, and_parts}
-use Rattle.std.proofs.lemmas.Bool.Decides.{nat_tests}
+use Rattle.boot_plan.proofs.Common.{Apart, Bool, Bytes, IsPermutation, LieIn, LieInOne, List, None, Option, Some, Untyped, [], and_parts, append-nil, append_assoc, arith, bytes_end, cases_lt, cond, false, first_overlap, inl, inr, leb, nat_lt}
+use Rattle.boot_plan.proofs.Common.{nat_tests, option_map, overlap_at, overlap_behind, position, position_from, refl, region_end, shares, subst, sum_by, sum_by-IsPermutation, sum_by-append, sum_by-cons, sym, true, ℕ, ⊎_elim, ◌&&◌, ◌++◌, ◌+◌, ◌<◌}
+use Rattle.boot_plan.proofs.Common.{◌∙◌, ◌∷◌, ◌≡◌, ◌≤◌}
 use Rattle.std.proofs.lemmas.Iterator.Adapters.{position_from-zero}
-use Rattle.std.proofs.lemmas.List.Sorted.{sum_by-IsPermutation}
-use Rattle.std.proofs.lemmas.List.Sums.{sum_by-append, sum_by-cons}
 use Rattle.cam_base.proofs.Options.{neither}
-use Rattle.boot_plan.specs.Overlaps.{first_overlap, overlap_at, overlap_behind}
-use Rattle.boot_plan.specs.Placed.{Apart, Bytes, LieIn, LieInOne, bytes_end}
-use Rattle.boot_plan.specs.Regions.{region_end, shares}
-use Rattle.boot_plan.specs.declared.untyped.Untyped.{Untyped}
 use Rattle.boot_plan.proofs.Multiples.{power_pos}
 
 pub holds : ℕ → Untyped → Bool
@@ -38,12 +29,14 @@ holds_both x r q a b =
     below n x m h l = grind (arith, nat_tests)
 
 -- where a region shares no address with the earlier ones, an address of it lies in none of them
-none_hold : (x : ℕ) (r : Untyped) (i : ℕ) (rs : List Untyped) → holds x r ≡ true → position_from (shares r) i rs ≡ None → sum_by (one x) rs ≡ 0
+none_hold : (x : ℕ) (r : Untyped) (i : ℕ) (rs : List Untyped) → holds x r ≡ true → position_from (shares r) i rs ≡ None
+    → sum_by (one x) rs ≡ 0
 unfolding one
 none_hold x r i [] a e = refl
 none_hold x r i (q ∷ qs) a e = go (shares r q) refl (holds x q) refl (λ left. none_hold x r (i + 1) qs a left)
   where
-    go : (s : Bool) → shares r q ≡ s → (h : Bool) → holds x q ≡ h → (position_from (shares r) (i + 1) qs ≡ None → sum_by (one x) qs ≡ 0) → sum_by (one x) (q ∷ qs) ≡ 0
+    go : (s : Bool) → shares r q ≡ s → (h : Bool) → holds x q ≡ h → (position_from (shares r) (i + 1) qs ≡ None
+        → sum_by (one x) qs ≡ 0) → sum_by (one x) (q ∷ qs) ≡ 0
     go true s h k ih = let found : position_from (shares r) i (q ∷ qs) ≡ Some i = rw s refl in absurd cc
     go false s true k ih = let t = holds_both x r q a k in absurd cc
     go false s false k ih =
@@ -100,14 +93,18 @@ holds_in device b r x lie low high =
     under : (n m : ℕ) → n < m → nat_lt n m ≡ true
     under n m h = grind (arith, nat_tests)
 
-counted_in : (device : Bool) (b : Bytes) (rs : List Untyped) (x : ℕ) → LieInOne device b rs → b.first ≤ x → x < bytes_end b → 1 ≤ sum_by (one x) rs
+counted_in : (device : Bool) (b : Bytes) (rs : List Untyped) (x : ℕ) → LieInOne device b rs → b.first ≤ x → x < bytes_end b
+    → 1 ≤ sum_by (one x) rs
 counted_in device b [] x lie low high = absurd lie
 counted_in device b (r ∷ rs) x (inl lie) low high = omega (arith, holds_in device b r x lie low high, sum_by-cons (one x) r rs)
 counted_in device b (r ∷ rs) x (inr lie) low high = omega (arith, counted_in device b rs x lie low high, sum_by-cons (one x) r rs)
 
 -- bytes in two different regions are apart
-pub solo_apart : (d e : Bool) (b c : Bytes) (r : Untyped) (rs : List Untyped) → Solo (r ∷ rs) → LieIn d b r → LieInOne e c rs → Apart b c
-solo_apart d e b c r rs s lie lies = ⊎_elim (λ overlap. ⊎_elim (λ under. absurd (clash overlap under)) (λ le. inr le) (cases_lt b.first (bytes_end c))) (λ le. inl le) (cases_lt c.first (bytes_end b))
+pub solo_apart : (d e : Bool) (b c : Bytes) (r : Untyped) (rs : List Untyped) → Solo (r ∷ rs) → LieIn d b r
+    → LieInOne e c rs → Apart b c
+solo_apart d e b c r rs s lie lies =
+    ⊎_elim (λ overlap. ⊎_elim (λ under. absurd (clash overlap under)) (λ le. inr le) (cases_lt b.first (bytes_end c)))
+    (λ le. inl le) (cases_lt c.first (bytes_end b))
   where
     at : (x : ℕ) → b.first ≤ x → c.first ≤ x → x < bytes_end b → x < bytes_end c → ⊥
     at x bl cl bh ch =

@@ -1,28 +1,16 @@
 -- What needs and regions keep: how large they are.
-use Rattle.std.proofs.Common.{◌≡◌, ℕ, zero, suc, ◌+◌, ◌%◌, ◌<◌, ◌≤◌, ◌^◌, ◌==◌, nat_lt, Bool, true, false, not, ◌&&◌, leb, cond, List, [], ◌∷◌, length, map, get_or, Some, None, arith, refl}
-use Rattle.std.specs.List.{list_all}
-use Rattle.std.proofs.lemmas.Bool.{and_from, and_parts, eqb-true}
-use Rattle.std.proofs.lemmas.Bool.Decides.{nat_tests}
-use Rattle.std.proofs.lemmas.List.Sums.{sum_by-cons}
-use Rattle.boot_plan.specs.Needs.{are_usual, is_usual, need, needs, table_bits}
-use Rattle.cap_model.specs.Kept.{fits, if_any, keeps, keeps_fill, keeps_slots}
+use Rattle.boot_plan.proofs.Common.{Block, Bool, CNode, DevicePage, Endpoint, Entry, Frame, Irq, List, Need, None, Nothing, Notification, Object, Pages, Some, Spec, Thread, Untyped, [], and_from, and_parts, are_regions, are_usual, arith, block_bytes}
+use Rattle.boot_plan.proofs.Common.{cond, eqb-true, false, fits, get_or, if_any, is_region, is_usual, keeps, keeps_fill, keeps_slots, leb, length, list_all, map, nat_lt, nat_tests, need, needed, needs, not, refl, room_bytes, suc, sum_by-cons}
+use Rattle.boot_plan.proofs.Common.{table_bits, true, zero, ℕ, ◌%◌, ◌&&◌, ◌+◌, ◌<◌, ◌==◌, ◌^◌, ◌∷◌, ◌≡◌, ◌≤◌}
 use Rattle.cap_model.specs.declared.level.Arch.{Arch}
 use Rattle.cap_model.specs.declared.level.Arch.TheVariants.{Arm11, Aarch64}
 use Rattle.cap_model.specs.declared.level.Level.{Level}
 use Rattle.cap_model.specs.declared.level.Level.TheVariants.{Global, Upper, Directory, Table}
-use Rattle.cap_model.specs.declared.object.Object.{Object}
-use Rattle.cap_model.specs.declared.object.Object.TheVariants.{Endpoint, Notification, CNode, Thread, Frame, Pages, Irq}
-use Rattle.cap_model.specs.declared.spec.Entry.{Entry}
-use Rattle.cap_model.specs.declared.spec.Spec.{Spec}
-use Rattle.boot_plan.specs.Regions.{are_regions, is_region}
-use Rattle.boot_plan.specs.Rooms.{block_bytes, needed, room_bytes}
-use Rattle.boot_plan.specs.declared.need.Need.{Need}
-use Rattle.boot_plan.specs.declared.need.Need.TheVariants.{Nothing, DevicePage, Block}
-use Rattle.boot_plan.specs.declared.untyped.Untyped.{Untyped}
 use Rattle.boot_plan.proofs.Powers.{pow_le}
 
 -- what all pass, the one at a place passes
-pub all_got : {A : Type 0} (p : A → Bool) (xs : List A) (i : ℕ) (d : A) → list_all p xs ≡ true → i < length xs → p (get_or xs i d) ≡ true
+pub all_got : {A : Type 0} (p : A → Bool) (xs : List A) (i : ℕ) (d : A) → list_all p xs ≡ true → i < length xs
+    → p (get_or xs i d) ≡ true
 all_got p [] i d all l = absurd (omega arith)
 all_got p (x ∷ xs) zero d all l = (and_parts (p x) (list_all p xs) all).0
 all_got p (x ∷ xs) (suc i) d all l = all_got p xs i d (and_parts (p x) (list_all p xs) all).1 (omega arith)
@@ -30,7 +18,8 @@ all_got p (x ∷ xs) (suc i) d all l = all_got p xs i d (and_parts (p x) (list_a
 pub usual_got : (ns : List Need) (i : ℕ) (d : Need) → are_usual ns ≡ true → i < length ns → is_usual (get_or ns i d) ≡ true
 usual_got ns i d all l = all_got is_usual ns i d all l
 
-pub region_got : (rs : List Untyped) (i : ℕ) (d : Untyped) → are_regions rs ≡ true → i < length rs → is_region (get_or rs i d).paddr (get_or rs i d).bits ≡ true
+pub region_got : (rs : List Untyped) (i : ℕ) (d : Untyped) → are_regions rs ≡ true → i < length rs
+    → is_region (get_or rs i d).paddr (get_or rs i d).bits ≡ true
 region_got rs i d all l = all_got (λ (r : Untyped). is_region r.paddr r.bits) rs i d all l
 
 cond_le : (b : Bool) (n m : ℕ) → n ≤ m → cond b n 0 ≤ m
@@ -38,7 +27,8 @@ cond_le true n m h = h
 cond_le false n m h = omega arith
 
 -- the parts of a region's test
-pub region_parts : (paddr bits : ℕ) → is_region paddr bits ≡ true → (4 ≤ bits) × (bits ≤ 47) × (paddr % 2 ^ bits ≡ 0) × (paddr + 2 ^ bits ≤ 2 ^ 48)
+pub region_parts : (paddr bits : ℕ) → is_region paddr bits ≡ true → (4 ≤ bits) × (bits ≤ 47) × (paddr % 2 ^ bits ≡ 0)
+    × (paddr + 2 ^ bits ≤ 2 ^ 48)
 region_parts paddr bits h =
     let a = and_parts (leb 4 bits) (leb bits 47 && (paddr % 2 ^ bits == 0 && leb (paddr + 2 ^ bits) (2 ^ 48))) h in
     let b = and_parts (leb bits 47) (paddr % 2 ^ bits == 0 && leb (paddr + 2 ^ bits) (2 ^ 48)) a.1 in
@@ -95,10 +85,12 @@ object_usual spec (Pages level slots) h = table_usual spec.arch level
     table_usual Arm11 Table = refl
 object_usual spec (Irq notification) h = refl
 
-pub needs_usual : (spec : Spec) → list_all (λ (entry : Entry). keeps spec entry.object) spec.entries ≡ true → are_usual (needs spec) ≡ true
+pub needs_usual : (spec : Spec) → list_all (λ (entry : Entry). keeps spec entry.object) spec.entries ≡ true
+    → are_usual (needs spec) ≡ true
 needs_usual spec h = go spec.entries h
   where
-    go : (entries : List Entry) → list_all (λ (entry : Entry). keeps spec entry.object) entries ≡ true → are_usual (map (λ (entry : Entry). need spec.arch entry.object) entries) ≡ true
+    go : (entries : List Entry) → list_all (λ (entry : Entry). keeps spec entry.object) entries ≡ true
+        → are_usual (map (λ (entry : Entry). need spec.arch entry.object) entries) ≡ true
     go [] h = refl
     go (entry ∷ entries) h =
         let p = and_parts (keeps spec entry.object) (list_all (λ (e : Entry). keeps spec e.object) entries) h in

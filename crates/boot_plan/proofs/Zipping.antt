@@ -1,24 +1,9 @@
 -- A loop over the objects of a spec and their places.
-use Rattle.std.proofs.Common.{◌≡◌, ◌∙◌, sym, ap, subst, refl, ℕ, ◌+◌, ◌<◌, ◌≤◌, ◌^◌, ◌&&◌, nat_lt, true, leb, List, length, get_or, take, min, Option, Some, None, arith}
-use Rattle.std.specs.List.{sum_by, zip}
-use Rattle.std.proofs.lemmas.Bool.{and_parts}
-use Rattle.std.proofs.lemmas.List.{take_all}
-use Rattle.std.proofs.lemmas.List.Sums.{sum_by_more}
-use Rattle.std.proofs.lemmas.Slice.Zip.{get_or-zip, length-zip}
-use Rattle.cap_model.specs.Kept.{IsKept, fits, keeps, keeps_slots}
-use Rattle.cap_model.specs.declared.object.Object.{Object}
-use Rattle.cap_model.specs.declared.object.Object.TheVariants.{Endpoint, Notification, CNode, Thread, Frame, Pages, Irq}
-use Rattle.cap_model.specs.declared.spec.Entry.{Entry}
-use Rattle.cap_model.specs.declared.spec.Spec.{Spec}
-use Rattle.boot_plan.specs.Needs.{bits_of, has_few_bits, need}
-use Rattle.boot_plan.specs.Texts.{bytes_placed, one_placed}
+use Rattle.boot_plan.proofs.Common.{Block, CNode, DevicePage, Endpoint, Entry, Frame, Irq, IsKept, List, Need, None, Nothing, Notification, Object, Option, Pages, Some, Spec, Thread, and_parts, ap, arith, bits_of, bytes_placed, fits, get_or}
+use Rattle.boot_plan.proofs.Common.{get_or-zip, has_few_bits, is_some, is_usual, keeps, keeps_slots, leb, length, length-zip, min, nat_lt, nat_tests, need, one_placed, refl, subst, sum_by, sum_by_more, sym, take, take_all, true, zip, ℕ, ◌&&◌, ◌+◌}
+use Rattle.boot_plan.proofs.Common.{◌<◌, ◌^◌, ◌∙◌, ◌≡◌, ◌≤◌}
 use Rattle.boot_plan.proofs.Powers.{pow_le}
 use Rattle.boot_plan.proofs.Usual.{all_got, object_usual}
-use Rattle.boot_plan.specs.declared.need.Need.{Need}
-use Rattle.boot_plan.specs.declared.need.Need.TheVariants.{Nothing, DevicePage, Block}
-use Rattle.boot_plan.specs.Needs.{is_usual}
-use Rattle.std.proofs.lemmas.Bool.Decides.{nat_tests}
-use Rattle.std.specs.Option.{is_some}
 use mir.Val.{bool_byte}
 
 -- the pair that a turn has, of so many before
@@ -29,33 +14,41 @@ pub record Turn (entries : List Entry) (places : List (Option ℕ)) (n : ℕ) (e
   pub is : (entry, place) ≡ get_or (zip entries places) n (entry, place)
 
 pub turn : (entries : List Entry) (places : List (Option ℕ)) (n : ℕ) (entry : Entry) (place : Option ℕ)
-    → (n < length entries) × (n < length places) × ((d : Entry) → entry ≡ get_or entries n d) × ((d : Option ℕ) → place ≡ get_or places n d) → Turn entries places n entry place
+    → (n < length entries) × (n < length places) × ((d : Entry) → entry ≡ get_or entries n d) × ((d : Option ℕ)
+    → place ≡ get_or places n d) → Turn entries places n entry place
 turn entries places n entry place h = record {
   few = h.0;
   within = omega (arith, length-zip entries places, h.0, h.1);
   entry_is = h.2 entry;
-  is = ap (λ (e : Entry). (e, place)) (h.2 entry) ∙ ap (λ (p : Option ℕ). (get_or entries n entry, p)) (h.3 place) ∙ sym (get_or-zip entries places n (entry, place) h.0 h.1);
+  is = ap (λ (e : Entry). (e, place)) (h.2 entry) ∙ ap (λ (p : Option ℕ). (get_or entries n entry, p)) (h.3 place)
+      ∙ sym (get_or-zip entries places n (entry, place) h.0 h.1);
 }
 
 -- behind the last turn
-pub turned : (entries : List Entry) (places : List (Option ℕ)) (n : ℕ) → n ≡ min (length entries) (length places) → length (zip entries places) ≤ n
+pub turned : (entries : List Entry) (places : List (Option ℕ)) (n : ℕ) → n ≡ min (length entries) (length places)
+    → length (zip entries places) ≤ n
 turned entries places n h = omega (arith, length-zip entries places, h)
 
 object_few : (spec : Spec) (object : Object) → keeps spec object ≡ true → has_few_bits object ≡ true
 object_few spec Endpoint h = refl
 object_few spec Notification h = refl
-object_few spec (CNode bits slots) h = (and_parts (nat_lt 0 bits) (leb bits 16) (and_parts (nat_lt 0 bits && leb bits 16) (keeps_slots (fits spec) (2 ^ bits) slots) h).0).1
+object_few spec (CNode bits slots) h =
+    (and_parts (nat_lt 0 bits) (leb bits 16) (and_parts (nat_lt 0 bits && leb bits 16)
+    (keeps_slots (fits spec) (2 ^ bits) slots) h).0).1
 object_few spec (Thread tcb) h = refl
 object_few spec (Frame paddr fill) h = refl
 object_few spec (Pages level slots) h = refl
 object_few spec (Irq notification) h = refl
 
 -- the object of a turn keeps what the spec keeps
-kept_turn : (spec : Spec) (places : List (Option ℕ)) (n : ℕ) (entry : Entry) (place : Option ℕ) → IsKept spec → Turn spec.entries places n entry place → keeps spec entry.object ≡ true
+kept_turn : (spec : Spec) (places : List (Option ℕ)) (n : ℕ) (entry : Entry) (place : Option ℕ) → IsKept spec
+    → Turn spec.entries places n entry place → keeps spec entry.object ≡ true
 kept_turn spec places n entry place kept t =
-    subst (λ (e : Entry). keeps spec e.object ≡ true) (sym t.entry_is) (all_got (λ (e : Entry). keeps spec e.object) spec.entries n entry kept.objects t.few)
+    subst (λ (e : Entry). keeps spec e.object ≡ true) (sym t.entry_is) (all_got (λ (e : Entry). keeps spec e.object) spec.entries
+    n entry kept.objects t.few)
 
-pub few_turn : (spec : Spec) (places : List (Option ℕ)) (n : ℕ) (entry : Entry) (place : Option ℕ) → IsKept spec → Turn spec.entries places n entry place → has_few_bits entry.object ≡ true
+pub few_turn : (spec : Spec) (places : List (Option ℕ)) (n : ℕ) (entry : Entry) (place : Option ℕ) → IsKept spec
+    → Turn spec.entries places n entry place → has_few_bits entry.object ≡ true
 few_turn spec places n entry place kept t = object_few spec entry.object (kept_turn spec places n entry place kept t)
 
 -- ---- sums
@@ -76,13 +69,19 @@ need_small (Block bits) h =
     let e : 2 ^ 20 ≡ 1048576 = refl in
     omega (arith, pow_le bits 20 few, e)
 
-pub bytes_small : (spec : Spec) (places : List (Option ℕ)) (n : ℕ) (entry : Entry) (place : Option ℕ) → IsKept spec → Turn spec.entries places n entry place → bytes_placed spec.arch (entry, place) ≤ 1048576
+pub bytes_small : (spec : Spec) (places : List (Option ℕ)) (n : ℕ) (entry : Entry) (place : Option ℕ) → IsKept spec
+    → Turn spec.entries places n entry place → bytes_placed spec.arch (entry, place) ≤ 1048576
 bytes_small spec places n entry None kept t = omega arith
-bytes_small spec places n entry (Some first) kept t = need_small (need spec.arch entry.object) (object_usual spec entry.object (kept_turn spec places n entry (Some first) kept t))
+bytes_small spec places n entry (Some first) kept t =
+    need_small (need spec.arch entry.object) (object_usual spec entry.object (kept_turn spec places n entry (Some first) kept t))
 
-pub sum_turn : (f : Entry × Option ℕ → ℕ) (entries : List Entry) (places : List (Option ℕ)) (n : ℕ) (entry : Entry) (place : Option ℕ) → Turn entries places n entry place
+pub sum_turn : (f : Entry × Option ℕ → ℕ) (entries : List Entry) (places : List (Option ℕ)) (n : ℕ) (entry : Entry)
+    (place : Option ℕ) → Turn entries places n entry place
     → sum_by f (take (n + 1) (zip entries places)) ≡ sum_by f (take n (zip entries places)) + f (entry, place)
-sum_turn f entries places n entry place t = sum_by_more f (zip entries places) n (entry, place) t.within ∙ ap (λ x. sum_by f (take n (zip entries places)) + f x) (sym t.is)
+sum_turn f entries places n entry place t = sum_by_more f (zip entries places) n (entry, place) t.within
+    ∙ ap (λ x. sum_by f (take n (zip entries places)) + f x) (sym t.is)
 
-pub sum_turned : (f : Entry × Option ℕ → ℕ) (entries : List Entry) (places : List (Option ℕ)) (n total : ℕ) → n ≡ min (length entries) (length places) → total ≡ sum_by f (take n (zip entries places)) → total ≡ sum_by f (zip entries places)
+pub sum_turned : (f : Entry × Option ℕ → ℕ) (entries : List Entry) (places : List (Option ℕ)) (n total : ℕ)
+    → n ≡ min (length entries) (length places) → total ≡ sum_by f (take n (zip entries places))
+    → total ≡ sum_by f (zip entries places)
 sum_turned f entries places n total h e = e ∙ ap (sum_by f) (take_all n (zip entries places) (turned entries places n h))

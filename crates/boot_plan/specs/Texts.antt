@@ -23,11 +23,13 @@ bytes_placed arch (entry, Some first) = 2 ^ entry_bits arch entry
 -- `place tcb_0 0x80000000 10`
 abbrev pub place_line : Arch → Entry × Option ℕ → List ℕ
 place_line arch (entry, None) = []
-place_line arch (entry, Some first) = together (codes "place " ∷ entry.name ∷ codes " " ∷ hex_text first ∷ codes " " ∷ decimal (entry_bits arch entry) ∷ codes "\n" ∷ [])
+place_line arch (entry, Some first) = together (codes "place " ∷ entry.name ∷ codes " " ∷ hex_text first ∷ codes " "
+    ∷ decimal (entry_bits arch entry) ∷ codes "\n" ∷ [])
 
 -- `planned 21 objects 76880 bytes`
 abbrev pub planned_line : ℕ → ℕ → List ℕ
-planned_line objects bytes = together (codes "planned " ∷ decimal objects ∷ codes " objects " ∷ decimal bytes ∷ codes " bytes\n" ∷ [])
+planned_line objects bytes = together (codes "planned " ∷ decimal objects ∷ codes " objects " ∷ decimal bytes
+    ∷ codes " bytes\n" ∷ [])
 
 abbrev pub place_lines : Spec → List (Option ℕ) → List ℕ
 place_lines spec places = flat_map (place_line spec.arch) (zip spec.entries places)

@@ -29,14 +29,16 @@ title_of Limit = codes "Limit"
 
 -- whether the word says memory of a device, none where it is neither word
 abbrev pub device_of : List ℕ → Option Bool
-device_of word = if bytes_eq word (codes "untyped") then Some false else if bytes_eq word (codes "device") then Some true else None
+device_of word = if bytes_eq word (codes "untyped") then Some false else if bytes_eq word (codes "device") then Some
+    true else None
 
 abbrev pub numbers_of : List ℕ → List ℕ → Option (ℕ × ℕ)
 numbers_of paddr bits = of_two (λ paddr bits. (paddr, bits)) (number_value paddr) (number_value bits)
 
 abbrev pub region_at : Bool → Option (ℕ × ℕ) → Option Untyped
 region_at device None = None
-region_at device (Some (paddr, bits)) = if is_region paddr bits then Some (record { paddr = paddr; bits = bits; device = device }) else None
+region_at device (Some (paddr, bits)) =
+    if is_region paddr bits then Some (record { paddr = paddr; bits = bits; device = device }) else None
 
 abbrev pub region_in : Option Bool → Option (ℕ × ℕ) → Option Untyped
 region_in None numbers = None

@@ -1,36 +1,10 @@
 -- Certificates of builds are read back under their policies.
-use Rattle.std.proofs.Common.{◌≡◌, ◌∙◌, ◌<◌, ◌≤◌, ℕ, true, List, length, get_or, is_some, refl, ap, arith, Result, Ok}
-use Rattle.std.proofs.lemmas.Option.{slice_get-get_or}
-use Rattle.adl_ast.specs.declared.source.Source.{Source}
+use Rattle.build_laws.proofs.Common.{AreFacts, Build, Contents, Edge, Images, IsBuildOf, IsCertReadBack, IsFlat, IsIn, IsMade, IsSmall, IsWritableCert, List, Ok, Refused, Result, Source, Tables, TextFault, ap, arith, build_facts, cert_back}
+use Rattle.build_laws.proofs.Common.{cert_short, cert_text, certs_one, flat_of, get_or, has_in, images_beside, in_has, in_place, is_some, label_name, length, made_connected, refl, slice_get-get_or, source_tables, true, ℕ, ◌<◌, ◌∙◌, ◌≡◌, ◌≤◌}
 use Rattle.adl_meaning.proofs.SoundNames.{one_assembly}
-use Rattle.adl_meaning.specs.Flat.{flat_of}
-use Rattle.arch_compile.specs.Built.{IsBuildOf, IsMade}
-use Rattle.arch_compile.specs.LayoutFaults.{images_beside}
-use Rattle.arch_compile.specs.declared.building.Build.{Build}
-use Rattle.arch_policy.proofs.Lists.{has_in, in_has}
-use Rattle.arch_policy.specs.Tables.{Tables}
-use Rattle.cap_model.specs.Policies.{label_name}
-use Rattle.cap_model.specs.declared.edge.Edge.{Edge}
-use Rattle.arch_compile.proofs.Facts.{AreFacts, build_facts}
-use Rattle.arch_compile.proofs.MadeTables.{made_connected}
-use Rattle.cam_base.specs.declared.error.Refused.{Refused}
-use Rattle.cam_base.specs.declared.text_fault.TextFault.{TextFault}
-use Rattle.cam_io.specs.Contents.{Contents}
 use Rattle.flat_laws.proofs.Small.{flat_small}
-use Rattle.flat_laws.specs.Small.{IsSmall}
-use Rattle.front_end.specs.First.{source_tables}
-use Rattle.cam_base.proofs.Gathered.{in_place}
-use Rattle.cam_base.specs.Gather.{IsIn}
-use Rattle.policy_text.proofs.EdgeLengths.{cert_short}
-use Rattle.policy_text.proofs.OneMeaning.{certs_one}
-use Rattle.policy_text.proofs.ReadBack.{cert_back}
-use Rattle.policy_text.specs.PolicyLines.{cert_text}
-use Rattle.policy_text.specs.Writable.{IsWritableCert}
-use Rattle.source_images.specs.declared.images.Images.{Images}
-use Rattle.reach_laws.specs.Flat.{IsFlat}
 use Rattle.build_laws.proofs.EdgeCounts.{few_certified, few_edges}
 use Rattle.build_laws.proofs.Labelled.{IsLabel, edge_labels, label_small, named_at}
-use Rattle.build_laws.specs.ReadBack.{IsCertReadBack}
 
 module _ {contents : Contents} (s : Source) (images : Images) (facts : AreFacts contents s images) where
   abbrev t : Tables

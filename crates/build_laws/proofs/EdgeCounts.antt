@@ -1,35 +1,20 @@
 -- How many edges a policy and a certificate have.
-use Rattle.std.proofs.Common.{◌≡◌, ◌∙◌, ◌≤◌, ◌+◌, ◌*◌, ◌++◌, ℕ, suc, Bool, true, false, cond, List, [], ◌∷◌, Option, None, length, map, refl, sym, ap, subst, inl, inr, arith}
-use Rattle.std.proofs.lemmas.Bool.{ltb-false}
-use Rattle.std.proofs.lemmas.List.{length-append}
+use Rattle.build_laws.proofs.Common.{Bool, Domain, Edge, IsCertificateOf, IsFlat, IsIn, IsLockEdge, IsPolicyOf, IsSorted, List, None, Option, Tables, [], ap, arith, assemblies, codes, cond, domain_label, edge, edge_count, false, first_edge_fault}
+use Rattle.build_laws.proofs.Common.{gather, has, has_in, in_gather, in_has, in_left, in_map, in_right, inl, inr, length, length-append, ltb-false, map, nat_lt, option_map, refl, slice_get, subst, suc, sym, true, ℕ, ◌*◌, ◌++◌, ◌+◌, ◌∙◌, ◌∷◌, ◌≡◌}
+use Rattle.build_laws.proofs.Common.{◌≤◌}
 use Rattle.std.proofs.lemmas.Map.Made.{length-le_from_is_member}
 use Rattle.std.specs.Cmp.Derive.{one_truth}
-use Rattle.std.specs.List.{slice_get}
-use Rattle.std.specs.Option.{option_map}
-use Rattle.std.specs.Prelude.{codes, nat_lt}
 use Rattle.adl_ast.specs.declared.composition.Assembly.{Assembly}
-use Rattle.adl_meaning.specs.Items.{assemblies}
-use Rattle.adl_meaning.specs.declared.flat.Domain.{Domain}
 use Rattle.adl_meaning.specs.declared.item_at.ItemAt.{ItemAt}
 use Rattle.arch_policy.proofs.Counted.{distinct, member_has, same_laws, table_counts}
 use Rattle.arch_policy.proofs.Listed.{triples_are_policy}
-use Rattle.arch_policy.proofs.Lists.{has_in, in_has}
-use Rattle.arch_policy.specs.Policies.{IsCertificateOf, IsLockEdge, IsPolicyOf, edge_count, first_edge_fault}
-use Rattle.arch_policy.specs.Tables.{Tables, domain_label}
 use Rattle.arch_policy.specs.Triples.{triples}
 use Rattle.arch_policy.proofs.Given.{an_authority}
 use Rattle.cap_model.proofs.EdgeOrder.{edges_same}
-use Rattle.cap_model.specs.Authorities.{authorities}
-use Rattle.cap_model.specs.Edges.{edge}
-use Rattle.cap_model.specs.Tables.{IsSorted, has}
-use Rattle.cap_model.specs.declared.edge.Edge.{Edge}
+use Rattle.authorities.specs.Authorities.{authorities}
 use Rattle.cam_base.specs.declared.place.Fault.{Fault}
 use Rattle.cspace_layout.specs.Limit.{fault_at, limit_fault, place_in}
-use Rattle.cam_base.proofs.Gathered.{in_gather, in_left, in_right}
-use Rattle.cam_base.proofs.NumberedLists.{in_map}
-use Rattle.cam_base.specs.Gather.{IsIn, gather}
 use Rattle.reach_laws.proofs.EndLabels.{lock_domain}
-use Rattle.reach_laws.specs.Flat.{IsFlat}
 
 -- edges that stand in order and in a list are no more than the list
 pub no_more : (xs ys : List Edge) → IsSorted xs → ((e : Edge) → has xs e ≡ true → has ys e ≡ true) → length xs ≤ length ys

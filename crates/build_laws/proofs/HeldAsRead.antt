@@ -1,22 +1,7 @@
 -- Whatever is read of the texts of a build is the build's own, and so what holds of the build holds of it.
-use Rattle.std.proofs.Common.{◌≡◌, ◌≢◌, ◌∙◌, ℕ, List, Ok, sym, subst}
-use Rattle.std.specs.Prelude.{◌↔◌}
-use Rattle.arch_compile.specs.Built.{IsBuildOf}
-use Rattle.arch_compile.specs.declared.building.Build.{Build}
+use Rattle.build_laws.proofs.Common.{Authority, Build, Contents, Edge, IsBuildOf, IsCertReadBack, IsLabelling, IsPolicyReadBack, IsSound, IsSpecReadBack, IsTrioValid, Judged, Labels, List, Ok, Policy, Spec, Verdict, Yes, build_sound, cert_text}
+use Rattle.build_laws.proofs.Common.{object_labels, subst, sym, ℕ, ◌↔◌, ◌∙◌, ◌≡◌, ◌≢◌}
 use Rattle.assigned_laws.specs.Texts.{IsAssignedText}
-use Rattle.cap_model.specs.declared.authority.Authority.{Authority}
-use Rattle.cap_model.specs.declared.edge.Edge.{Edge}
-use Rattle.cap_model.specs.declared.object_labels.Labels.{Labels}
-use Rattle.cap_model.specs.declared.policy.Policy.{Policy}
-use Rattle.arch_compile.proofs.Soundness.{build_sound}
-use Rattle.arch_compile.specs.Sound.{IsSound, object_labels}
-use Rattle.cam_io.specs.Contents.{Contents}
-use Rattle.cap_model.specs.declared.spec.Spec.{Spec}
-use Rattle.cert_check.specs.Verdicts.{Judged}
-use Rattle.cert_check.specs.declared.verdict.Verdict.{Verdict}
-use Rattle.cert_check.specs.declared.verdict.Verdict.TheVariants.{Yes}
-use Rattle.policy_text.specs.Labelled.{IsLabelling}
-use Rattle.policy_text.specs.PolicyLines.{cert_text}
 use Rattle.policy_text.specs.PolicyTexts.{IsCertText}
 use Rattle.build_laws.proofs.CertBack.{cert_read}
 use Rattle.build_laws.proofs.LabelsBack.{labels_one}
@@ -24,8 +9,6 @@ use Rattle.build_laws.proofs.PolicyBack.{policy_read}
 use Rattle.build_laws.proofs.SpecBack.{spec_back}
 use Rattle.build_laws.proofs.TrioValid.{trio_valid}
 use Rattle.build_laws.specs.AsRead.{HoldsAsRead, IsReadAs, ReachesText}
-use Rattle.build_laws.specs.ReadBack.{IsCertReadBack, IsPolicyReadBack, IsSpecReadBack}
-use Rattle.build_laws.specs.TriosValid.{IsTrioValid}
 
 module _ (b : Build) (sound : IsSound b) (spec_is : IsSpecReadBack b) (policy_is : IsPolicyReadBack b)
     (cert_is : IsCertReadBack b) (trio : IsTrioValid b) where

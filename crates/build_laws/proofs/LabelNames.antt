@@ -1,18 +1,7 @@
 -- The text of a path of at most 16 identifiers is a label's name.
-use Rattle.std.proofs.Common.{◌≡◌, ◌≢◌, ◌∙◌, ◌≤◌, ◌*◌, ◌&&◌, ◌==◌, ℕ, true, List, [], ◌∷◌, length, refl, inl, inr, arith}
-use Rattle.std.proofs.Math.Nat.{mul-suc}
-use Rattle.std.proofs.lemmas.Bool.{and_from, and_parts, le-leb, leb-true, or_left}
-use Rattle.std.proofs.lemmas.List.{length-append}
+use Rattle.build_laws.proofs.Common.{IsIdentifier, IsIn, List, Name, Path, [], and_from, and_parts, arith, flat_map, inl, inr, is_label_byte, is_label_name, is_letter, is_word_byte, joined, le-leb, leb, leb-true, length, length-append, list_all}
+use Rattle.build_laws.proofs.Common.{mul-suc, nat_le, or_left, refl, true, ℕ, ◌&&◌, ◌*◌, ◌==◌, ◌∙◌, ◌∷◌, ◌≡◌, ◌≢◌, ◌≤◌}
 use Rattle.std.proofs.lemmas.List.Folds.{list_all-append}
-use Rattle.std.specs.List.{flat_map, list_all}
-use Rattle.std.specs.Prelude.{leb, nat_le}
-use Rattle.adl_meaning.specs.Items.{Name}
-use Rattle.adl_meaning.specs.Paths.{Path}
-use Rattle.cap_model.specs.Policies.{is_label_byte, is_label_name}
-use Rattle.cam_base.specs.Names.{is_letter, is_word_byte}
-use Rattle.cam_base.specs.Paths.{joined}
-use Rattle.cam_base.specs.Gather.{IsIn}
-use Rattle.assigned_laws.proofs.Identifiers.{IsIdentifier}
 
 -- ---- identifiers
 

@@ -1,29 +1,12 @@
 -- The labels that edges lead between, and those of objects, are lines of the policy; and labels are few.
-use Rattle.std.proofs.Common.{◌≡◌, ◌<◌, ◌≤◌, ◌⊎◌, ℕ, true, List, length, refl, ap, inl, inr, arith, is_some}
-use Rattle.std.proofs.lemmas.Option.{slice_get_within}
-use Rattle.adl_ast.specs.declared.source.Source.{Source}
+use Rattle.build_laws.proofs.Common.{AreNamesSound, Edge, Flat, IsIn, IsLockEdge, IsNamed, IsSmall, IsThere, List, Owner, Path, Source, Tables, ap, arith, called_line, flat_of, inl, inr, is_some, joined, label_lines, label_name, label_numbers}
+use Rattle.build_laws.proofs.Common.{label_texts, length, line_name, line_place, number_of, path_there, refl, slice_get_within, source_tables, true, ℕ, ◌<◌, ◌≡◌, ◌≤◌, ◌⊎◌}
 use Rattle.adl_hierarchy.proofs.Spelled.{spelled_dotted}
 use Rattle.adl_hierarchy.specs.Spelled.{AreSpelled}
-use Rattle.adl_meaning.specs.Flat.{flat_of}
-use Rattle.adl_meaning.specs.NameFaults.{AreNamesSound}
-use Rattle.adl_meaning.specs.Paths.{Path}
-use Rattle.adl_meaning.specs.declared.flat.Flat.{Flat}
 use Rattle.arch_policy.proofs.Labelled.{texts_are_few}
-use Rattle.arch_policy.specs.Labels.{label_lines, label_numbers, label_texts}
-use Rattle.arch_policy.specs.Policies.{IsLockEdge}
 use Rattle.arch_policy.specs.Reasons.{IsReasoned}
-use Rattle.arch_policy.specs.Tables.{IsThere, Tables, number_of}
-use Rattle.arch_policy.specs.declared.owner.Owner.{Owner}
 use Rattle.assigned_laws.proofs.Naming.{has_there}
-use Rattle.assigned_laws.proofs.Ranked.{called_line, line_name, line_place, path_there}
 use Rattle.assigned_laws.proofs.ReasonLabels.{lock_paths, reason_paths}
-use Rattle.assigned_laws.specs.Named.{IsNamed}
-use Rattle.cap_model.specs.Policies.{label_name}
-use Rattle.cap_model.specs.declared.edge.Edge.{Edge}
-use Rattle.cam_base.specs.Paths.{joined}
-use Rattle.flat_laws.specs.Small.{IsSmall}
-use Rattle.front_end.specs.First.{source_tables}
-use Rattle.cam_base.specs.Gather.{IsIn}
 
 -- ---- who has a label
 

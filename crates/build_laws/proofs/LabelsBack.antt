@@ -1,18 +1,8 @@
 -- Objects whose names differ are given back the labels that stand beside their names.
-use Rattle.std.proofs.Common.{◌≡◌, ◌∙◌, ℕ, suc, List, [], ◌∷◌, map, Some, refl, sym, ap}
-use Rattle.std.proofs.lemmas.Option.{get_or_from_slice_get}
+use Rattle.build_laws.proofs.Common.{Entry, List, Some, [], ap, find, find_only, from_get_map, from_ones, get_map, get_ones, get_or_from_slice_get, label_of, labelled, map, object_label, option_map, refl, slice_get, suc, sym, ℕ, ◌∙◌, ◌∷◌, ◌≡◌}
 use Rattle.std.proofs.lemmas.Simd.{map-map}
 use Rattle.std.proofs.lemmas.Slice.Eq.{bytes_eq-Decides}
-use Rattle.std.specs.List.{find, slice_get}
-use Rattle.std.specs.Option.{option_map}
 use Rattle.std.specs.Str.{bytes_eq}
-use Rattle.arch_compile.specs.Built.{labelled}
-use Rattle.assigned_laws.proofs.Ranked.{find_only}
-use Rattle.cap_model.specs.ObjectLabels.{label_of}
-use Rattle.cap_model.specs.declared.spec.Entry.{Entry}
-use Rattle.cam_base.proofs.Gathered.{from_ones, get_ones}
-use Rattle.cam_base.proofs.NumberedLists.{from_get_map, get_map}
-use Rattle.policy_text.specs.Labelled.{object_label}
 
 pub map_same : {X Y : Type 0} (f g : X → Y) (xs : List X) → ((n : ℕ) (x : X) → slice_get xs n ≡ Some x → f x ≡ g x)
     → map f xs ≡ map g xs

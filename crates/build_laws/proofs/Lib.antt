@@ -1,3 +1,4 @@
+pub mod Common
 pub mod CertBack
 pub mod EdgeCounts
 pub mod HeldAsRead

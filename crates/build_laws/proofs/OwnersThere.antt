@@ -1,28 +1,17 @@
 -- Each object of connected tables belongs to a domain, a connection or a device that is there and has a label.
-use Rattle.std.proofs.Common.{◌≡◌, ◌∙◌, ℕ, Bool, true, false, cond, [], Option, Some, None, refl, sym, ap, subst, inl, inr}
-use Rattle.std.specs.List.{range_with_len, slice_get}
-use Rattle.std.specs.Option.{option_map_or}
+use Rattle.build_laws.proofs.Common.{Bool, Entry, FlatConnection, FlatEnd, IsIn, None, OfConnection, OfLeaf, Option, Owner, Some, [], ap, cond, false, frame_owner, from_gather, from_map, in_append, in_place, inl, inr, irq_owner, label_of, number_of}
+use Rattle.build_laws.proofs.Common.{option_map_or, range_with_len, refl, slice_get, spec_of, subst, sym, true, ℕ, ◌∙◌, ◌≡◌}
 use Rattle.adl_meaning.specs.declared.connector.Connector.{Connector}
 use Rattle.adl_meaning.specs.declared.connector.Connector.TheVariants.{Rpc, Notification, SharedMemory, Mmio, Interrupt, Direct}
-use Rattle.adl_meaning.specs.declared.flat.FlatConnection.{FlatConnection}
-use Rattle.adl_meaning.specs.declared.flat.FlatEnd.{FlatEnd}
 use Rattle.arch_policy.specs.Owners.{has_label}
-use Rattle.arch_policy.specs.Tables.{IsThere as HasLabel, number_of}
-use Rattle.arch_policy.specs.declared.owner.Owner.{Owner}
-use Rattle.arch_policy.specs.declared.owner.Owner.TheVariants.{OfConnection, OfLeaf}
-use Rattle.cap_model.specs.ObjectLabels.{label_of}
-use Rattle.cap_model.specs.declared.spec.Entry.{Entry}
-use Rattle.cam_base.proofs.Gathered.{from_gather, in_append, in_place}
-use Rattle.cam_base.proofs.NumberedLists.{from_map}
-use Rattle.cam_base.specs.Gather.{IsIn}
+use Rattle.arch_policy.specs.Tables.{IsThere as HasLabel}
 use Rattle.spec_laws.proofs.Devices.{device_found}
 use Rattle.spec_laws.proofs.Mapped.{at_registers}
 use Rattle.spec_laws.proofs.Whose.{device_at, entry_is, label_there, labels, owner_of}
 use Rattle.spec_laws.specs.Connected.{IsConnected}
 use Rattle.spec_laws.specs.Policy.{given_tables}
 use Rattle.system_spec.proofs.There.{IsDomain, IsThere, Notifies}
-use Rattle.system_spec.specs.Made.{spec_of}
-use Rattle.system_spec.specs.Tables.{Tables, frame_owner, irq_owner}
+use Rattle.system_spec.specs.Tables.{Tables}
 use Rattle.system_spec.specs.declared.part.What.{What}
 use Rattle.system_spec.specs.declared.part.What.TheVariants.{CNodeOf, ThreadOf, EndpointOf, NotificationOf, LockOf, IrqOf, TableOf, FrameOf}
 use Rattle.vspace_layout.specs.Frames.{connection_frames, device_frame, device_frames, frame, frames, frames_at, is_first, memory_part, own_frame, own_frames, own_part, register_frames, register_part, shared_frames, shared_part}

@@ -1,39 +1,25 @@
 -- Paths of labels have at most 16 names. A device's is that of a leaf, and a domain's has no more names than one of its leaves.
 -- A connection joins an interface of a leaf below its composition.
-use Rattle.std.proofs.Common.{◌≡◌, ◌≤◌, ◌+◌, ◌++◌, ◌∙◌, ℕ, List, [], ◌∷◌, length, map, Option, Some, None, refl, sym, ap, subst, inl, inr, arith, unwrap_or}
-use Rattle.std.proofs.Math.Nat.{le-max_left, le-max_right}
-use Rattle.std.proofs.lemmas.List.{length-append}
-use Rattle.std.specs.Option.{option_map}
+use Rattle.build_laws.proofs.Common.{AreNamesSound, Domain, FlatConnection, FlatEnd, HasPath, IsIn, List, None, OfConnection, OfDomain, OfLeaf, Option, Owner, Path, Placed, Some, Source, [], ap, arith, flat_domain, flat_end, flat_ends, flat_of}
+use Rattle.build_laws.proofs.Common.{from_filter_map, from_get_map, in_map, in_place, inl, inr, le-max_left, le-max_right, leaf_of, leaves, length, length-append, map, map_some, option_map, place_of, refl, subst, sym, unwrap_or, ℕ, ◌++◌, ◌+◌, ◌∙◌}
+use Rattle.build_laws.proofs.Common.{◌∷◌, ◌≡◌, ◌≤◌}
 use Rattle.adl_ast.specs.declared.composition.End.{End}
 use Rattle.adl_ast.specs.declared.composition.Role.TheVariants.{From}
-use Rattle.adl_ast.specs.declared.source.Source.{Source}
 use Rattle.adl_hierarchy.proofs.DomainNames.{domains_are}
 use Rattle.adl_hierarchy.proofs.Grouping.{above_outermost}
 use Rattle.adl_hierarchy.proofs.Joining.{joined}
 use Rattle.adl_hierarchy.proofs.Limits.{AreInLimits, in_limits}
 use Rattle.adl_hierarchy.specs.Leads.{AreDotted}
 use Rattle.adl_meaning.specs.Domains.{domain_of, domains, group_above}
-use Rattle.adl_meaning.specs.Flat.{flat_domain, flat_end, flat_ends, flat_of, leaf_of}
 use Rattle.adl_meaning.specs.Hierarchy.{Hierarchy, hierarchy_of, top_number}
 use Rattle.adl_meaning.specs.JoinFaults.{first_flat_fault, first_join_fault}
 use Rattle.adl_meaning.specs.Joins.{Strung, connections, joined_by}
-use Rattle.adl_meaning.specs.NameFaults.{AreNamesSound}
-use Rattle.adl_meaning.specs.Paths.{Path, Placed, leaves}
 use Rattle.adl_meaning.specs.SizeFaults.{first_size_fault, longest}
-use Rattle.adl_meaning.specs.declared.flat.Domain.{Domain}
-use Rattle.adl_meaning.specs.declared.flat.FlatConnection.{FlatConnection}
-use Rattle.adl_meaning.specs.declared.flat.FlatEnd.{FlatEnd}
 use Rattle.adl_meaning.specs.declared.flat.Leaf.{Leaf}
 use Rattle.adl_types.specs.TypeFaults.{first_type_fault}
-use Rattle.arch_policy.specs.declared.owner.Owner.{Owner}
-use Rattle.arch_policy.specs.declared.owner.Owner.TheVariants.{OfConnection, OfDomain, OfLeaf}
-use Rattle.assigned_laws.specs.Named.{HasPath}
 use Rattle.flat_laws.proofs.FewEnds.{no_first}
 use Rattle.flat_laws.proofs.FlatEnds.{strung_of}
 use Rattle.flat_laws.proofs.SomeEnds.{some_end}
-use Rattle.cam_base.proofs.Gathered.{in_place, place_of}
-use Rattle.cam_base.proofs.NumberedLists.{from_filter_map, in_map, map_some, from_get_map}
-use Rattle.cam_base.specs.Gather.{IsIn}
 
 longest_of : (ps : List Path) (p : Path) → IsIn p ps → length p ≤ longest ps
 longest_of [] p i = absurd i

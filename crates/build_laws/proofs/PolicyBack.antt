@@ -1,47 +1,14 @@
 -- Policies of builds are read back: they keep each limit of their reader, and what every policy keeps.
-use Rattle.std.proofs.Common.{◌≡◌, ◌≢◌, ◌∙◌, ◌<◌, ◌≤◌, ℕ, true, not, List, Some, length, map, get_or, is_some, refl, sym, ap, subst, inl, arith, Result, Ok}
-use Rattle.std.proofs.lemmas.Bool.{and_parts}
-use Rattle.std.proofs.lemmas.Option.{get_or_from_slice_get, slice_get-get_or, slice_get_within}
-use Rattle.std.specs.List.{All, AllPairs, list_all, slice_get}
-use Rattle.adl_ast.specs.declared.source.Source.{Source}
-use Rattle.adl_meaning.specs.Flat.{flat_of}
-use Rattle.adl_meaning.specs.declared.flat.Flat.{Flat}
-use Rattle.arch_compile.specs.Built.{IsBuildOf, IsMade, labelled, system_tables}
-use Rattle.arch_compile.specs.LayoutFaults.{images_beside}
-use Rattle.arch_compile.specs.declared.building.Build.{Build}
-use Rattle.arch_policy.proofs.Lists.{in_has}
-use Rattle.arch_policy.specs.Labels.{label_lines, label_texts}
+use Rattle.build_laws.proofs.Common.{All, AllPairs, AreFacts, Build, Contents, Edge, Entry, Flat, Images, IsBuildOf, IsIn, IsMade, IsPolicy, IsPolicyReadBack, List, Ok, Policy, Refused, Result, Some, Source, TextFault, and_parts, ap, arith}
+use Rattle.build_laws.proofs.Common.{build_facts, dotted, entry, flat_of, from_ones, gather_ones, get_or, get_or_from_slice_get, identifiers, images_beside, in_has, in_place, inl, is_name, is_some, is_word, label_lines, label_name, label_of}
+use Rattle.build_laws.proofs.Common.{label_texts, labelled, labels_of, length, line_called, lines_apart, list_all, made_connected, made_fit, map, names_tell, not, part_label, parts, place_of, policies_one, policy_back, policy_text, refl, slice_get}
+use Rattle.build_laws.proofs.Common.{slice_get-get_or, slice_get_within, source_tables, spec_of, subst, sym, system_tables, true, ℕ, ◌<◌, ◌∙◌, ◌≡◌, ◌≢◌, ◌≤◌}
 use Rattle.assigned_laws.proofs.LabelPaths.{not_empty}
-use Rattle.assigned_laws.proofs.Ranked.{line_called, lines_apart}
-use Rattle.cap_model.specs.ObjectLabels.{label_of}
-use Rattle.cap_model.specs.Policies.{IsPolicy, label_name}
-use Rattle.cap_model.specs.declared.edge.Edge.{Edge}
-use Rattle.cap_model.specs.declared.policy.Policy.{Policy}
-use Rattle.arch_compile.proofs.Facts.{AreFacts, build_facts}
-use Rattle.arch_compile.proofs.MadeTables.{made_connected, made_fit}
-use Rattle.cam_base.specs.Names.{is_name}
-use Rattle.cam_base.specs.declared.error.Refused.{Refused}
-use Rattle.cam_base.specs.declared.text_fault.TextFault.{TextFault}
-use Rattle.cam_io.specs.Contents.{Contents}
-use Rattle.cap_model.specs.declared.spec.Entry.{Entry}
 use Rattle.cap_model.proofs.Kept.{all_at}
-use Rattle.capdl_write.specs.Writable.{is_word}
 use Rattle.capdl_text.specs.TokenFaults.{is_left_out_word}
-use Rattle.front_end.specs.First.{source_tables}
-use Rattle.cam_base.proofs.Gathered.{from_ones, gather_ones, in_place, place_of}
-use Rattle.cam_base.specs.Gather.{IsIn}
-use Rattle.policy_text.proofs.OneMeaning.{policies_one}
-use Rattle.policy_text.proofs.ReadBack.{policy_back}
-use Rattle.policy_text.specs.PolicyLines.{policy_text}
 use Rattle.policy_text.specs.Writable.{IsWritable}
-use Rattle.source_images.specs.declared.images.Images.{Images}
-use Rattle.spec_laws.proofs.Bounds.{dotted}
-use Rattle.spec_laws.proofs.Telling.{names_tell}
-use Rattle.system_spec.specs.Made.{entry, labels_of, part_label, spec_of}
-use Rattle.system_spec.specs.Parts.{parts}
 use Rattle.system_spec.specs.Tables.{Tables}
 use Rattle.build_laws.proofs.CertBack.{policy_few, small_is}
-use Rattle.assigned_laws.proofs.Identifiers.{identifiers}
 use Rattle.build_laws.proofs.LabelNames.{IsShortName, name_part, path_named}
 use Rattle.build_laws.proofs.Labelled.{IsLabel, edge_labels, few_labels, label_small, named_at}
 use Rattle.build_laws.proofs.LabelsBack.{line_at}
@@ -49,7 +16,6 @@ use Rattle.build_laws.proofs.OwnersThere.{object_owner}
 use Rattle.build_laws.proofs.PathLengths.{paths_short}
 use Rattle.build_laws.proofs.PolicyLengths.{IsEdgeShort, IsLabelShort, IsObjectShort, policy_short}
 use Rattle.build_laws.proofs.SpecBack.{made_writable}
-use Rattle.build_laws.specs.ReadBack.{IsPolicyReadBack}
 use Rattle.flat_laws.proofs.ShortTrees.{all_of}
 
 -- ---- each element

@@ -1,15 +1,7 @@
 -- How long the text of a policy is.
-use Rattle.std.proofs.Common.{◌<◌, ◌≤◌, ◌+◌, ◌*◌, ℕ, List, [], ◌∷◌, length, refl, inl, inr, arith}
-use Rattle.std.proofs.Math.Nat.{mul-suc}
-use Rattle.std.proofs.lemmas.List.{length-append}
-use Rattle.std.specs.List.{flat_map}
-use Rattle.std.specs.Prelude.{codes, decimal}
-use Rattle.cap_model.specs.declared.edge.Edge.{Edge}
-use Rattle.cap_model.specs.declared.policy.Policy.{Policy}
+use Rattle.build_laws.proofs.Common.{Edge, IsIn, List, Policy, [], arith, codes, decimal, edge_line, edge_short, flat_map, inl, inr, label_line, length, length-append, mul-suc, number_short, object_line, refl, ℕ, ◌*◌, ◌+◌, ◌<◌, ◌∷◌, ◌≤◌}
 use Rattle.cam_base.specs.Texts.{◌⊹◌}
-use Rattle.cam_base.specs.Gather.{IsIn}
-use Rattle.policy_text.proofs.EdgeLengths.{edge_short, number_short}
-use Rattle.policy_text.specs.PolicyLines.{edge_line, label_line, object_line, policy_text}
+use Rattle.policy_text.specs.PolicyLines.{policy_text}
 use Rattle.spec_laws.proofs.Lengths.{all_short, joined}
 
 abbrev pub IsLabelShort : ℕ × List ℕ → Type 0

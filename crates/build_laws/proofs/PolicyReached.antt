@@ -1,16 +1,5 @@
 -- The edges of a build's policy are those that runs of its spec reach between different labels, by the numbers of labels.
-use Rattle.std.proofs.Common.{◌≢◌, ℕ, List}
-use Rattle.std.specs.Prelude.{◌↔◌}
-use Rattle.arch_compile.specs.Built.{IsBuildOf}
-use Rattle.arch_compile.specs.LayoutFaults.{images_beside}
-use Rattle.arch_compile.specs.declared.building.Build.{Build}
-use Rattle.cap_model.specs.Edges.{edge}
-use Rattle.cap_model.specs.Tables.{Has}
-use Rattle.cap_model.specs.declared.authority.Authority.{Authority}
-use Rattle.arch_compile.proofs.Facts.{build_facts}
-use Rattle.arch_compile.proofs.Soundness.{own_reached}
-use Rattle.arch_compile.specs.Sound.{object_labels}
-use Rattle.cam_io.specs.Contents.{Contents}
+use Rattle.build_laws.proofs.Common.{Authority, Build, Contents, Has, IsBuildOf, List, build_facts, edge, images_beside, object_labels, own_reached, ℕ, ◌↔◌, ◌≢◌}
 use Rattle.cap_machine.specs.Runs.{Reaches}
 
 pub policy_reached : (root : List ℕ) (contents : Contents) (b : Build) → IsBuildOf root contents b

@@ -1,28 +1,15 @@
 -- Specs of builds are read back: each part by the law of its own layer.
-use Rattle.std.proofs.Common.{ℕ, List, Option, sym, subst}
-use Rattle.adl_ast.specs.declared.source.Source.{Source}
-use Rattle.adl_meaning.specs.Flat.{flat_of}
+use Rattle.build_laws.proofs.Common.{AreFacts, Build, Contents, Images, IsBuildOf, IsSpecReadBack, IsWritable, List, Option, Source, build_facts, can_lay, flat_of, images_beside, made_fit, spec_of, subst, sym, system_tables, ℕ}
 use Rattle.adl_settings.specs.Settled.{settled_of}
-use Rattle.arch_compile.specs.Built.{IsBuildOf, system_tables}
-use Rattle.arch_compile.specs.LayoutFaults.{images_beside}
-use Rattle.arch_compile.specs.declared.building.Build.{Build}
-use Rattle.arch_compile.proofs.Facts.{AreFacts, build_facts}
-use Rattle.arch_compile.proofs.MadeTables.{made_fit}
-use Rattle.cam_io.specs.Contents.{Contents}
 use Rattle.cap_model.specs.Canonical.{canonical}
 use Rattle.capdl_write.proofs.Whole.{canonical_text}
-use Rattle.capdl_write.specs.Writable.{IsWritable}
 use Rattle.capdl_text.proofs.Unique.{one_spec}
-use Rattle.source_images.specs.declared.images.Images.{Images}
-use Rattle.spec_laws.proofs.Bounds.{can_lay}
 use Rattle.spec_laws.proofs.Fits.{layouts_are_limited}
 use Rattle.spec_laws.proofs.SourcePlain.{layouts_are_plain}
 use Rattle.spec_laws.proofs.ReadImages.{read_images_are_plain}
 use Rattle.spec_laws.proofs.Plainly.{tables_written}
 use Rattle.spec_laws.proofs.Sizing.{tables_sized}
 use Rattle.spec_laws.proofs.Writing.{spec_writable}
-use Rattle.system_spec.specs.Made.{spec_of}
-use Rattle.build_laws.specs.ReadBack.{IsSpecReadBack}
 
 pub made_writable : {contents : Contents} (s : Source) (images : Images) → AreFacts contents s images
     → IsWritable (spec_of (system_tables s images))

@@ -1,32 +1,11 @@
 -- The spec, policy and certificate of a build keep the rules of the checker, by the labels that the policy gives to objects.
-use Rattle.std.proofs.Common.{◌≡◌, ◌∙◌, ℕ, List, Some, Ok, map, refl, sym, ap, subst}
-use Rattle.adl_ast.specs.declared.source.Source.{Source}
-use Rattle.arch_compile.specs.Built.{IsBuildOf, IsMade, labelled, system_tables}
-use Rattle.arch_compile.specs.LayoutFaults.{images_beside}
-use Rattle.arch_compile.specs.declared.building.Build.{Build}
-use Rattle.cap_model.specs.declared.edge.Edge.{Edge}
-use Rattle.cap_model.specs.declared.object_labels.Labels.{Labels}
-use Rattle.arch_compile.proofs.Facts.{AreFacts, build_facts}
-use Rattle.arch_compile.proofs.MadeTables.{made_fit}
-use Rattle.arch_compile.proofs.Soundness.{build_sound, labels_are}
-use Rattle.arch_compile.specs.Sound.{IsSound}
-use Rattle.cam_io.specs.Contents.{Contents}
-use Rattle.cap_model.specs.declared.spec.Entry.{Entry}
-use Rattle.cap_model.specs.declared.spec.Spec.{Spec}
+use Rattle.build_laws.proofs.Common.{AreFacts, Build, Contents, Edge, Entry, Images, IsBuildOf, IsLabelling, IsMade, IsSound, IsTrioValid, Judged, Labels, List, No, Ok, Some, Source, Spec, Verdict, Yes, ap, build_facts, build_sound, entry}
+use Rattle.build_laws.proofs.Common.{images_beside, labelled, labels_are, labels_of, made_fit, map, names_tell, object_label, part_label, parts, refl, spec_of, subst, sym, system_tables, ℕ, ◌∙◌, ◌≡◌}
 use Rattle.cert_check.specs.Valid.{Valid}
-use Rattle.cert_check.specs.Verdicts.{Judged}
-use Rattle.cert_check.specs.declared.verdict.Verdict.{Verdict}
-use Rattle.cert_check.specs.declared.verdict.Verdict.TheVariants.{Yes, No}
-use Rattle.policy_text.specs.Labelled.{IsLabelling, object_label}
-use Rattle.source_images.specs.declared.images.Images.{Images}
 use Rattle.reach_laws.proofs.ValidCertificates.{valid}
 use Rattle.spec_laws.specs.Fit.{IsFit}
-use Rattle.spec_laws.proofs.Telling.{names_tell}
-use Rattle.system_spec.specs.Made.{entry, labels_of, part_label, spec_of}
-use Rattle.system_spec.specs.Parts.{parts}
 use Rattle.system_spec.specs.Tables.{Tables}
 use Rattle.build_laws.proofs.LabelsBack.{labels_back, labels_one}
-use Rattle.build_laws.specs.TriosValid.{IsTrioValid}
 
 judged_yes : {spec : Spec} {labels : List ℕ} {policy cert : List Edge} (verdict : Verdict) → Valid spec labels policy cert
     → Judged spec labels policy cert verdict → verdict ≡ Yes

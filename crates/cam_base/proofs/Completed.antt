@@ -11,7 +11,8 @@ use Rattle.cam_base.proofs.TerminalCodes.{if_false}
 use Rattle.cam_base.proofs.Depth.{spells_up}
 use Rattle.cam_base.proofs.GrammarFronts.{spelling_front}
 
-sample : {T : Type 0} (code : T → ℕ) (cs : List ℕ) (ts : List T) → has_sample code ts cs ≡ true → (t : T) × (among cs (code t) ≡ true)
+sample : {T : Type 0} (code : T → ℕ) (cs : List ℕ) (ts : List T) → has_sample code ts cs ≡ true
+    → (t : T) × (among cs (code t) ≡ true)
 sample code cs [] e = absurd cc
 sample code cs (t ∷ ts) e = elim (cases_Bool (among cs (code t))) [
   | inl h ↦ (t, h)
@@ -19,14 +20,16 @@ sample code cs (t ∷ ts) e = elim (cases_Bool (among cs (code t))) [
 ]
 
 -- one value more
-each_last : {A T : Type 0} (P : A → List T → Type 0) (xs : List A) (x : A) (a b : List T) → Each P xs a → P x b → Each P (xs ++ x ∷ []) (a ++ b)
+each_last : {A T : Type 0} (P : A → List T → Type 0) (xs : List A) (x : A) (a b : List T) → Each P xs a → P x b
+    → Each P (xs ++ x ∷ []) (a ++ b)
 each_last P [] x a b e p = (b, [], ap (λ z. z ++ b) e ∙ sym (append-nil b), p, refl)
 each_last P (y ∷ ys) x a b e p = (e.0, e.1 ++ b, ap (λ z. z ++ b) e.2 ∙ append_assoc e.0 e.1 b, e.3, each_last P ys x e.1 b e.4 p)
 
 module _ {T V : Type 0} (code : T → ℕ) (samples : List T) (nested : Bool) where
   module _ (m : Meaning T V) (some : nested ≡ true → (v : V) × (ts : List T) × m.spells v ts) where
     -- a spelling of the form
-    spelling : {A : Type 0} (f : Form T V A) → has_spelling code samples nested f ≡ true → (x : A) × (ts : List T) × Spells code m f x ts
+    spelling : {A : Type 0} (f : Form T V A) → has_spelling code samples nested f ≡ true
+        → (x : A) × (ts : List T) × Spells code m f x ts
     spelling (Give y) e = (y, [], (refl, refl))
     spelling (One cs) e = let s = sample code cs samples e in (s.0, s.0 ∷ [], (s.1, refl))
     spelling (Then f g) e =
@@ -43,24 +46,38 @@ module _ {T V : Type 0} (code : T → ℕ) (samples : List T) (nested : Bool) wh
     spelling (Starts cs f) e = spelling f e
     spelling Nested e = some e
 
-  module _ (m m' : Meaning T V) (up : (v : V) (ts : List T) → m.spells v ts → m'.spells v ts) (some : nested ≡ true → (v : V) × (ts : List T) × m'.spells v ts)
+  module _ (m m' : Meaning T V) (up : (v : V) (ts : List T) → m.spells v ts → m'.spells v ts) (some : nested ≡ true
+      → (v : V) × (ts : List T) × m'.spells v ts)
       (end : nested ≡ true → (ts : List T) → m.begins ts → (v : V) × (more : List T) × m'.spells v (ts ++ more)) where
     -- what begins the form goes on to a spelling
-    completed : {A : Type 0} (f : Form T V A) → parts_have_spellings code samples nested f ≡ true → (ts : List T) → Begins code m f ts → (x : A) × (more : List T) × Spells code m' f x (ts ++ more)
+    completed : {A : Type 0} (f : Form T V A) → parts_have_spellings code samples nested f ≡ true → (ts : List T)
+        → Begins code m f ts → (x : A) × (more : List T) × Spells code m' f x (ts ++ more)
     completed (Give y) e ts b = (y, [], (refl, append-nil ts ∙ b))
     completed (One cs) e ts (inl b) = let s = sample code cs samples e in (s.0, s.0 ∷ [], (s.1, ap (λ z. z ++ s.0 ∷ []) b))
     completed (One cs) e ts (inr b) = (b.0, [], (b.1, append-nil ts ∙ b.2))
     completed (Then f g) e ts (inl b) =
-        let p = and_parts (parts_have_spellings code samples nested f) (parts_have_spellings code samples nested g && has_spelling code samples nested g) e in
+        let p = and_parts (parts_have_spellings code samples nested f) (parts_have_spellings code samples nested g
+        && has_spelling code samples nested g) e in
         let q = and_parts (parts_have_spellings code samples nested g) (has_spelling code samples nested g) p.1 in
         let s = completed f p.0 ts b in
         let s' = spelling m' some g q.1 in
         ((s.0, s'.0), s.1 ++ s'.1, (ts ++ s.1, s'.1, sym (append_assoc ts s.1 s'.1), s.2, s'.2))
     completed (Then f g) e ts (inr b) =
-        let p = and_parts (parts_have_spellings code samples nested f) (parts_have_spellings code samples nested g && has_spelling code samples nested g) e in
+        let p = and_parts (parts_have_spellings code samples nested f) (parts_have_spellings code samples nested g
+        && has_spelling code samples nested g) e in
         let q = and_parts (parts_have_spellings code samples nested g) (has_spelling code samples nested g) p.1 in
-        let s = completed g q.0 b.2 b.5 in
-        ((b.0, s.0), s.1, (b.1, b.2 ++ s.1, ap (λ (z : List T). z ++ s.1) b.3 ∙ append_assoc b.1 b.2 s.1, spells_up code m m' up f b.0 b.1 b.4, s.2))
+        let s = completed g q.0 b.2 b.5 in (
+          (b.0, s.0),
+          s.1,
+          (
+            b.1,
+            b.2 ++ s.1,
+            ap (λ (z : List T). z ++ s.1) b.3 ∙ append_assoc b.1 b.2 s.1,
+            spells_up code m m' up f
+                b.0 b.1 b.4,
+            s.2,
+          ),
+        )
     completed (Or f g) e ts (inl b) =
         let p = and_parts (parts_have_spellings code samples nested f) (parts_have_spellings code samples nested g) e in
         let s = completed f p.0 ts b in (s.0, s.1, inl s.2)
@@ -69,8 +86,12 @@ module _ {T V : Type 0} (code : T → ℕ) (samples : List T) (nested : Bool) wh
         let s = completed g p.1 ts b in (s.0, s.1, inr s.2)
     completed (Many f) e ts b =
         let s = completed f e b.2 b.5 in
-        let all = each_last (Spells code m' f) b.0 s.0 b.1 (b.2 ++ s.1) (spells_up code m m' up (Many f) b.0 b.1 b.4) s.2 in
-        (b.0 ++ s.0 ∷ [], s.1, subst (Each (Spells code m' f) (b.0 ++ s.0 ∷ [])) (sym (append_assoc b.1 b.2 s.1) ∙ ap (λ (z : List T). z ++ s.1) (sym b.3)) all)
+        let all = each_last (Spells code m' f) b.0 s.0 b.1 (b.2 ++ s.1) (spells_up code m m' up (Many f) b.0 b.1 b.4) s.2 in (
+          b.0 ++ s.0 ∷ [],
+          s.1,
+          subst (Each (Spells code m' f) (b.0 ++ s.0 ∷ [])) (sym (append_assoc b.1 b.2 s.1)
+              ∙ ap (λ (z : List T). z ++ s.1) (sym b.3)) all,
+        )
     completed (As h f) e ts b = let s = completed f e ts b in (h s.0, s.1, (s.0, refl, s.2))
     completed (Starts cs f) e ts b = completed f e ts b
     completed Nested e ts b = end e ts b
@@ -80,7 +101,8 @@ pub record IsSpellable {T V : Type 0} (code : T → ℕ) (samples : List T) (lin
   pub some : has_spelling code samples false line ≡ true
   pub parts : parts_have_spellings code samples true line ≡ true
 
-module _ {T V : Type 0} (code : T → ℕ) (samples : List T) (nested : Bool) (line : Form T V V) (is : nested ≡ true → IsSpellable code samples line) where
+module _ {T V : Type 0} (code : T → ℕ) (samples : List T) (nested : Bool) (line : Form T V V) (is : nested ≡ true
+    → IsSpellable code samples line) where
   line_some : (n : ℕ) → nested ≡ true → (v : V) × (ts : List T) × (deep code line (suc n)).spells v ts
   line_some n e = spelling code samples false (deep code line n) (λ h. absurd cc) line (is e).some
 
@@ -88,15 +110,19 @@ module _ {T V : Type 0} (code : T → ℕ) (samples : List T) (nested : Bool) (l
   step_up zero v ts s = absurd s
   step_up (suc n) v ts s = spells_up code (deep code line n) (deep code line (suc n)) (step_up n) line v ts s
 
-  line_completed : (n : ℕ) → nested ≡ true → (ts : List T) → (deep code line n).begins ts → (v : V) × (more : List T) × (deep code line (suc n)).spells v (ts ++ more)
-  line_completed zero e ts b = let s = line_some zero e in (s.0, s.1, subst (λ (z : List T). (deep code line 1).spells s.0 z) (ap (λ (z : List T). z ++ s.1) (sym b)) s.2)
-  line_completed (suc n) e ts b = completed code samples true (deep code line n) (deep code line (suc n)) (step_up n) (λ h. line_some n e) (λ h us c. line_completed n e us c) line (is e).parts ts b
+  line_completed : (n : ℕ) → nested ≡ true → (ts : List T) → (deep code line n).begins ts
+      → (v : V) × (more : List T) × (deep code line (suc n)).spells v (ts ++ more)
+  line_completed zero e ts b = let s = line_some zero e in
+      (s.0, s.1, subst (λ (z : List T). (deep code line 1).spells s.0 z) (ap (λ (z : List T). z ++ s.1) (sym b)) s.2)
+  line_completed (suc n) e ts b = completed code samples true (deep code line n) (deep code line (suc n)) (step_up n)
+      (λ h. line_some n e) (λ h us c. line_completed n e us c) line (is e).parts ts b
 
   module _ {A : Type 0} (f : Form T V A) (parts : parts_have_spellings code samples nested f ≡ true) where
     -- what begins the form goes on to a spelling
     pub begun_goes_on : (ts : List T) → Begun code line f ts → (x : A) × (more : List T) × Spelled code line f x (ts ++ more)
     begun_goes_on ts b =
-        let s = completed code samples nested (deep code line b.0) (deep code line (suc b.0)) (step_up b.0) (line_some b.0) (line_completed b.0) f parts ts b.1 in
+        let s = completed code samples nested (deep code line b.0) (deep code line (suc b.0)) (step_up b.0) (line_some b.0)
+        (line_completed b.0) f parts ts b.1 in
         (s.0, s.1, (suc b.0, s.2))
 
     -- a form is begun exactly by the fronts of its spellings

@@ -47,7 +47,8 @@ long_digits (b ∷ ds) h = let k = and_parts (leb 49 b && leb b 57) (list_all is
 long_decimal : (ds : List ℕ) → is_long ds ≡ true → is_decimal ds ≡ true
 unfolding is_long
 long_decimal [] h = absurd cc
-long_decimal (b ∷ ds) h = let k = and_parts (leb 49 b && leb b 57) (list_all is_digit ds) h in rw (not_zero_first b k.0, digit_first b k.0, k.1) refl
+long_decimal (b ∷ ds) h = let k = and_parts (leb 49 b && leb b 57) (list_all is_digit ds) h in
+    rw (not_zero_first b k.0, digit_first b k.0, k.1) refl
 
 pub fits_some : (b : Bool) (n m : ℕ) → b ≡ true → n ≡ m → m < 2 ^ 64 → fits b n ≡ Some m
 fits_some b n m p q l = rw (p, q) (let e : nat_lt m (2 ^ 64) ≡ true = grind (arith, nat_tests) in rw e refl)
@@ -64,12 +65,15 @@ long_value (b ∷ []) n e v l =
     fits_some (is_decimal (b ∷ [])) (digits_value 10 (b ∷ [])) n (rw (not_zero_first b k.0, digit_first b k.0) refl) v l
 long_value (b ∷ c ∷ ds) n e v l =
     let k = and_parts (leb 49 b && leb b 57) (list_all is_digit (c ∷ ds)) e in
-    pick (b == 48) (c == 120 || c == 88) (fits (is_hexadecimal ds) (digits_value 16 ds)) (fits (is_decimal (b ∷ c ∷ ds)) (digits_value 10 (b ∷ c ∷ ds))) (not_zero_first b k.0)
-    ∙ fits_some (is_decimal (b ∷ c ∷ ds)) (digits_value 10 (b ∷ c ∷ ds)) n (rw (not_zero_first b k.0, digit_first b k.0, k.1) refl) v l
+    pick (b == 48) (c == 120 || c == 88) (fits (is_hexadecimal ds) (digits_value 16 ds))
+    (fits (is_decimal (b ∷ c ∷ ds)) (digits_value 10 (b ∷ c ∷ ds))) (not_zero_first b k.0)
+    ∙ fits_some (is_decimal (b ∷ c ∷ ds)) (digits_value 10 (b ∷ c ∷ ds)) n
+    (rw (not_zero_first b k.0, digit_first b k.0, k.1) refl) v l
 
 pub number_value-decimal : (n : ℕ) → n < 2 ^ 64 → number_value (decimal n) ≡ Some n
 number_value-decimal zero l = rw (decimal_digit 0 (omega arith)) refl
-number_value-decimal (suc n) l = long_value (decimal (suc n)) (suc n) (decimal_long (suc n) l (omega arith)) (decimal_is_IsNumeral (suc n) l).1 l
+number_value-decimal (suc n) l = long_value (decimal (suc n)) (suc n) (decimal_long (suc n) l (omega arith))
+    (decimal_is_IsNumeral (suc n) l).1 l
 
 pub is_decimal-decimal : (n : ℕ) → n < 2 ^ 64 → is_decimal (decimal n) ≡ true
 is_decimal-decimal zero l = rw (decimal_digit 0 (omega arith)) refl

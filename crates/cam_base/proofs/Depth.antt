@@ -14,7 +14,8 @@ use Rattle.cam_base.proofs.Whole.{Exact, exact}
 
 -- ---- what is spelled or begun stays so
 
-Each-map : {A T : Type 0} (P Q : A → List T → Type 0) → ((x : A) (ts : List T) → P x ts → Q x ts) → (xs : List A) (ts : List T) → Each P xs ts → Each Q xs ts
+Each-map : {A T : Type 0} (P Q : A → List T → Type 0) → ((x : A) (ts : List T) → P x ts → Q x ts) → (xs : List A) (ts : List T)
+    → Each P xs ts → Each Q xs ts
 Each-map P Q h [] ts e = e
 Each-map P Q h (x ∷ xs) ts e = (e.0, e.1, e.2, h x e.0 e.3, Each-map P Q h xs e.1 e.4)
 
@@ -33,9 +34,20 @@ module _ {T V : Type 0} (code : T → ℕ) (m m' : Meaning T V) (up : (v : V) (t
     pub begins_up : {A : Type 0} (f : Form T V A) (ts : List T) → Begins code m f ts → Begins code m' f ts
     begins_up (Give y) ts s = s
     begins_up (One cs) ts s = s
-    begins_up (Then f g) ts s = elim s [ inl s ↦ inl (begins_up f ts s) | inr s ↦ inr (s.0, s.1, s.2, s.3, spells_up f s.0 s.1 s.4, begins_up g s.2 s.5) ]
+    begins_up (Then f g) ts s = elim s [
+      | inl s ↦ inl (begins_up f ts s)
+      | inr s ↦
+          inr (s.0, s.1, s.2, s.3, spells_up f s.0 s.1 s.4, begins_up g s.2 s.5)
+    ]
     begins_up (Or f g) ts s = elim s [ inl s ↦ inl (begins_up f ts s) | inr s ↦ inr (begins_up g ts s) ]
-    begins_up (Many f) ts s = (s.0, s.1, s.2, s.3, Each-map (Spells code m f) (Spells code m' f) (spells_up f) s.0 s.1 s.4, begins_up f s.2 s.5)
+    begins_up (Many f) ts s = (
+      s.0,
+      s.1,
+      s.2,
+      s.3,
+      Each-map (Spells code m f) (Spells code m' f) (spells_up f) s.0 s.1 s.4,
+      begins_up f s.2 s.5,
+    )
     begins_up (As h f) ts s = begins_up f ts s
     begins_up (Starts cs f) ts s = begins_up f ts s
     begins_up Nested ts s = also ts s
@@ -56,26 +68,32 @@ begins_nil code m h Nested = h
 abbrev pub Agree : {X : Type 0} → Result X Stop → Result X Stop → Type 0
 Agree v w = ((e : Stop) × (v ≡ Err e) × (e.why ≡ TooDeep)) ⊎ (v ≡ w)
 
-bind_agree : {A B : Type 0} (v w : Result A Stop) (f g : A → Result B Stop) → Agree v w → ((x : A) → Agree (f x) (g x)) → Agree (v >>= f) (w >>= g)
+bind_agree : {A B : Type 0} (v w : Result A Stop) (f g : A → Result B Stop) → Agree v w → ((x : A) → Agree (f x) (g x))
+    → Agree (v >>= f) (w >>= g)
 bind_agree v w f g (inl h) each = inl (h.0, rw h.1 refl, h.2)
 bind_agree (Ok x) w f g (inr h) each = rw (← h) (each x)
 bind_agree (Err d) w f g (inr h) each = inr (rw (← h) refl)
 
 module _ {T : Type 0} (code : T → ℕ) where
-  either_agree : {A : Type 0} (cs : List ℕ) (r r' q q' : Reader T A) (ts : List T) → Agree (r ts) (r' ts) → Agree (q ts) (q' ts) → Agree (either code cs r q ts) (either code cs r' q' ts)
+  either_agree : {A : Type 0} (cs : List ℕ) (r r' q q' : Reader T A) (ts : List T) → Agree (r ts) (r' ts) → Agree (q ts) (q' ts)
+      → Agree (either code cs r q ts) (either code cs r' q' ts)
   either_agree cs r r' q q' ts a b = elim (cases_Bool (starts code cs ts)) [
     | inl h ↦ rw h a
     | inr h ↦ rw h b
   ]
 
-  times_agree : {A : Type 0} (n : ℕ) (cs : List ℕ) (r r' : Reader T A) → ((ts : List T) → Agree (r ts) (r' ts)) → (ts : List T) → Agree (times code n cs r ts) (times code n cs r' ts)
+  times_agree : {A : Type 0} (n : ℕ) (cs : List ℕ) (r r' : Reader T A) → ((ts : List T) → Agree (r ts) (r' ts)) → (ts : List T)
+      → Agree (times code n cs r ts) (times code n cs r' ts)
   times_agree zero cs r r' h ts = inr refl
   times_agree (suc n) cs r r' h ts = elim (cases_Bool (starts code cs ts)) [
-    | inl k ↦ rw k (bind_agree (r ts) (r' ts) _ _ (h ts) (λ x. bind_agree (times code n cs r x.1) (times code n cs r' x.1) _ _ (times_agree n cs r r' h x.1) (λ xs. inr refl)))
+    | inl k ↦
+        rw k (bind_agree (r ts) (r' ts) _ _ (h ts) (λ x. bind_agree (times code n cs r x.1) (times code n cs r' x.1) _ _
+        (times_agree n cs r r' h x.1) (λ xs. inr refl)))
     | inr k ↦ rw k (inr refl)
   ]
 
-  many_agree : {A : Type 0} (cs : List ℕ) (r r' : Reader T A) → ((ts : List T) → Agree (r ts) (r' ts)) → (ts : List T) → Agree (many code cs r ts) (many code cs r' ts)
+  many_agree : {A : Type 0} (cs : List ℕ) (r r' : Reader T A) → ((ts : List T) → Agree (r ts) (r' ts)) → (ts : List T)
+      → Agree (many code cs r ts) (many code cs r' ts)
   unfolding many
   many_agree cs r r' h ts = times_agree (length ts) cs r r' h ts
 
@@ -84,7 +102,8 @@ module _ {T V : Type 0} (code : T → ℕ) (opens : List ℕ) (r r' : Reader T V
   read_agree (Give y) ts = inr refl
   read_agree (One cs) ts = inr refl
   read_agree (Then f g) ts = bind_agree _ _ _ _ (read_agree f ts) (λ x. bind_agree _ _ _ _ (read_agree g x.1) (λ y. inr refl))
-  read_agree (Or f g) ts = either_agree code (first opens f) (read code opens r f) (read code opens r' f) (read code opens r g) (read code opens r' g) ts (read_agree f ts) (read_agree g ts)
+  read_agree (Or f g) ts = either_agree code (first opens f) (read code opens r f) (read code opens r' f) (read code opens r g)
+      (read code opens r' g) ts (read_agree f ts) (read_agree g ts)
   read_agree (Many f) ts = many_agree code (first opens f) (read code opens r f) (read code opens r' f) (read_agree f) ts
   read_agree (As h f) ts = bind_agree _ _ _ _ (read_agree f ts) (λ x. inr refl)
   read_agree (Starts cs f) ts = read_agree f ts
@@ -95,11 +114,13 @@ module _ {T V : Type 0} (code : T → ℕ) (opens : List ℕ) (r r' : Reader T V
 pub left_is : {A : Type 0} (d e : Stop) → failed {A = A} d ≡ Err e → e.left ≡ d.left
 left_is {A = A} d e h = sym (ap (λ (f : Stop). f.left) (err_is {A = A} d e h))
 
-module _ {T A : Type 0} (code : T → ℕ) {S : A → List T → Type 0} {B : List T → Type 0} {fs : List ℕ} {r : Reader T A} (f : IsRead code S B false fs [] r) where
+module _ {T A : Type 0} (code : T → ℕ) {S : A → List T → Type 0} {B : List T → Type 0} {fs : List ℕ} {r : Reader T A}
+    (f : IsRead code S B false fs [] r) where
   guard_on : (ts : List T) → starts code fs ts ≡ true → guarded code fs r ts ≡ r ts
   guard_on ts h = rw h refl
 
-  guard_off : (ts : List T) → starts code fs ts ≡ false → guarded code fs r ts ≡ Err (record { why = Unexpected; left = length ts })
+  guard_off : (ts : List T) → starts code fs ts ≡ false
+      → guarded code fs r ts ≡ Err (record { why = Unexpected; left = length ts })
   guard_off ts h = rw h refl
 
   guard_complete : (x : A) (a rest : List T) → S x a → guarded code fs r (a ++ rest) ≡ Ok (x, rest)
@@ -129,7 +150,14 @@ module _ {T A : Type 0} (code : T → ℕ) {S : A → List T → Type 0} {B : Li
     complete = λ x a rest s h. guard_complete x a rest s;
     stops = λ ts e k. elim (cases_Bool (starts code fs ts)) [
       | inl h ↦ f.stops ts e (sym (guard_on ts h) ∙ k)
-      | inr h ↦ ([], ts, refl, f.nil, left_is {A = A × List T} (record { why = Unexpected; left = length ts }) e (sym (guard_off ts h) ∙ k))
+      | inr h ↦ (
+        [],
+        ts,
+        refl,
+        f.nil,
+        left_is {A = A × List T} (record { why = Unexpected; left = length ts }) e
+            (sym (guard_off ts h) ∙ k),
+      )
     ];
     passes = guard_passes;
     begun = f.begun;
@@ -138,7 +166,8 @@ module _ {T A : Type 0} (code : T → ℕ) {S : A → List T → Type 0} {B : Li
     null = f.null;
   }
 
-pub IsRead-none : {T A : Type 0} (code : T → ℕ) (cs : List ℕ) → IsRead code (λ (x : A) (ts : List T). ⊥) (λ ts. ts ≡ []) false cs [] too_deep
+pub IsRead-none : {T A : Type 0} (code : T → ℕ) (cs : List ℕ) → IsRead code (λ (x : A) (ts : List T). ⊥) (λ ts. ts ≡ []) false
+    cs [] too_deep
 IsRead-none {T} {A} code cs = record {
   sound = λ ts x e. ok_is_not_err x (record { why = TooDeep; left = length ts }) (sym e);
   complete = λ x a rest s h. absurd s;
@@ -159,7 +188,8 @@ pub record IsLine {T V : Type 0} (code : T → ℕ) (line : Form T V V) (opens :
   pub opening : (t : T) → among opens (code t) ≡ true → Begins code (deep code line 0) line (t ∷ [])
 
 module _ {T V : Type 0} (code : T → ℕ) (line : Form T V V) (opens : List ℕ) (is : IsLine code line opens) where
-  pub nested_exact : (n : ℕ) → IsRead code (deep code line n).spells (deep code line n).begins false opens [] (read_deep code line opens n)
+  pub nested_exact : (n : ℕ) → IsRead code (deep code line n).spells (deep code line n).begins false opens []
+      (read_deep code line opens n)
   unfolding read_deep
   nested_exact zero = IsRead-guard code (IsRead-none code opens)
   nested_exact (suc n) =
@@ -172,26 +202,34 @@ module _ {T V : Type 0} (code : T → ℕ) (line : Form T V V) (opens : List ℕ
       IsRead-guard code (subst (λ (cs : List ℕ). IsRead code S B false opens cs r) is.closed c)
 
   -- a form that the next token decides is read exactly at each depth
-  pub deep_exact : (n : ℕ) {A : Type 0} (f : Form T V A) → decides opens f ≡ true → Exact code (deep code line n) opens (read_deep code line opens n) f
+  pub deep_exact : (n : ℕ) {A : Type 0} (f : Form T V A) → decides opens f ≡ true
+      → Exact code (deep code line n) opens (read_deep code line opens n) f
   deep_exact n f d = exact code (deep code line n) opens (read_deep code line opens n) (nested_exact n) f d
 
-  guarded_agree : (r q : Reader T V) (ts : List T) → Agree (r ts) (q ts) → Agree (guarded code opens r ts) (guarded code opens q ts)
+  guarded_agree : (r q : Reader T V) (ts : List T) → Agree (r ts) (q ts)
+      → Agree (guarded code opens r ts) (guarded code opens q ts)
   guarded_agree r q ts h = elim (cases_Bool (starts code opens ts)) [ inl k ↦ rw k h | inr k ↦ rw k (inr refl) ]
 
   nested_agree : (n k : ℕ) (ts : List T) → Agree (read_deep code line opens n ts) (read_deep code line opens (n + k) ts)
   unfolding read_deep
   nested_agree zero zero ts = inr refl
-  nested_agree zero (suc k) ts = rw (zero-add (suc k)) (guarded_agree too_deep (read code opens (read_deep code line opens k) line) ts (inl (record { why = TooDeep; left = length ts }, refl, refl)))
+  nested_agree zero (suc k) ts =
+      rw (zero-add (suc k)) (guarded_agree too_deep (read code opens (read_deep code line opens k) line) ts
+      (inl (record { why = TooDeep; left = length ts }, refl, refl)))
   nested_agree (suc n) k ts =
-      rw (suc-add n k) (guarded_agree (read code opens (read_deep code line opens n) line) (read code opens (read_deep code line opens (n + k)) line) ts
+      rw (suc-add n k) (guarded_agree (read code opens (read_deep code line opens n) line)
+      (read code opens (read_deep code line opens (n + k)) line) ts
       (read_agree code opens (read_deep code line opens n) (read_deep code line opens (n + k)) (nested_agree n k) line ts))
 
-  pub deep_agree : (n k : ℕ) {A : Type 0} (f : Form T V A) (ts : List T) → Agree (read code opens (read_deep code line opens n) f ts) (read code opens (read_deep code line opens (n + k)) f ts)
-  deep_agree n k f ts = read_agree code opens (read_deep code line opens n) (read_deep code line opens (n + k)) (nested_agree n k) f ts
+  pub deep_agree : (n k : ℕ) {A : Type 0} (f : Form T V A) (ts : List T)
+      → Agree (read code opens (read_deep code line opens n) f ts) (read code opens (read_deep code line opens (n + k)) f ts)
+  deep_agree n k f ts = read_agree code opens (read_deep code line opens n) (read_deep code line opens (n + k))
+      (nested_agree n k) f ts
 
   pub nested_up : (n k : ℕ) (v : V) (ts : List T) → (deep code line n).spells v ts → (deep code line (n + k)).spells v ts
   nested_up zero k v ts s = absurd s
-  nested_up (suc n) k v ts s = rw (suc-add n k) (spells_up code (deep code line n) (deep code line (n + k)) (nested_up n k) line v ts s)
+  nested_up (suc n) k v ts s =
+      rw (suc-add n k) (spells_up code (deep code line n) (deep code line (n + k)) (nested_up n k) line v ts s)
 
   pub nested_nil : (n : ℕ) → (deep code line n).begins []
   nested_nil zero = refl
@@ -199,11 +237,15 @@ module _ {T V : Type 0} (code : T → ℕ) (line : Form T V V) (opens : List ℕ
 
   nested_begins_up : (n k : ℕ) (ts : List T) → (deep code line n).begins ts → (deep code line (n + k)).begins ts
   nested_begins_up zero k ts s = rw s (nested_nil (zero + k))
-  nested_begins_up (suc n) k ts s = rw (suc-add n k) (begins_up code (deep code line n) (deep code line (n + k)) (nested_up n k) (nested_begins_up n k) line ts s)
+  nested_begins_up (suc n) k ts s = rw (suc-add n k) (begins_up code (deep code line n) (deep code line (n + k)) (nested_up n k)
+      (nested_begins_up n k) line ts s)
 
   -- what is spelled or begun stays so with more depth
-  pub deep_spells : (n k : ℕ) {A : Type 0} (f : Form T V A) (x : A) (ts : List T) → Spells code (deep code line n) f x ts → Spells code (deep code line (n + k)) f x ts
+  pub deep_spells : (n k : ℕ) {A : Type 0} (f : Form T V A) (x : A) (ts : List T) → Spells code (deep code line n) f x ts
+      → Spells code (deep code line (n + k)) f x ts
   deep_spells n k f x ts s = spells_up code (deep code line n) (deep code line (n + k)) (nested_up n k) f x ts s
 
-  pub deep_begins : (n k : ℕ) {A : Type 0} (f : Form T V A) (ts : List T) → Begins code (deep code line n) f ts → Begins code (deep code line (n + k)) f ts
-  deep_begins n k f ts s = begins_up code (deep code line n) (deep code line (n + k)) (nested_up n k) (nested_begins_up n k) f ts s
+  pub deep_begins : (n k : ℕ) {A : Type 0} (f : Form T V A) (ts : List T) → Begins code (deep code line n) f ts
+      → Begins code (deep code line (n + k)) f ts
+  deep_begins n k f ts s = begins_up code (deep code line n) (deep code line (n + k)) (nested_up n k)
+      (nested_begins_up n k) f ts s

@@ -27,7 +27,11 @@ module _ {T : Type 0} (code : T → ℕ) where
   both_flat : {A B : Type 0} (r : Reader T A) (q : Reader T B) → IsFlat r → IsFlat q → IsFlat (both code r q)
   both_flat r q p p' ts e h = elim (bind_err (r ts) (λ x. q x.1 >>= λ y. Ok ((x.0, y.0), y.1)) e h) [
     | inl k ↦ p ts e k
-    | inr b ↦ elim (bind_err (q b.0.1) (λ y. Ok ((b.0.0, y.0), y.1)) e b.2) [ inl k ↦ p' b.0.1 e k | inr c ↦ ok_is_not_err ((b.0.0, c.0.0), c.0.1) e c.2 ]
+    | inr b ↦ elim (bind_err (q b.0.1) (λ y. Ok ((b.0.0, y.0), y.1)) e b.2) [
+      | inl k ↦ p' b.0.1 e k
+      | inr c ↦
+          ok_is_not_err ((b.0.0, c.0.0), c.0.1) e c.2
+    ]
   ]
 
   either_flat : {A : Type 0} (cs : List ℕ) (r q : Reader T A) → IsFlat r → IsFlat q → IsFlat (either code cs r q)
@@ -39,10 +43,15 @@ module _ {T : Type 0} (code : T → ℕ) where
   times_flat : {A : Type 0} (cs : List ℕ) (r : Reader T A) → IsFlat r → (n : ℕ) → IsFlat (times code n cs r)
   times_flat cs r p zero ts e h = ok_is_not_err ([], ts) e h
   times_flat cs r p (suc n) ts e h = elim (cases_Bool (starts code cs ts)) [
-    | inl g ↦ elim (bind_err (r ts) (λ x. times code n cs r x.1 >>= λ xs. Ok (x.0 ∷ xs.0, xs.1)) e (sym (if_true (starts code cs ts) _ _ g) ∙ h)) [
-      | inl k ↦ p ts e k
-      | inr b ↦ elim (bind_err (times code n cs r b.0.1) (λ xs. Ok (b.0.0 ∷ xs.0, xs.1)) e b.2) [ inl k ↦ times_flat cs r p n b.0.1 e k | inr c ↦ ok_is_not_err (b.0.0 ∷ c.0.0, c.0.1) e c.2 ]
-    ]
+    | inl g ↦ elim (bind_err (r ts) (λ x. times code n cs r x.1 >>= λ xs. Ok (x.0 ∷ xs.0, xs.1)) e
+        (sym (if_true (starts code cs ts) _ _ g) ∙ h)) [
+          | inl k ↦ p ts e k
+          | inr b ↦ elim (bind_err (times code n cs r b.0.1) (λ xs. Ok (b.0.0 ∷ xs.0, xs.1)) e b.2) [
+            | inl k ↦
+                times_flat cs r p n b.0.1 e k
+            | inr c ↦ ok_is_not_err (b.0.0 ∷ c.0.0, c.0.1) e c.2
+          ]
+        ]
     | inr g ↦ ok_is_not_err ([], ts) e (sym (if_false (starts code cs ts) _ (Ok ([], ts)) g) ∙ h)
   ]
 
@@ -51,7 +60,11 @@ module _ {T : Type 0} (code : T → ℕ) where
   many_flat cs r p ts e h = times_flat cs r p (length ts) ts e h
 
   mapped_flat : {A B : Type 0} (f : A → B) (r : Reader T A) → IsFlat r → IsFlat (mapped code f r)
-  mapped_flat f r p ts e h = elim (bind_err (r ts) (λ x. Ok (f x.0, x.1)) e h) [ inl k ↦ p ts e k | inr b ↦ ok_is_not_err (f b.0.0, b.0.1) e b.2 ]
+  mapped_flat f r p ts e h = elim (bind_err (r ts) (λ x. Ok (f x.0, x.1)) e h) [
+    | inl k ↦ p ts e k
+    | inr b ↦
+        ok_is_not_err (f b.0.0, b.0.1) e b.2
+  ]
 
 module _ {T V : Type 0} (code : T → ℕ) (deeper : Reader T V) (flat : IsFlat deeper) where
   flat_read : {A : Type 0} (f : Form T V A) → IsFlat (read code [] deeper f)
@@ -105,7 +118,9 @@ module _ {T : Type 0} (code : T → ℕ) where
   never_nil (suc n) = inl refl
 
   -- nothing nests too deep, at any limit
-  pub never_too_deep : {A : Type 0} (f : Form T (Unit {0}) A) (limit : ℕ) (ts : List T) (left : ℕ) → IsTooDeep code never f limit ts left → ⊥
+  pub never_too_deep : {A : Type 0} (f : Form T (Unit {0}) A) (limit : ℕ) (ts : List T) (left : ℕ)
+      → IsTooDeep code never f limit ts left → ⊥
   never_too_deep f limit ts left p =
       let b = p.begun in
-      p.past (begins_up code (deep code never b.0) (deep code never limit) (λ v us s. absurd (never_spells b.0 v us s)) (λ us s. rw (never_begins b.0 us s) (never_nil limit)) f (p.before ++ p.token ∷ []) b.1)
+      p.past (begins_up code (deep code never b.0) (deep code never limit) (λ v us s. absurd (never_spells b.0 v us s))
+      (λ us s. rw (never_begins b.0 us s) (never_nil limit)) f (p.before ++ p.token ∷ []) b.1)

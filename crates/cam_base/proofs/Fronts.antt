@@ -16,6 +16,7 @@ front_whole p bs e = go (nat_lt (position_or_len p bs) (length bs)) refl
   where
     go : (v : Bool) → nat_lt (position_or_len p bs) (length bs) ≡ v → bs ≡ before_first p bs
     go true t = let is : position p bs ≡ Some (position_or_len p bs) = rw t refl in absurd cc
-    go false t = let le : length bs ≤ position_or_len p bs = grind (arith, nat_tests) in sym (take_all (position_or_len p bs) bs le)
+    go false t = let le : length bs ≤ position_or_len p bs = grind (arith, nat_tests) in
+        sym (take_all (position_or_len p bs) bs le)
 
 pub ruleset front_rules = (front_at, front_whole)

@@ -16,7 +16,13 @@ in_right x (y ∷ xs) ys h = inr (in_right x xs ys h)
 
 pub in_append : {X : Type 0} (x : X) (xs ys : List X) → IsIn x (xs ++ ys) → IsIn x xs ⊎ IsIn x ys
 in_append x [] ys h = inr h
-in_append x (y ∷ xs) ys h = elim h [ inl e ↦ inl (inl e) | inr i ↦ elim (in_append x xs ys i) [ inl j ↦ inl (inr j) | inr j ↦ inr j ] ]
+in_append x (y ∷ xs) ys h = elim h [
+  | inl e ↦ inl (inl e)
+  | inr i ↦ elim (in_append x xs ys i) [
+    | inl j ↦ inl (inr j)
+    | inr j ↦ inr j
+  ]
+]
 
 -- where an element of a list stands
 pub place_of : {X : Type 0} (x : X) (xs : List X) → IsIn x xs → (n : ℕ) × (slice_get xs n ≡ Some x)
@@ -30,20 +36,24 @@ in_place x (y ∷ xs) zero e = inl (cc)
 in_place x (y ∷ xs) (suc n) e = inr (in_place x xs n e)
 
 -- what is gathered comes from an element at a place
-pub from_gather : {X Y : Type 0} (f : ℕ → X → List Y) (y : Y) (xs : List X) → IsIn y (gather f xs) → (k : ℕ) × (x : X) × (slice_get xs k ≡ Some x) × IsIn y (f k x)
+pub from_gather : {X Y : Type 0} (f : ℕ → X → List Y) (y : Y) (xs : List X) → IsIn y (gather f xs)
+    → (k : ℕ) × (x : X) × (slice_get xs k ≡ Some x) × IsIn y (f k x)
 from_gather f y [] h = absurd h
 from_gather {X} {Y} f y (x ∷ xs) h =
     elim (in_append y (f 0 x) (gather (λ k z. f (suc k) z) xs) h) [
       | inl i ↦ (0, x, refl, i)
-      | inr i ↦ let k : (k : ℕ) × (z : X) × (slice_get xs k ≡ Some z) × IsIn y (f (suc k) z) = from_gather (λ k z. f (suc k) z) y xs i in (suc k.0, k.1, k.2, k.3)
+      | inr i ↦ let k : (k : ℕ) × (z : X) × (slice_get xs k ≡ Some z) × IsIn y (f (suc k) z) =
+          from_gather (λ k z. f (suc k) z) y xs i in (suc k.0, k.1, k.2, k.3)
     ]
 
-pub in_gather : {X Y : Type 0} (f : ℕ → X → List Y) (y : Y) (xs : List X) (k : ℕ) (x : X) → slice_get xs k ≡ Some x → IsIn y (f k x) → IsIn y (gather f xs)
+pub in_gather : {X Y : Type 0} (f : ℕ → X → List Y) (y : Y) (xs : List X) (k : ℕ) (x : X) → slice_get xs k ≡ Some x
+    → IsIn y (f k x) → IsIn y (gather f xs)
 in_gather f y [] k x e i = cc
 in_gather {X} f y (z ∷ xs) zero x e i =
     let same : x ≡ z = cc in
     let P : X → Type 0 = λ w. IsIn y (f 0 w) in in_left y (f 0 z) (gather (λ k z. f (suc k) z) xs) (subst P same i)
-in_gather f y (z ∷ xs) (suc k) x e i = in_right y (f 0 z) (gather (λ k z. f (suc k) z) xs) (in_gather (λ k z. f (suc k) z) y xs k x e i)
+in_gather f y (z ∷ xs) (suc k) x e i = in_right y (f 0 z) (gather (λ k z. f (suc k) z) xs)
+    (in_gather (λ k z. f (suc k) z) y xs k x e i)
 
 -- a look-up behind a list, and in front of one
 pub get_behind : {X : Type 0} (xs ys : List X) (n m : ℕ) → m ≡ length xs + n → slice_get (xs ++ ys) m ≡ slice_get ys n
@@ -57,13 +67,15 @@ get_front (y ∷ xs) ys zero x e = e
 get_front (y ∷ xs) ys (suc n) x e = get_front xs ys n x e
 
 -- THE law of numbering: thing j of the element at place k stands behind what comes from the elements before it
-pub gathered : {X Y : Type 0} (f : ℕ → X → List Y) (xs : List X) (k : ℕ) (x : X) (j : ℕ) (y : Y) (m : ℕ) → slice_get xs k ≡ Some x → slice_get (f k x) j ≡ Some y → m ≡ before f xs k + j → slice_get (gather f xs) m ≡ Some y
+pub gathered : {X Y : Type 0} (f : ℕ → X → List Y) (xs : List X) (k : ℕ) (x : X) (j : ℕ) (y : Y) (m : ℕ) → slice_get xs k ≡ Some x
+    → slice_get (f k x) j ≡ Some y → m ≡ before f xs k + j → slice_get (gather f xs) m ≡ Some y
 gathered f [] k x j y m e i s = cc
 gathered {X} {Y} f (z ∷ xs) zero x j y m e i s =
     let same : x ≡ z = cc in
     let P : X → Type 0 = λ w. slice_get (f 0 w) j ≡ Some y in
     let here : m ≡ j = omega arith in
-    ap (λ n. slice_get (f 0 z ++ gather (λ k z. f (suc k) z) xs) n) here ∙ get_front (f 0 z) (gather (λ k z. f (suc k) z) xs) j y (subst P same i)
+    ap (λ n. slice_get (f 0 z ++ gather (λ k z. f (suc k) z) xs) n) here ∙ get_front (f 0 z) (gather (λ k z. f (suc k) z) xs) j y
+    (subst P same i)
 gathered {X} {Y} f (z ∷ xs) (suc k) x j y m e i s =
     let g : ℕ → X → List Y = λ k z. f (suc k) z in
     let long = length_append (f 0 z) (gather g (take k xs)) in
@@ -89,7 +101,8 @@ pub record Gathered {X Y : Type 0} (f : ℕ → X → List Y) (xs : List X) (m :
   pub sum : m ≡ before f xs place + number
 
 -- the converse of the law: each place has its element
-pub from_place : {X Y : Type 0} (f : ℕ → X → List Y) (xs : List X) (m : ℕ) (y : Y) → slice_get (gather f xs) m ≡ Some y → Gathered f xs m y
+pub from_place : {X Y : Type 0} (f : ℕ → X → List Y) (xs : List X) (m : ℕ) (y : Y) → slice_get (gather f xs) m ≡ Some y
+    → Gathered f xs m y
 from_place f [] m y h = absurd cc
 from_place {X} {Y} f (x ∷ xs) m y h =
     let g : ℕ → X → List Y = λ k z. f (suc k) z in
@@ -100,40 +113,55 @@ from_place {X} {Y} f (x ∷ xs) m y h =
           let long = length_append (f 0 x) (gather g (take r.place xs)) in
           let e = there.1 in
           let s = r.sum in
-          record { place = suc r.place; item = r.item; here = r.here; number = r.number; stands = r.stands; sum = omega (arith, long, e, s) }
+          record {
+            place = suc r.place;
+            item = r.item;
+            here = r.here;
+            number = r.number;
+            stands = r.stands;
+            sum = omega (arith, long, e, s);
+          }
     ]
 
 -- the step of a loop that has gathered what comes from the first i elements
-pub gather_more : {X Y : Type 0} (f : ℕ → X → List Y) (xs : List X) (i : ℕ) (x : X) → slice_get xs i ≡ Some x → gather f (take (suc i) xs) ≡ gather f (take i xs) ++ f i x
+pub gather_more : {X Y : Type 0} (f : ℕ → X → List Y) (xs : List X) (i : ℕ) (x : X) → slice_get xs i ≡ Some x
+    → gather f (take (suc i) xs) ≡ gather f (take i xs) ++ f i x
 gather_more f [] i x e = cc
 gather_more f (z ∷ xs) zero x e = let same : x ≡ z = cc in rw same (append-nil _)
-gather_more f (z ∷ xs) (suc i) x e = ap (λ w. f 0 z ++ w) (gather_more (λ k z. f (suc k) z) xs i x e) ∙ sym (append_assoc (f 0 z) _ (f (suc i) x))
+gather_more f (z ∷ xs) (suc i) x e = ap (λ w. f 0 z ++ w) (gather_more (λ k z. f (suc k) z) xs i x e)
+    ∙ sym (append_assoc (f 0 z) _ (f (suc i) x))
 
 -- one thing from each element
 pub gather_ones : {X Y : Type 0} (f : ℕ → X → Y) (xs : List X) → length (gather (λ k x. f k x ∷ []) xs) ≡ length xs
 gather_ones f [] = refl
 gather_ones f (x ∷ xs) = let ih = gather_ones (λ k z. f (suc k) z) xs in omega arith
 
-pub get_ones : {X Y : Type 0} (f : ℕ → X → Y) (xs : List X) (k : ℕ) (x : X) → slice_get xs k ≡ Some x → slice_get (gather (λ k x. f k x ∷ []) xs) k ≡ Some (f k x)
+pub get_ones : {X Y : Type 0} (f : ℕ → X → Y) (xs : List X) (k : ℕ) (x : X) → slice_get xs k ≡ Some x
+    → slice_get (gather (λ k x. f k x ∷ []) xs) k ≡ Some (f k x)
 get_ones f [] k x e = cc
 get_ones f (z ∷ xs) zero x e = let same : x ≡ z = cc in ap (λ w. Some (f 0 w)) (sym same)
 get_ones f (z ∷ xs) (suc k) x e = get_ones (λ k z. f (suc k) z) xs k x e
 
-pub from_ones : {X Y : Type 0} (f : ℕ → X → Y) (xs : List X) (k : ℕ) (y : Y) → slice_get (gather (λ k x. f k x ∷ []) xs) k ≡ Some y → (x : X) × (slice_get xs k ≡ Some x) × (f k x ≡ y)
+pub from_ones : {X Y : Type 0} (f : ℕ → X → Y) (xs : List X) (k : ℕ) (y : Y)
+    → slice_get (gather (λ k x. f k x ∷ []) xs) k ≡ Some y → (x : X) × (slice_get xs k ≡ Some x) × (f k x ≡ y)
 from_ones f [] k y e = cc
 from_ones f (z ∷ xs) zero y e = (z, refl, cc)
 from_ones f (z ∷ xs) (suc k) y e = from_ones (λ k z. f (suc k) z) xs k y e
 
 -- THE turn of a loop that appends what each element gives. ys is the slice by which the loop reads xs
-pub gather_turn : {X Y : Type 0} (f : ℕ → X → List Y) (xs ys : List X) (i : ℕ) (x : X) (old mid new : List Y) → ys ≡ xs → i < length ys → x ≡ get_or ys i x
+pub gather_turn : {X Y : Type 0} (f : ℕ → X → List Y) (xs ys : List X) (i : ℕ) (x : X) (old mid new : List Y) → ys ≡ xs
+    → i < length ys → x ≡ get_or ys i x
     → mid ≡ old ++ gather f (take i xs) → new ≡ mid ++ f i x → new ≡ old ++ gather f (take (i + 1) xs)
 gather_turn f xs ys i x old mid new same l is e g =
     let at : slice_get xs i ≡ Some x = subst (λ z. slice_get z i ≡ Some x) same (slice_get_read ys (length ys) i x refl l is) in
-    g ∙ ap (λ z. z ++ f i x) e ∙ append_assoc old (gather f (take i xs)) (f i x) ∙ ap (λ z. old ++ z) (sym (ap (λ k. gather f (take k xs)) (add-one i) ∙ gather_more f xs i x at))
+    g ∙ ap (λ z. z ++ f i x) e ∙ append_assoc old (gather f (take i xs)) (f i x)
+    ∙ ap (λ z. old ++ z) (sym (ap (λ k. gather f (take k xs)) (add-one i) ∙ gather_more f xs i x at))
 
-pub gather_same : {X Y : Type 0} (f g : ℕ → X → List Y) (xs : List X) → ((k : ℕ) (x : X) → slice_get xs k ≡ Some x → f k x ≡ g k x) → gather f xs ≡ gather g xs
+pub gather_same : {X Y : Type 0} (f g : ℕ → X → List Y) (xs : List X) → ((k : ℕ) (x : X) → slice_get xs k ≡ Some x
+    → f k x ≡ g k x) → gather f xs ≡ gather g xs
 gather_same f g [] h = refl
-gather_same f g (x ∷ xs) h = ap (λ z. z ++ gather (λ k y. f (suc k) y) xs) (h 0 x refl) ∙ ap (λ z. g 0 x ++ z) (gather_same (λ k y. f (suc k) y) (λ k y. g (suc k) y) xs (λ k y e. h (suc k) y e))
+gather_same f g (x ∷ xs) h = ap (λ z. z ++ gather (λ k y. f (suc k) y) xs) (h 0 x refl)
+    ∙ ap (λ z. g 0 x ++ z) (gather_same (λ k y. f (suc k) y) (λ k y. g (suc k) y) xs (λ k y e. h (suc k) y e))
 
 -- the element of a list of numbers that a loop has come to
 pub listed_at : (xs : List ℕ) (i : ℕ) → i < length xs → IsIn (get_or xs i 0) xs
@@ -145,7 +173,9 @@ gather_map f [] = refl
 gather_map f (x ∷ xs) = ap (λ z. f x ∷ z) (gather_map f xs)
 
 -- several things from each thing that is gathered
-pub flat_map-gather : {X Y Z : Type 0} (g : Y → List Z) (f : ℕ → X → List Y) (xs : List X) → flat_map g (gather f xs) ≡ gather (λ k x. flat_map g (f k x)) xs
+pub flat_map-gather : {X Y Z : Type 0} (g : Y → List Z) (f : ℕ → X → List Y) (xs : List X)
+    → flat_map g (gather f xs) ≡ gather (λ k x. flat_map g (f k x)) xs
 flat_map-gather g f [] = refl
 flat_map-gather g f (x ∷ xs) =
-    flat_map-append g (f 0 x) (gather (λ k y. f (suc k) y) xs) ∙ ap (λ z. flat_map g (f 0 x) ++ z) (flat_map-gather g (λ k y. f (suc k) y) xs)
+    flat_map-append g (f 0 x) (gather (λ k y. f (suc k) y) xs) ∙ ap (λ z. flat_map g (f 0 x) ++ z)
+    (flat_map-gather g (λ k y. f (suc k) y) xs)

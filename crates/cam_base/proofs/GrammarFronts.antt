@@ -29,7 +29,8 @@ pub nil_left : {T : Type 0} (a b : List T) → a ++ b ≡ [] → a ≡ []
 nil_left [] b e = refl
 nil_left (x ∷ a) b e = absurd cc
 
-module _ {T V : Type 0} (code : T → ℕ) (m : Meaning T V) (m-nil : m.begins []) (m-begun : (v : V) (ts : List T) → m.spells v ts → m.begins ts) (m-front : (a b : List T) → m.begins (a ++ b) → m.begins a) where
+module _ {T V : Type 0} (code : T → ℕ) (m : Meaning T V) (m-nil : m.begins []) (m-begun : (v : V) (ts : List T) → m.spells v ts
+    → m.begins ts) (m-front : (a b : List T) → m.begins (a ++ b) → m.begins a) where
   spelled_begins : {A : Type 0} (f : Form T V A) (x : A) (ts : List T) → Spells code m f x ts → Begins code m f ts
   spelled_begins (Give y) x ts s = s.1
   spelled_begins (One cs) x ts s = inr (x, s.0, s.1)
@@ -41,12 +42,19 @@ module _ {T V : Type 0} (code : T → ℕ) (m : Meaning T V) (m-nil : m.begins [
   spelled_begins (Starts cs f) x ts s = spelled_begins f x ts s
   spelled_begins Nested v ts s = m-begun v ts s
 
-  each_front : {A : Type 0} (f : Form T V A) → ((a b : List T) → Begins code m f (a ++ b) → Begins code m f a) → (xs : List A) (a c : List T) → Each (Spells code m f) xs (a ++ c) → Begins code m (Many f) a
+  each_front : {A : Type 0} (f : Form T V A) → ((a b : List T) → Begins code m f (a ++ b) → Begins code m f a)
+      → (xs : List A) (a c : List T) → Each (Spells code m f) xs (a ++ c) → Begins code m (Many f) a
   each_front f front [] a c e = ([], [], [], nil_left a c e, refl, begins_nil code m m-nil f)
   each_front f front (x ∷ xs) a c s = elim (cut a c s.0 s.1 s.2) [
     | inl d ↦
-        let k = each_front f front xs d.0 c (subst (λ (z : List T). Each (Spells code m f) xs z) d.2 s.4) in
-        (x ∷ k.0, s.0 ++ k.1, k.2, d.1 ∙ ap (λ (z : List T). s.0 ++ z) k.3 ∙ sym (append_assoc s.0 k.1 k.2), (s.0, k.1, refl, s.3, k.4), k.5)
+        let k = each_front f front xs d.0 c (subst (λ (z : List T). Each (Spells code m f) xs z) d.2 s.4) in (
+          x ∷ k.0,
+          s.0 ++ k.1,
+          k.2,
+          d.1 ∙ ap (λ (z : List T). s.0 ++ z) k.3 ∙ sym (append_assoc s.0 k.1 k.2),
+          (s.0, k.1, refl, s.3, k.4),
+          k.5,
+        )
     | inr d ↦ ([], [], a, refl, refl, front a d.0 (subst (λ (z : List T). Begins code m f z) d.1 (spelled_begins f x s.0 s.3)))
   ]
 
@@ -54,7 +62,12 @@ module _ {T V : Type 0} (code : T → ℕ) (m : Meaning T V) (m-nil : m.begins [
   begins_front (Give x) a b e = nil_left a b e
   begins_front (One cs) a b (inl e) = inl (nil_left a b e)
   begins_front (One cs) [] b (inr s) = inl refl
-  begins_front (One cs) (x ∷ a) b (inr s) = inr (s.0, s.1, ap (λ z. x ∷ z) (nil_left a b (tail_is x s.0 (a ++ b) [] s.2)) ∙ ap (λ z. z ∷ []) (head_is x s.0 (a ++ b) [] s.2))
+  begins_front (One cs) (x ∷ a) b (inr s) = inr (
+    s.0,
+    s.1,
+    ap (λ z. x ∷ z) (nil_left a b (tail_is x s.0 (a ++ b) [] s.2))
+        ∙ ap (λ z. z ∷ []) (head_is x s.0 (a ++ b) [] s.2),
+  )
   begins_front (Then f g) a b (inl h) = inl (begins_front f a b h)
   begins_front (Then f g) a b (inr s) = elim (cut a b s.1 s.2 s.3) [
     | inl c ↦ inr (s.0, s.1, c.0, c.1, s.4, begins_front g c.0 b (subst (λ (z : List T). Begins code m g z) c.2 s.5))
@@ -64,7 +77,8 @@ module _ {T V : Type 0} (code : T → ℕ) (m : Meaning T V) (m-nil : m.begins [
   begins_front (Or f g) a b (inr h) = inr (begins_front g a b h)
   begins_front (Many {A = A} f) a b s = elim (cut a b s.1 s.2 s.3) [
     | inl c ↦ (s.0, s.1, c.0, c.1, s.4, begins_front f c.0 b (subst (λ (z : List T). Begins code m f z) c.2 s.5))
-    | inr c ↦ each_front f (λ u v h. begins_front f u v h) s.0 a c.0 (subst (λ (z : List T). Each (Spells code m f) s.0 z) c.1 s.4)
+    | inr c ↦ each_front f (λ u v h. begins_front f u v h) s.0 a c.0
+        (subst (λ (z : List T). Each (Spells code m f) s.0 z) c.1 s.4)
   ]
   begins_front (As h f) a b s = begins_front f a b s
   begins_front (Starts cs f) a b s = begins_front f a b s
@@ -87,11 +101,13 @@ module _ {T V : Type 0} (code : T → ℕ) (line : Form T V V) where
       }
 
   -- what begins a form is begun in each of its fronts, at each depth
-  pub deep_front : (n : ℕ) {A : Type 0} (f : Form T V A) (a b : List T) → Begins code (deep code line n) f (a ++ b) → Begins code (deep code line n) f a
+  pub deep_front : (n : ℕ) {A : Type 0} (f : Form T V A) (a b : List T) → Begins code (deep code line n) f (a ++ b)
+      → Begins code (deep code line n) f a
   deep_front n f a b s = let c = closed n in begins_front code (deep code line n) c.nil c.begun c.front f a b s
 
   -- what spells a form begins it, at each depth
-  pub deep_begun : (n : ℕ) {A : Type 0} (f : Form T V A) (x : A) (ts : List T) → Spells code (deep code line n) f x ts → Begins code (deep code line n) f ts
+  pub deep_begun : (n : ℕ) {A : Type 0} (f : Form T V A) (x : A) (ts : List T) → Spells code (deep code line n) f x ts
+      → Begins code (deep code line n) f ts
   deep_begun n f x ts s = let c = closed n in spelled_begins code (deep code line n) c.nil c.begun c.front f x ts s
 
   -- what begins a form is begun in each of its fronts

@@ -28,7 +28,8 @@ glyph_is (suc (suc (suc (suc (suc (suc (suc (suc (suc (suc (suc (suc zero)))))))
 glyph_is (suc (suc (suc (suc (suc (suc (suc (suc (suc (suc (suc (suc (suc zero))))))))))))) l = (refl, refl)
 glyph_is (suc (suc (suc (suc (suc (suc (suc (suc (suc (suc (suc (suc (suc (suc zero)))))))))))))) l = (refl, refl)
 glyph_is (suc (suc (suc (suc (suc (suc (suc (suc (suc (suc (suc (suc (suc (suc (suc zero))))))))))))))) l = (refl, refl)
-glyph_is (suc (suc (suc (suc (suc (suc (suc (suc (suc (suc (suc (suc (suc (suc (suc (suc d)))))))))))))))) l = absurd (omega (arith, l))
+glyph_is (suc (suc (suc (suc (suc (suc (suc (suc (suc (suc (suc (suc (suc (suc (suc (suc d)))))))))))))))) l =
+    absurd (omega (arith, l))
 
 hex_push : (xs : List ℕ) (x : ℕ) → is_hexadecimal xs ≡ true → is_hex_digit x ≡ true → is_hexadecimal (xs ++ x ∷ []) ≡ true
 hex_push [] x a b = absurd cc
@@ -39,7 +40,8 @@ hex_push (y ∷ xs) x a b = let k = and_parts (is_hex_digit y) (list_all is_hex_
     go (y ∷ xs) a = let k = and_parts (is_hex_digit y) (list_all is_hex_digit xs) a in rw (k.0, go xs k.1) refl
 
 -- what the digits are, one by one from the last
-push_is : (n : ℕ) (ds : List ℕ) → is_hexadecimal ds ≡ true → digits_value 16 ds ≡ n / 16 → (is_hexadecimal (ds ++ glyph (n % 16) ∷ []) ≡ true) × (digits_value 16 (ds ++ glyph (n % 16) ∷ []) ≡ n)
+push_is : (n : ℕ) (ds : List ℕ) → is_hexadecimal ds ≡ true → digits_value 16 ds ≡ n / 16
+    → (is_hexadecimal (ds ++ glyph (n % 16) ∷ []) ≡ true) × (digits_value 16 (ds ++ glyph (n % 16) ∷ []) ≡ n)
 push_is n ds h v =
     let g = glyph_is (n % 16) (omega arith) in
     (hex_push ds (glyph (n % 16)) h g.0, digits_value_push 16 ds (glyph (n % 16)) ∙ rw (v, g.1) (omega arith))
@@ -50,19 +52,24 @@ one_is n e =
     (rw (g.0) refl, digits_value_push 16 [] (glyph n) ∙ rw (g.1) (let z : 0 * 16 + n ≡ n = omega arith in z))
 
 -- the digits of a number that has no more than so many
-hex_is : (room n : ℕ) → n < 16 ^ suc room → (is_hexadecimal (hex_digits (suc room) n) ≡ true) × (digits_value 16 (hex_digits (suc room) n) ≡ n)
+hex_is : (room n : ℕ) → n < 16 ^ suc room → (is_hexadecimal (hex_digits (suc room) n) ≡ true)
+    × (digits_value 16 (hex_digits (suc room) n) ≡ n)
 unfolding hex_digits
-hex_is zero n l = let p : 16 ^ suc zero ≡ 16 = refl in let e : nat_lt n 16 ≡ true = lt-ltb n 16 (omega (arith, l, p)) in rw e (one_is n e)
+hex_is zero n l = let p : 16 ^ suc zero ≡ 16 = refl in let e : nat_lt n 16 ≡ true = lt-ltb n 16 (omega (arith, l, p)) in
+    rw e (one_is n e)
 hex_is (suc room) n l = by_test (nat_lt n 16) refl (hex_is room (n / 16) (omega (arith, l, pow-suc 16 (suc room))))
   where
-    by_test : (b : Bool) → nat_lt n 16 ≡ b → (is_hexadecimal (hex_digits (suc room) (n / 16)) ≡ true) × (digits_value 16 (hex_digits (suc room) (n / 16)) ≡ n / 16)
-        → (is_hexadecimal (cond b (glyph n ∷ []) (hex_digits (suc room) (n / 16) ++ glyph (n % 16) ∷ [])) ≡ true) × (digits_value 16 (cond b (glyph n ∷ []) (hex_digits (suc room) (n / 16) ++ glyph (n % 16) ∷ [])) ≡ n)
+    by_test : (b : Bool) → nat_lt n 16 ≡ b → (is_hexadecimal (hex_digits (suc room) (n / 16)) ≡ true)
+        × (digits_value 16 (hex_digits (suc room) (n / 16)) ≡ n / 16)
+        → (is_hexadecimal (cond b (glyph n ∷ []) (hex_digits (suc room) (n / 16) ++ glyph (n % 16) ∷ [])) ≡ true)
+        × (digits_value 16 (cond b (glyph n ∷ []) (hex_digits (suc room) (n / 16) ++ glyph (n % 16) ∷ [])) ≡ n)
     by_test true e ih = one_is n e
     by_test false e ih = push_is n (hex_digits (suc room) (n / 16)) ih.0 ih.1
 
 pub number_value-hex_text : (n : ℕ) → n < 2 ^ 64 → number_value (hex_text n) ≡ Some n
 unfolding hex_text
-number_value-hex_text n l = let r = hex_is 15 n l in fits_some (is_hexadecimal (hex_digits 16 n)) (digits_value 16 (hex_digits 16 n)) n r.0 r.1 l
+number_value-hex_text n l = let r = hex_is 15 n l in
+    fits_some (is_hexadecimal (hex_digits 16 n)) (digits_value 16 (hex_digits 16 n)) n r.0 r.1 l
 
 pub is_hexadecimal-hex_digits : (n : ℕ) → n < 2 ^ 64 → is_hexadecimal (hex_digits 16 n) ≡ true
 is_hexadecimal-hex_digits n l = (hex_is 15 n l).0

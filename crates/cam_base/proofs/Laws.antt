@@ -10,11 +10,14 @@ use Rattle.cam_base.specs.Reading.{◌>>=◌, Reader, left, starts, one, both, e
 use Rattle.cam_base.proofs.TerminalCodes.{if_true, if_false, true_is_not_false, among-left, among-right, starts_none-left, starts_none-right, starts_apart_back}
 
 -- A reader answers exactly what is spelled, and stops exactly where nothing is begun any more.
--- spells and begins are the form's; empty: it spells nothing too; fs: its first codes; gs: the codes that a whole one may go on with.
-pub record IsRead {T A : Type 0} (code : T → ℕ) (spells : A → List T → Type 0) (begins : List T → Type 0) (empty : Bool) (fs gs : List ℕ) (r : Reader T A) : Type 0 where
+-- spells and begins are the form's; empty: it spells nothing too; fs: its first codes; gs: the codes that a whole one may go on
+-- with.
+pub record IsRead {T A : Type 0} (code : T → ℕ) (spells : A → List T → Type 0) (begins : List T → Type 0) (empty : Bool)
+    (fs gs : List ℕ) (r : Reader T A) : Type 0 where
   pub sound : (ts : List T) (x : A × List T) → r ts ≡ Ok x → (a : List T) × (ts ≡ a ++ x.1) × spells x.0 a
   pub complete : (x : A) (a rest : List T) → spells x a → starts code gs rest ≡ false → r (a ++ rest) ≡ Ok (x, rest)
-  pub stops : (ts : List T) (e : Stop) → r ts ≡ Err e → (a : List T) × (rest : List T) × (ts ≡ a ++ rest) × begins a × (e.left ≡ length rest)
+  pub stops : (ts : List T) (e : Stop) → r ts ≡ Err e → (a : List T) × (rest : List T) × (ts ≡ a ++ rest) × begins a
+      × (e.left ≡ length rest)
   pub passes : (b more : List T) → begins b → left (r (b ++ more)) ≤ length more
   pub begun : (x : A) (a : List T) → spells x a → begins a
   pub head : (t : T) (b : List T) → begins (t ∷ b) → among fs (code t) ≡ true
@@ -23,11 +26,13 @@ pub record IsRead {T A : Type 0} (code : T → ℕ) (spells : A → List T → T
 
 -- ---- steps that may fail
 
-pub bind_ok : {A B : Type 0} (r : Result A Stop) (f : A → Result B Stop) (y : B) → (r >>= f) ≡ Ok y → (x : A) × (r ≡ Ok x) × (f x ≡ Ok y)
+pub bind_ok : {A B : Type 0} (r : Result A Stop) (f : A → Result B Stop) (y : B) → (r >>= f) ≡ Ok y
+    → (x : A) × (r ≡ Ok x) × (f x ≡ Ok y)
 bind_ok (Ok x) f y e = (x, refl, e)
 bind_ok (Err d) f y e = absurd cc
 
-pub bind_err : {A B : Type 0} (r : Result A Stop) (f : A → Result B Stop) (d : Stop) → (r >>= f) ≡ Err d → (r ≡ Err d) ⊎ ((x : A) × (r ≡ Ok x) × (f x ≡ Err d))
+pub bind_err : {A B : Type 0} (r : Result A Stop) (f : A → Result B Stop) (d : Stop) → (r >>= f) ≡ Err d
+    → (r ≡ Err d) ⊎ ((x : A) × (r ≡ Ok x) × (f x ≡ Err d))
 bind_err (Ok x) f d e = inr (x, refl, e)
 bind_err (Err c) f d e = inl cc
 
@@ -64,7 +69,8 @@ no_nil t us e = absurd cc
 
 -- ---- facts of each reader
 
-module _ {T A : Type 0} {code : T → ℕ} {spells : A → List T → Type 0} {begins : List T → Type 0} {empty : Bool} {fs gs : List ℕ} {r : Reader T A} (law : IsRead code spells begins empty fs gs r) where
+module _ {T A : Type 0} {code : T → ℕ} {spells : A → List T → Type 0} {begins : List T → Type 0} {empty : Bool} {fs gs : List ℕ}
+    {r : Reader T A} (law : IsRead code spells begins empty fs gs r) where
   -- reading never goes back
   pub shorter : (ts : List T) → left (r ts) ≤ length ts
   shorter ts = law.passes [] ts law.nil
@@ -85,9 +91,11 @@ module _ {T A : Type 0} {code : T → ℕ} {spells : A → List T → Type 0} {b
 
 -- ---- nothing
 
-pub IsRead-give : {T A : Type 0} (code : T → ℕ) (y : A) → IsRead code (λ (x : A) (ts : List T). (x ≡ y) × (ts ≡ [])) (λ ts. ts ≡ []) true [] [] (λ ts. Ok (y, ts))
+pub IsRead-give : {T A : Type 0} (code : T → ℕ) (y : A) → IsRead code (λ (x : A) (ts : List T). (x ≡ y) × (ts ≡ []))
+    (λ ts. ts ≡ []) true [] [] (λ ts. Ok (y, ts))
 IsRead-give {T} {A} code y = record {
-  sound = λ ts x e. let p = ok_is (y, ts) x e in ([], ap (λ (w : A × List T). w.1) p, (sym (ap (λ (w : A × List T). w.0) p), refl));
+  sound = λ ts x e. let p = ok_is (y, ts) x e in
+      ([], ap (λ (w : A × List T). w.1) p, (sym (ap (λ (w : A × List T). w.0) p), refl));
   complete = λ x a rest s h. rw (s.0, s.1) refl;
   stops = λ ts e h. ok_is_not_err (y, ts) e h;
   passes = λ b more h. rw h (omega arith);
@@ -122,10 +130,12 @@ module _ {T : Type 0} (code : T → ℕ) (cs : List ℕ) where
   one_stops [] e h = sym (ap (λ (f : Stop). f.left) (err_is {A = T × List T} _ e h))
   one_stops (t ∷ ts) e h = elim (cases_Bool (among cs (code t))) [
     | inl g ↦ ok_is_not_err (t, ts) e (sym (one_takes t ts g) ∙ h)
-    | inr g ↦ sym (ap (λ (f : Stop). f.left) (err_is {A = T × List T} _ e (sym (if_false (among cs (code t)) (Ok (t, ts)) _ g) ∙ h)))
+    | inr g ↦
+        sym (ap (λ (f : Stop). f.left) (err_is {A = T × List T} _ e (sym (if_false (among cs (code t)) (Ok (t, ts)) _ g) ∙ h)))
   ]
 
-  pub IsRead-one : IsRead code (λ (x : T) (ts : List T). (among cs (code x) ≡ true) × (ts ≡ x ∷ [])) (λ ts. (ts ≡ []) ⊎ ((t : T) × (among cs (code t) ≡ true) × (ts ≡ t ∷ []))) false cs [] (one code cs)
+  pub IsRead-one : IsRead code (λ (x : T) (ts : List T). (among cs (code x) ≡ true) × (ts ≡ x ∷ []))
+      (λ ts. (ts ≡ []) ⊎ ((t : T) × (among cs (code t) ≡ true) × (ts ≡ t ∷ []))) false cs [] (one code cs)
   IsRead-one = record {
     sound = λ ts x e. let s = one_sound ts x e in (x.0 ∷ [], s.1, (s.0, refl));
     complete = λ x a rest s h. rw s.1 (one_takes x rest s.0);
@@ -139,17 +149,24 @@ module _ {T : Type 0} (code : T → ℕ) (cs : List ℕ) where
 
 -- ---- another meaning
 
-left_map : {T A B : Type 0} (h : A → B) (v : Result (A × List T) Stop) → left {T = T} {A = B} (v >>= λ x. Ok (h x.0, x.1)) ≡ left v
+left_map : {T A B : Type 0} (h : A → B) (v : Result (A × List T) Stop)
+    → left {T = T} {A = B} (v >>= λ x. Ok (h x.0, x.1)) ≡ left v
 left_map h (Ok x) = refl
 left_map h (Err e) = refl
 
-pub IsRead-map : {T A B : Type 0} (code : T → ℕ) {S : A → List T → Type 0} {B' : List T → Type 0} {empty : Bool} {fs gs : List ℕ} {r : Reader T A} (h : A → B) → IsRead code S B' empty fs gs r
+pub IsRead-map : {T A B : Type 0} (code : T → ℕ) {S : A → List T → Type 0} {B' : List T → Type 0} {empty : Bool} {fs gs : List ℕ}
+    {r : Reader T A} (h : A → B) → IsRead code S B' empty fs gs r
     → IsRead code (λ (y : B) (ts : List T). (x : A) × (y ≡ h x) × S x ts) B' empty fs gs (mapped code h r)
 IsRead-map {T} {A} {B} code {r = r} h law = record {
-  sound = λ ts y e. let b = bind_ok (r ts) (λ x. Ok (h x.0, x.1)) y e in let s = law.sound ts b.0 b.1 in let p = ok_is (h b.0.0, b.0.1) y b.2 in
+  sound = λ ts y e. let b = bind_ok (r ts) (λ x. Ok (h x.0, x.1)) y e in let s = law.sound ts b.0 b.1 in
+      let p = ok_is (h b.0.0, b.0.1) y b.2 in
       (s.0, s.1 ∙ ap (λ (w : B × List T). s.0 ++ w.1) p, (b.0.0, sym (ap (λ (w : B × List T). w.0) p), s.2));
   complete = λ y a rest s q. rw (law.complete s.0 a rest s.2 q, s.1) refl;
-  stops = λ ts e q. elim (bind_err (r ts) (λ x. Ok (h x.0, x.1)) e q) [ inl p ↦ law.stops ts e p | inr b ↦ ok_is_not_err (h b.0.0, b.0.1) e b.2 ];
+  stops = λ ts e q. elim (bind_err (r ts) (λ x. Ok (h x.0, x.1)) e q) [
+    | inl p ↦ law.stops ts e p
+    | inr b ↦
+        ok_is_not_err (h b.0.0, b.0.1) e b.2
+  ];
   passes = λ b more q. rw (left_map h (r (b ++ more))) (law.passes b more q);
   begun = λ y a s. law.begun s.0 a s.2;
   head = law.head;
@@ -159,14 +176,19 @@ IsRead-map {T} {A} {B} code {r = r} h law = record {
 
 -- ---- one after the other
 
-left_then : {T A B : Type 0} (q : Reader T B) (k : ℕ) → ((ts : List T) → left (q ts) ≤ length ts) → (v : Result (A × List T) Stop) → left v ≤ k → left {T = T} {A = A × B} (v >>= λ x. q x.1 >>= λ y. Ok ((x.0, y.0), y.1)) ≤ k
+left_then : {T A B : Type 0} (q : Reader T B) (k : ℕ) → ((ts : List T) → left (q ts) ≤ length ts) → (v : Result (A × List T) Stop)
+    → left v ≤ k → left {T = T} {A = A × B} (v >>= λ x. q x.1 >>= λ y. Ok ((x.0, y.0), y.1)) ≤ k
 left_then q k short (Err e) le = le
-left_then {T = T} {A = A} {B = B} q k short (Ok x) le = rw (left_map {T = T} {A = B} {B = A × B} (λ y. (x.0, y)) (q x.1)) (omega (arith, short x.1))
+left_then {T = T} {A = A} {B = B} q k short (Ok x) le = rw (left_map {T = T} {A = B} {B = A × B} (λ y. (x.0, y)) (q x.1))
+    (omega (arith, short x.1))
 
-module _ {T A B : Type 0} (code : T → ℕ) {S : A → List T → Type 0} {B1 : List T → Type 0} {n1 : Bool} {fs1 gs1 : List ℕ} {r : Reader T A} (f : IsRead code S B1 n1 fs1 gs1 r)
-    {S' : B → List T → Type 0} {B2 : List T → Type 0} {n2 : Bool} {fs2 gs2 : List ℕ} {q : Reader T B} (g : IsRead code S' B2 n2 fs2 gs2 q) (decided : apart gs1 fs2 ≡ true) where
+module _ {T A B : Type 0} (code : T → ℕ) {S : A → List T → Type 0} {B1 : List T → Type 0} {n1 : Bool} {fs1 gs1 : List ℕ}
+    {r : Reader T A} (f : IsRead code S B1 n1 fs1 gs1 r)
+    {S' : B → List T → Type 0} {B2 : List T → Type 0} {n2 : Bool} {fs2 gs2 : List ℕ} {q : Reader T B}
+    (g : IsRead code S' B2 n2 fs2 gs2 q) (decided : apart gs1 fs2 ≡ true) where
   -- the first part ends where the second one goes on
-  both_between : (y : B) (b rest : List T) → S' y b → starts code (cond n2 (gs1 ++ gs2) gs2) rest ≡ false → starts code gs1 (b ++ rest) ≡ false
+  both_between : (y : B) (b rest : List T) → S' y b → starts code (cond n2 (gs1 ++ gs2) gs2) rest ≡ false
+      → starts code gs1 (b ++ rest) ≡ false
   both_between y [] rest s h =
       let e : n2 ≡ true = g.null y s in
       let h' : starts code (gs1 ++ gs2) rest ≡ false = rw (← if_true n2 (gs1 ++ gs2) gs2 e) h in
@@ -182,9 +204,15 @@ module _ {T A B : Type 0} (code : T → ℕ) {S : A → List T → Type 0} {B1 :
   both_step : (x : A) (ts rest : List T) → r ts ≡ Ok (x, rest) → both code r q ts ≡ (q rest >>= λ y. Ok ((x, y.0), y.1))
   both_step x ts rest e = rw e refl
 
-  both_complete : (x : A × B) (a b rest : List T) → S x.0 a → S' x.1 b → starts code (cond n2 (gs1 ++ gs2) gs2) rest ≡ false → both code r q ((a ++ b) ++ rest) ≡ Ok (x, rest)
+  both_complete : (x : A × B) (a b rest : List T) → S x.0 a → S' x.1 b → starts code (cond n2 (gs1 ++ gs2) gs2) rest ≡ false
+      → both code r q ((a ++ b) ++ rest) ≡ Ok (x, rest)
   both_complete x a b rest s s' h =
-      rw (append_assoc a b rest, f.complete x.0 a (b ++ rest) s (both_between x.1 b rest s' h), g.complete x.1 b rest s' (both_after rest h)) refl
+      rw (
+        append_assoc a b rest,
+        f.complete x.0 a (b ++ rest) s (both_between x.1 b rest s' h),
+        g.complete x.1 b rest s'
+            (both_after rest h),
+      ) refl
 
   both_passes : (x : A) (a b more : List T) → S x a → B2 b → left (both code r q ((a ++ b) ++ more)) ≤ length more
   both_passes x a [] more s h =
@@ -193,7 +221,8 @@ module _ {T A B : Type 0} (code : T → ℕ) {S : A → List T → Type 0} {B1 :
       let e = f.complete x a (t ∷ b ++ more) s (starts_apart_back code gs1 fs2 (t ∷ b ++ more) decided (g.head t b h)) in
       rw (append_assoc a (t ∷ b) more, e, left_map {B = A × B} (λ (y : B). (x, y)) (q (t ∷ b ++ more))) (g.passes (t ∷ b) more h)
 
-  both_head : (x : A) (t : T) (ts a b : List T) → t ∷ ts ≡ a ++ b → S x a → B2 b → among (cond n1 (fs1 ++ fs2) fs1) (code t) ≡ true
+  both_head : (x : A) (t : T) (ts a b : List T) → t ∷ ts ≡ a ++ b → S x a → B2 b
+      → among (cond n1 (fs1 ++ fs2) fs1) (code t) ≡ true
   both_head x t ts [] b e s h =
       rw (if_true n1 (fs1 ++ fs2) fs1 (f.null x s)) (among-right fs1 fs2 (code t) (g.head t ts (rw e h)))
   both_head x t ts (u ∷ a) b e s h =
@@ -203,7 +232,8 @@ module _ {T A B : Type 0} (code : T → ℕ) {S : A → List T → Type 0} {B1 :
       both_first : (v : T) → among fs1 (code v) ≡ true → among (cond n1 (fs1 ++ fs2) fs1) (code v) ≡ true
       both_first v k = elim (cases_Bool n1) [ inl p ↦ rw p (among-left fs1 fs2 (code v) k) | inr p ↦ rw p k ]
 
-  pub IsRead-then : IsRead code (λ (x : A × B) (ts : List T). (a : List T) × (b : List T) × (ts ≡ a ++ b) × S x.0 a × S' x.1 b) (λ ts. B1 ts ⊎ ((x : A) × (a : List T) × (b : List T) × (ts ≡ a ++ b) × S x a × B2 b))
+  pub IsRead-then : IsRead code (λ (x : A × B) (ts : List T). (a : List T) × (b : List T) × (ts ≡ a ++ b) × S x.0 a × S' x.1 b)
+      (λ ts. B1 ts ⊎ ((x : A) × (a : List T) × (b : List T) × (ts ≡ a ++ b) × S x a × B2 b))
       (n1 && n2) (cond n1 (fs1 ++ fs2) fs1) (cond n2 (gs1 ++ gs2) gs2) (both code r q)
   IsRead-then = record {
     sound = λ ts x e.
@@ -213,15 +243,22 @@ module _ {T A B : Type 0} (code : T → ℕ) {S : A → List T → Type 0} {B1 :
         let s' = g.sound b.0.1 c.0 c.1 in
         let p = ok_is ((b.0.0, c.0.0), c.0.1) x c.2 in (
           s.0 ++ s'.0,
-          (s.1 ∙ ap (λ (w : List T). s.0 ++ w) s'.1 ∙ sym (append_assoc s.0 s'.0 c.0.1)) ∙ ap (λ (w : (A × B) × List T). (s.0 ++ s'.0) ++ w.1) p,
-          subst (λ (w : (A × B) × List T). (a : List T) × (b : List T) × (s.0 ++ s'.0 ≡ a ++ b) × S w.0.0 a × S' w.0.1 b) p (s.0, s'.0, refl, s.2, s'.2),
+          (s.1 ∙ ap (λ (w : List T). s.0 ++ w) s'.1 ∙ sym (append_assoc s.0 s'.0 c.0.1))
+              ∙ ap (λ (w : (A × B) × List T). (s.0 ++ s'.0) ++ w.1) p,
+          subst (λ (w : (A × B) × List T). (a : List T) × (b : List T) × (s.0 ++ s'.0 ≡ a ++ b) × S w.0.0 a × S' w.0.1 b) p
+              (s.0, s'.0, refl, s.2, s'.2),
         );
     complete = λ x a rest s h. rw s.2 (both_complete x s.0 s.1 rest s.3 s.4 h);
     stops = λ ts e h. elim (bind_err (r ts) (λ x. q x.1 >>= λ y. Ok ((x.0, y.0), y.1)) e h) [
       | inl p ↦ let w = f.stops ts e p in (w.0, w.1, w.2, inl w.3, w.4)
       | inr b ↦ elim (bind_err (q b.0.1) (λ y. Ok ((b.0.0, y.0), y.1)) e b.2) [
-        | inl p ↦ let s = f.sound ts b.0 b.1 in let w = g.stops b.0.1 e p in
-            (s.0 ++ w.0, w.1, s.1 ∙ ap (λ (z : List T). s.0 ++ z) w.2 ∙ sym (append_assoc s.0 w.0 w.1), inr (b.0.0, s.0, w.0, refl, s.2, w.3), w.4)
+        | inl p ↦ let s = f.sound ts b.0 b.1 in let w = g.stops b.0.1 e p in (
+          s.0 ++ w.0,
+          w.1,
+          s.1 ∙ ap (λ (z : List T). s.0 ++ z) w.2 ∙ sym (append_assoc s.0 w.0 w.1),
+          inr (b.0.0, s.0, w.0, refl, s.2, w.3),
+          w.4,
+        )
         | inr c ↦ ok_is_not_err ((b.0.0, c.0.0), c.0.1) e c.2
       ]
     ];
@@ -247,8 +284,10 @@ module _ {T A B : Type 0} (code : T → ℕ) {S : A → List T → Type 0} {B1 :
 
 -- ---- the one or the other
 
-module _ {T A : Type 0} (code : T → ℕ) {S : A → List T → Type 0} {B1 : List T → Type 0} {fs1 gs1 : List ℕ} {r : Reader T A} (f : IsRead code S B1 false fs1 gs1 r)
-    {S' : A → List T → Type 0} {B2 : List T → Type 0} {n2 : Bool} {fs2 gs2 : List ℕ} {q : Reader T A} (g : IsRead code S' B2 n2 fs2 gs2 q) (decided : apart fs1 fs2 ≡ true) where
+module _ {T A : Type 0} (code : T → ℕ) {S : A → List T → Type 0} {B1 : List T → Type 0} {fs1 gs1 : List ℕ} {r : Reader T A}
+    (f : IsRead code S B1 false fs1 gs1 r)
+    {S' : A → List T → Type 0} {B2 : List T → Type 0} {n2 : Bool} {fs2 gs2 : List ℕ} {q : Reader T A}
+    (g : IsRead code S' B2 n2 fs2 gs2 q) (decided : apart fs1 fs2 ≡ true) where
   pub either_first : (ts : List T) → starts code fs1 ts ≡ true → either code fs1 r q ts ≡ r ts
   either_first ts h = if_true (starts code fs1 ts) (r ts) (q ts) h
 
@@ -258,22 +297,30 @@ module _ {T A : Type 0} (code : T → ℕ) {S : A → List T → Type 0} {B1 : L
   abbrev either_gs : List ℕ
   either_gs = cond n2 (fs1 ++ (gs1 ++ gs2)) (gs1 ++ gs2)
 
-  either_after : (rest : List T) → starts code either_gs rest ≡ false → (starts code gs1 rest ≡ false) × (starts code gs2 rest ≡ false)
+  either_after : (rest : List T) → starts code either_gs rest ≡ false → (starts code gs1 rest ≡ false)
+      × (starts code gs2 rest ≡ false)
   either_after rest h = elim (cases_Bool n2) [
-    | inl e ↦ let h' = starts_none-right code fs1 (gs1 ++ gs2) rest (rw (← if_true n2 (fs1 ++ (gs1 ++ gs2)) (gs1 ++ gs2) e) h) in (starts_none-left code gs1 gs2 rest h', starts_none-right code gs1 gs2 rest h')
-    | inr e ↦ let h' : starts code (gs1 ++ gs2) rest ≡ false = rw (← if_false n2 (fs1 ++ (gs1 ++ gs2)) (gs1 ++ gs2) e) h in (starts_none-left code gs1 gs2 rest h', starts_none-right code gs1 gs2 rest h')
+    | inl e ↦ let h' = starts_none-right code fs1 (gs1 ++ gs2) rest (rw (← if_true n2 (fs1 ++ (gs1 ++ gs2)) (gs1 ++ gs2) e) h) in
+        (starts_none-left code gs1 gs2 rest h', starts_none-right code gs1 gs2 rest h')
+    | inr e ↦ let h' : starts code (gs1 ++ gs2) rest ≡ false = rw (← if_false n2 (fs1 ++ (gs1 ++ gs2)) (gs1 ++ gs2) e) h in
+        (starts_none-left code gs1 gs2 rest h', starts_none-right code gs1 gs2 rest h')
   ]
 
-  complete_first : (x : A) (a rest : List T) → S x a → starts code either_gs rest ≡ false → either code fs1 r q (a ++ rest) ≡ Ok (x, rest)
+  complete_first : (x : A) (a rest : List T) → S x a → starts code either_gs rest ≡ false
+      → either code fs1 r q (a ++ rest) ≡ Ok (x, rest)
   complete_first x [] rest s h = true_is_not_false false (f.null x s) refl
-  complete_first x (t ∷ a) rest s h = either_first (t ∷ a ++ rest) (spelled_starts f x t a s) ∙ f.complete x (t ∷ a) rest s (either_after rest h).0
+  complete_first x (t ∷ a) rest s h = either_first (t ∷ a ++ rest) (spelled_starts f x t a s) ∙ f.complete x (t ∷ a) rest s
+      (either_after rest h).0
 
-  complete_second : (x : A) (a rest : List T) → S' x a → starts code either_gs rest ≡ false → either code fs1 r q (a ++ rest) ≡ Ok (x, rest)
+  complete_second : (x : A) (a rest : List T) → S' x a → starts code either_gs rest ≡ false
+      → either code fs1 r q (a ++ rest) ≡ Ok (x, rest)
   complete_second x [] rest s h =
-      let none : starts code (fs1 ++ (gs1 ++ gs2)) rest ≡ false = rw (← if_true n2 (fs1 ++ (gs1 ++ gs2)) (gs1 ++ gs2) (g.null x s)) h in
+      let none : starts code (fs1 ++ (gs1 ++ gs2)) rest ≡ false =
+      rw (← if_true n2 (fs1 ++ (gs1 ++ gs2)) (gs1 ++ gs2) (g.null x s)) h in
       either_second rest (starts_none-left code fs1 (gs1 ++ gs2) rest none) ∙ g.complete x [] rest s (either_after rest h).1
   complete_second x (t ∷ a) rest s h =
-      either_second (t ∷ a ++ rest) (starts_apart_back code fs1 fs2 (t ∷ a ++ rest) decided (spelled_starts g x t a s)) ∙ g.complete x (t ∷ a) rest s (either_after rest h).1
+      either_second (t ∷ a ++ rest) (starts_apart_back code fs1 fs2 (t ∷ a ++ rest) decided (spelled_starts g x t a s))
+      ∙ g.complete x (t ∷ a) rest s (either_after rest h).1
 
   either_shorter : (ts : List T) → left (either code fs1 r q ts) ≤ length ts
   either_shorter ts = elim (cases_Bool (starts code fs1 ts)) [
@@ -287,9 +334,12 @@ module _ {T A : Type 0} (code : T → ℕ) {S : A → List T → Type 0} {B1 : L
 
   passes_second : (b more : List T) → B2 b → left (either code fs1 r q (b ++ more)) ≤ length more
   passes_second [] more h = either_shorter more
-  passes_second (t ∷ b) more h = rw (either_second (t ∷ b ++ more) (starts_apart_back code fs1 fs2 (t ∷ b ++ more) decided (g.head t b h))) (g.passes (t ∷ b) more h)
+  passes_second (t ∷ b) more h =
+      rw (either_second (t ∷ b ++ more) (starts_apart_back code fs1 fs2 (t ∷ b ++ more) decided (g.head t b h)))
+      (g.passes (t ∷ b) more h)
 
-  pub IsRead-or : IsRead code (λ (x : A) (ts : List T). S x ts ⊎ S' x ts) (λ ts. B1 ts ⊎ B2 ts) n2 (fs1 ++ fs2) (cond n2 (fs1 ++ (gs1 ++ gs2)) (gs1 ++ gs2)) (either code fs1 r q)
+  pub IsRead-or : IsRead code (λ (x : A) (ts : List T). S x ts ⊎ S' x ts) (λ ts. B1 ts ⊎ B2 ts) n2 (fs1 ++ fs2)
+      (cond n2 (fs1 ++ (gs1 ++ gs2)) (gs1 ++ gs2)) (either code fs1 r q)
   IsRead-or = record {
     sound = λ ts x e. elim (cases_Bool (starts code fs1 ts)) [
       | inl h ↦ let s = f.sound ts x (sym (either_first ts h) ∙ e) in (s.0, s.1, inl s.2)
@@ -302,7 +352,11 @@ module _ {T A : Type 0} (code : T → ℕ) {S : A → List T → Type 0} {B1 : L
     ];
     passes = λ b more h. elim h [ inl h ↦ passes_first b more h | inr h ↦ passes_second b more h ];
     begun = λ x a s. elim s [ inl s ↦ inl (f.begun x a s) | inr s ↦ inr (g.begun x a s) ];
-    head = λ t b h. elim h [ inl h ↦ among-left fs1 fs2 (code t) (f.head t b h) | inr h ↦ among-right fs1 fs2 (code t) (g.head t b h) ];
+    head = λ t b h. elim h [
+      | inl h ↦ among-left fs1 fs2 (code t) (f.head t b h)
+      | inr h ↦
+          among-right fs1 fs2 (code t) (g.head t b h)
+    ];
     nil = inl f.nil;
     null = λ x s. elim s [ inl s ↦ true_is_not_false false (f.null x s) refl | inr s ↦ g.null x s ];
   }

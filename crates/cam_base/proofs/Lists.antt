@@ -15,7 +15,8 @@ pub cond_nil : {A : Type 0} (b : Bool) (x : A) → cond b [] (x ∷ []) ≡ [] �
 cond_nil true x e = refl
 cond_nil false x e = absurd cc
 
-pub flat_map_nil : {X A : Type 0} (f : X → List A) (xs : List X) (i : ℕ) (x : X) → flat_map f xs ≡ [] → slice_get xs i ≡ Some x → f x ≡ []
+pub flat_map_nil : {X A : Type 0} (f : X → List A) (xs : List X) (i : ℕ) (x : X) → flat_map f xs ≡ []
+    → slice_get xs i ≡ Some x → f x ≡ []
 flat_map_nil f [] i x e g = absurd cc
 flat_map_nil f (y ∷ xs) zero x e g = let p = nil_append (f y) (flat_map f xs) e in let s : y ≡ x = cc in rw (← s) p.0
 flat_map_nil f (y ∷ xs) (suc i) x e g = flat_map_nil f xs i x (nil_append (f y) (flat_map f xs) e).1 g
@@ -77,7 +78,8 @@ find_passes {X} t (y ∷ xs) x e = by_test (t y) refl (find_passes t xs x) e
     by_test true h rest e = let s : y ≡ x = cc in subst (λ z. t z ≡ true) s h
     by_test false h rest e = rest e
 
-pub position_from-snoc : {X : Type 0} (is : X → Bool) (a : ℕ) (xs : List X) (x : X) → position_from is a (xs ++ x ∷ []) ≡ option_or (position_from is a xs) (cond (is x) (Some (a + length xs)) None)
+pub position_from-snoc : {X : Type 0} (is : X → Bool) (a : ℕ) (xs : List X) (x : X)
+    → position_from is a (xs ++ x ∷ []) ≡ option_or (position_from is a xs) (cond (is x) (Some (a + length xs)) None)
 position_from-snoc is a [] x = by_test (is x)
   where
     by_test : (b : Bool) → cond b (Some a) None ≡ option_or None (cond b (Some (a + 0)) None)
@@ -85,10 +87,13 @@ position_from-snoc is a [] x = by_test (is x)
     by_test false = refl
 position_from-snoc is a (y ∷ xs) x = by_test (is y) (position_from-snoc is (a + 1) xs x)
   where
-    by_test : (b : Bool) → position_from is (a + 1) (xs ++ x ∷ []) ≡ option_or (position_from is (a + 1) xs) (cond (is x) (Some ((a + 1) + length xs)) None)
-        → cond b (Some a) (position_from is (a + 1) (xs ++ x ∷ [])) ≡ option_or (cond b (Some a) (position_from is (a + 1) xs)) (cond (is x) (Some (a + suc (length xs))) None)
+    by_test : (b : Bool) → position_from is (a + 1) (xs ++ x ∷ []) ≡ option_or (position_from is (a + 1) xs)
+        (cond (is x) (Some ((a + 1) + length xs)) None)
+        → cond b (Some a) (position_from is (a + 1) (xs ++ x ∷ [])) ≡ option_or (cond b (Some a) (position_from is (a + 1) xs))
+        (cond (is x) (Some (a + suc (length xs))) None)
     by_test true ih = refl
-    by_test false ih = let e : (a + 1) + length xs ≡ a + suc (length xs) = omega arith in ih ∙ ap (λ k. option_or (position_from is (a + 1) xs) (cond (is x) (Some k) None)) e
+    by_test false ih = let e : (a + 1) + length xs ≡ a + suc (length xs) = omega arith in
+        ih ∙ ap (λ k. option_or (position_from is (a + 1) xs) (cond (is x) (Some k) None)) e
 
 pub length-filter_map : {X Y : Type 0} (f : X → Option Y) (xs : List X) → length (filter_map f xs) ≤ length xs
 length-filter_map f [] = omega arith
@@ -99,7 +104,8 @@ length-filter_map {Y = Y} f (x ∷ xs) = by_case (f x) (length-filter_map f xs)
     by_case (Some y) h = omega arith
 
 -- the places of what `filter_map` keeps, and the places where it stands in what is made
-pub from_filter_map : {A B : Type 0} (f : A → Option B) (xs : List A) (k : ℕ) (y : B) → slice_get (filter_map f xs) k ≡ Some y → (i : ℕ) × (x : A) × (slice_get xs i ≡ Some x) × (f x ≡ Some y)
+pub from_filter_map : {A B : Type 0} (f : A → Option B) (xs : List A) (k : ℕ) (y : B) → slice_get (filter_map f xs) k ≡ Some y
+    → (i : ℕ) × (x : A) × (slice_get xs i ≡ Some x) × (f x ≡ Some y)
 from_filter_map f [] k y h = absurd cc
 from_filter_map {A} {B} f (x ∷ xs) k y h = go (f x) refl h (λ j g. from_filter_map f xs j y g) where
   go : (o : Option B) → f x ≡ o → slice_get (filter_map f (x ∷ xs)) k ≡ Some y
@@ -112,21 +118,25 @@ from_filter_map {A} {B} f (x ∷ xs) k y h = go (f x) refl h (λ j g. from_filte
   go (Some z) is there rest =
       let same : filter_map f (x ∷ xs) ≡ z ∷ filter_map f xs = rw is refl in
       at_place k (subst (λ (ys : List B). slice_get ys k ≡ Some y) same there) where
-        at_place : (j : ℕ) → slice_get (z ∷ filter_map f xs) j ≡ Some y → (i : ℕ) × (w : A) × (slice_get (x ∷ xs) i ≡ Some w) × (f w ≡ Some y)
+        at_place : (j : ℕ) → slice_get (z ∷ filter_map f xs) j ≡ Some y → (i : ℕ) × (w : A) × (slice_get (x ∷ xs) i ≡ Some w)
+            × (f w ≡ Some y)
         at_place zero g = (zero, x, refl, is ∙ g)
         at_place (suc j) g = let r = rest j g in (suc r.0, r.1, r.2, r.3)
 
-pub to_filter_map : {A B : Type 0} (f : A → Option B) (xs : List A) (i : ℕ) (x : A) (y : B) → slice_get xs i ≡ Some x → f x ≡ Some y → (k : ℕ) × (slice_get (filter_map f xs) k ≡ Some y)
+pub to_filter_map : {A B : Type 0} (f : A → Option B) (xs : List A) (i : ℕ) (x : A) (y : B) → slice_get xs i ≡ Some x
+    → f x ≡ Some y → (k : ℕ) × (slice_get (filter_map f xs) k ≡ Some y)
 to_filter_map f [] i x y h is = absurd cc
 to_filter_map {A} {B} f (z ∷ xs) zero x y h is =
     let same : z ≡ x = cc in
     let here : f z ≡ Some y = ap f same ∙ is in
     (zero, rw here refl)
 to_filter_map {A} {B} f (z ∷ xs) (suc i) x y h is = go (f z) refl (to_filter_map f xs i x y h is) where
-  go : (o : Option B) → f z ≡ o → (k : ℕ) × (slice_get (filter_map f xs) k ≡ Some y) → (k : ℕ) × (slice_get (filter_map f (z ∷ xs)) k ≡ Some y)
+  go : (o : Option B) → f z ≡ o → (k : ℕ) × (slice_get (filter_map f xs) k ≡ Some y)
+      → (k : ℕ) × (slice_get (filter_map f (z ∷ xs)) k ≡ Some y)
   go None here r = (r.0, rw here r.1)
   go (Some w) here r = (suc r.0, rw here r.1)
 
-pub list_all-places : {X : Type 0} (p : X → Bool) (xs : List X) → ((n : ℕ) (x : X) → slice_get xs n ≡ Some x → p x ≡ true) → list_all p xs ≡ true
+pub list_all-places : {X : Type 0} (p : X → Bool) (xs : List X) → ((n : ℕ) (x : X) → slice_get xs n ≡ Some x → p x ≡ true)
+    → list_all p xs ≡ true
 list_all-places p [] h = refl
 list_all-places p (x ∷ xs) h = and_from (p x) (list_all p xs) (h 0 x refl) (list_all-places p xs (λ n y e. h (suc n) y e))

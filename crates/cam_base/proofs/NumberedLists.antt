@@ -17,7 +17,8 @@ from_map f a (y ∷ xs) h = elim h [
   | inr i ↦ let k : (x : _) × IsIn x xs × (f x ≡ a) = from_map f a xs i in (k.0, inr k.1, k.2)
 ]
 
-pub get_map : {X A : Type 0} (f : X → A) (xs : List X) (n : ℕ) (x : X) → slice_get xs n ≡ Some x → slice_get (map f xs) n ≡ Some (f x)
+pub get_map : {X A : Type 0} (f : X → A) (xs : List X) (n : ℕ) (x : X) → slice_get xs n ≡ Some x
+    → slice_get (map f xs) n ≡ Some (f x)
 get_map f [] n x e = cc
 get_map f (y ∷ xs) zero x e = let same : y ≡ x = cc in ap (λ z. Some (f z)) same
 get_map f (y ∷ xs) (suc n) x e = get_map f xs n x e
@@ -29,32 +30,39 @@ at_place (x ∷ xs) zero l = (x, refl)
 at_place (x ∷ xs) (suc n) l = at_place xs n (omega (arith, l))
 
 -- the element that a loop has come to, where it reads the list by a slice of it
-pub read_place : {X : Type 0} (xs read : List X) (i : ℕ) (x : X) → read ≡ xs → i < length read → x ≡ get_or read i x → slice_get xs i ≡ Some x
+pub read_place : {X : Type 0} (xs read : List X) (i : ℕ) (x : X) → read ≡ xs → i < length read → x ≡ get_or read i x
+    → slice_get xs i ≡ Some x
 read_place xs read i x same l is = subst (λ z. slice_get z i ≡ Some x) same (slice_get_read read (length read) i x refl l is)
 
 pub read_in : {X : Type 0} (xs : List X) (i : ℕ) (d : X) → i < length xs → IsIn (get_or xs i d) xs
 read_in xs i d l = in_place (get_or xs i d) xs i (slice_get-get_or xs i d l)
 
 -- what comes from one thing for each element, where it doesn't depend on the place
-pub map_ones : {X Y Z : Type 0} (f : Y → Z) (g : ℕ → X → Y) (h : X → Z) → ((j : ℕ) (x : X) → f (g j x) ≡ h x) → (xs : List X) → map f (gather (λ j x. g j x ∷ []) xs) ≡ map h xs
+pub map_ones : {X Y Z : Type 0} (f : Y → Z) (g : ℕ → X → Y) (h : X → Z) → ((j : ℕ) (x : X) → f (g j x) ≡ h x) → (xs : List X)
+    → map f (gather (λ j x. g j x ∷ []) xs) ≡ map h xs
 map_ones f g h e [] = refl
 map_ones {X} {Y} {Z} f g h e (x ∷ xs) =
-    let front : (a b : Z) (us vs : List Z) → a ≡ b → us ≡ vs → a ∷ us ≡ b ∷ vs = λ a b us vs p q. ap (λ z. z ∷ us) p ∙ ap (λ z. b ∷ z) q in
+    let front : (a b : Z) (us vs : List Z) → a ≡ b → us ≡ vs → a ∷ us ≡ b ∷ vs = λ a b us vs p q. ap (λ z. z ∷ us) p
+    ∙ ap (λ z. b ∷ z) q in
     front _ _ _ _ (e 0 x) (map_ones f (λ j y. g (suc j) y) h (λ j y. e (suc j) y) xs)
 
-pub in_flat_map : {X Y : Type 0} (f : X → List Y) (x : X) (y : Y) (xs : List X) → IsIn x xs → IsIn y (f x) → IsIn y (flat_map f xs)
+pub in_flat_map : {X Y : Type 0} (f : X → List Y) (x : X) (y : Y) (xs : List X) → IsIn x xs → IsIn y (f x)
+    → IsIn y (flat_map f xs)
 in_flat_map f x y [] i j = absurd i
-in_flat_map {X} {Y} f x y (z ∷ xs) (inl e) j = let P : X → Type 0 = λ u. IsIn y (f u) in in_left y (f z) (flat_map f xs) (subst P (sym e) j)
+in_flat_map {X} {Y} f x y (z ∷ xs) (inl e) j = let P : X → Type 0 = λ u. IsIn y (f u) in
+    in_left y (f z) (flat_map f xs) (subst P (sym e) j)
 in_flat_map f x y (z ∷ xs) (inr i) j = in_right y (f z) (flat_map f xs) (in_flat_map f x y xs i j)
 
-pub from_flat_map : {X Y : Type 0} (f : X → List Y) (y : Y) (xs : List X) → IsIn y (flat_map f xs) → (x : X) × IsIn x xs × IsIn y (f x)
+pub from_flat_map : {X Y : Type 0} (f : X → List Y) (y : Y) (xs : List X) → IsIn y (flat_map f xs)
+    → (x : X) × IsIn x xs × IsIn y (f x)
 from_flat_map f y [] i = absurd i
 from_flat_map f y (z ∷ xs) i = elim (in_append y (f z) (flat_map f xs) i) [
   | inl j ↦ (z, inl refl, j)
   | inr j ↦ let k = from_flat_map f y xs j in (k.0, inr k.1, k.2)
 ]
 
-pub in_filter_map : {X Y : Type 0} (f : X → Option Y) (x : X) (y : Y) (xs : List X) → IsIn x xs → f x ≡ Some y → IsIn y (filter_map f xs)
+pub in_filter_map : {X Y : Type 0} (f : X → Option Y) (x : X) (y : Y) (xs : List X) → IsIn x xs → f x ≡ Some y
+    → IsIn y (filter_map f xs)
 in_filter_map f x y [] i e = absurd i
 in_filter_map f x y (z ∷ xs) (inl s) e = front (f z) (ap f s ∙ e)
   where
@@ -67,11 +75,13 @@ in_filter_map f x y (z ∷ xs) (inr i) e = behind (f z) (in_filter_map f x y xs 
     behind None j = j
     behind (Some u) j = inr j
 
-pub from_filter_map : {X Y : Type 0} (f : X → Option Y) (y : Y) (xs : List X) → IsIn y (filter_map f xs) → (x : X) × IsIn x xs × (f x ≡ Some y)
+pub from_filter_map : {X Y : Type 0} (f : X → Option Y) (y : Y) (xs : List X) → IsIn y (filter_map f xs)
+    → (x : X) × IsIn x xs × (f x ≡ Some y)
 from_filter_map f y [] i = absurd i
 from_filter_map {X} {Y} f y (z ∷ xs) i = by_case (f z) refl (from_filter_map f y xs) i
   where
-    by_case : (o : Option Y) → f z ≡ o → (IsIn y (filter_map f xs) → (x : X) × IsIn x xs × (f x ≡ Some y)) → IsIn y (cons_option o (filter_map f xs)) → (x : X) × IsIn x (z ∷ xs) × (f x ≡ Some y)
+    by_case : (o : Option Y) → f z ≡ o → (IsIn y (filter_map f xs) → (x : X) × IsIn x xs × (f x ≡ Some y))
+        → IsIn y (cons_option o (filter_map f xs)) → (x : X) × IsIn x (z ∷ xs) × (f x ≡ Some y)
     by_case None e ih j = let k = ih j in (k.0, inr k.1, k.2)
     by_case (Some u) e ih (inl s) = (z, inl refl, e ∙ ap Some s)
     by_case (Some u) e ih (inr j) = let k = ih j in (k.0, inr k.1, k.2)
@@ -81,18 +91,22 @@ pub found : {X : Type 0} (p : X → Bool) (xs : List X) (x : X) → find p xs �
 found p [] x e = cc
 found {X} p (y ∷ xs) x e = by_test (p y) refl (found p xs x) e
   where
-    by_test : (b : Bool) → p y ≡ b → (find p xs ≡ Some x → IsIn x xs × (p x ≡ true)) → cond b (Some y) (find p xs) ≡ Some x → IsIn x (y ∷ xs) × (p x ≡ true)
+    by_test : (b : Bool) → p y ≡ b → (find p xs ≡ Some x → IsIn x xs × (p x ≡ true)) → cond b (Some y) (find p xs) ≡ Some x
+        → IsIn x (y ∷ xs) × (p x ≡ true)
     by_test true t ih e = let s : y ≡ x = cc in (inl s, ap p (sym s) ∙ t)
     by_test false t ih e = let k = ih e in (inr k.0, k.1)
 
-pub from_enumerate : {X : Type 0} (a : ℕ) (xs : List X) (x : ℕ × X) → IsIn x (enumerate_from a xs) → (j : ℕ) × (x.0 ≡ a + j) × (slice_get xs j ≡ Some x.1)
+pub from_enumerate : {X : Type 0} (a : ℕ) (xs : List X) (x : ℕ × X) → IsIn x (enumerate_from a xs)
+    → (j : ℕ) × (x.0 ≡ a + j) × (slice_get xs j ≡ Some x.1)
 from_enumerate a [] x i = absurd i
 from_enumerate {X} a (y ∷ xs) x (inl e) = (0, ap (λ (z : ℕ × X). z.0) (sym e) ∙ omega arith, ap (λ (z : ℕ × X). Some z.1) e)
 from_enumerate a (y ∷ xs) x (inr i) = let k = from_enumerate (a + 1) xs x i in (suc k.0, k.1 ∙ omega arith, k.2)
 
-pub in_enumerate : {X : Type 0} (a : ℕ) (xs : List X) (j : ℕ) (x : X) → slice_get xs j ≡ Some x → IsIn (a + j, x) (enumerate_from a xs)
+pub in_enumerate : {X : Type 0} (a : ℕ) (xs : List X) (j : ℕ) (x : X) → slice_get xs j ≡ Some x
+    → IsIn (a + j, x) (enumerate_from a xs)
 in_enumerate a [] j x e = cc
-in_enumerate {X} a (y ∷ xs) zero x e = let s : y ≡ x = cc in let t : a ≡ a + 0 = omega arith in inl (ap (λ z. (z, y)) t ∙ ap (λ z. (a + 0, z)) s)
+in_enumerate {X} a (y ∷ xs) zero x e = let s : y ≡ x = cc in let t : a ≡ a + 0 = omega arith in
+    inl (ap (λ z. (z, y)) t ∙ ap (λ z. (a + 0, z)) s)
 in_enumerate {X} a (y ∷ xs) (suc j) x e =
     let t : (a + 1) + j ≡ a + suc j = omega arith in
     let P : ℕ → Type 0 = λ z. IsIn (z, x) (enumerate_from (a + 1) xs) in
@@ -100,7 +114,8 @@ in_enumerate {X} a (y ∷ xs) (suc j) x e =
 
 -- where a list of lists is empty, each of them is
 pub none_in : {X Y : Type 0} (f : X → List Y) (xs : List X) (x : X) → flat_map f xs ≡ [] → IsIn x xs → f x ≡ []
-none_in {X} {Y} f xs x e i = by_case (f x) (λ y j. let P : List Y → Type 0 = λ ys. IsIn y ys in subst P e (in_flat_map f x y xs i j))
+none_in {X} {Y} f xs x e i = by_case (f x) (λ y j. let P : List Y → Type 0 = λ ys. IsIn y ys in
+    subst P e (in_flat_map f x y xs i j))
   where
     by_case : (ys : List Y) → ((y : Y) → IsIn y ys → IsIn y []) → ys ≡ []
     by_case [] h = refl
@@ -117,9 +132,11 @@ empty [] h = refl
 empty (x ∷ xs) h = absurd (h x (inl refl))
 
 -- functions that agree on what stands in a list
-pub flat_map_same : {X Y : Type 0} (f g : X → List Y) (xs : List X) → ((x : X) → IsIn x xs → f x ≡ g x) → flat_map f xs ≡ flat_map g xs
+pub flat_map_same : {X Y : Type 0} (f g : X → List Y) (xs : List X) → ((x : X) → IsIn x xs → f x ≡ g x)
+    → flat_map f xs ≡ flat_map g xs
 flat_map_same f g [] h = refl
-flat_map_same f g (x ∷ xs) h = ap (λ ys. ys ++ flat_map f xs) (h x (inl refl)) ∙ ap (λ ys. g x ++ ys) (flat_map_same f g xs (λ y i. h y (inr i)))
+flat_map_same f g (x ∷ xs) h = ap (λ ys. ys ++ flat_map f xs) (h x (inl refl))
+    ∙ ap (λ ys. g x ++ ys) (flat_map_same f g xs (λ y i. h y (inr i)))
 
 -- what an index reads of a mapped list, or the default behind its end
 pub get_or_map : {X Y : Type 0} (f : X → Y) (xs : List X) (k : ℕ) (d : Y)
@@ -129,7 +146,8 @@ get_or_map f (x ∷ xs) zero d = inl (x, refl, refl)
 get_or_map f (x ∷ xs) (suc k) d = elim (get_or_map f xs k d) [ inl p ↦ inl p | inr p ↦ inr (let l = p.0 in omega arith, p.1) ]
 
 -- an element behind a list is what its default reads
-pub get_or_last : {X Y : Type 0} (f : X → Y) (xs : List X) (x : X) (k : ℕ) (d : Y) → k ≤ length xs → get_or (map f (xs ++ x ∷ [])) k d ≡ f (get_or xs k x)
+pub get_or_last : {X Y : Type 0} (f : X → Y) (xs : List X) (x : X) (k : ℕ) (d : Y) → k ≤ length xs
+    → get_or (map f (xs ++ x ∷ [])) k d ≡ f (get_or xs k x)
 get_or_last f [] x zero d l = refl
 get_or_last f [] x (suc k) d l = absurd (omega arith)
 get_or_last f (y ∷ xs) x zero d l = refl
@@ -178,7 +196,8 @@ get_drop [] (suc p) j = refl
 get_drop (x ∷ xs) (suc p) j =
     let e : suc (p + j) ≡ suc p + j = omega arith in get_drop xs p j ∙ ap (λ z. slice_get (x ∷ xs) z) e
 
-pub begins_with : {X : Type 0} (xs ts : List X) → ((j : ℕ) (y : X) → slice_get ts j ≡ Some y → slice_get xs j ≡ Some y) → xs ≡ ts ++ drop (length ts) xs
+pub begins_with : {X : Type 0} (xs ts : List X) → ((j : ℕ) (y : X) → slice_get ts j ≡ Some y → slice_get xs j ≡ Some y)
+    → xs ≡ ts ++ drop (length ts) xs
 begins_with xs [] h = refl
 begins_with [] (y ∷ ts) h = let e = h 0 y refl in cc
 begins_with {X} (x ∷ xs) (y ∷ ts) h =
@@ -200,11 +219,13 @@ taken_le F (x ∷ xs) (suc i) =
 pub from_any : {X : Type 0} (p : X → Bool) (xs : List X) → list_any p xs ≡ true → (x : X) × IsIn x xs × (p x ≡ true)
 from_any p [] h = absurd (true≢false (sym h))
 from_any {X} p (x ∷ xs) h = go (p x) refl (from_any p xs) h where
-  go : (b : Bool) → p x ≡ b → (list_any p xs ≡ true → (y : X) × IsIn y xs × (p y ≡ true)) → b || list_any p xs ≡ true → (y : X) × IsIn y (x ∷ xs) × (p y ≡ true)
+  go : (b : Bool) → p x ≡ b → (list_any p xs ≡ true → (y : X) × IsIn y xs × (p y ≡ true)) → b || list_any p xs ≡ true
+      → (y : X) × IsIn y (x ∷ xs) × (p y ≡ true)
   go true e rest h = (x, inl refl, e)
   go false e rest h = let r = rest h in (r.0, inr r.1, r.2)
 
-pub from_get_map : {X A : Type 0} (f : X → A) (xs : List X) (k : ℕ) (a : A) → slice_get (map f xs) k ≡ Some a → (x : X) × (slice_get xs k ≡ Some x) × (f x ≡ a)
+pub from_get_map : {X A : Type 0} (f : X → A) (xs : List X) (k : ℕ) (a : A) → slice_get (map f xs) k ≡ Some a
+    → (x : X) × (slice_get xs k ≡ Some x) × (f x ≡ a)
 from_get_map f [] k a e = cc
 from_get_map f (x ∷ xs) zero a e = (x, refl, cc)
 from_get_map f (x ∷ xs) (suc k) a e = from_get_map f xs k a e
@@ -216,7 +237,8 @@ split_in (y ∷ xs) x (inl same) = ([], xs, ap (λ z. z ∷ xs) same)
 split_in (y ∷ xs) x (inr i) = let s = split_in xs x i in (y ∷ s.0, s.1, ap (λ z. y ∷ z) s.2)
 
 -- at most one of each element
-pub length-gather : {X Y : Type 0} (f : ℕ → X → List Y) (xs : List X) → ((k : ℕ) (x : X) → length (f k x) ≤ 1) → length (gather f xs) ≤ length xs
+pub length-gather : {X Y : Type 0} (f : ℕ → X → List Y) (xs : List X) → ((k : ℕ) (x : X) → length (f k x) ≤ 1)
+    → length (gather f xs) ≤ length xs
 length-gather f [] h = omega arith
 length-gather f (x ∷ xs) h =
     let a = h 0 x in

@@ -15,16 +15,19 @@ pub option_or-assoc : {V : Type 0} (a b c : Option V) → option_or (option_or a
 option_or-assoc None b c = refl
 option_or-assoc (Some x) b c = refl
 
-pub option_map-option_or : {V W : Type 0} (f : V → W) (a b : Option V) → option_map f (option_or a b) ≡ option_or (option_map f a) (option_map f b)
+pub option_map-option_or : {V W : Type 0} (f : V → W) (a b : Option V) → option_map f (option_or a b) ≡ option_or (option_map f a)
+    (option_map f b)
 option_map-option_or f None b = refl
 option_map-option_or f (Some x) b = refl
 
-pub option_or-cond : {V : Type 0} (o : Option V) (b : Bool) (x : V) (more : Option V) → option_or (option_or o (cond b (Some x) None)) more ≡ option_or o (cond b (Some x) more)
+pub option_or-cond : {V : Type 0} (o : Option V) (b : Bool) (x : V) (more : Option V)
+    → option_or (option_or o (cond b (Some x) None)) more ≡ option_or o (cond b (Some x) more)
 option_or-cond None true x more = refl
 option_or-cond None false x more = refl
 option_or-cond (Some y) b x more = refl
 
-pub is_some-option_or : {V : Type 0} (o : Option V) (b : Bool) (x : V) → is_some (option_or o (cond b (Some x) None)) ≡ (is_some o || b)
+pub is_some-option_or : {V : Type 0} (o : Option V) (b : Bool) (x : V)
+    → is_some (option_or o (cond b (Some x) None)) ≡ (is_some o || b)
 is_some-option_or None true x = refl
 is_some-option_or None false x = refl
 is_some-option_or (Some y) b x = refl

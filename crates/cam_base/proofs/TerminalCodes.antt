@@ -41,7 +41,8 @@ apart_step : (a c d : Bool) → cond a false d ≡ true → (a ≡ false) × (d 
 apart_step true c d e = absurd cc
 apart_step false c d e = (refl, e)
 
-apart_cons : (d : ℕ) (cs ds : List ℕ) (c : ℕ) (same : Bool) → (same ≡ true → c ≡ d) → among ds d ≡ false → (among cs c ≡ true → among ds c ≡ false) → cond same true (among cs c) ≡ true → among ds c ≡ false
+apart_cons : (d : ℕ) (cs ds : List ℕ) (c : ℕ) (same : Bool) → (same ≡ true → c ≡ d) → among ds d ≡ false
+    → (among cs c ≡ true → among ds c ≡ false) → cond same true (among cs c) ≡ true → among ds c ≡ false
 apart_cons d cs ds c true is none others e = rw (is refl) none
 apart_cons d cs ds c false is none others e = others e
 
@@ -74,5 +75,10 @@ module _ {T : Type 0} (code : T → ℕ) where
   starts_apart cs ds [] p e = absurd cc
   starts_apart cs ds (t ∷ ts) p e = apart_none cs ds (code t) p e
 
-  pub starts_apart_back : (cs ds : List ℕ) (ts : List T) → apart cs ds ≡ true → starts code ds ts ≡ true → starts code cs ts ≡ false
-  starts_apart_back cs ds ts p e = elim (cases_Bool (starts code cs ts)) [ inl h ↦ true_is_not_false _ e (starts_apart cs ds ts p h) | inr h ↦ h ]
+  pub starts_apart_back : (cs ds : List ℕ) (ts : List T) → apart cs ds ≡ true → starts code ds ts ≡ true
+      → starts code cs ts ≡ false
+  starts_apart_back cs ds ts p e = elim (cases_Bool (starts code cs ts)) [
+    | inl h ↦
+        true_is_not_false _ e (starts_apart cs ds ts p h)
+    | inr h ↦ h
+  ]

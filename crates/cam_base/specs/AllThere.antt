@@ -14,7 +14,8 @@ abbrev pub of_four : {A B C D E : Type 0} → (A → B → C → D → E) → Op
 of_four make None b c d = None
 of_four make (Some a) b c d = of_three (make a) b c d
 
-abbrev pub of_six : {A B C D E F G : Type 0} → (A → B → C → D → E → F → G) → Option A → Option B → Option C → Option D → Option E → Option F → Option G
+abbrev pub of_six : {A B C D E F G : Type 0} → (A → B → C → D → E → F → G) → Option A → Option B → Option C → Option D → Option E
+    → Option F → Option G
 of_six make None b c d e f = None
 of_six make (Some a) None c d e f = None
 of_six make (Some a) (Some b) c d e f = of_four (make a b) c d e f

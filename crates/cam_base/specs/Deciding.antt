@@ -29,7 +29,8 @@ abbrev pub further : {T V A : Type 0} → List ℕ → Form T V A → List ℕ
 further opens (Give x) = []
 further opens (One cs) = []
 further opens (Then f g) = if can_be_empty g then further opens f ++ further opens g else further opens g
-further opens (Or f g) = if can_be_empty g then first opens f ++ (further opens f ++ further opens g) else further opens f ++ further opens g
+further opens (Or f g) = if can_be_empty g then first opens f ++ (further opens f ++ further opens g) else further opens f
+    ++ further opens g
 further opens (Many f) = first opens f ++ further opens f
 further opens (As h f) = further opens f
 further opens (Starts cs f) = further opens f

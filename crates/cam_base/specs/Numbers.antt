@@ -23,5 +23,6 @@ fits b n = if b && nat_lt n (2 ^ 64) then Some n else None
 
 -- the value of a number
 abbrev pub number_value : List ℕ → Option ℕ
-number_value (z ∷ x ∷ ds) = if z == 48 && (x == 120 || x == 88) then fits (is_hexadecimal ds) (digits_value 16 ds) else fits (is_decimal (z ∷ x ∷ ds)) (digits_value 10 (z ∷ x ∷ ds))
+number_value (z ∷ x ∷ ds) = if z == 48 && (x == 120 || x == 88) then fits (is_hexadecimal ds) (digits_value 16 ds) else fits
+    (is_decimal (z ∷ x ∷ ds)) (digits_value 10 (z ∷ x ∷ ds))
 number_value bs = fits (is_decimal bs) (digits_value 10 bs)

@@ -24,7 +24,8 @@ module _ {T V A : Type 0} (code : T → ℕ) (line : Form T V V) (f : Form T V A
 
   -- The same of a part: no value is spelled by any first tokens.
   abbrev pub PartStops : Why → ℕ → Type 0
-  PartStops Unexpected left = IsSyntaxError code line f limit ts left × ((x : A) (a rest : List T) → ts ≡ a ++ rest → Spelled code line f x a → ⊥)
+  PartStops Unexpected left = IsSyntaxError code line f limit ts left × ((x : A) (a rest : List T) → ts ≡ a ++ rest
+      → Spelled code line f x a → ⊥)
   PartStops TooDeep left = IsTooDeep code line f limit ts left
 
   -- The value is spelled by the tokens before the rest and nests at most limit deep; or a fault stands there; or memory

@@ -22,11 +22,11 @@ use adl_settings::{
     badges_count_from_one, outer_settings_come_first, references_are_values,
     settings_are_those_of_joins,
 };
+use authorities::sets_are_their_members;
 use camkes_tool::{builds_are_separated, checked_texts_are_separated, memory_of_builds_is_static};
 use cap_machine::{answers_are_told, states_keep_fitting, steps_follow_the_table};
 use cap_model::{
-    edges_are_ordered, examples_are_written, has_is_membership, sets_are_their_members,
-    tables_are_their_edges,
+    edges_are_ordered, examples_are_written, has_is_membership, tables_are_their_edges,
 };
 use cert_check::valid_certificates_are_sound;
 use conn_rules::{rights_confer_just_the_authorities, sets_are_their_lists};

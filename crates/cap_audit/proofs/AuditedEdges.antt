@@ -1,22 +1,9 @@
 -- A state that lies in the Spread has no edges but those of an audit.
-use Rattle.std.proofs.Common.{◌≡◌, ℕ, true, List, Some, sym, ap, subst, inl, inr, ◌∙◌}
-use Rattle.cap_model.specs.ObjectLabels.{label_of}
-use Rattle.cap_model.specs.declared.authority.Authority.{Authority}
-use Rattle.cap_model.specs.Auth.{Auth, Held, Structural, of_buffer, of_table, of_root, of_space, of_reply, of_saved, of_mapped, of_irq}
-use Rattle.cap_model.specs.Confers.{confers, kind_confers}
-use Rattle.cap_model.specs.Kinds.{kind_at}
-use Rattle.cap_model.specs.State.{State}
-use Rattle.cap_model.specs.declared.cap.Cap.{Cap}
+use Rattle.cap_audit.proofs.Common.{AddedBy, Audited, Auth, Authority, Cap, Capability, Holds, HoldsNoThread, IsWithin, List, Owed, Reaches, Rights, Saved, SavedReply, Some, Spec, State, Structural, ap, at_boot, confers, inl, inr, kind_at}
+use Rattle.cap_audit.proofs.Common.{kind_confers, kind_is, label_of, lessened_confers, lessened_kind, of_bind, of_buffer, of_call, of_irq, of_map, of_mapped, of_reply, of_root, of_save, of_saved, of_space, of_spread, of_table, subst, sym, true, ℕ}
+use Rattle.cap_audit.proofs.Common.{◌∙◌, ◌≡◌}
+use Rattle.cap_model.specs.Auth.{Held}
 use Rattle.cap_model.specs.declared.kind.Kind.TheVariants as kinds
-use Rattle.cap_model.specs.declared.rights.Rights.{Rights}
-use Rattle.cap_model.specs.declared.spec.Spec.{Spec}
-use Rattle.cap_model.specs.declared.state.Content.TheVariants.{Capability, SavedReply}
-use Rattle.cap_model.proofs.Conferring.{lessened_kind, lessened_confers}
-use Rattle.cap_model.proofs.Kept.{kind_is}
-use Rattle.cap_machine.specs.Runs.{Reaches}
-use Rattle.cap_audit.specs.Audited.{Audited, at_boot, of_spread, of_map, of_bind, of_call, of_save}
-use Rattle.cap_audit.specs.Spread.{HoldsNoThread}
-use Rattle.cap_audit.specs.Within.{Holds, Saved, Owed, AddedBy, IsWithin}
 use Rattle.cap_audit.proofs.RunsWithin.{runs_within}
 
 module _ (spec : Spec) (labels : List ℕ) (s : State) (w : IsWithin spec s) where
@@ -36,7 +23,8 @@ module _ (spec : Spec) (labels : List ℕ) (s : State) (w : IsWithin spec s) whe
   structural_audited l a m (of_buffer e) = at_boot (of_buffer e)
   structural_audited l a m (of_table e) = at_boot (of_table e)
   structural_audited l a m (of_root (t, d, there, is, from, to)) = at_boot (of_root (t, d, sym (w.roots t) ∙ there, is, from, to))
-  structural_audited l a m (of_space (t, d, there, is, from, to)) = at_boot (of_space (t, d, sym (w.spaces t) ∙ there, is, from, to))
+  structural_audited l a m (of_space (t, d, there, is, from, to)) =
+      at_boot (of_space (t, d, sym (w.spaces t) ∙ there, is, from, to))
   structural_audited l a m (of_reply (u, reply, owes, is, from, to)) =
       let owed : Owed spec u reply = w.pending u reply owes in
       of_call (reply.caller, u, owed.to, owed.from, owed.calls, is, from, to)
@@ -49,7 +37,8 @@ module _ (spec : Spec) (labels : List ℕ) (s : State) (w : IsWithin spec s) whe
         by.frame,
         by.space,
         by.maps,
-        (let whole : kind_confers kinds.Frame by.frame.rights a ≡ true = lessened_kind kinds.Frame by.frame.rights by.rights a (subst (λ (r : Rights). kind_confers kinds.Frame r a ≡ true) by.with_rights conf) in
+        (let whole : kind_confers kinds.Frame by.frame.rights a ≡ true = lessened_kind kinds.Frame by.frame.rights by.rights a
+            (subst (λ (r : Rights). kind_confers kinds.Frame r a ≡ true) by.with_rights conf) in
             let k : kind_at spec by.frame.object ≡ Some kinds.Frame = kind_is spec kinds.Frame by.frame.object by.maps.is_frame in
             rw k whole),
         from ∙ ap (λ (n : ℕ). label_of labels n) by.to,
@@ -64,5 +53,7 @@ module _ (spec : Spec) (labels : List ℕ) (s : State) (w : IsWithin spec s) whe
   within_audited l a m (inl e) = held_audited l a m e
   within_audited l a m (inr e) = structural_audited l a m e
 
-pub reached_audited : (spec : Spec) (labels : List ℕ) → HoldsNoThread spec → (l : ℕ) (a : Authority) (m : ℕ) → Reaches spec labels l a m → Audited spec labels l a m
-reached_audited spec labels none l a m (run, s, leads, auth) = within_audited spec labels s (runs_within spec run s none leads) l a m auth
+pub reached_audited : (spec : Spec) (labels : List ℕ) → HoldsNoThread spec → (l : ℕ) (a : Authority) (m : ℕ)
+    → Reaches spec labels l a m → Audited spec labels l a m
+reached_audited spec labels none l a m (run, s, leads, auth) =
+    within_audited spec labels s (runs_within spec run s none leads) l a m auth

@@ -1,48 +1,23 @@
 -- How a search begins.
-use Rattle.std.proofs.Common.{◌≡◌, ◌<◌, ◌≤◌, ◌⊎◌, ℕ, ◌+◌, Bool, true, false, List, [], ◌∷◌, ◌++◌, Option, Some, None, refl, sym, ap, subst, inl, inr, arith, get_or, set, length, slice_get, map, zero, suc, ◌∙◌}
-use Rattle.std.specs.List.{Contains}
-use Rattle.std.proofs.lemmas.Bool.{cases_lt}
-use Rattle.std.proofs.lemmas.List.{length-set, length-append, length-map, get_or-set_same}
-use Rattle.std.proofs.lemmas.Option.{slice_get_within, slice_get-get_or}
-use Rattle.cam_base.proofs.Lists.{get_or-last, get_or-before_last}
-use Rattle.cap_model.proofs.BootPlaces.{contains_at, at_contains}
-use Rattle.cap_model.specs.Kept.{IsKept}
-use Rattle.cap_machine.specs.Runs.{Run}
-use Rattle.cap_machine.specs.declared.step.Step.{Step}
-use Rattle.cap_model.proofs.BootPlaces.{entry_at}
-use Rattle.cap_model.proofs.Kept.{kind_is, is_at_below}
-use Rattle.cap_model.specs.Kinds.{kind_of_object, kind_at, is_at}
+use Rattle.cap_audit.proofs.Common.{AreRoots, Bool, Cap, Contains, Doors, Entry, Found, Gathering, HasRoot, HasSlots, HasValue, Held, HoldsAt, InClass, IsCounted, IsFound, IsHub, IsKept, IsSearch, Lanes, List, Marks, None, Object, Option, Pair}
+use Rattle.cap_audit.proofs.Common.{Passage, Path, Queued, Run, Some, Spec, Starts, Step, Way, [], ap, arith, at_contains, at_end, at_object, blank_row, blank_rows, blanks, boot, boot_node, cases_lt, contains_at, empties, entry_at, false, get_or}
+use Rattle.cap_audit.proofs.Common.{get_or-before_last, get_or-last, get_or-set_same, held_by, hub_at, hubs_of, inl, inr, is_at, is_at_below, is_known, kind_at, kind_is, kind_of_object, length, length-append, length-map, length-set, map, marks_of}
+use Rattle.cap_audit.proofs.Common.{no_node, nobody, object_at, owned, pushed_last, read_written, refl, repeated, root_of, rooted, set, slice_get, slice_get-get_or, slice_get_within, slots_at, slots_of, subst, suc, sym, true, ways_from, with_mark}
+use Rattle.cap_audit.proofs.Common.{with_rows, with_value, zero, ℕ, ◌++◌, ◌+◌, ◌<◌, ◌∙◌, ◌∷◌, ◌≡◌, ◌≤◌, ◌⊎◌}
 use Rattle.cap_model.specs.declared.kind.Kind.{Kind}
-use Rattle.cap_model.specs.Lookup.{object_at}
-use Rattle.cap_model.specs.State.{boot, boot_node, no_node}
-use Rattle.cap_model.specs.declared.cap.Cap.{Cap}
 use Rattle.cap_model.specs.declared.kind.Kind.TheVariants as kinds
-use Rattle.cap_model.specs.declared.object.Object.{Object}
 use Rattle.cap_model.specs.declared.object.Object.TheVariants as objects
-use Rattle.cap_model.specs.declared.spec.Entry.{Entry}
-use Rattle.cap_model.specs.declared.spec.Spec.{Spec}
-use Rattle.cap_audit.specs.Covering.{Doors, hubs_of, hub_at, AreRoots, IsSearch, HasSlots}
-use Rattle.cap_audit.specs.Hubs.{Gathering, nobody, IsHub}
-use Rattle.cap_audit.specs.Ways.{Lanes, ways_from, Path, at_end, InClass, HaveGone}
-use Rattle.cap_audit.specs.declared.found.Way.{Way}
-use Rattle.cap_audit.specs.declared.hubs.Passage.{Passage}
+use Rattle.cap_audit.specs.Ways.{HaveGone}
 use Rattle.cap_audit.specs.declared.hubs.Passage.TheVariants as passages
-use Rattle.cap_machine.proofs.Applied.{read_written}
-use Rattle.cap_audit.specs.Search.{Found, held_by, marks_of, is_known, HoldsAt, IsFound}
-use Rattle.cap_audit.specs.Spread.{slots_of, slots_at, root_of, HasRoot}
-use Rattle.cap_audit.specs.Start.{empties, blanks, blank_row, blank_rows, HasValue, owned, with_value, with_rows, with_mark, Queued, Starts, Marks, repeated, IsCounted, rooted}
-use Rattle.cap_audit.specs.declared.found.Held.{Held}
-use Rattle.cap_audit.specs.declared.found.Pair.{Pair}
 use Rattle.cap_audit.proofs.Bringing.{none_within, at_pushed, pushed_cases, mark_kept, mark_cases, mark_there, mark_lengths, held_kept, held_cases, held_there}
 use Rattle.cap_audit.proofs.Quiet.{slot_at_boot, boot_quiet, quiet_cnode}
-use Rattle.cap_machine.proofs.Booting.{at_object}
-use Rattle.cap_model.proofs.MadeRows.{pushed_last}
 
 pub slots_inside : (spec : Spec) (c k : ℕ) (x : ℕ × Cap) → slice_get (slots_at spec c) k ≡ Some x → c < length spec.entries
 slots_inside spec c k x h = go (slice_get spec.entries c) refl where
   go : (e : Option Entry) → slice_get spec.entries c ≡ e → c < length spec.entries
   go (Some entry) there = slice_get_within spec.entries c entry there
-  go None there = absurd (let none : slots_at spec c ≡ [] = rw there refl in let y : slice_get [] k ≡ Some x = subst (λ (slots : List (ℕ × Cap)). slice_get slots k ≡ Some x) none h in cc)
+  go None there = absurd (let none : slots_at spec c ≡ [] = rw there refl in
+      let y : slice_get [] k ≡ Some x = subst (λ (slots : List (ℕ × Cap)). slice_get slots k ≡ Some x) none h in cc)
 
 slots_kind : (object : Object) (x : ℕ × Cap) → Contains (slots_of (Some object)) x → kind_of_object object ≡ kinds.CNode
 slots_kind (objects.CNode bits slots) x there = refl
@@ -51,9 +26,11 @@ slots_kind _ x there = absurd (let w = there.1 in omega arith)
 slots_cnode : (spec : Spec) (c : ℕ) → (x : ℕ × Cap) × Contains (slots_at spec c) x → is_at spec kinds.CNode c ≡ true
 slots_cnode spec c (x, there) = go (object_at spec c) refl where
   go : (o : Option Object) → object_at spec c ≡ o → is_at spec kinds.CNode c ≡ true
-  go None h = absurd (let y : Contains (slots_of None) x = subst (λ (o : Option Object). Contains (slots_of o) x) h there in let w = y.1 in omega arith)
+  go None h = absurd (let y : Contains (slots_of None) x = subst (λ (o : Option Object). Contains (slots_of o) x) h there in
+      let w = y.1 in omega arith)
   go (Some object) h =
-      let kind : kind_of_object object ≡ kinds.CNode = slots_kind object x (subst (λ (o : Option Object). Contains (slots_of o) x) h there) in
+      let kind : kind_of_object object ≡ kinds.CNode =
+      slots_kind object x (subst (λ (o : Option Object). Contains (slots_of o) x) h there) in
       rw (h, kind) refl
 
 value_there : (values : List Cap) (v : ℕ) → v < length values → (cap : Cap) × (slice_get values v ≡ Some cap)
@@ -66,11 +43,13 @@ value_there values v less = go (slice_get values v) refl where
 
 pub empties_more : (n : ℕ) → empties n ++ [] ∷ [] ≡ empties (n + 1)
 empties_more zero = refl
-empties_more (suc n) = let e : suc n + 1 ≡ suc (n + 1) = omega arith in rw e (ap (λ (rest : List (List Held)). [] ∷ rest) (empties_more n))
+empties_more (suc n) = let e : suc n + 1 ≡ suc (n + 1) = omega arith in
+    rw e (ap (λ (rest : List (List Held)). [] ∷ rest) (empties_more n))
 
 pub blanks_more : (n : ℕ) → blanks n ++ false ∷ [] ≡ blanks (n + 1)
 blanks_more zero = refl
-blanks_more (suc n) = let e : suc n + 1 ≡ suc (n + 1) = omega arith in rw e (ap (λ (rest : List Bool). false ∷ rest) (blanks_more n))
+blanks_more (suc n) = let e : suc n + 1 ≡ suc (n + 1) = omega arith in
+    rw e (ap (λ (rest : List Bool). false ∷ rest) (blanks_more n))
 
 empties_length : (n : ℕ) → length (empties n) ≡ n
 empties_length zero = refl
@@ -99,15 +78,24 @@ rows_blank width [] c v = refl
 rows_blank width (e ∷ entries) zero v = row_blank width e.object v
 rows_blank width (e ∷ entries) (suc c) v = rows_blank width entries c v
 
-next_at : (entries : List Entry) (c : ℕ) → (get_or (map (λ (e : Entry). boot_node e.object) entries) c no_node).next ≡ get_or (map (λ (e : Entry). (boot_node e.object).next) entries) c 0
+next_at : (entries : List Entry) (c : ℕ) → (get_or (map (λ (e : Entry). boot_node e.object) entries) c no_node).next ≡ get_or
+    (map (λ (e : Entry). (boot_node e.object).next) entries) c 0
 next_at [] c = refl
 next_at (e ∷ entries) zero = refl
 next_at (e ∷ entries) (suc c) = next_at entries c
 
 none_held : (n c : ℕ) (held : Held) → Contains (get_or (empties n) c []) held → ⊥
-none_held n c held there = let x : Contains [] held = subst (λ (row : List Held). Contains row held) (empty_at n c) there in let w = x.1 in omega arith
+none_held n c held there = let x : Contains [] held = subst (λ (row : List Held). Contains row held) (empty_at n c) there in
+    let w = x.1 in omega arith
 
-pub blank_starts : (spec : Spec) → Starts spec (record { values = []; held = empties (length spec.entries); known = []; queue = []; steps = []; nexts = map (λ (e : Entry). (boot_node e.object).next) spec.entries }) 0 0
+pub blank_starts : (spec : Spec) → Starts spec (record {
+  values = [];
+  held = empties (length spec.entries);
+  known = [];
+  queue = [];
+  steps = [];
+  nexts = map (λ (e : Entry). (boot_node e.object).next) spec.entries;
+}) 0 0
 blank_starts spec = record {
   steps = refl;
   nexts = next_at spec.entries;
@@ -122,7 +110,13 @@ blank_starts spec = record {
 -- one slot more
 
 value_queued : (f : Found) (x : Cap) (c : ℕ) (cap : Cap) → Queued f c cap → Queued (with_value f x) c cap
-value_queued f x c cap q = record { place = q.place; pair = q.pair; there = q.there; node = q.node; is = at_pushed f.values x cap q.pair.held.value q.is }
+value_queued f x c cap q = record {
+  place = q.place;
+  pair = q.pair;
+  there = q.there;
+  node = q.node;
+  is = at_pushed f.values x cap q.pair.held.value q.is;
+}
 
 value_starts : (spec : Spec) (f : Found) (n m : ℕ) (x : Cap) → Starts spec f n m → Starts spec (with_value f x) n m
 value_starts spec f n m x s = record {
@@ -132,7 +126,8 @@ value_starts spec f n m x s = record {
   row_held = s.row_held;
   own = λ c i cap at. elim (pushed_cases f.values x cap at.value at.is) [
     | inl is ↦ s.own c i cap (record { value = at.value; held = at.held; is = is })
-    | inr last ↦ absurd (let below = s.valued c (record { value = at.value; number = i }) at.held in let e = last.0 in omega arith)
+    | inr last ↦ absurd (let below = s.valued c (record { value = at.value; number = i }) at.held in
+        let e = last.0 in omega arith)
   ];
   queued = s.queued;
   valued = λ c held there. (let below = s.valued c held there in let more = length-append f.values (x ∷ []) in omega arith);
@@ -140,13 +135,15 @@ value_starts spec f n m x s = record {
 }
 
 -- the same, where the values have this one
-pub valued_starts : (spec : Spec) (f new : Found) (n m place : ℕ) (x : Cap) → HasValue f x new place → Starts spec f n m → Starts spec new n m
+pub valued_starts : (spec : Spec) (f new : Found) (n m place : ℕ) (x : Cap) → HasValue f x new place → Starts spec f n m
+    → Starts spec new n m
 valued_starts spec f new n m place x has s = elim has.0 [
   | inl same ↦ subst (λ (g : Found). Starts spec g n m) (sym same) s
   | inr more ↦ subst (λ (g : Found). Starts spec g n m) (sym more) (value_starts spec f n m x s)
 ]
 
-module _ (spec : Spec) (f : Found) (n m : ℕ) (s : Starts spec f n m) (slot : ℕ × Cap) (here : slice_get (slots_at spec n) m ≡ Some slot) (less : n < length spec.entries) (v : ℕ) (value : slice_get f.values v ≡ Some slot.1) where
+module _ (spec : Spec) (f : Found) (n m : ℕ) (s : Starts spec f n m) (slot : ℕ × Cap) (here : slice_get (slots_at spec n) m ≡ Some
+    slot) (less : n < length spec.entries) (v : ℕ) (value : slice_get f.values v ≡ Some slot.1) where
   abbrev held : Held
   held = record { value = v; number = slot.0 }
 
@@ -154,7 +151,14 @@ module _ (spec : Spec) (f : Found) (n m : ℕ) (s : Starts spec f n m) (slot : �
   after = owned f n held
 
   queued_on : (c : ℕ) (cap : Cap) → Queued f c cap → Queued after c cap
-  queued_on c cap q = record { place = q.place; pair = q.pair; there = at_pushed f.queue (record { node = n; held = held }) q.pair q.place q.there; node = q.node; is = q.is }
+  queued_on c cap q = record {
+    place = q.place;
+    pair = q.pair;
+    there = at_pushed f.queue (record { node = n; held = held }) q.pair
+        q.place q.there;
+    node = q.node;
+    is = q.is;
+  }
 
   own_after : (c i : ℕ) (cap : Cap) → HoldsAt after c i cap → Contains (slots_at spec c) (i, cap)
   own_after c i cap at = elim (held_cases f.held n held c (record { value = at.value; number = i }) at.held) [
@@ -176,21 +180,26 @@ module _ (spec : Spec) (f : Found) (n m : ℕ) (s : Starts spec f n m) (slot : �
     own = own_after;
     queued = λ k pair h. elim (pushed_cases f.queue (record { node = n; held = held }) pair k h) [
       | inl old ↦ held_kept f.held n held pair.node pair.held (s.queued k pair old)
-      | inr new ↦ subst (λ (p : Pair). Contains (held_by after p.node) p.held) new.1 (held_there f.held n held (let e = s.row_held in omega arith))
+      | inr new ↦ subst (λ (p : Pair). Contains (held_by after p.node) p.held) new.1
+          (held_there f.held n held (let e = s.row_held in omega arith))
     ];
     valued = λ c x there. elim (held_cases f.held n held c x there) [
       | inl old ↦ s.valued c x old
-      | inr new ↦ (let e : v ≡ x.value = ap (λ (h : Held). h.value) new.1 in let below = slice_get_within f.values v slot.1 value in omega arith)
+      | inr new ↦ (let e : v ≡ x.value = ap (λ (h : Held). h.value) new.1 in
+          let below = slice_get_within f.values v slot.1 value in omega arith)
     ];
     slots = λ c k x h before. slots_after c k x h before;
   } where
-    slots_after : (c k : ℕ) (x : ℕ × Cap) → slice_get (slots_at spec c) k ≡ Some x → (c < n) ⊎ ((c ≡ n) × (k < m + 1)) → Queued after c x.1
+    slots_after : (c k : ℕ) (x : ℕ × Cap) → slice_get (slots_at spec c) k ≡ Some x → (c < n) ⊎ ((c ≡ n) × (k < m + 1))
+        → Queued after c x.1
     slots_after c k x h (inl below) = queued_on c x.1 (s.slots c k x h (inl below))
     slots_after c k x h (inr (same, less)) = elim (cases_lt k m) [
       | inl below ↦ queued_on c x.1 (s.slots c k x h (inr (same, below)))
       | inr ge ↦ (
           let at : k ≡ m = omega arith in
-          let slot_is : slot ≡ x = (let a : slice_get (slots_at spec n) m ≡ Some x = subst (λ (i : ℕ). slice_get (slots_at spec n) i ≡ Some x) at (subst (λ (i : ℕ). slice_get (slots_at spec i) k ≡ Some x) same h) in cc) in
+          let slot_is : slot ≡ x =
+          (let a : slice_get (slots_at spec n) m ≡ Some x = subst (λ (i : ℕ). slice_get (slots_at spec n) i ≡ Some x) at
+          (subst (λ (i : ℕ). slice_get (slots_at spec i) k ≡ Some x) same h) in cc) in
           subst (λ (y : ℕ × Cap). Queued after c y.1) slot_is
           (record {
             place = length f.queue;
@@ -213,7 +222,8 @@ next_object spec f n m s all = record {
   valued = s.valued;
   slots = λ c k x h before. s.slots c k x h (now c k x h before);
 } where
-  now : (c k : ℕ) (x : ℕ × Cap) → slice_get (slots_at spec c) k ≡ Some x → (c < n + 1) ⊎ ((c ≡ n + 1) × (k < 0)) → (c < n) ⊎ ((c ≡ n) × (k < m))
+  now : (c k : ℕ) (x : ℕ × Cap) → slice_get (slots_at spec c) k ≡ Some x → (c < n + 1) ⊎ ((c ≡ n + 1) × (k < 0))
+      → (c < n) ⊎ ((c ≡ n) × (k < m))
   now c k x h (inr e) = absurd (let less = e.1 in omega arith)
   now c k x h (inl less) = elim (cases_lt c n) [
     | inl below ↦ inl below
@@ -226,7 +236,8 @@ next_object spec f n m s all = record {
 
 -- rows, and marks in them
 
-cnode_row : (width : ℕ) (object : Object) → ◌≡◌ {A = Option Kind} (Some (kind_of_object object)) (Some kinds.CNode) → length (blank_row width object) ≡ width
+cnode_row : (width : ℕ) (object : Object) → ◌≡◌ {A = Option Kind} (Some (kind_of_object object)) (Some kinds.CNode)
+    → length (blank_row width object) ≡ width
 cnode_row width (objects.CNode bits slots) h = blanks_length width
 cnode_row width objects.Endpoint h = absurd cc
 cnode_row width objects.Notification h = absurd cc
@@ -235,24 +246,44 @@ cnode_row width (objects.Frame paddr fill) h = absurd cc
 cnode_row width (objects.Pages level slots) h = absurd cc
 cnode_row width (objects.Irq notification) h = absurd cc
 
-row_width : (spec : Spec) (width c : ℕ) → is_at spec kinds.CNode c ≡ true → length (get_or (blank_rows width spec.entries) c []) ≡ width
+row_width : (spec : Spec) (width c : ℕ) → is_at spec kinds.CNode c ≡ true
+    → length (get_or (blank_rows width spec.entries) c []) ≡ width
 row_width spec width c is = go (slice_get spec.entries c) refl where
   go : (e : Option Entry) → slice_get spec.entries c ≡ e → length (get_or (blank_rows width spec.entries) c []) ≡ width
   go None h = absurd (let w : is_at spec kinds.CNode c ≡ false = rw h refl in cc)
   go (Some entry) h =
       let kind : kind_at spec c ≡ Some kinds.CNode = kind_is spec kinds.CNode c is in
-      ap (λ (row : List Bool). length row) (entry_at (blank_row width) spec.entries c [] entry h) ∙ cnode_row width entry.object (sym (at_object spec c entry entry.object h refl) ∙ kind)
+      ap (λ (row : List Bool). length row) (entry_at (blank_row width) spec.entries c [] entry h) ∙ cnode_row width entry.object
+      (sym (at_object spec c entry entry.object h refl) ∙ kind)
 
-pub rows_marks : (spec : Spec) (f : Found) → Starts spec f (length spec.entries) 0 → Marks spec (with_rows f (blank_rows (length f.values) spec.entries)) 0
+pub rows_marks : (spec : Spec) (f : Found) → Starts spec f (length spec.entries) 0
+    → Marks spec (with_rows f (blank_rows (length f.values) spec.entries)) 0
 rows_marks spec f s = record {
-  starts = record { steps = s.steps; nexts = s.nexts; row_nexts = s.row_nexts; row_held = s.row_held; own = λ c i cap at. s.own c i cap (record { value = at.value; held = at.held; is = at.is }); queued = s.queued; valued = s.valued; slots = λ c k slot h b. (let q = s.slots c k slot h b in record { place = q.place; pair = q.pair; there = q.there; node = q.node; is = q.is }) };
+  starts = record {
+    steps = s.steps;
+    nexts = s.nexts;
+    row_nexts = s.row_nexts;
+    row_held = s.row_held;
+    own = λ c i cap at. s.own c i cap (record { value = at.value; held = at.held; is = at.is });
+    queued = s.queued;
+    valued = s.valued;
+    slots = λ c k slot h b. (let q = s.slots c k slot h b in record {
+      place = q.place;
+      pair = q.pair;
+      there = q.there;
+      node = q.node;
+      is = q.is;
+    });
+  };
   row_each = length-map spec.entries (λ (e : Entry). blank_row (length f.values) e.object);
   rows = λ c is. row_width spec (length f.values) c is;
-  known = λ c v h. absurd (let none : is_known (with_rows f (blank_rows (length f.values) spec.entries)) c v ≡ false = rows_blank (length f.values) spec.entries c v in cc);
+  known = λ c v h. absurd (let none : is_known (with_rows f (blank_rows (length f.values) spec.entries)) c v ≡ false = rows_blank
+      (length f.values) spec.entries c v in cc);
   marked = λ k pair less h. absurd (omega arith);
 }
 
-module _ (spec : Spec) (f : Found) (done : ℕ) (m : Marks spec f done) (pair : Pair) (here : slice_get f.queue done ≡ Some pair) where
+module _ (spec : Spec) (f : Found) (done : ℕ) (m : Marks spec f done) (pair : Pair)
+    (here : slice_get f.queue done ≡ Some pair) where
   cnode_held : is_at spec kinds.CNode pair.node ≡ true
   cnode_held = slots_cnode spec pair.node (held_slot pair.held (m.starts.queued done pair here)) where
     held_slot : (held : Held) → Contains (held_by f pair.node) held → (x : ℕ × Cap) × Contains (slots_at spec pair.node) x
@@ -262,7 +293,26 @@ module _ (spec : Spec) (f : Found) (done : ℕ) (m : Marks spec f done) (pair : 
 
   pub marks_more : Marks spec (with_mark f pair) (done + 1)
   marks_more = record {
-    starts = record { steps = m.starts.steps; nexts = m.starts.nexts; row_nexts = m.starts.row_nexts; row_held = m.starts.row_held; own = λ c i cap at. m.starts.own c i cap (record { value = at.value; held = at.held; is = at.is }); queued = m.starts.queued; valued = m.starts.valued; slots = λ c k slot h b. (let q = m.starts.slots c k slot h b in record { place = q.place; pair = q.pair; there = q.there; node = q.node; is = q.is }) };
+    starts = record {
+      steps = m.starts.steps;
+      nexts = m.starts.nexts;
+      row_nexts = m.starts.row_nexts;
+      row_held = m.starts.row_held;
+      own = λ c i cap at. m.starts.own c i cap (record {
+        value = at.value;
+        held = at.held;
+        is = at.is;
+      });
+      queued = m.starts.queued;
+      valued = m.starts.valued;
+      slots = λ c k slot h b. (let q = m.starts.slots c k slot h b in record {
+        place = q.place;
+        pair = q.pair;
+        there = q.there;
+        node = q.node;
+        is = q.is;
+      });
+    };
     row_each = length-set f.known pair.node (set (marks_of f pair.node) pair.held.value true) ∙ m.row_each;
     rows = λ c is. mark_lengths f.known pair.node pair.held.value c ∙ m.rows c is;
     known = λ c v h. elim (mark_cases f.known pair.node pair.held.value c v h) [
@@ -273,11 +323,13 @@ module _ (spec : Spec) (f : Found) (done : ℕ) (m : Marks spec f done) (pair : 
       | inl below ↦ mark_kept f.known pair.node pair.held.value p.node p.held.value (m.marked k p below h)
       | inr ge ↦ (
           let at : k ≡ done = omega arith in
-          let same : pair ≡ p = (let a : slice_get f.queue done ≡ Some p = subst (λ (n : ℕ). slice_get f.queue n ≡ Some p) at h in cc) in
+          let same : pair ≡ p = (let a : slice_get f.queue done ≡ Some p = subst (λ (n : ℕ). slice_get f.queue n ≡ Some p) at h in
+          cc) in
           subst (λ (q : Pair). is_known (with_mark f pair) q.node q.held.value ≡ true) same
           (mark_there f.known pair.node pair.held.value
           (let e = m.row_each in let below = is_at_below spec kinds.CNode pair.node cnode_held in omega arith)
-          (let e = m.rows pair.node cnode_held in let below = m.starts.valued pair.node pair.held (m.starts.queued done pair here) in omega arith)))
+          (let e = m.rows pair.node cnode_held in
+          let below = m.starts.valued pair.node pair.held (m.starts.queued done pair here) in omega arith)))
     ];
   }
 
@@ -302,12 +354,18 @@ pub marks_slots : (spec : Spec) (f : Found) → Marks spec f (length f.queue) �
 marks_slots spec f m = record {
   each = λ c i cap there. (
       let k = contains_at (slots_at spec c) (i, cap) there in
-      let q : Queued f c cap = m.starts.slots c k.0 (i, cap) k.1 (inl (slots_inside spec c k.0 (i, cap) k.1)) in
-      (q.pair.held.value, q.is, subst (λ (n : ℕ). is_known f n q.pair.held.value ≡ true) q.node (m.marked q.place q.pair (slice_get_within f.queue q.place q.pair q.there) q.there)));
+      let q : Queued f c cap = m.starts.slots c k.0 (i, cap) k.1 (inl (slots_inside spec c k.0 (i, cap) k.1)) in (
+        q.pair.held.value,
+        q.is,
+        subst (λ (n : ℕ). is_known f n q.pair.held.value ≡ true) q.node
+            (m.marked q.place q.pair (slice_get_within f.queue q.place q.pair q.there) q.there),
+      ));
 }
 
-pub blank_at_parts : (spec : Spec) (values : List Cap) (shelves : List (List Held)) (known : List (List Bool)) (queue : List Pair) (steps : List Step) (nexts : List ℕ) → values ≡ []
-    → shelves ≡ empties (length spec.entries) → known ≡ [] → queue ≡ [] → steps ≡ [] → nexts ≡ map (λ (e : Entry). (boot_node e.object).next) spec.entries
+pub blank_at_parts : (spec : Spec) (values : List Cap) (shelves : List (List Held)) (known : List (List Bool)) (queue : List Pair)
+    (steps : List Step) (nexts : List ℕ) → values ≡ []
+    → shelves ≡ empties (length spec.entries) → known ≡ [] → queue ≡ [] → steps ≡ []
+    → nexts ≡ map (λ (e : Entry). (boot_node e.object).next) spec.entries
     → Starts spec (record { values = values; held = shelves; known = known; queue = queue; steps = steps; nexts = nexts }) 0 0
 blank_at_parts spec values shelves known queue steps nexts a b c d e f = rw (a, b, c, d, e, f) (blank_starts spec)
 
@@ -315,7 +373,8 @@ blank_at_parts spec values shelves known queue steps nexts a b c d e f = rw (a, 
 
 pub repeated_more : {A : Type 0} (x : A) (n : ℕ) → repeated x n ++ x ∷ [] ≡ repeated x (n + 1)
 repeated_more x zero = refl
-repeated_more {A} x (suc n) = let e : suc n + 1 ≡ suc (n + 1) = omega arith in rw e (ap (λ (rest : List A). x ∷ rest) (repeated_more x n))
+repeated_more {A} x (suc n) = let e : suc n + 1 ≡ suc (n + 1) = omega arith in
+    rw e (ap (λ (rest : List A). x ∷ rest) (repeated_more x n))
 
 pub repeated_length : {A : Type 0} (x : A) (n : ℕ) → length (repeated x n) ≡ n
 repeated_length x zero = refl
@@ -328,7 +387,8 @@ repeated_at x (suc n) (suc c) = repeated_at x n c
 
 pub counted_more : (numbers new : List ℕ) (n : ℕ) → IsCounted numbers n → new ≡ numbers ++ n ∷ [] → IsCounted new (n + 1)
 counted_more numbers new n c made = record {
-  as_many = (let e = c.as_many in let l : length (numbers ++ n ∷ []) ≡ length numbers + 1 = length-append numbers (n ∷ []) in let m = ap (λ (xs : List ℕ). length xs) made in omega arith);
+  as_many = (let e = c.as_many in let l : length (numbers ++ n ∷ []) ≡ length numbers + 1 = length-append numbers (n ∷ []) in
+      let m = ap (λ (xs : List ℕ). length xs) made in omega arith);
   each = λ k less. rw made (elim (cases_lt k n) [
     | inl below ↦ get_or-before_last numbers n k (let e = c.as_many in omega arith) ∙ c.each k below
     | inr ge ↦ (let same : k ≡ n = omega arith in get_or-last numbers n k (let e = c.as_many in omega arith) ∙ sym same)
@@ -337,7 +397,8 @@ counted_more numbers new n c made = record {
 
 -- roots
 
-pub root_item : (spec : Spec) (t : ℕ) (d : Entry) → t < length spec.entries → root_of (Some (get_or spec.entries t d).object) ≡ root_of (object_at spec t)
+pub root_item : (spec : Spec) (t : ℕ) (d : Entry) → t < length spec.entries
+    → root_of (Some (get_or spec.entries t d).object) ≡ root_of (object_at spec t)
 root_item spec t d less = let e = slice_get-get_or spec.entries t d less in rw e refl
 
 -- the roots of the first threads are in
@@ -346,17 +407,20 @@ pub record RootsBelow (spec : Spec) (roots : List (Option ℕ)) (n : ℕ) : Type
   pub true_ones : (c t : ℕ) → get_or roots c None ≡ Some t → HasRoot spec t c
   pub all_ones : (c t : ℕ) → t < n → HasRoot spec t c → get_or roots c None ≡ None → ⊥
 
-pub no_roots_below : (spec : Spec) (roots : List (Option ℕ)) → roots ≡ repeated None (length spec.entries) → RootsBelow spec roots 0
+pub no_roots_below : (spec : Spec) (roots : List (Option ℕ)) → roots ≡ repeated None (length spec.entries)
+    → RootsBelow spec roots 0
 no_roots_below spec roots is = record {
   as_many = ap (λ (xs : List (Option ℕ)). length xs) is ∙ repeated_length None (length spec.entries);
-  true_ones = λ c t h. absurd (let none : get_or roots c None ≡ None = rw is (repeated_at None (length spec.entries) c) in let e : ◌≡◌ {A = Option ℕ} None (Some t) = sym none ∙ h in cc);
+  true_ones = λ c t h. absurd (let none : get_or roots c None ≡ None = rw is (repeated_at None (length spec.entries) c) in
+      let e : ◌≡◌ {A = Option ℕ} None (Some t) = sym none ∙ h in cc);
   all_ones = λ c t less root none. absurd (omega arith);
 }
 
 pub root_inside : (spec : Spec) (t c : ℕ) → IsKept spec → HasRoot spec t c → c < length spec.entries
 root_inside spec t c kept root = is_at_below spec kinds.CNode c (quiet_cnode spec (boot spec) (boot_quiet spec kept) t c root)
 
-pub roots_more : (spec : Spec) (roots new : List (Option ℕ)) (n : ℕ) (root : Option ℕ) → IsKept spec → RootsBelow spec roots n → root_of (object_at spec n) ≡ root → new ≡ rooted roots root n → RootsBelow spec new (n + 1)
+pub roots_more : (spec : Spec) (roots new : List (Option ℕ)) (n : ℕ) (root : Option ℕ) → IsKept spec → RootsBelow spec roots n
+    → root_of (object_at spec n) ≡ root → new ≡ rooted roots root n → RootsBelow spec new (n + 1)
 roots_more spec roots new n None kept r is made = rw made (record {
   as_many = r.as_many;
   true_ones = r.true_ones;
@@ -387,7 +451,8 @@ roots_more spec roots new n (Some d) kept r is made = rw made (record {
           let d_is : d ≡ c = (let x : ◌≡◌ {A = Option ℕ} (Some d) (Some c) = sym is ∙ at in cc) in
           let inside : d < length roots = (let a = root_inside spec n d kept is in let b = r.as_many in omega arith) in
           let there : get_or (set roots d (Some n)) d None ≡ Some n = get_or-set_same roots d (Some n) None inside in
-          let missing : get_or (set roots d (Some n)) d None ≡ None = subst (λ (k : ℕ). get_or (set roots d (Some n)) k None ≡ None) (sym d_is) none in
+          let missing : get_or (set roots d (Some n)) d None ≡ None =
+          subst (λ (k : ℕ). get_or (set roots d (Some n)) k None ≡ None) (sym d_is) none in
           let x : ◌≡◌ {A = Option ℕ} (Some n) None = sym there ∙ missing in
           cc)
     ]
@@ -398,15 +463,21 @@ pub thread_inside : (spec : Spec) (t c : ℕ) → HasRoot spec t c → t < lengt
 thread_inside spec t c root = go (slice_get spec.entries t) refl where
   go : (e : Option Entry) → slice_get spec.entries t ≡ e → t < length spec.entries
   go (Some entry) there = slice_get_within spec.entries t entry there
-  go None there = absurd (let none : root_of (object_at spec t) ≡ None = rw there refl in let x : ◌≡◌ {A = Option ℕ} None (Some c) = sym none ∙ root in cc)
+  go None there = absurd (let none : root_of (object_at spec t) ≡ None = rw there refl in
+      let x : ◌≡◌ {A = Option ℕ} None (Some c) = sym none ∙ root in cc)
 
 pub roots_all : (spec : Spec) (roots : List (Option ℕ)) → RootsBelow spec roots (length spec.entries) → AreRoots spec roots
-roots_all spec roots r = record { true_ones = r.true_ones; all_ones = λ c t root none. r.all_ones c t (thread_inside spec t c root) root none }
+roots_all spec roots r = record {
+  true_ones = r.true_ones;
+  all_ones = λ c t root none. r.all_ones c t (thread_inside spec t c root) root none;
+}
 
 -- nets and hubs with nothing in them
 
-pub blank_search : (spec : Spec) (f : Found) (net : Lanes) (doors : Doors) → IsFound spec f → net.out ≡ repeated [] (length spec.entries) → IsCounted net.classes (length spec.entries)
-    → doors ≡ record { grants = repeated nobody (length spec.entries); replies = repeated nobody (length spec.entries) } → IsSearch spec f net doors 0
+pub blank_search : (spec : Spec) (f : Found) (net : Lanes) (doors : Doors) → IsFound spec f
+    → net.out ≡ repeated [] (length spec.entries) → IsCounted net.classes (length spec.entries)
+    → doors ≡ record { grants = repeated nobody (length spec.entries); replies = repeated nobody (length spec.entries) }
+    → IsSearch spec f net doors 0
 unfolding HaveGone
 blank_search spec f net doors F out counted empty = record {
   found = F;
@@ -435,7 +506,9 @@ blank_search spec f net doors F out counted empty = record {
   empty_doors : Doors
   empty_doors = record { grants = repeated nobody (length spec.entries); replies = repeated nobody (length spec.entries) }
 
-  hub_none : (passage : Passage) (e : ℕ) → hub_at (record { grants = repeated nobody (length spec.entries); replies = repeated nobody (length spec.entries) }) passage e ≡ nobody
+  hub_none : (passage : Passage) (e : ℕ)
+      → hub_at (record { grants = repeated nobody (length spec.entries); replies = repeated nobody (length spec.entries) })
+      passage e ≡ nobody
   hub_none passages.Grant e = repeated_at nobody (length spec.entries) e
   hub_none passages.Reply e = repeated_at nobody (length spec.entries) e
 
@@ -446,9 +519,15 @@ blank_search spec f net doors F out counted empty = record {
     met = λ x y a b. absurd (let w = a.1 in omega arith);
   }
 
-  empty_hub : (passage : Passage) (e : ℕ) → IsHub spec f net passage e (hub_at (record { grants = repeated nobody (length spec.entries); replies = repeated nobody (length spec.entries) }) passage e)
+  empty_hub : (passage : Passage) (e : ℕ)
+      → IsHub spec f net passage e
+      (hub_at (record { grants = repeated nobody (length spec.entries); replies = repeated nobody (length spec.entries) }) passage
+      e)
   empty_hub passage e = subst (λ (h : Gathering). IsHub spec f net passage e h) (sym (hub_none passage e)) (nobody_hub passage e)
 
-  many : (passage : Passage) → length (hubs_of (record { grants = repeated nobody (length spec.entries); replies = repeated nobody (length spec.entries) }) passage) ≡ length spec.entries
+  many : (passage : Passage)
+      → length
+      (hubs_of (record { grants = repeated nobody (length spec.entries); replies = repeated nobody (length spec.entries) })
+      passage) ≡ length spec.entries
   many passages.Grant = repeated_length nobody (length spec.entries)
   many passages.Reply = repeated_length nobody (length spec.entries)

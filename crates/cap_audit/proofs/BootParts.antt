@@ -1,21 +1,10 @@
 -- The roots and slots of the boot state are those of the spec.
-use Rattle.std.proofs.Common.{◌≡◌, ℕ, List, [], ◌∷◌, map, slice_get, get_or, Option, Some, None, refl, sym, ap, subst, inl, inr, zero, suc, false, ◌∙◌}
-use Rattle.std.specs.List.{Contains}
-use Rattle.std.proofs.lemmas.Option.{slice_get-map}
-use Rattle.cap_model.specs.declared.cap.Cap.{Cap}
-use Rattle.cap_model.specs.declared.object.Object.{Object}
+use Rattle.cap_audit.proofs.Common.{Cap, Capability, Contains, Content, Entry, HasRoot, List, Node, None, Object, Option, Some, Spec, ThreadState, [], ap, at_contains, at_entry, boot, boot_node, boot_slot, boot_thread, contains_at, entry_at, false}
+use Rattle.cap_audit.proofs.Common.{get_or, inl, inr, map, no_node, no_thread, node_at, object_at, refl, root_of, slice_get, slice_get-map, slot_of, slots_at, slots_of, subst, suc, sym, thread_at, zero, ℕ, ◌∙◌, ◌∷◌, ◌≡◌}
 use Rattle.cap_model.specs.declared.object.Object.TheVariants.{CNode, Thread}
-use Rattle.cap_model.specs.declared.spec.Entry.{Entry}
-use Rattle.cap_model.specs.declared.spec.Spec.{Spec}
-use Rattle.cap_model.specs.declared.state.Content.{Content}
-use Rattle.cap_model.specs.declared.state.Content.TheVariants.{Capability}
-use Rattle.cap_model.specs.declared.state.ThreadState.{ThreadState}
-use Rattle.cap_model.specs.Lookup.{object_at}
-use Rattle.cap_model.specs.State.{Node, node_at, thread_at, boot, boot_slot, boot_node, boot_thread, no_node, no_thread}
-use Rattle.cap_model.proofs.BootPlaces.{at_contains, at_entry, contains_at, entry_at, slot_of}
-use Rattle.cap_audit.specs.Spread.{slots_of, slots_at, root_of, HasRoot}
 
-past_entries : {A : Type 0} (f : Object → A) (entries : List Entry) (o : ℕ) (d : A) → slice_get entries o ≡ None → get_or (map (λ (e : Entry). f e.object) entries) o d ≡ d
+past_entries : {A : Type 0} (f : Object → A) (entries : List Entry) (o : ℕ) (d : A) → slice_get entries o ≡ None
+    → get_or (map (λ (e : Entry). f e.object) entries) o d ≡ d
 past_entries f [] o d h = refl
 past_entries f (x ∷ entries) zero d h = absurd cc
 past_entries f (x ∷ entries) (suc o) d h = past_entries f entries o d h
@@ -55,15 +44,18 @@ boot_slots spec c = go (slice_get spec.entries c) refl where
 pub boot_content : (spec : Spec) (c i : ℕ) (content : Content) → Contains (node_at (boot spec) c).slots (i, content)
     → (cap : Cap) × Contains (slots_at spec c) (i, cap) × (Capability cap ≡ content)
 boot_content spec c i content there =
-    let here : Contains (map boot_slot (slots_at spec c)) (i, content) = subst (λ (xs : List (ℕ × Content)). Contains xs (i, content)) (boot_slots spec c) there in
+    let here : Contains (map boot_slot (slots_at spec c)) (i, content) =
+    subst (λ (xs : List (ℕ × Content)). Contains xs (i, content)) (boot_slots spec c) there in
     let k = contains_at (map boot_slot (slots_at spec c)) (i, content) here in
     let s = slot_of (slots_at spec c) k.0 i content k.1 in
     (s.0.1, at_contains (slots_at spec c) (i, s.0.1) k.0 (s.1 ∙ ap (λ (n : ℕ). Some (n, s.0.1)) s.3), s.2)
 
-pub content_boot : (spec : Spec) (c i : ℕ) (cap : Cap) → Contains (slots_at spec c) (i, cap) → Contains (node_at (boot spec) c).slots (i, Capability cap)
+pub content_boot : (spec : Spec) (c i : ℕ) (cap : Cap) → Contains (slots_at spec c) (i, cap)
+    → Contains (node_at (boot spec) c).slots (i, Capability cap)
 content_boot spec c i cap there =
     let k = contains_at (slots_at spec c) (i, cap) there in
-    rw (boot_slots spec c) (at_contains (map boot_slot (slots_at spec c)) (i, Capability cap) k.0 (let e = slice_get-map boot_slot (slots_at spec c) k.0 in rw (e, k.1) refl))
+    rw (boot_slots spec c) (at_contains (map boot_slot (slots_at spec c)) (i, Capability cap) k.0
+    (let e = slice_get-map boot_slot (slots_at spec c) k.0 in rw (e, k.1) refl))
 
 pub root_boot : (spec : Spec) (t c : ℕ) → HasRoot spec t c → (thread_at (boot spec) t).root ≡ Some c
 root_boot spec t c h = boot_root spec t ∙ h

@@ -1,27 +1,11 @@
 -- What a search has found stays true when a value is brought along a way.
-use Rattle.std.proofs.Common.{◌≡◌, ◌<◌, ◌⊎◌, ℕ, ◌+◌, Bool, true, false, List, [], ◌∷◌, ◌++◌, Option, Some, None, refl, sym, ap, subst, inl, inr, arith, get_or, set, length, slice_get, zero, suc, ◌∙◌}
-use Rattle.std.specs.List.{Contains}
-use Rattle.std.proofs.lemmas.Bool.{cases_eq}
-use Rattle.std.proofs.lemmas.List.{get_or-set_same, get_or-set_other, length-set, length-append}
-use Rattle.std.proofs.lemmas.List.Elements.{Contains-push, Contains-push_cases, Contains-append_left}
-use Rattle.cap_model.specs.Kinds.{is_at}
-use Rattle.cap_model.specs.State.{Node, node_at, content_in, boot, no_node}
-use Rattle.cap_model.specs.declared.cap.Cap.{Cap}
+use Rattle.cap_audit.proofs.Common.{Bool, Brings, Cap, Capability, Contains, Contains-append_left, Contains-push, Contains-push_cases, Course, Found, Held, HoldsAt, IsFound, IsWay, Leads, List, Node, None, Option, Pair, Some, Spec, Way, [], ap}
+use Rattle.cap_audit.proofs.Common.{arith, boot, cases_eq, content_in, false, get_or, get_or-set_other, get_or-set_same, grown, grown_at, held_by, inl, inr, is_at, is_at_below, is_known, landed, length, length-append, length-set, marks_of, misses}
+use Rattle.cap_audit.proofs.Common.{no_node, node_at, pushed_last, read_written, refl, set, slice_get, steps_of, subst, suc, sym, true, unknowns, zero, ℕ, ◌++◌, ◌+◌, ◌<◌, ◌∙◌, ◌∷◌, ◌≡◌, ◌⊎◌}
 use Rattle.cap_model.specs.declared.kind.Kind.TheVariants as kinds
-use Rattle.cap_model.specs.declared.spec.Spec.{Spec}
-use Rattle.cap_model.specs.declared.state.Content.TheVariants.{Capability}
-use Rattle.cap_machine.specs.Effects.{grown, grown_at}
-use Rattle.cap_machine.proofs.Applied.{read_written}
-use Rattle.cap_audit.specs.Search.{Found, held_by, marks_of, is_known, HoldsAt, steps_of, Leads, IsWay, IsFound, landed, misses, unknowns, Brings}
-use Rattle.cap_audit.specs.declared.found.Course.{Course}
 use Rattle.cap_audit.specs.declared.found.Course.TheVariants as courses
-use Rattle.cap_audit.specs.declared.found.Held.{Held}
-use Rattle.cap_audit.specs.declared.found.Pair.{Pair}
-use Rattle.cap_audit.specs.declared.found.Way.{Way}
 use Rattle.cap_audit.proofs.Quiet.{run_append, kept_at, Lands, landed_there, lands_onward, quiet_cnode}
 use Rattle.cap_audit.proofs.Sequences.{take_on, put_on, grant_on, reply_on}
-use Rattle.cap_model.proofs.Kept.{is_at_below}
-use Rattle.cap_model.proofs.MadeRows.{pushed_last}
 
 pub none_within : {A : Type 0} (xs : List A) (k : ℕ) → slice_get xs k ≡ None → k < length xs → ⊥
 none_within [] k h less = omega arith
@@ -35,7 +19,8 @@ at_pushed [] x y k h = absurd cc
 at_pushed (z ∷ xs) x y zero h = h
 at_pushed (z ∷ xs) x y (suc k) h = at_pushed xs x y k h
 
-pub pushed_cases : {A : Type 0} (xs : List A) (x y : A) (k : ℕ) → slice_get (xs ++ x ∷ []) k ≡ Some y → (slice_get xs k ≡ Some y) ⊎ ((k ≡ length xs) × (x ≡ y))
+pub pushed_cases : {A : Type 0} (xs : List A) (x y : A) (k : ℕ) → slice_get (xs ++ x ∷ []) k ≡ Some y
+    → (slice_get xs k ≡ Some y) ⊎ ((k ≡ length xs) × (x ≡ y))
 pushed_cases [] x y zero h = inr (refl, cc)
 pushed_cases [] x y (suc k) h = absurd cc
 pushed_cases (z ∷ xs) x y zero h = inl h
@@ -50,17 +35,20 @@ module _ (rows : List (List Bool)) (d v : ℕ) where
   pub mark_kept : (c w : ℕ) → get_or (get_or rows c []) w false ≡ true → get_or (get_or marked_rows c []) w false ≡ true
   mark_kept c w h = elim (read_written rows d c (set (get_or rows d []) v true) []) [
     | inl e ↦ subst (λ (row : List Bool). get_or row w false ≡ true) (sym e) h
-    | inr e ↦ subst (λ (row : List Bool). get_or row w false ≡ true) (sym e.1) (elim (read_written (get_or rows d []) v w true false) [
-      | inl same ↦ same ∙ subst (λ (n : ℕ). get_or (get_or rows n []) w false ≡ true) e.0 h
-      | inr here ↦ here.1
-    ])
+    | inr e ↦ subst (λ (row : List Bool). get_or row w false ≡ true) (sym e.1)
+        (elim (read_written (get_or rows d []) v w true false) [
+          | inl same ↦ same ∙ subst (λ (n : ℕ). get_or (get_or rows n []) w false ≡ true) e.0 h
+          | inr here ↦ here.1
+        ])
   ]
 
-  pub mark_cases : (c w : ℕ) → get_or (get_or marked_rows c []) w false ≡ true → (get_or (get_or rows c []) w false ≡ true) ⊎ ((c ≡ d) × (w ≡ v))
+  pub mark_cases : (c w : ℕ) → get_or (get_or marked_rows c []) w false ≡ true → (get_or (get_or rows c []) w false ≡ true)
+      ⊎ ((c ≡ d) × (w ≡ v))
   mark_cases c w h = elim (read_written rows d c (set (get_or rows d []) v true) []) [
     | inl e ↦ inl (subst (λ (row : List Bool). get_or row w false ≡ true) e h)
     | inr e ↦ (
-        let here : get_or (set (get_or rows d []) v true) w false ≡ true = subst (λ (row : List Bool). get_or row w false ≡ true) e.1 h in
+        let here : get_or (set (get_or rows d []) v true) w false ≡ true =
+        subst (λ (row : List Bool). get_or row w false ≡ true) e.1 h in
         elim (read_written (get_or rows d []) v w true false) [
           | inl same ↦ inl (subst (λ (n : ℕ). get_or (get_or rows n []) w false ≡ true) (sym e.0) (sym same ∙ here))
           | inr at_v ↦ inr (e.0, at_v.0)
@@ -69,12 +57,15 @@ module _ (rows : List (List Bool)) (d v : ℕ) where
 
   pub mark_there : d < length rows → v < length (get_or rows d []) → get_or (get_or marked_rows d []) v false ≡ true
   mark_there less in_row =
-      subst (λ (row : List Bool). get_or row v false ≡ true) (sym (get_or-set_same rows d (set (get_or rows d []) v true) [] less)) (get_or-set_same (get_or rows d []) v true false in_row)
+      subst (λ (row : List Bool). get_or row v false ≡ true)
+      (sym (get_or-set_same rows d (set (get_or rows d []) v true) [] less)) (get_or-set_same (get_or rows d []) v true
+      false in_row)
 
   pub mark_lengths : (c : ℕ) → length (get_or marked_rows c []) ≡ length (get_or rows c [])
   mark_lengths c = elim (read_written rows d c (set (get_or rows d []) v true) []) [
     | inl e ↦ ap (λ (row : List Bool). length row) e
-    | inr e ↦ ap (λ (row : List Bool). length row) e.1 ∙ (length-set (get_or rows d []) v true ∙ ap (λ (n : ℕ). length (get_or rows n [])) (sym e.0))
+    | inr e ↦ ap (λ (row : List Bool). length row) e.1
+        ∙ (length-set (get_or rows d []) v true ∙ ap (λ (n : ℕ). length (get_or rows n [])) (sym e.0))
   ]
 
 row_misses : (row : List Bool) (v : ℕ) → v < length row → get_or row v false ≡ false → suc (misses (set row v true)) ≡ misses row
@@ -84,7 +75,8 @@ row_misses (false ∷ row) zero less h = refl
 row_misses (true ∷ row) (suc v) less h = row_misses row v (omega arith) h
 row_misses (false ∷ row) (suc v) less h = ap (λ n. suc n) (row_misses row v (omega arith) h)
 
-all_misses : (rows : List (List Bool)) (d : ℕ) (row : List Bool) → d < length rows → suc (misses row) ≡ misses (get_or rows d []) → suc (unknowns (set rows d row)) ≡ unknowns rows
+all_misses : (rows : List (List Bool)) (d : ℕ) (row : List Bool) → d < length rows → suc (misses row) ≡ misses (get_or rows d [])
+    → suc (unknowns (set rows d row)) ≡ unknowns rows
 all_misses [] d row less h = absurd (omega arith)
 all_misses (x ∷ rows) zero row less h = let e : suc (misses row) ≡ misses x = h in omega arith
 all_misses (x ∷ rows) (suc d) row less h = let e = all_misses rows d row (omega arith) h in omega arith
@@ -112,28 +104,36 @@ module _ (shelves : List (List Held)) (d : ℕ) (x : Held) where
   ]
 
   pub held_there : d < length shelves → Contains (get_or filled d []) x
-  held_there less = subst (λ (row : List Held). Contains row x) (sym (get_or-set_same shelves d (get_or shelves d [] ++ x ∷ []) [] less)) (Contains-push (get_or shelves d []) x)
+  held_there less = subst (λ (row : List Held). Contains row x)
+      (sym (get_or-set_same shelves d (get_or shelves d [] ++ x ∷ []) [] less)) (Contains-push (get_or shelves d []) x)
 
 module _ (spec : Spec) (f : Found) (F : IsFound spec f) where
   -- the end of a way is a CNode
   pub end_cnode : (c d : ℕ) (course : Course) → Leads spec f c d course → is_at spec kinds.CNode d ≡ true
   end_cnode c d (courses.Take t i) (cap, root, at, is, same) = quiet_cnode spec F.state F.quiet t d root
   end_cnode c d (courses.Put t i) (cap, root, at, is, same) = subst (λ (n : ℕ). is_at spec kinds.CNode n ≡ true) same is
-  end_cnode c d (courses.Grant t i u j) (to, from, roots, own, listens, meet, may) = quiet_cnode spec F.state F.quiet u d roots.peer_root
-  end_cnode c d (courses.Reply t i u j) (to, from, roots, own, listens, meet, may, back) = quiet_cnode spec F.state F.quiet t d roots.root
+  end_cnode c d (courses.Grant t i u j) (to, from, roots, own, listens, meet, may) =
+      quiet_cnode spec F.state F.quiet u d roots.peer_root
+  end_cnode c d (courses.Reply t i u j) (to, from, roots, own, listens, meet, may, back) =
+      quiet_cnode spec F.state F.quiet t d roots.root
 
   -- the steps of a course bring what stands at a number
-  goes_along : (c d n : ℕ) (course : Course) (cap : Cap) → Leads spec f c d course → content_in F.state c n ≡ Some (Capability cap) → Lands spec F.state d cap (steps_of course n)
+  goes_along : (c d n : ℕ) (course : Course) (cap : Cap) → Leads spec f c d course
+      → content_in F.state c n ≡ Some (Capability cap) → Lands spec F.state d cap (steps_of course n)
   goes_along c d n (courses.Take t i) cap (to, root, at, is, same) there =
-      take_on spec F.state F.quiet t d i n to cap root (F.there d i to at) is (subst (λ (k : ℕ). content_in F.state k n ≡ Some (Capability cap)) (sym same) there)
+      take_on spec F.state F.quiet t d i n to cap root (F.there d i to at) is
+      (subst (λ (k : ℕ). content_in F.state k n ≡ Some (Capability cap)) (sym same) there)
   goes_along c d n (courses.Put t i) cap (to, root, at, is, same) there =
-      subst (λ (k : ℕ). Lands spec F.state k cap (steps_of (courses.Put t i) n)) same (put_on spec F.state F.quiet t c i n to cap root (F.there c i to at) is there)
+      subst (λ (k : ℕ). Lands spec F.state k cap (steps_of (courses.Put t i) n)) same (put_on spec F.state F.quiet t c i n to cap
+      root (F.there c i to at) is there)
   goes_along c d n (courses.Grant t i u j) cap (to, from, roots, own, listens, meet, may) there =
       grant_on spec F.state F.quiet t u c d i j n to from cap roots meet may (F.there c i to own) (F.there d j from listens) there
   goes_along c d n (courses.Reply t i u j) cap (to, from, roots, own, listens, meet, may, back) there =
-      reply_on spec F.state F.quiet t u d c i j to from roots meet may (F.there d i to own) (F.there c j from listens) n cap back there
+      reply_on spec F.state F.quiet t u d c i j to from roots meet may (F.there d i to own) (F.there c j from listens) n
+      cap back there
 
-  module _ (c : ℕ) (way : Way) (held : Held) (leads : IsWay spec f c way) (has : Contains (held_by f c) held) (new_one : is_known f way.to held.value ≡ false) where
+  module _ (c : ℕ) (way : Way) (held : Held) (leads : IsWay spec f c way) (has : Contains (held_by f c) held)
+      (new_one : is_known f way.to held.value ≡ false) where
     abbrev next : ℕ
     next = get_or f.nexts way.to 0
 
@@ -148,7 +148,8 @@ module _ (spec : Spec) (f : Found) (F : IsFound spec f) where
 
     value_is : (cap : Cap) × (slice_get f.values held.value ≡ Some cap)
     value_is = go (slice_get f.values held.value) refl in_values where
-      go : (o : Option Cap) → slice_get f.values held.value ≡ o → held.value < length f.values → (cap : Cap) × (slice_get f.values held.value ≡ Some cap)
+      go : (o : Option Cap) → slice_get f.values held.value ≡ o → held.value < length f.values
+          → (cap : Cap) × (slice_get f.values held.value ≡ Some cap)
       go (Some cap) e below = (cap, e)
       go None e below = absurd (none_within f.values held.value e below)
 
@@ -160,38 +161,56 @@ module _ (spec : Spec) (f : Found) (F : IsFound spec f) where
 
     nexts_after : (k : ℕ) → (node_at lands.new k).next ≡ get_or (set f.nexts way.to (next + 1)) k 0
     nexts_after k =
-        let nodes : (node_at lands.new k).next ≡ (get_or (grown_at F.state.nodes way.to (Capability value_is.0)) k no_node).next = ap (λ (ns : List Node). (get_or ns k no_node).next) lands.nodes in
+        let nodes : (node_at lands.new k).next ≡ (get_or (grown_at F.state.nodes way.to (Capability value_is.0)) k no_node).next =
+        ap (λ (ns : List Node). (get_or ns k no_node).next) lands.nodes in
         nodes ∙ elim (cases_eq k way.to) [
           | inl same ↦ rw same (
-              ap (λ (n : Node). n.next) (get_or-set_same F.state.nodes way.to (grown (get_or F.state.nodes way.to no_node) (Capability value_is.0)) no_node (let e : length F.state.nodes ≡ length spec.entries = F.quiet.fits.as_many_nodes in let l = less in omega arith))
-              ∙ (ap (λ (n : ℕ). n + 1) (F.nexts way.to) ∙ sym (get_or-set_same f.nexts way.to (next + 1) 0 (let e = F.row_nexts in let l = less in omega arith))))
+              ap (λ (n : Node). n.next) (get_or-set_same F.state.nodes way.to (grown (get_or F.state.nodes way.to no_node)
+              (Capability value_is.0)) no_node (let e : length F.state.nodes ≡ length
+              spec.entries = F.quiet.fits.as_many_nodes in let l = less in omega arith))
+              ∙ (ap (λ (n : ℕ). n + 1) (F.nexts way.to) ∙ sym (get_or-set_same f.nexts way.to (next + 1) 0 (let e = F.row_nexts in
+              let l = less in omega arith))))
           | inr other ↦
-              ap (λ (n : Node). n.next) (get_or-set_other F.state.nodes way.to k (grown (get_or F.state.nodes way.to no_node) (Capability value_is.0)) no_node other)
+              ap (λ (n : Node). n.next) (get_or-set_other F.state.nodes way.to k (grown (get_or F.state.nodes way.to no_node)
+              (Capability value_is.0)) no_node other)
               ∙ (F.nexts k ∙ sym (get_or-set_other f.nexts way.to k (next + 1) 0 other))
         ]
 
     there_after : (k i : ℕ) (cap : Cap) → HoldsAt (landed f way held) k i cap → content_in lands.new k i ≡ Some (Capability cap)
     there_after k i cap at = elim (held_cases f.held way.to here k (record { value = at.value; number = i }) at.held) [
-      | inl old ↦ kept_at F.state.nodes lands.new.nodes k i (Capability cap) (lands_onward spec F.state F.quiet way.to value_is.0 (steps_of way.course held.number) lands).kept
+      | inl old ↦ kept_at F.state.nodes lands.new.nodes k i (Capability cap) (lands_onward spec F.state F.quiet way.to value_is.0
+          (steps_of way.course held.number) lands).kept
           (F.there k i cap (record { value = at.value; held = old; is = at.is }))
       | inr new ↦ (
           let number : (node_at F.state way.to).next ≡ i = F.nexts way.to ∙ ap (λ (h : Held). h.number) new.1 in
           let value : held.value ≡ at.value = ap (λ (h : Held). h.value) new.1 in
-          let same : value_is.0 ≡ cap = (let a = value_is.1 in let b : slice_get f.values held.value ≡ Some cap = rw value at.is in cc) in
-          let e = landed_there spec F.state F.quiet way.to value_is.0 (steps_of way.course held.number) (end_cnode c way.to way.course leads) lands in
+          let same : value_is.0 ≡ cap = (let a = value_is.1 in let b : slice_get f.values held.value ≡ Some cap = rw value
+          at.is in cc) in
+          let e = landed_there spec F.state F.quiet way.to value_is.0 (steps_of way.course held.number)
+          (end_cnode c way.to way.course leads) lands in
           rw (new.0, ← number, ← same) e)
     ]
 
-    queued_after : (k : ℕ) (pair : Pair) → slice_get (landed f way held).queue k ≡ Some pair → Contains (held_by (landed f way held) pair.node) pair.held
+    queued_after : (k : ℕ) (pair : Pair) → slice_get (landed f way held).queue k ≡ Some pair
+        → Contains (held_by (landed f way held) pair.node) pair.held
     queued_after k pair h = elim (pushed_cases f.queue (record { node = way.to; held = here }) pair k h) [
       | inl old ↦ held_kept f.held way.to here pair.node pair.held (F.queued k pair old)
-      | inr new ↦ subst (λ (p : Pair). Contains (held_by (landed f way held) p.node) p.held) new.1 (held_there f.held way.to here (let e = F.row_held in let l = less in omega arith))
+      | inr new ↦ subst (λ (p : Pair). Contains (held_by (landed f way held) p.node) p.held) new.1
+          (held_there f.held way.to here (let e = F.row_held in let l = less in omega arith))
     ]
 
-    known_after : (k v : ℕ) → is_known (landed f way held) k v ≡ true → (n : ℕ) × (pair : Pair) × (slice_get (landed f way held).queue n ≡ Some pair) × (pair.node ≡ k) × (pair.held.value ≡ v)
+    known_after : (k v : ℕ) → is_known (landed f way held) k v ≡ true
+        → (n : ℕ) × (pair : Pair) × (slice_get (landed f way held).queue n ≡ Some pair) × (pair.node ≡ k) × (pair.held.value ≡ v)
     known_after k v h = elim (mark_cases f.known way.to held.value k v h) [
-      | inl old ↦ (let o = F.known k v old in (o.0, o.1, at_pushed f.queue (record { node = way.to; held = here }) o.1 o.0 o.2, o.3, o.4))
-      | inr new ↦ (length f.queue, record { node = way.to; held = here }, pushed_last f.queue (record { node = way.to; held = here }), sym new.0, sym new.1)
+      | inl old ↦ (let o = F.known k v old in
+          (o.0, o.1, at_pushed f.queue (record { node = way.to; held = here }) o.1 o.0 o.2, o.3, o.4))
+      | inr new ↦ (
+        length f.queue,
+        record { node = way.to; held = here },
+        pushed_last f.queue (record { node = way.to; held = here }),
+        sym new.0,
+        sym new.1,
+      )
     ]
 
     in_row : held.value < length (marks_of f way.to)
@@ -200,7 +219,8 @@ module _ (spec : Spec) (f : Found) (F : IsFound spec f) where
     known_there : is_known (landed f way held) way.to held.value ≡ true
     known_there = mark_there f.known way.to held.value (let e = F.row_each in let l = less in omega arith) in_row
 
-    marked_after : (k : ℕ) (pair : Pair) → slice_get (landed f way held).queue k ≡ Some pair → is_known (landed f way held) pair.node pair.held.value ≡ true
+    marked_after : (k : ℕ) (pair : Pair) → slice_get (landed f way held).queue k ≡ Some pair
+        → is_known (landed f way held) pair.node pair.held.value ≡ true
     marked_after k pair h = elim (pushed_cases f.queue (record { node = way.to; held = here }) pair k h) [
       | inl old ↦ mark_kept f.known way.to held.value pair.node pair.held.value (F.marked k pair old)
       | inr new ↦ subst (λ (p : Pair). is_known (landed f way held) p.node p.held.value ≡ true) new.1 known_there
@@ -237,8 +257,10 @@ module _ (spec : Spec) (f : Found) (F : IsFound spec f) where
       };
       there = known_there;
       fewer =
-          let a = all_misses f.known way.to (set (marks_of f way.to) held.value true) (let e = F.row_each in let l = less in omega arith) (row_misses (marks_of f way.to) held.value in_row new_one) in
-          let b : length (landed f way held).queue ≡ suc (length f.queue) = (length-append f.queue (record { node = way.to; held = here } ∷ []) ∙ omega arith) in
+          let a = all_misses f.known way.to (set (marks_of f way.to) held.value true) (let e = F.row_each in let l = less in
+          omega arith) (row_misses (marks_of f way.to) held.value in_row new_one) in
+          let b : length (landed f way held).queue ≡ suc (length f.queue) =
+          (length-append f.queue (record { node = way.to; held = here } ∷ []) ∙ omega arith) in
           omega arith;
     }
 

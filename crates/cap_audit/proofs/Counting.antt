@@ -1,19 +1,9 @@
 -- Counts of a kept spec are small: fewer than 2^32 objects, and at most 65,536 slots in each.
-use Rattle.std.proofs.Common.{◌≡◌, ◌<◌, ◌≤◌, ◌^◌, ℕ, ◌+◌, ◌*◌, ◌&&◌, Bool, nat_lt, leb, true, List, [], ◌∷◌, ap, arith, length, take, get_or, ◌∙◌}
-use Rattle.std.specs.List.{list_all, sum_by}
+use Rattle.cap_audit.proofs.Common.{Bool, Cap, Entry, IsKept, List, Object, Spec, [], all_at, and_parts, ap, arith, cap_count, cnode_count, fits, get_or, keeps, keeps_slots, leb, length, list_all, nat_lt, rise, slice_get-get_or, sum_by, take}
+use Rattle.cap_audit.proofs.Common.{take_all, true, ℕ, ◌&&◌, ◌*◌, ◌+◌, ◌<◌, ◌^◌, ◌∙◌, ◌∷◌, ◌≡◌, ◌≤◌}
 use Rattle.std.proofs.Math.Pow.{pow_mono}
-use Rattle.std.proofs.lemmas.Bool.{and_parts}
-use Rattle.std.proofs.lemmas.List.{take_all}
 use Rattle.std.proofs.lemmas.List.Sums.{sum_by_more}
-use Rattle.std.proofs.lemmas.Option.{slice_get-get_or}
-use Rattle.cap_model.proofs.Kept.{all_at}
-use Rattle.cap_model.specs.Kept.{IsKept, fits, keeps, keeps_slots, rise}
-use Rattle.cap_model.specs.declared.cap.Cap.{Cap}
-use Rattle.cap_model.specs.declared.object.Object.{Object}
 use Rattle.cap_model.specs.declared.object.Object.TheVariants as objects
-use Rattle.cap_model.specs.declared.spec.Entry.{Entry}
-use Rattle.cap_model.specs.declared.spec.Spec.{Spec}
-use Rattle.cap_audit.specs.Counts.{cap_count, cnode_count}
 
 -- numbers that rise and lie below the size are no more than the size
 few_rising : (fit : Cap → Bool) (size : ℕ) (x : ℕ × Cap) (xs : List (ℕ × Cap)) → rise (x ∷ xs) ≡ true
@@ -24,7 +14,8 @@ few_rising fit size x [] up all =
     grind arith
 few_rising fit size x (y ∷ ys) up all =
     let rises = and_parts (nat_lt x.0 y.0) (rise (y ∷ ys)) up in
-    let parts = and_parts (nat_lt x.0 size && fit x.1) (list_all (λ (slot : ℕ × Cap). nat_lt slot.0 size && fit slot.1) (y ∷ ys)) all in
+    let parts = and_parts (nat_lt x.0 size && fit x.1) (list_all (λ (slot : ℕ × Cap). nat_lt slot.0 size && fit slot.1)
+    (y ∷ ys)) all in
     let rest : y.0 + length (y ∷ ys) ≤ size = few_rising fit size y ys rises.1 parts.1 in
     let less = rises.0 in
     grind arith
@@ -55,7 +46,8 @@ pub record Counted (count : Entry → ℕ) (entries : List Entry) (n : ℕ) (tot
   pub small : total ≤ 65536 * n
 
 module _ (count : Entry → ℕ) (entries : List Entry) where
-  pub counted_more : (n total : ℕ) (d : Entry) → n < length entries → count (get_or entries n d) ≤ 65536 → Counted count entries n total → Counted count entries (n + 1) (total + count (get_or entries n d))
+  pub counted_more : (n total : ℕ) (d : Entry) → n < length entries → count (get_or entries n d) ≤ 65536
+      → Counted count entries n total → Counted count entries (n + 1) (total + count (get_or entries n d))
   counted_more n total d less few before = record {
     is = (let more = sum_by_more count entries n d less in let was = before.is in omega (arith, more, was));
     small = (let was = before.small in omega arith);
@@ -65,6 +57,8 @@ module _ (count : Entry → ℕ) (entries : List Entry) where
   pub counted_all : (n total : ℕ) → length entries ≤ n → Counted count entries n total → total ≡ sum_by count entries
   counted_all n total le c = c.is ∙ ap (λ (xs : List Entry). sum_by count xs) (take_all n entries le)
 
-pub kept_caps : (spec : Spec) (n : ℕ) (d : Entry) → IsKept spec → n < length spec.entries → cap_count (get_or spec.entries n d).object ≤ 65536
+pub kept_caps : (spec : Spec) (n : ℕ) (d : Entry) → IsKept spec → n < length spec.entries
+    → cap_count (get_or spec.entries n d).object ≤ 65536
 kept_caps spec n d kept less =
-    few_caps spec (get_or spec.entries n d).object (all_at (λ (e : Entry). keeps spec e.object) spec.entries n (get_or spec.entries n d) kept.objects (slice_get-get_or spec.entries n d less))
+    few_caps spec (get_or spec.entries n d).object (all_at (λ (e : Entry). keeps spec e.object) spec.entries n
+    (get_or spec.entries n d) kept.objects (slice_get-get_or spec.entries n d less))

@@ -1,27 +1,19 @@
 -- Who stands for whom.
-use Rattle.std.proofs.Common.{◌≡◌, ◌∙◌, ◌⊎◌, ◌<◌, ◌≤◌, ◌==◌, ℕ, ◌+◌, Bool, true, false, List, [], ◌∷◌, ◌++◌, Option, Some, None, length, slice_get, get_or, set, map, if◌then◌else◌, refl, sym, ap, subst, inl, inr, arith, length-append}
+use Rattle.cap_audit.proofs.Common.{AreAlike, AreFirsts, AreHeadRoots, AreHeads, AreKinds, AreLeft, AreMembers, AreRootMarks, AreRoots, AreRows, AreStandIns, Bool, Found, HasRoot, IsFound, IsKept, IsLike, IsQueued, List, None, Option, Some, Spec}
+use Rattle.cap_audit.proofs.Common.{StandsFor, [], ap, arith, bare, cases_eq, cases_lt, eqb-false, eqb-true, false, get_or, get_or-append_seam, get_or-set_other, get_or-set_same, get_or_append_left, get_or_past, if◌then◌else◌, inl, inr, is_known}
+use Rattle.cap_audit.proofs.Common.{label_of, length, length-set, map, refl, repeated, root_mark, row_at, set, set_past, slice_get, stand_in, subst, sym, true, with_more, ℕ, ◌++◌, ◌+◌, ◌<◌, ◌==◌, ◌∙◌, ◌∷◌, ◌≡◌, ◌≤◌, ◌⊎◌}
+use Rattle.std.proofs.Common.{length-append}
 use Rattle.std.proofs.Math.ListN.{get_or-map}
-use Rattle.std.proofs.Math.Seq.{get_or-append_seam}
-use Rattle.std.proofs.lemmas.Bool.{cases_eq, cases_lt, eqb-true, eqb-false}
-use Rattle.std.proofs.lemmas.List.{get_or_past, get_or-set_other, get_or-set_same, get_or_append_left, length-set, set_past}
-use Rattle.cap_model.specs.Kept.{IsKept}
-use Rattle.cap_model.specs.declared.spec.Spec.{Spec}
-use Rattle.cap_audit.specs.Covering.{AreAlike, AreRoots}
-use Rattle.cap_audit.specs.Search.{Found, IsFound, bare, is_known}
-use Rattle.cap_audit.specs.Spread.{HasRoot}
-use Rattle.cap_audit.specs.Start.{repeated}
 use Rattle.cap_audit.proofs.Beginning.{repeated_length, root_inside}
-use Rattle.cap_audit.specs.Gates.{with_more}
-use Rattle.cap_audit.specs.Kinds.{AreFirsts, AreHeadRoots, AreHeads, AreLeft, AreMembers, AreRootMarks, AreRows, AreStandIns, IsLike, IsQueued, StandsFor, root_mark, stand_in}
-use Rattle.cap_audit.specs.Rows.{row_at}
-use Rattle.cap_audit.specs.Showing.{AreKinds}
-use Rattle.cap_model.specs.ObjectLabels.{label_of}
 use Rattle.cap_audit.proofs.Gating.{more_cases, more_kept, more_last, none_in_blank}
 
 -- the first of each kind, one object after the other
 
 pub firsts_none : (classes marks firsts : List ℕ) → firsts ≡ [] → AreFirsts classes marks firsts 0
-firsts_none classes marks firsts is = record { as_many = ap (λ (xs : List ℕ). length xs) is; each = λ c less. absurd (omega arith) }
+firsts_none classes marks firsts is = record {
+  as_many = ap (λ (xs : List ℕ). length xs) is;
+  each = λ c less. absurd (omega arith);
+}
 
 pub rows_none : (classes firsts : List ℕ) (rows : List (List ℕ)) (n : ℕ) → rows ≡ repeated [] n → AreRows classes firsts rows
 rows_none classes firsts rows n is = record {
@@ -31,10 +23,12 @@ rows_none classes firsts rows n is = record {
 }
 
 -- what stands in a row with one more
-pub row_cases : (rows : List (List ℕ)) (o x c k y : ℕ) → slice_get (row_at (with_more rows o x) c) k ≡ Some y → (slice_get (row_at rows c) k ≡ Some y) ⊎ ((c ≡ o) × (x ≡ y))
+pub row_cases : (rows : List (List ℕ)) (o x c k y : ℕ) → slice_get (row_at (with_more rows o x) c) k ≡ Some y
+    → (slice_get (row_at rows c) k ≡ Some y) ⊎ ((c ≡ o) × (x ≡ y))
 row_cases rows o x c k y h = elim (cases_lt o (length rows)) [
   | inl less ↦ more_cases rows o x less c k y h
-  | inr ge ↦ inl (subst (λ (xs : List (List ℕ)). slice_get (row_at xs c) k ≡ Some y) (set_past rows o (row_at rows o ++ x ∷ []) ge) h)
+  | inr ge ↦
+      inl (subst (λ (xs : List (List ℕ)). slice_get (row_at xs c) k ≡ Some y) (set_past rows o (row_at rows o ++ x ∷ []) ge) h)
 ]
 
 module _ (classes marks firsts : List ℕ) (c first : ℕ) (are : AreFirsts classes marks firsts c) where
@@ -91,7 +85,8 @@ module _ (classes marks firsts : List ℕ) (c first : ℕ) (are : AreFirsts clas
     rows_by false fails = rows_stay
     rows_by true holds = rows_longer (eqb-true first c holds)
 
-    pub rows_more : (new : List (List ℕ)) → new ≡ (if first == c then with_more rows (get_or classes c 0) c else rows) → AreRows classes longer new
+    pub rows_more : (new : List (List ℕ)) → new ≡ (if first == c then with_more rows (get_or classes c 0) c else rows)
+        → AreRows classes longer new
     rows_more new is = subst (λ (xs : List (List ℕ)). AreRows classes longer xs) (sym is) (rows_by (first == c) refl)
 
     module _ (like : IsLike (row_at rows (get_or classes c 0)) marks c first) where
@@ -115,19 +110,23 @@ module _ (classes marks firsts : List ℕ) (c first : ℕ) (are : AreFirsts clas
       firsts_more = record {
         as_many = new_length;
         each = λ k less. elim (cases_lt k c) [
-          | inl below ↦ subst (λ (r : ℕ). StandsFor classes marks longer r k) (sym (stand_old k below)) (stays (stand_in firsts k) k (are.each k below))
+          | inl below ↦ subst (λ (r : ℕ). StandsFor classes marks longer r k) (sym (stand_old k below))
+              (stays (stand_in firsts k) k (are.each k below))
           | inr ge ↦ (
               let at : c ≡ k = omega arith in
-              subst (λ (n : ℕ). StandsFor classes marks longer (stand_in longer n) n) at (subst (λ (r : ℕ). StandsFor classes marks longer r c) (sym stand_new) first_stands))
+              subst (λ (n : ℕ). StandsFor classes marks longer (stand_in longer n) n) at
+              (subst (λ (r : ℕ). StandsFor classes marks longer r c) (sym stand_new) first_stands))
         ];
       }
 
 -- those of one class hold the same
 
-module _ (spec : Spec) (f : Found) (found : IsFound spec f) (classes marks firsts : List ℕ) (alike : AreAlike spec f classes) (are : AreFirsts classes marks firsts (length classes)) where
+module _ (spec : Spec) (f : Found) (found : IsFound spec f) (classes marks firsts : List ℕ) (alike : AreAlike spec f classes)
+    (are : AreFirsts classes marks firsts (length classes)) where
   queued_known : (c v : ℕ) → IsQueued (bare f) c v → is_known f c v ≡ true
   queued_known c v q =
-      subst (λ (n : ℕ). is_known f n v ≡ true) q.at (subst (λ (w : ℕ). is_known f q.pair.node w ≡ true) q.of (found.marked q.place q.pair q.there))
+      subst (λ (n : ℕ). is_known f n v ≡ true) q.at (subst (λ (w : ℕ). is_known f q.pair.node w ≡ true) q.of
+      (found.marked q.place q.pair q.there))
 
   known_queued : (c v : ℕ) → is_known f c v ≡ true → IsQueued (bare f) c v
   known_queued c v known = let k = found.known c v known in record { place = k.0; pair = k.1; there = k.2; at = k.3; of = k.4 }
@@ -145,18 +144,21 @@ module _ (spec : Spec) (f : Found) (found : IsFound spec f) (classes marks first
     held_there = λ c v q. elim (cases_lt c (length classes)) [
       | inl less ↦ (
           let s = are.each c less in
-          known_queued (stand_in firsts c) v (alike.known c (stand_in firsts c) v less (let i = s.inside in let e = are.as_many in omega arith) (sym s.of_class) (queued_known c v q)))
+          known_queued (stand_in firsts c) v (alike.known c (stand_in firsts c) v less (let i = s.inside in let e = are.as_many in
+          omega arith) (sym s.of_class) (queued_known c v q)))
       | inr ge ↦ subst (λ (n : ℕ). IsQueued (bare f) n v) (sym (past_itself c ge)) q
     ];
     held_here = λ c v q. elim (cases_lt c (length classes)) [
       | inl less ↦ (
           let s = are.each c less in
-          known_queued c v (alike.known (stand_in firsts c) c v (let i = s.inside in let e = are.as_many in omega arith) less s.of_class (queued_known (stand_in firsts c) v q)))
+          known_queued c v (alike.known (stand_in firsts c) c v (let i = s.inside in let e = are.as_many in omega arith) less
+          s.of_class (queued_known (stand_in firsts c) v q)))
       | inr ge ↦ subst (λ (n : ℕ). IsQueued (bare f) n v) (past_itself c ge) q
     ];
   }
 
-pub kinds_of : (spec : Spec) (f : Found) (labels classes faces heads : List ℕ) → IsKept spec → IsFound spec f → AreAlike spec f classes
+pub kinds_of : (spec : Spec) (f : Found) (labels classes faces heads : List ℕ) → IsKept spec → IsFound spec f
+    → AreAlike spec f classes
     → AreFirsts classes labels faces (length classes) → AreHeads spec classes heads → AreKinds spec labels (bare f) faces heads
 kinds_of spec f labels classes faces heads kept found alike are_faces are_heads = record {
   are_faces = stand_ins spec f found classes labels faces alike are_faces;
@@ -174,7 +176,8 @@ kinds_of spec f labels classes faces heads kept found alike are_faces are_heads 
 
 -- marks of roots
 
-pub mark_of_roots : (spec : Spec) (roots : List (Option ℕ)) (marks : List ℕ) → AreRoots spec roots → marks ≡ map root_mark roots → AreRootMarks spec marks
+pub mark_of_roots : (spec : Spec) (roots : List (Option ℕ)) (marks : List ℕ) → AreRoots spec roots → marks ≡ map root_mark roots
+    → AreRootMarks spec marks
 mark_of_roots spec roots marks are is = record {
   one = λ c t root. at c ∙ one_by (get_or roots c None) (are.all_ones c t root);
   root = λ c one. root_by c (get_or roots c None) refl (sym (at c) ∙ one);
@@ -199,7 +202,8 @@ members_none heads members is = record {
   every = λ c less inside. absurd (omega arith);
 }
 
-pub members_more : (heads : List ℕ) (members new : List (List ℕ)) (n head : ℕ) → AreMembers heads members n → head ≡ stand_in heads n → new ≡ with_more members head n
+pub members_more : (heads : List ℕ) (members new : List (List ℕ)) (n head : ℕ) → AreMembers heads members n
+    → head ≡ stand_in heads n → new ≡ with_more members head n
     → AreMembers heads new (n + 1)
 members_more heads members new n head before head_is is_head =
     let is : new ≡ with_more members (stand_in heads n) n = is_head ∙ ap (λ (x : ℕ). with_more members x n) head_is in
@@ -215,12 +219,18 @@ members_more heads members new n head before head_is is_head =
                 let r = before.every c below inside in
                 elim (cases_lt (stand_in heads n) (length members)) [
                   | inl within ↦ (r.0, more_kept members (stand_in heads n) n within (stand_in heads c) r.0 c r.1)
-                  | inr ge ↦ (r.0, subst (λ (xs : List (List ℕ)). slice_get (row_at xs (stand_in heads c)) r.0 ≡ Some c) (sym (set_past members (stand_in heads n) (row_at members (stand_in heads n) ++ n ∷ []) ge)) r.1)
+                  | inr ge ↦ (
+                    r.0,
+                    subst (λ (xs : List (List ℕ)). slice_get (row_at xs (stand_in heads c)) r.0 ≡ Some c)
+                        (sym (set_past members (stand_in heads n) (row_at members (stand_in heads n) ++ n ∷ []) ge)) r.1,
+                  )
                 ])
             | inr ge ↦ (
                 let at : n ≡ c = omega arith in
-                let here : stand_in heads n < length members = (let e = before.as_many in subst (λ (x : ℕ). stand_in heads x < length members) (sym at) (omega arith)) in
-                subst (λ (x : ℕ). (k : ℕ) × (slice_get (row_at (with_more members (stand_in heads n) n) (stand_in heads x)) k ≡ Some x)) at
+                let here : stand_in heads n < length members = (let e = before.as_many in
+                subst (λ (x : ℕ). stand_in heads x < length members) (sym at) (omega arith)) in
+                subst (λ (x : ℕ). (k : ℕ) × (slice_get (row_at (with_more members (stand_in heads n) n) (stand_in heads x))
+                k ≡ Some x)) at
                 (length (row_at members (stand_in heads n)), more_last members (stand_in heads n) n here))
           ]);
     })
@@ -233,10 +243,12 @@ left_none heads all = record { same = λ c itself. refl; some = λ c t h. h }
 module _ (heads : List ℕ) (all roots : List (Option ℕ)) (n : ℕ) (left : AreLeft heads all roots) where
   left_out : (stand_in heads n ≡ n → ⊥) → AreLeft heads all (set roots n None)
   left_out other = record {
-    same = λ c itself. get_or-set_other roots n c None None (λ same. absurd (other (subst (λ (x : ℕ). stand_in heads x ≡ x) same itself))) ∙ left.same c itself;
+    same = λ c itself. get_or-set_other roots n c None None
+        (λ same. absurd (other (subst (λ (x : ℕ). stand_in heads x ≡ x) same itself))) ∙ left.same c itself;
     some = λ c t h. elim (cases_eq c n) [
       | inl same ↦ absurd (
-          let x : ◌≡◌ {A = Option ℕ} None (Some t) = sym (none_there n) ∙ subst (λ (x : ℕ). get_or (set roots n None) x None ≡ Some t) same h in
+          let x : ◌≡◌ {A = Option ℕ} None (Some t) = sym (none_there n)
+          ∙ subst (λ (x : ℕ). get_or (set roots n None) x None ≡ Some t) same h in
           cc)
       | inr apart ↦ left.some c t (sym (get_or-set_other roots n c None None apart) ∙ h)
     ];
@@ -251,10 +263,12 @@ module _ (heads : List ℕ) (all roots : List (Option ℕ)) (n : ℕ) (left : Ar
   left_by true holds = left
   left_by false fails = left_out (eqb-false (stand_in heads n) n fails)
 
-  pub left_more : (new : List (Option ℕ)) → new ≡ (if stand_in heads n == n then roots else set roots n None) → AreLeft heads all new
+  pub left_more : (new : List (Option ℕ)) → new ≡ (if stand_in heads n == n then roots else set roots n None)
+      → AreLeft heads all new
   left_more new is = subst (λ (xs : List (Option ℕ)). AreLeft heads all xs) (sym is) (left_by (stand_in heads n == n) refl)
 
-pub head_roots_of : (spec : Spec) (heads : List ℕ) (all roots : List (Option ℕ)) → AreRoots spec all → AreLeft heads all roots → AreHeadRoots spec heads roots
+pub head_roots_of : (spec : Spec) (heads : List ℕ) (all roots : List (Option ℕ)) → AreRoots spec all → AreLeft heads all roots
+    → AreHeadRoots spec heads roots
 head_roots_of spec heads all roots are left = record {
   true_ones = λ c t h. are.true_ones c t (left.some c t h);
   all_ones = λ c t itself root none. are.all_ones c t root (sym (left.same c itself) ∙ none);

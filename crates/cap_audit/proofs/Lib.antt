@@ -1,3 +1,4 @@
+pub mod Common
 pub mod Acting
 pub mod Assembling
 pub mod Counting

@@ -1,23 +1,7 @@
 -- Those for whom one stands call those for whom another stands.
-use Rattle.std.proofs.Common.{◌≡◌, ◌≢◌, ◌∙◌, ◌<◌, ◌≤◌, ◌==◌, ℕ, ◌+◌, Bool, true, false, List, [], ◌∷◌, Some, length, slice_get, get_or, drop, drop-cons, add-one, refl, sym, ap, subst, inl, inr, zero, suc}
-use Rattle.std.specs.List.{Contains, filter_map}
-use Rattle.std.proofs.lemmas.Bool.{eqb-false, eqb-true}
-use Rattle.std.proofs.lemmas.Option.{slice_get_within}
-use Rattle.cam_base.proofs.Lists.{from_filter_map, to_filter_map}
-use Rattle.cap_model.specs.Tables.{has}
-use Rattle.cap_model.specs.declared.edge.Edge.{Edge}
-use Rattle.cap_model.proofs.BootPlaces.{at_contains, contains_at}
-use Rattle.cap_model.specs.declared.spec.Spec.{Spec}
-use Rattle.cap_audit.specs.Search.{Found, held_by}
-use Rattle.cap_audit.specs.Start.{repeated}
-use Rattle.cap_audit.specs.declared.found.Held.{Held}
-use Rattle.cap_audit.specs.declared.found.Pair.{Pair}
-use Rattle.cap_audit.specs.Gains.{AtPlace, Below, Gains, IsSoFar, Made, OfSome}
-use Rattle.cap_audit.specs.Gates.{AreMet, ArePlaces, AreReady, Between, Greets, MeetBy, Meets, OfKinds, with_more}
-use Rattle.cap_audit.specs.Kinds.{IsQueued}
-use Rattle.cap_audit.specs.Picks.{place_in, place_of}
-use Rattle.cap_audit.specs.Rows.{row_at}
-use Rattle.cap_audit.specs.declared.gates.Place.{Place}
+use Rattle.cap_audit.proofs.Common.{AreMet, ArePlaces, AreReady, AtPlace, Below, Between, Bool, Contains, Edge, Found, Gains, Greets, Held, IsQueued, IsSoFar, List, Made, MeetBy, Meets, OfKinds, OfSome, Pair, Place, Some, Spec, [], add-one, ap}
+use Rattle.cap_audit.proofs.Common.{at_contains, contains_at, drop, drop-cons, eqb-false, eqb-true, false, filter_map, from_filter_map, get_or, has, held_by, inl, inr, length, place_in, place_of, refl, repeated, row_at, slice_get, slice_get_within}
+use Rattle.cap_audit.proofs.Common.{subst, suc, sym, to_filter_map, true, with_more, zero, ℕ, ◌+◌, ◌<◌, ◌==◌, ◌∙◌, ◌∷◌, ◌≡◌, ◌≢◌, ◌≤◌}
 use Rattle.cap_audit.proofs.Gaining.{below_none, gains_by, gains_none, some_all, some_more}
 use Rattle.cap_audit.proofs.Gating.{none_in_blank}
 use Rattle.cap_audit.proofs.Kinding.{row_cases}
@@ -26,12 +10,14 @@ use Rattle.cap_audit.proofs.Kinding.{row_cases}
 
 -- the value stands at some place, and at that number
 abbrev IsAt : ℕ → ℕ → List Held → Place → Type 0
-IsAt node value helds at = (at.node ≡ node) × ((k : ℕ) × (slice_get helds k ≡ Some (record { value = value; number = at.number })))
+IsAt node value helds at = (at.node ≡ node)
+    × ((k : ℕ) × (slice_get helds k ≡ Some (record { value = value; number = at.number })))
 
 place_stands : (node value : ℕ) (helds : List Held) (at : Place) → place_in node value helds ≡ Some at → IsAt node value helds at
 place_stands node value [] at h = absurd cc
 place_stands node value (held ∷ helds) at h = go (held.value == value) refl (λ g. place_stands node value helds at g) where
-  go : (b : Bool) → (held.value == value) ≡ b → (place_in node value helds ≡ Some at → IsAt node value helds at) → IsAt node value (held ∷ helds) at
+  go : (b : Bool) → (held.value == value) ≡ b → (place_in node value helds ≡ Some at → IsAt node value helds at)
+      → IsAt node value (held ∷ helds) at
   go true holds rest =
       let made : Place = record { node = node; number = held.number } in
       let e : place_in node value (held ∷ helds) ≡ Some made = rw holds refl in
@@ -41,8 +27,10 @@ place_stands node value (held ∷ helds) at h = go (held.value == value) refl (�
         sym (ap (λ (p : Place). p.node) same),
         (
           0,
-          subst (λ (n : ℕ). slice_get (held ∷ helds) 0 ≡ Some (record { value = value; number = n })) (ap (λ (p : Place). p.number) same)
-              (subst (λ (v : ℕ). slice_get (held ∷ helds) 0 ≡ Some (record { value = v; number = held.number })) (eqb-true held.value value holds) first),
+          subst (λ (n : ℕ). slice_get (held ∷ helds) 0 ≡ Some (record { value = value; number = n }))
+              (ap (λ (p : Place). p.number) same)
+              (subst (λ (v : ℕ). slice_get (held ∷ helds) 0 ≡ Some (record { value = v; number = held.number }))
+              (eqb-true held.value value holds) first),
         ),
       )
   go false fails rest =
@@ -54,7 +42,8 @@ place_stands node value (held ∷ helds) at h = go (held.value == value) refl (�
 abbrev IsThere : ℕ → ℕ → List Held → Type 0
 IsThere node value helds = (at : Place) × (place_in node value helds ≡ Some at) × (at.node ≡ node)
 
-place_there : (node value : ℕ) (helds : List Held) (k : ℕ) (held : Held) → slice_get helds k ≡ Some held → held.value ≡ value → IsThere node value helds
+place_there : (node value : ℕ) (helds : List Held) (k : ℕ) (held : Held) → slice_get helds k ≡ Some held → held.value ≡ value
+    → IsThere node value helds
 place_there node value [] k held h is = absurd cc
 place_there node value (x ∷ xs) zero held h is = go (x.value == value) refl where
   go : (b : Bool) → (x.value == value) ≡ b → IsThere node value (x ∷ xs)
@@ -65,7 +54,8 @@ place_there node value (x ∷ xs) (suc j) held h is = go (x.value == value) refl
   go true holds r = (record { node = node; number = x.number }, rw holds refl, refl)
   go false fails r = (r.0, rw fails r.1, r.2)
 
-pub places_are : (f : Found) (nodes : List ℕ) (value : ℕ) (places : List Place) → places ≡ filter_map (place_of f value) nodes → ArePlaces f nodes value places
+pub places_are : (f : Found) (nodes : List ℕ) (value : ℕ) (places : List Place) → places ≡ filter_map (place_of f value) nodes
+    → ArePlaces f nodes value places
 places_are f nodes value places is = record {
   stand = λ k at h. (
       let r = from_filter_map (place_of f value) nodes k at (subst (λ (xs : List Place). slice_get xs k ≡ Some at) is h) in
@@ -79,16 +69,21 @@ places_are f nodes value places is = record {
       (r.0, p.0, subst (λ (xs : List Place). slice_get xs r.0 ≡ Some p.0) (sym is) r.1, p.2));
 }
 
-module _ (spec : Spec) (f : Found) (heads : List ℕ) (rosters members : List (List ℕ)) (gates : List (List Pair)) (r : AreReady spec f heads rosters members gates) where
+module _ (spec : Spec) (f : Found) (heads : List ℕ) (rosters members : List (List ℕ)) (gates : List (List Pair))
+    (r : AreReady spec f heads rosters members gates) where
   -- a member holds what its head holds, and so has a place
-  member_place : (c v : ℕ) (nodes : List ℕ) (places : List Place) → IsQueued f c v → nodes ≡ row_at members c → ArePlaces f nodes v places → (k y : ℕ)
+  member_place : (c v : ℕ) (nodes : List ℕ) (places : List Place) → IsQueued f c v → nodes ≡ row_at members c
+      → ArePlaces f nodes v places → (k y : ℕ)
       → slice_get (row_at members c) k ≡ Some y → (i : ℕ) × (at : Place) × (slice_get places i ≡ Some at) × (at.node ≡ y)
   member_place c v nodes places q is are k y there =
-      let here : IsQueued f y v = r.alike.held_here y v (subst (λ (n : ℕ). IsQueued f n v) (sym (r.are_members.stands c k y there)) q) in
-      let held : Contains (held_by f y) here.pair.held = subst (λ (n : ℕ). Contains (held_by f n) here.pair.held) here.at (r.all.queued here.place here.pair here.there) in
+      let here : IsQueued f y v =
+      r.alike.held_here y v (subst (λ (n : ℕ). IsQueued f n v) (sym (r.are_members.stands c k y there)) q) in
+      let held : Contains (held_by f y) here.pair.held = subst (λ (n : ℕ). Contains (held_by f n) here.pair.held) here.at
+      (r.all.queued here.place here.pair here.there) in
       are.every k y here.pair.held (subst (λ (xs : List ℕ). slice_get xs k ≡ Some y) (sym is) there) held here.of
 
-  module _ (c d v w : ℕ) (nodes others : List ℕ) (callers peers : List Place) (q : IsQueued f c v) (p : IsQueued f d w) (is : nodes ≡ row_at members c) (peer_is : others ≡ row_at members d)
+  module _ (c d v w : ℕ) (nodes others : List ℕ) (callers peers : List Place) (q : IsQueued f c v) (p : IsQueued f d w)
+      (is : nodes ≡ row_at members c) (peer_is : others ≡ row_at members d)
       (are : ArePlaces f nodes v callers) (are_peers : ArePlaces f others w peers) where
     pub kinds_by_places : (labels : List ℕ) (e : Edge) → OfKinds labels rosters members c d e
         → OfSome (λ (peer : Place). OfSome (λ (at : Place). Between labels rosters at.node peer.node) callers) peers e
@@ -96,18 +91,24 @@ module _ (spec : Spec) (f : Found) (heads : List ℕ) (rosters members : List (L
         let b = member_place d w others peers p peer_is are_peers x.at x.by.item x.by.there in
         let a = member_place c v nodes callers q is are x.by.by.at x.by.by.by.item x.by.by.by.there in
         let here : Between labels rosters a.1.node b.1.node e =
-        subst (λ (n : ℕ). Between labels rosters n b.1.node e) (sym a.3) (subst (λ (n : ℕ). Between labels rosters x.by.by.by.item n e) (sym b.3) x.by.by.by.by) in
+        subst (λ (n : ℕ). Between labels rosters n b.1.node e) (sym a.3)
+        (subst (λ (n : ℕ). Between labels rosters x.by.by.by.item n e) (sym b.3) x.by.by.by.by) in
         record {
           at = b.0;
           less = slice_get_within peers b.0 b.1 b.2;
           by = record {
             item = b.1;
             there = b.2;
-            by = record { at = a.0; less = slice_get_within callers a.0 a.1 a.2; by = record { item = a.1; there = a.2; by = here } };
+            by = record {
+              at = a.0;
+              less = slice_get_within callers a.0 a.1 a.2;
+              by = record { item = a.1; there = a.2; by = here };
+            };
           };
         }
 
-pub places_meet : (spec : Spec) (f : Found) (v w : ℕ) (nodes others : List ℕ) (callers peers : List Place) → ArePlaces f nodes v callers → ArePlaces f others w peers → MeetBy spec f v w
+pub places_meet : (spec : Spec) (f : Found) (v w : ℕ) (nodes others : List ℕ) (callers peers : List Place)
+    → ArePlaces f nodes v callers → ArePlaces f others w peers → MeetBy spec f v w
     → (j k : ℕ) (peer at : Place) → slice_get peers j ≡ Some peer → slice_get callers k ≡ Some at → Meets spec f at peer
 places_meet spec f v w nodes others callers peers are are_peers m j k peer at there here = record {
   to = m.to;
@@ -120,26 +121,35 @@ places_meet spec f v w nodes others callers peers are are_peers m j k peer at th
 
 -- who has met
 
-pub none_met : (labels : List ℕ) (rosters members met : List (List ℕ)) (n : ℕ) (edges : List Edge) → met ≡ repeated [] n → AreMet labels rosters members met edges
-none_met labels rosters members met n edges is = record { shown = λ c k d e there of differ. absurd (none_in_blank met n c k d is there) }
+pub none_met : (labels : List ℕ) (rosters members met : List (List ℕ)) (n : ℕ) (edges : List Edge) → met ≡ repeated [] n
+    → AreMet labels rosters members met edges
+none_met labels rosters members met n edges is =
+    record { shown = λ c k d e there of differ. absurd (none_in_blank met n c k d is there) }
 
-module _ (rosters members : List (List ℕ)) (m : Made) (met : List (List ℕ)) (are : AreMet m.labels rosters members met m.edges) where
-  pub greets_none : (P : Edge → Type 0) → IsSoFar m → ((e : Edge) → P e → e.from ≢ e.to → has m.edges e ≡ true) → Greets rosters members P m m met
+module _ (rosters members : List (List ℕ)) (m : Made) (met : List (List ℕ))
+    (are : AreMet m.labels rosters members met m.edges) where
+  pub greets_none : (P : Edge → Type 0) → IsSoFar m → ((e : Edge) → P e → e.from ≢ e.to → has m.edges e ≡ true)
+      → Greets rosters members P m m met
   greets_none P so there = record { gains = gains_none P m so there; are = are }
 
-  pub greets_known : (c d : ℕ) (row : List ℕ) → IsSoFar m → row ≡ row_at met c → Contains row d → Greets rosters members (OfKinds m.labels rosters members c d) m m met
+  pub greets_known : (c d : ℕ) (row : List ℕ) → IsSoFar m → row ≡ row_at met c → Contains row d
+      → Greets rosters members (OfKinds m.labels rosters members c d) m m met
   greets_known c d row so is known =
       let k = contains_at row d known in
-      greets_none (OfKinds m.labels rosters members c d) so (λ e of differ. are.shown c k.0 d e (subst (λ (xs : List ℕ). slice_get xs k.0 ≡ Some d) is k.1) of differ)
+      greets_none (OfKinds m.labels rosters members c d) so
+      (λ e of differ. are.shown c k.0 d e (subst (λ (xs : List ℕ). slice_get xs k.0 ≡ Some d) is k.1) of differ)
 
-  pub greets_new : (c d : ℕ) (new : Made) (more : List (List ℕ)) → Gains (OfKinds m.labels rosters members c d) m new → more ≡ with_more met c d
+  pub greets_new : (c d : ℕ) (new : Made) (more : List (List ℕ)) → Gains (OfKinds m.labels rosters members c d) m new
+      → more ≡ with_more met c d
       → Greets rosters members (OfKinds m.labels rosters members c d) m new more
   greets_new c d new more g is = record {
     gains = g;
     are = subst (λ (xs : List (List ℕ)). AreMet m.labels rosters members xs new.edges) (sym is) (record {
       shown = λ x k y e there of differ. elim (row_cases met c d x k y there) [
         | inl old ↦ g.kept e (are.shown x k y e old of differ)
-        | inr now ↦ g.added e (subst (λ (n : ℕ). OfKinds m.labels rosters members c n e) (sym now.1) (subst (λ (n : ℕ). OfKinds m.labels rosters members n y e) now.0 of)) differ
+        | inr now ↦
+            g.added e (subst (λ (n : ℕ). OfKinds m.labels rosters members c n e) (sym now.1)
+            (subst (λ (n : ℕ). OfKinds m.labels rosters members n y e) now.0 of)) differ
       ];
     });
   }
@@ -148,30 +158,38 @@ module _ (rosters members : List (List ℕ)) (m : Made) (met : List (List ℕ)) 
   greets_begin P so = record { gains = below_none P m so; are = are }
 
 module _ (rosters members : List (List ℕ)) {A : Type 0} (P : A → Edge → Type 0) (items : List A) where
-  pub greets_more : (n : ℕ) (item : A) (a b c : Made) (met more : List (List ℕ)) → slice_get items n ≡ Some item → Greets rosters members (Below (AtPlace P items) n) a b met
+  pub greets_more : (n : ℕ) (item : A) (a b c : Made) (met more : List (List ℕ)) → slice_get items n ≡ Some item
+      → Greets rosters members (Below (AtPlace P items) n) a b met
       → Greets rosters members (P item) b c more → Greets rosters members (Below (AtPlace P items) (n + 1)) a c more
   greets_more n item a b c met more here before now = record {
     gains = some_more P items n item a b c here before.gains now.gains;
     are = subst (λ (x : Made). AreMet x.labels rosters members more c.edges) before.gains.same now.are;
   }
 
-  pub greets_all : (n : ℕ) (a b : Made) (met : List (List ℕ)) → length items ≤ n → Greets rosters members (Below (AtPlace P items) n) a b met → Greets rosters members (OfSome P items) a b met
+  pub greets_all : (n : ℕ) (a b : Made) (met : List (List ℕ)) → length items ≤ n
+      → Greets rosters members (Below (AtPlace P items) n) a b met → Greets rosters members (OfSome P items) a b met
   greets_all n a b met le g = record { gains = some_all P items n a b le g.gains; are = g.are }
 
-pub greets_by : (rosters members : List (List ℕ)) (P Q : Edge → Type 0) → ((e : Edge) → Q e → P e) → (m new : Made) (met : List (List ℕ)) → Greets rosters members P m new met
+pub greets_by : (rosters members : List (List ℕ)) (P Q : Edge → Type 0) → ((e : Edge) → Q e → P e)
+    → (m new : Made) (met : List (List ℕ)) → Greets rosters members P m new met
     → Greets rosters members Q m new met
 greets_by rosters members P Q from m new met g = record { gains = gains_by P Q from m new g.gains; are = g.are }
 
 -- the first place of a node, one item after the other
 
-pub place_past : (node value : ℕ) (helds : List Held) (i : ℕ) (d : Held) → i < length helds → ((get_or helds i d).value == value) ≡ false
+pub place_past : (node value : ℕ) (helds : List Held) (i : ℕ) (d : Held) → i < length helds
+    → ((get_or helds i d).value == value) ≡ false
     → place_in node value (drop i helds) ≡ place_in node value (drop (i + 1) helds)
 place_past node value helds i d less fails =
-    let past : place_in node value (get_or helds i d ∷ drop (suc i) helds) ≡ place_in node value (drop (suc i) helds) = rw fails refl in
-    ap (λ (xs : List Held). place_in node value xs) (drop-cons helds i d less) ∙ (past ∙ ap (λ (n : ℕ). place_in node value (drop n helds)) (sym (add-one i)))
+    let past : place_in node value (get_or helds i d ∷ drop (suc i) helds) ≡ place_in node value (drop (suc i) helds) =
+    rw fails refl in
+    ap (λ (xs : List Held). place_in node value xs) (drop-cons helds i d less)
+    ∙ (past ∙ ap (λ (n : ℕ). place_in node value (drop n helds)) (sym (add-one i)))
 
-pub place_here : (node value : ℕ) (helds : List Held) (i : ℕ) (d : Held) → i < length helds → ((get_or helds i d).value == value) ≡ true
-    → (let made : Place = record { node = node; number = (get_or helds i d).number } in place_in node value (drop i helds) ≡ Some made)
+pub place_here : (node value : ℕ) (helds : List Held) (i : ℕ) (d : Held) → i < length helds
+    → ((get_or helds i d).value == value) ≡ true
+    → (let made : Place = record { node = node; number = (get_or helds i d).number } in
+    place_in node value (drop i helds) ≡ Some made)
 place_here node value helds i d less holds =
     let made : Place = record { node = node; number = (get_or helds i d).number } in
     let here : place_in node value (get_or helds i d ∷ drop (suc i) helds) ≡ Some made = rw holds refl in

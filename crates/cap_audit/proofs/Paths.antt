@@ -1,25 +1,11 @@
 -- Ways and paths as more is found, and as ways are added.
-use Rattle.std.proofs.Common.{◌≡◌, ap, ◌<◌, ◌≤◌, ◌⊎◌, ℕ, ◌+◌, true, List, [], ◌∷◌, ◌++◌, Option, Some, None, refl, sym, subst, inl, inr, arith, get_or, length, slice_get, ◌∙◌}
-use Rattle.std.specs.List.{Contains}
-use Rattle.std.proofs.lemmas.List.{length-set}
-use Rattle.std.proofs.lemmas.List.Elements.{Contains-push, Contains-push_cases, Contains-append_left}
-use Rattle.std.proofs.lemmas.List.{get_or-set_same}
-use Rattle.std.proofs.lemmas.Bool.{cases_lt}
-use Rattle.std.proofs.lemmas.Option.{slice_get_within, get_or_from_slice_get}
-use Rattle.cap_model.proofs.BootPlaces.{contains_at}
-use Rattle.cap_model.specs.declared.cap.Cap.{Cap}
-use Rattle.cap_model.specs.declared.spec.Spec.{Spec}
-use Rattle.cap_machine.proofs.Applied.{read_written}
+use Rattle.cap_audit.proofs.Common.{AllGo, AreWays, Brings, Cap, Connects, Contains, Contains-append_left, Contains-push, Contains-push_cases, Course, Found, Grows, Held, HoldsAt, InClass, IsFound, IsWay, JoinsBack, Lanes, Later, Leads, LeadsTo}
+use Rattle.cap_audit.proofs.Common.{List, Merges, Near, None, Option, Pair, Path, Some, Spec, Unites, Way, Widens, [], along, ap, arith, at_end, cases_lt, contains_at, get_or, get_or-set_same, get_or_from_slice_get, held_by, inl, inr, is_at_below}
+use Rattle.cap_audit.proofs.Common.{is_known, length, length-set, read_written, refl, slice_get, slice_get_within, subst, sym, true, ways_from, with_way, ℕ, ◌++◌, ◌+◌, ◌<◌, ◌∙◌, ◌∷◌, ◌≡◌, ◌≤◌, ◌⊎◌}
 use Rattle.cap_audit.proofs.Bringing.{none_within, end_cnode}
 use Rattle.cap_model.specs.declared.kind.Kind.TheVariants as kinds
-use Rattle.cap_audit.specs.Search.{Found, held_by, is_known, HoldsAt, Leads, IsWay, IsFound, Grows, Brings}
-use Rattle.cap_audit.specs.Ways.{Lanes, ways_from, Path, at_end, along, InClass, AreWays, Widens, HaveGone, Later, AllGo, Connects, Merges, with_way, Near, LeadsTo, Unites, JoinsBack}
-use Rattle.cap_audit.specs.declared.found.Course.{Course}
+use Rattle.cap_audit.specs.Ways.{HaveGone}
 use Rattle.cap_audit.specs.declared.found.Course.TheVariants as courses
-use Rattle.cap_audit.specs.declared.found.Held.{Held}
-use Rattle.cap_audit.specs.declared.found.Pair.{Pair}
-use Rattle.cap_audit.specs.declared.found.Way.{Way}
-use Rattle.cap_model.proofs.Kept.{is_at_below}
 
 pub grows_same : (f : Found) → Grows f f
 grows_same f = record { values = refl; held = λ c y there. there; known = λ c v there. there; queue = λ k pair there. there }
@@ -38,8 +24,13 @@ later_same spec f found = record { found = found; grows = grows_same f; fewer = 
 pub later_then : (spec : Spec) (f g h : Found) → Later spec f g → Later spec g h → Later spec f h
 later_then spec f g h a b = record { found = b.found; grows = grows_then f g h a.grows b.grows; fewer = b.fewer ∙ a.fewer }
 
-pub later_brings : (spec : Spec) (f g h : Found) (way : Way) (held : Held) → Later spec f g → Brings spec g way held h → Later spec f h
-later_brings spec f g h way held a b = record { found = b.found; grows = grows_then f g h a.grows b.grows; fewer = b.fewer ∙ a.fewer }
+pub later_brings : (spec : Spec) (f g h : Found) (way : Way) (held : Held) → Later spec f g → Brings spec g way held h
+    → Later spec f h
+later_brings spec f g h way held a b = record {
+  found = b.found;
+  grows = grows_then f g h a.grows b.grows;
+  fewer = b.fewer ∙ a.fewer;
+}
 
 pub holds_on : (f g : Found) → Grows f g → (c i : ℕ) (cap : Cap) → HoldsAt f c i cap → HoldsAt g c i cap
 holds_on f g grows c i cap at = record {
@@ -48,28 +39,38 @@ holds_on f g grows c i cap at = record {
   is = subst (λ (values : List Cap). slice_get values at.value ≡ Some cap) (sym grows.values) at.is;
 }
 
-pub leads_on : (spec : Spec) (f g : Found) → Grows f g → (c d : ℕ) (course : Course) → Leads spec f c d course → Leads spec g c d course
+pub leads_on : (spec : Spec) (f g : Found) → Grows f g → (c d : ℕ) (course : Course) → Leads spec f c d course
+    → Leads spec g c d course
 leads_on spec f g grows c d (courses.Take t i) (cap, root, at, is, same) = (cap, root, holds_on f g grows d i cap at, is, same)
 leads_on spec f g grows c d (courses.Put t i) (cap, root, at, is, same) = (cap, root, holds_on f g grows c i cap at, is, same)
-leads_on spec f g grows c d (courses.Grant t i u j) (to, from, roots, own, listens, meet, may) = (to, from, roots, holds_on f g grows c i to own, holds_on f g grows d j from listens, meet, may)
+leads_on spec f g grows c d (courses.Grant t i u j) (to, from, roots, own, listens, meet, may) =
+    (to, from, roots, holds_on f g grows c i to own, holds_on f g grows d j from listens, meet, may)
 leads_on spec f g grows c d (courses.Reply t i u j) (to, from, roots, own, listens, meet, may, back) =
     (to, from, roots, holds_on f g grows d i to own, holds_on f g grows c j from listens, meet, may, back)
 
 pub ways_on : (spec : Spec) (f g : Found) (net : Lanes) → Grows f g → AreWays spec f net → AreWays spec g net
 ways_on spec f g net grows a =
-    record { ways = λ c way there. leads_on spec f g grows c way.to way.course (a.ways c way there); joined = a.joined; as_many = a.as_many; as_many_classes = a.as_many_classes }
+    record {
+      ways = λ c way there. leads_on spec f g grows c way.to way.course (a.ways c way there);
+      joined = a.joined;
+      as_many = a.as_many;
+      as_many_classes = a.as_many_classes;
+    }
 
 -- the first pairs of a queue are those of a longer one
-pub queue_same : (f g : Found) (k : ℕ) (pair : Pair) → Grows f g → k < length f.queue → slice_get g.queue k ≡ Some pair → slice_get f.queue k ≡ Some pair
+pub queue_same : (f g : Found) (k : ℕ) (pair : Pair) → Grows f g → k < length f.queue → slice_get g.queue k ≡ Some pair
+    → slice_get f.queue k ≡ Some pair
 queue_same f g k pair grows less h = go (slice_get f.queue k) refl where
   go : (o : Option Pair) → slice_get f.queue k ≡ o → slice_get f.queue k ≡ Some pair
   go (Some p) e = (let later = grows.queue k p e in let same : p ≡ pair = cc in rw (e, same) refl)
   go None e = absurd (none_within f.queue k e less)
 
-pub gone_on : (f g : Found) (net : Lanes) (done : ℕ) → Grows f g → done ≤ length f.queue → HaveGone f net done → HaveGone g net done
+pub gone_on : (f g : Found) (net : Lanes) (done : ℕ) → Grows f g → done ≤ length f.queue → HaveGone f net done
+    → HaveGone g net done
 unfolding HaveGone
 gone_on f g net done grows le gone k pair way less h there =
-    grows.known way.to pair.held.value (gone k pair way less (queue_same f g k pair grows (let a : k < done = less in omega arith) h) there)
+    grows.known way.to pair.held.value (gone k pair way less (queue_same f g k pair grows (let a : k < done = less in
+    omega arith) h) there)
 
 pub path_then : (net : Lanes) (c d e : ℕ) → Path net c d → Path net d e → Path net c e
 path_then net c d e p q = extend net c d e p q where
@@ -88,7 +89,8 @@ pub widens_then : (a b c : Lanes) → Widens a b → Widens b c → Widens a c
 widens_then a b c f g = record { ways = λ n way there. g.ways n way (f.ways n way there) }
 
 -- what has gone along all ways has gone along paths
-pub known_along : (f : Found) (net : Lanes) (v : ℕ) → ((c : ℕ) (way : Way) → is_known f c v ≡ true → Contains (ways_from net c) way → is_known f way.to v ≡ true)
+pub known_along : (f : Found) (net : Lanes) (v : ℕ) → ((c : ℕ) (way : Way) → is_known f c v ≡ true
+    → Contains (ways_from net c) way → is_known f way.to v ≡ true)
     → (c d : ℕ) → Path net c d → is_known f c v ≡ true → is_known f d v ≡ true
 known_along f net v goes c d at_end h = h
 known_along f net v goes c d (along way there p) h = known_along f net v goes way.to d p (goes c way h there)
@@ -99,11 +101,13 @@ pub with_way_widens : (net : Lanes) (c : ℕ) (way : Way) → Widens net (with_w
 with_way_widens net c way = record {
   ways = λ k w there. elim (read_written net.out c k (get_or net.out c [] ++ way ∷ []) []) [
     | inl e ↦ subst (λ (ws : List Way). Contains ws w) (sym e) there
-    | inr e ↦ subst (λ (ws : List Way). Contains ws w) (sym e.1) (Contains-append_left (get_or net.out c []) (way ∷ []) w (subst (λ (n : ℕ). Contains (get_or net.out n []) w) e.0 there))
+    | inr e ↦ subst (λ (ws : List Way). Contains ws w) (sym e.1) (Contains-append_left (get_or net.out c []) (way ∷ []) w
+        (subst (λ (n : ℕ). Contains (get_or net.out n []) w) e.0 there))
   ];
 }
 
-way_cases : (net : Lanes) (c : ℕ) (way : Way) (k : ℕ) (w : Way) → Contains (ways_from (with_way net c way) k) w → Contains (ways_from net k) w ⊎ ((k ≡ c) × (way ≡ w))
+way_cases : (net : Lanes) (c : ℕ) (way : Way) (k : ℕ) (w : Way) → Contains (ways_from (with_way net c way) k) w
+    → Contains (ways_from net k) w ⊎ ((k ≡ c) × (way ≡ w))
 way_cases net c way k w there = elim (read_written net.out c k (get_or net.out c [] ++ way ∷ []) []) [
   | inl e ↦ inl (subst (λ (ws : List Way). Contains ws w) e there)
   | inr e ↦ elim (Contains-push_cases (get_or net.out c []) way w (subst (λ (ws : List Way). Contains ws w) e.1 there)) [
@@ -114,9 +118,11 @@ way_cases net c way k w there = elim (read_written net.out c k (get_or net.out c
 
 way_there : (net : Lanes) (c : ℕ) (way : Way) → c < length net.out → Contains (ways_from (with_way net c way) c) way
 way_there net c way less =
-    subst (λ (ws : List Way). Contains ws way) (sym (get_or-set_same net.out c (get_or net.out c [] ++ way ∷ []) [] less)) (Contains-push (get_or net.out c []) way)
+    subst (λ (ws : List Way). Contains ws way) (sym (get_or-set_same net.out c (get_or net.out c [] ++ way ∷ []) [] less))
+    (Contains-push (get_or net.out c []) way)
 
-module _ (spec : Spec) (f : Found) (net : Lanes) (c : ℕ) (way : Way) (F : IsFound spec f) (A : AreWays spec f net) (leads : IsWay spec f c way) (new : Found)
+module _ (spec : Spec) (f : Found) (net : Lanes) (c : ℕ) (way : Way) (F : IsFound spec f) (A : AreWays spec f net)
+    (leads : IsWay spec f c way) (new : Found)
     (all : AllGo spec f way (held_by f c) new) (less : c < length spec.entries) where
   pub way_connects : Connects spec f net c way.to new (with_way net c way)
   unfolding HaveGone
@@ -125,9 +131,11 @@ module _ (spec : Spec) (f : Found) (net : Lanes) (c : ℕ) (way : Way) (F : IsFo
     ways = record {
       ways = λ k w there. elim (way_cases net c way k w there) [
         | inl old ↦ leads_on spec f new all.later.grows k w.to w.course (A.ways k w old)
-        | inr e ↦ subst (λ (x : Way). IsWay spec new k x) e.1 (subst (λ (n : ℕ). IsWay spec new n way) (sym e.0) (leads_on spec f new all.later.grows c way.to way.course leads))
+        | inr e ↦ subst (λ (x : Way). IsWay spec new k x) e.1 (subst (λ (n : ℕ). IsWay spec new n way) (sym e.0)
+            (leads_on spec f new all.later.grows c way.to way.course leads))
       ];
-      joined = λ x y in_class. path_on net (with_way net c way) (with_way_widens net c way) x y (A.joined x y (record { one = in_class.one; other = in_class.other; same = in_class.same }));
+      joined = λ x y in_class. path_on net (with_way net c way) (with_way_widens net c way) x y
+          (A.joined x y (record { one = in_class.one; other = in_class.other; same = in_class.same }));
       as_many = length-set net.out c (get_or net.out c [] ++ way ∷ []) ∙ A.as_many;
       as_many_classes = A.as_many_classes;
     };
@@ -143,12 +151,20 @@ module _ (spec : Spec) (f : Found) (net : Lanes) (c : ℕ) (way : Way) (F : IsFo
   }
 
 -- already joined
-pub joined_connects : (spec : Spec) (f : Found) (net : Lanes) (c d : ℕ) → IsFound spec f → AreWays spec f net → InClass net c d → Connects spec f net c d f net
-joined_connects spec f net c d F A same = record { later = later_same spec f F; ways = A; widens = widens_same net; path = A.joined c d same; gone = λ done le gone. gone }
+pub joined_connects : (spec : Spec) (f : Found) (net : Lanes) (c d : ℕ) → IsFound spec f → AreWays spec f net → InClass net c d
+    → Connects spec f net c d f net
+joined_connects spec f net c d F A same = record {
+  later = later_same spec f F;
+  ways = A;
+  widens = widens_same net;
+  path = A.joined c d same;
+  gone = λ done le gone. gone;
+}
 
 -- classes that ways join both ways are made one
 
-module _ (spec : Spec) (f : Found) (net : Lanes) (A : AreWays spec f net) (c d : ℕ) (classes : List ℕ) (m : Merges net.classes c d classes) (there : Path net c d) (back : Path net d c)
+module _ (spec : Spec) (f : Found) (net : Lanes) (A : AreWays spec f net) (c d : ℕ) (classes : List ℕ)
+    (m : Merges net.classes c d classes) (there : Path net c d) (back : Path net d c)
     (c_less : c < length net.classes) (d_less : d < length net.classes) where
   abbrev merged : Lanes
   merged = record { out = net.out; classes = classes }
@@ -157,7 +173,8 @@ module _ (spec : Spec) (f : Found) (net : Lanes) (A : AreWays spec f net) (c d :
   widened = record { ways = λ k w there. there }
 
   old_path : (x y : ℕ) → x < length classes → y < length classes → get_or net.classes x 0 ≡ get_or net.classes y 0 → Path net x y
-  old_path x y one other same = A.joined x y (record { one = (let e = m.as_many in omega arith); other = (let e = m.as_many in omega arith); same = same })
+  old_path x y one other same =
+      A.joined x y (record { one = (let e = m.as_many in omega arith); other = (let e = m.as_many in omega arith); same = same })
 
   c_here : c < length classes
   c_here = let e = m.as_many in omega arith
@@ -169,10 +186,12 @@ module _ (spec : Spec) (f : Found) (net : Lanes) (A : AreWays spec f net) (c d :
   merged_path x y i = elim (m.each x) [
     | inl kept_x ↦ elim (m.each y) [
       | inl kept_y ↦ old_path x y i.one i.other (sym kept_x ∙ (i.same ∙ kept_y))
-      | inr moved_y ↦ path_then net x c y (old_path x c i.one c_here (sym kept_x ∙ (i.same ∙ moved_y.1))) (path_then net c d y there (old_path d y d_here i.other (sym moved_y.0)))
+      | inr moved_y ↦ path_then net x c y (old_path x c i.one c_here (sym kept_x ∙ (i.same ∙ moved_y.1)))
+          (path_then net c d y there (old_path d y d_here i.other (sym moved_y.0)))
     ]
     | inr moved_x ↦ elim (m.each y) [
-      | inl kept_y ↦ path_then net x d y (old_path x d i.one d_here moved_x.0) (path_then net d c y back (old_path c y c_here i.other (sym moved_x.1 ∙ (i.same ∙ kept_y))))
+      | inl kept_y ↦ path_then net x d y (old_path x d i.one d_here moved_x.0)
+          (path_then net d c y back (old_path c y c_here i.other (sym moved_x.1 ∙ (i.same ∙ kept_y))))
       | inr moved_y ↦ old_path x y i.one i.other (moved_x.0 ∙ sym moved_y.0)
     ]
   ]
@@ -186,7 +205,8 @@ module _ (spec : Spec) (f : Found) (net : Lanes) (A : AreWays spec f net) (c d :
   }
 
 -- a fact on each item at a place below i + 1
-pub each_more : {A : Type 0} (P : A → Type 0) (xs : List A) (i : ℕ) (d : A) → ((k : ℕ) (x : A) → k < i → slice_get xs k ≡ Some x → P x) → P (get_or xs i d) → (k : ℕ) (x : A) → k < i + 1 → slice_get xs k ≡ Some x → P x
+pub each_more : {A : Type 0} (P : A → Type 0) (xs : List A) (i : ℕ) (d : A) → ((k : ℕ) (x : A) → k < i → slice_get xs k ≡ Some x
+    → P x) → P (get_or xs i d) → (k : ℕ) (x : A) → k < i + 1 → slice_get xs k ≡ Some x → P x
 each_more {A} P xs i d old here k x less h = elim (cases_lt k i) [
   | inl below ↦ old k x below h
   | inr ge ↦ (
@@ -196,8 +216,10 @@ each_more {A} P xs i d old here k x less h = elim (cases_lt k i) [
 ]
 
 -- a fact on each item
-pub each_of_all : {A : Type 0} (P : A → Type 0) (xs : List A) (i : ℕ) → length xs ≤ i → ((k : ℕ) (x : A) → k < i → slice_get xs k ≡ Some x → P x) → (x : A) → Contains xs x → P x
-each_of_all P xs i le all x there = let k = contains_at xs x there in let within = slice_get_within xs k.0 x k.1 in all k.0 x (omega arith) k.1
+pub each_of_all : {A : Type 0} (P : A → Type 0) (xs : List A) (i : ℕ) → length xs ≤ i
+    → ((k : ℕ) (x : A) → k < i → slice_get xs k ≡ Some x → P x) → (x : A) → Contains xs x → P x
+each_of_all P xs i le all x there = let k = contains_at xs x there in let within = slice_get_within xs k.0 x k.1 in
+    all k.0 x (omega arith) k.1
 
 -- a way that is there
 
@@ -208,12 +230,21 @@ near_path spec f net c d A (inr joined) = A.joined c d joined
 pub lead_path : (spec : Spec) (f : Found) (net : Lanes) (c d : ℕ) → AreWays spec f net → LeadsTo net c d → Path net c d
 lead_path spec f net c d A l =
     let way = l.has.way in
-    path_then net c l.by d (near_path spec f net c l.by A l.from) (along way l.has.there (near_path spec f net way.to d A l.has.to))
+    path_then net c l.by d (near_path spec f net c l.by A l.from)
+    (along way l.has.there (near_path spec f net way.to d A l.has.to))
 
-pub lead_connects : (spec : Spec) (f : Found) (net : Lanes) (c d : ℕ) → IsFound spec f → AreWays spec f net → LeadsTo net c d → Connects spec f net c d f net
-lead_connects spec f net c d F A l = record { later = later_same spec f F; ways = A; widens = widens_same net; path = lead_path spec f net c d A l; gone = λ done le gone. gone }
+pub lead_connects : (spec : Spec) (f : Found) (net : Lanes) (c d : ℕ) → IsFound spec f → AreWays spec f net → LeadsTo net c d
+    → Connects spec f net c d f net
+lead_connects spec f net c d F A l = record {
+  later = later_same spec f F;
+  ways = A;
+  widens = widens_same net;
+  path = lead_path spec f net c d A l;
+  gone = λ done le gone. gone;
+}
 
-pub relabelled : (f : Found) (net : Lanes) (classes : List ℕ) (done : ℕ) → HaveGone f net done → HaveGone f (record { out = net.out; classes = classes }) done
+pub relabelled : (f : Found) (net : Lanes) (classes : List ℕ) (done : ℕ) → HaveGone f net done
+    → HaveGone f (record { out = net.out; classes = classes }) done
 unfolding HaveGone
 relabelled f net classes done gone k pair way less h there = gone k pair way less h there
 
@@ -221,8 +252,10 @@ pub end_below : (spec : Spec) (f : Found) (c : ℕ) (way : Way) → IsFound spec
 end_below spec f c way F leads = is_at_below spec kinds.CNode way.to (end_cnode spec f F c way.to way.course leads)
 
 -- the ends of a new way are one class where a way led back
-module _ (spec : Spec) (f : Found) (net : Lanes) (c d : ℕ) (new : Found) (wide joined : Lanes) (x : Connects spec f net c d new wide) (c_less : c < length spec.entries) (d_less : d < length spec.entries) where
-  joined_both : LeadsTo wide d c → joined.out ≡ wide.out → Unites wide.classes c d joined.classes → Connects spec f net c d new joined
+module _ (spec : Spec) (f : Found) (net : Lanes) (c d : ℕ) (new : Found) (wide joined : Lanes)
+    (x : Connects spec f net c d new wide) (c_less : c < length spec.entries) (d_less : d < length spec.entries) where
+  joined_both : LeadsTo wide d c → joined.out ≡ wide.out → Unites wide.classes c d joined.classes
+      → Connects spec f net c d new joined
   joined_both back out u =
       let many = x.ways.as_many_classes in
       let to_back = lead_path spec new wide d c x.ways back in
@@ -236,7 +269,8 @@ module _ (spec : Spec) (f : Found) (net : Lanes) (c d : ℕ) (new : Found) (wide
           | inr m ↦ merged_ways spec new wide x.ways d c joined.classes m to_back x.path (omega arith) (omega arith)
         ];
         widens = record { ways = λ k way there. x.widens.ways k way there };
-        path = path_on wide (record { out = wide.out; classes = joined.classes }) (record { ways = λ k way there. there }) c d x.path;
+        path = path_on wide (record { out = wide.out; classes = joined.classes })
+            (record { ways = λ k way there. there }) c d x.path;
         gone = λ done le gone. relabelled new wide joined.classes done (x.gone done le gone);
       })
 

@@ -1,31 +1,21 @@
 -- What the picks of a CNode are, and what steps with them make.
-use Rattle.std.proofs.Common.{◌≡◌, ◌∙◌, ℕ, Bool, true, false, List, Option, Some, None, slice_get, refl, sym, ap, subst}
-use Rattle.std.specs.List.{Contains, filter_map}
-use Rattle.std.proofs.lemmas.Option.{slice_get_within}
-use Rattle.cam_base.proofs.Lists.{from_filter_map, to_filter_map}
-use Rattle.cap_model.specs.declared.edge.Edge.{Edge}
-use Rattle.cap_model.proofs.BootPlaces.{at_contains}
-use Rattle.cap_model.specs.declared.cap.Cap.{Cap}
-use Rattle.cap_model.specs.declared.spec.Spec.{Spec}
-use Rattle.cap_audit.specs.Search.{Found, HoldsAt, held_by}
-use Rattle.cap_audit.specs.Spread.{HasRoot}
-use Rattle.cap_audit.specs.declared.found.Held.{Held}
-use Rattle.cap_audit.specs.Gains.{OfSome}
-use Rattle.cap_audit.specs.Picks.{IsHeld, OfDeed, OfDeeds, OwnsAll, is_wanted, pick_of, wanted_from, wanted_to}
-use Rattle.cap_audit.specs.declared.making.Deed.{Deed}
-use Rattle.cap_audit.specs.declared.picks.Pick.{Pick}
-use Rattle.cap_audit.specs.declared.picks.Wanted.{Wanted}
+use Rattle.cap_audit.proofs.Common.{Bool, Cap, Contains, Deed, Edge, Found, HasRoot, Held, HoldsAt, IsHeld, List, None, OfDeed, OfDeeds, OfSome, Option, OwnsAll, Pick, Some, Spec, Wanted, ap, at_contains, false, filter_map, from_filter_map, held_by}
+use Rattle.cap_audit.proofs.Common.{is_wanted, pick_of, refl, slice_get, slice_get_within, subst, sym, to_filter_map, true, wanted_from, wanted_to, ℕ, ◌∙◌, ◌≡◌}
 
 module _ (spec : Spec) (f : Found) (wanted : Wanted) where
   -- a pick is what it was picked from
   pub picked_from : (held : Held) (pick : Pick) → pick_of spec f wanted held ≡ Some pick
       → (slice_get f.values held.value ≡ Some pick.cap) × (pick.number ≡ held.number) × (is_wanted spec wanted pick.cap ≡ true)
   picked_from held pick h = go (slice_get f.values held.value) refl where
-    go : (o : Option Cap) → slice_get f.values held.value ≡ o → (slice_get f.values held.value ≡ Some pick.cap) × (pick.number ≡ held.number) × (is_wanted spec wanted pick.cap ≡ true)
-    go None is = absurd (let e : pick_of spec f wanted held ≡ None = rw is refl in let g : ◌≡◌ {A = Option Pick} None (Some pick) = sym e ∙ h in cc)
+    go : (o : Option Cap) → slice_get f.values held.value ≡ o → (slice_get f.values held.value ≡ Some pick.cap)
+        × (pick.number ≡ held.number) × (is_wanted spec wanted pick.cap ≡ true)
+    go None is = absurd (let e : pick_of spec f wanted held ≡ None = rw is refl in
+        let g : ◌≡◌ {A = Option Pick} None (Some pick) = sym e ∙ h in cc)
     go (Some cap) is = by_test (is_wanted spec wanted cap) refl where
-      by_test : (b : Bool) → is_wanted spec wanted cap ≡ b → (slice_get f.values held.value ≡ Some pick.cap) × (pick.number ≡ held.number) × (is_wanted spec wanted pick.cap ≡ true)
-      by_test false no_one = absurd (let e : pick_of spec f wanted held ≡ None = rw (is, no_one) refl in let g : ◌≡◌ {A = Option Pick} None (Some pick) = sym e ∙ h in cc)
+      by_test : (b : Bool) → is_wanted spec wanted cap ≡ b → (slice_get f.values held.value ≡ Some pick.cap)
+          × (pick.number ≡ held.number) × (is_wanted spec wanted pick.cap ≡ true)
+      by_test false no_one = absurd (let e : pick_of spec f wanted held ≡ None = rw (is, no_one) refl in
+          let g : ◌≡◌ {A = Option Pick} None (Some pick) = sym e ∙ h in cc)
       by_test true fit =
           let made : Pick = record { number = held.number; cap = cap } in
           let e : pick_of spec f wanted held ≡ Some made = rw (is, fit) refl in
@@ -41,30 +31,42 @@ module _ (spec : Spec) (f : Found) (wanted : Wanted) where
   picked held cap is fit = rw (is, fit) refl
 
   -- a pick of a held value stands there
-  pub pick_holds : (c : ℕ) (held : Held) (pick : Pick) → Contains (held_by f c) held → pick_of spec f wanted held ≡ Some pick → HoldsAt f c pick.number pick.cap
+  pub pick_holds : (c : ℕ) (held : Held) (pick : Pick) → Contains (held_by f c) held → pick_of spec f wanted held ≡ Some pick
+      → HoldsAt f c pick.number pick.cap
   pick_holds c held pick there h =
       let p = picked_from held pick h in
-      record { value = held.value; held = subst (λ (n : ℕ). Contains (held_by f c) (let x : Held = record { value = held.value; number = n } in x)) (sym p.1) there; is = p.0 }
+      record {
+        value = held.value;
+        held = subst (λ (n : ℕ). Contains (held_by f c) (let x : Held = record { value = held.value; number = n } in x))
+            (sym p.1) there;
+        is = p.0;
+      }
 
   module _ (c : ℕ) where
-    pub pick_at : (k : ℕ) (pick : Pick) → slice_get (filter_map (pick_of spec f wanted) (held_by f c)) k ≡ Some pick → HoldsAt f c pick.number pick.cap × (is_wanted spec wanted pick.cap ≡ true)
+    pub pick_at : (k : ℕ) (pick : Pick) → slice_get (filter_map (pick_of spec f wanted) (held_by f c)) k ≡ Some pick
+        → HoldsAt f c pick.number pick.cap × (is_wanted spec wanted pick.cap ≡ true)
     pick_at k pick h =
         let r = from_filter_map (pick_of spec f wanted) (held_by f c) k pick h in
         (pick_holds c r.1 pick (at_contains (held_by f c) r.1 r.0 r.2) r.3, (picked_from r.1 pick r.3).2)
 
     pub pick_of_held : (cap : Cap) → IsHeld f c cap → is_wanted spec wanted cap ≡ true
-        → (k : ℕ) × (pick : Pick) × (slice_get (filter_map (pick_of spec f wanted) (held_by f c)) k ≡ Some pick) × (pick.cap ≡ cap)
+        → (k : ℕ) × (pick : Pick) × (slice_get (filter_map (pick_of spec f wanted) (held_by f c)) k ≡ Some pick)
+        × (pick.cap ≡ cap)
     pick_of_held cap h fit =
         let made : Pick = record { number = h.held.number; cap = cap } in
         let r = to_filter_map (pick_of spec f wanted) (held_by f c) h.place h.held made h.there (picked h.held cap h.is fit) in
         (r.0, made, r.1, refl)
 
-module _ (spec : Spec) (labels : List ℕ) (f : Found) (deed : Deed) (c : ℕ) (froms tos : List Pick) (are_froms : froms ≡ filter_map (pick_of spec f (wanted_from deed)) (held_by f c))
+module _ (spec : Spec) (labels : List ℕ) (f : Found) (deed : Deed) (c : ℕ) (froms tos : List Pick)
+    (are_froms : froms ≡ filter_map (pick_of spec f (wanted_from deed)) (held_by f c))
     (are_tos : tos ≡ filter_map (pick_of spec f (wanted_to deed)) (held_by f c)) where
-  from_at : (k : ℕ) (from : Pick) → slice_get froms k ≡ Some from → HoldsAt f c from.number from.cap × (is_wanted spec (wanted_from deed) from.cap ≡ true)
-  from_at k from h = pick_at spec f (wanted_from deed) c k from (subst (λ (xs : List Pick). slice_get xs k ≡ Some from) are_froms h)
+  from_at : (k : ℕ) (from : Pick) → slice_get froms k ≡ Some from → HoldsAt f c from.number from.cap
+      × (is_wanted spec (wanted_from deed) from.cap ≡ true)
+  from_at k from h = pick_at spec f (wanted_from deed) c k from
+      (subst (λ (xs : List Pick). slice_get xs k ≡ Some from) are_froms h)
 
-  to_at : (k : ℕ) (to : Pick) → slice_get tos k ≡ Some to → HoldsAt f c to.number to.cap × (is_wanted spec (wanted_to deed) to.cap ≡ true)
+  to_at : (k : ℕ) (to : Pick) → slice_get tos k ≡ Some to → HoldsAt f c to.number to.cap
+      × (is_wanted spec (wanted_to deed) to.cap ≡ true)
   to_at k to h = pick_at spec f (wanted_to deed) c k to (subst (λ (xs : List Pick). slice_get xs k ≡ Some to) are_tos h)
 
   pub owns_all : (t : ℕ) → HasRoot spec t c → OwnsAll spec f t deed froms tos
@@ -78,20 +80,31 @@ module _ (spec : Spec) (labels : List ℕ) (f : Found) (deed : Deed) (c : ℕ) (
   }
 
   -- all that such steps make comes of two picks
-  pub deeds_of_picks : (e : Edge) → OfDeeds spec labels f deed c e → OfSome (λ (from : Pick). OfSome (λ (to : Pick). OfDeed spec labels deed from.cap to.cap) tos) froms e
+  pub deeds_of_picks : (e : Edge) → OfDeeds spec labels f deed c e
+      → OfSome (λ (from : Pick). OfSome (λ (to : Pick). OfDeed spec labels deed from.cap to.cap) tos) froms e
   deeds_of_picks e d =
       let x = pick_of_held spec f (wanted_from deed) c d.from d.has_from d.is_from in
       let y = pick_of_held spec f (wanted_to deed) c d.to d.has_to d.is_to in
       let here : slice_get froms x.0 ≡ Some x.1 = subst (λ (xs : List Pick). slice_get xs x.0 ≡ Some x.1) (sym are_froms) x.2 in
       let there : slice_get tos y.0 ≡ Some y.1 = subst (λ (xs : List Pick). slice_get xs y.0 ≡ Some y.1) (sym are_tos) y.2 in
-      let by_from : OfDeed spec labels deed x.1.cap d.to e = subst (λ (z : Cap). OfDeed spec labels deed z d.to e) (sym x.3) d.by in
-      let by_both : OfDeed spec labels deed x.1.cap y.1.cap e = subst (λ (z : Cap). OfDeed spec labels deed x.1.cap z e) (sym y.3) by_from in
+      let by_from : OfDeed spec labels deed x.1.cap d.to e = subst (λ (z : Cap). OfDeed spec labels deed z d.to e)
+      (sym x.3) d.by in
+      let by_both : OfDeed spec labels deed x.1.cap y.1.cap e = subst (λ (z : Cap). OfDeed spec labels deed x.1.cap z e)
+      (sym y.3) by_from in
       record {
         at = x.0;
         less = slice_get_within froms x.0 x.1 here;
         by = record {
           item = x.1;
           there = here;
-          by = record { at = y.0; less = slice_get_within tos y.0 y.1 there; by = record { item = y.1; there = there; by = by_both } };
+          by = record {
+            at = y.0;
+            less = slice_get_within tos y.0 y.1 there;
+            by = record {
+              item = y.1;
+              there = there;
+              by = by_both;
+            };
+          };
         };
       }

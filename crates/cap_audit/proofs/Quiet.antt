@@ -1,38 +1,17 @@
 -- States in which nobody waits and nothing is pending, and what one such state has beyond another.
-use Rattle.std.proofs.Common.{◌≡◌, ◌<◌, ℕ, ◌==◌, ◌^◌, ◌&&◌, nat_lt, leb, Bool, true, false, not, List, [], ◌∷◌, ◌++◌, Option, Some, None, refl, sym, ap, subst, inl, inr, arith, get_or, set, map, length, ◌∙◌}
-use Rattle.std.specs.List.{Contains, filter, list_all}
+use Rattle.cap_audit.proofs.Common.{Acts, Bool, Cap, Capability, Contains, Contains-from_lookup, Contains-push_cases, Content, HasRoot, IsKept, List, Node, None, Object, Option, Quiet, Run, Some, Spec, State, Step, StepTo, ThreadState, [], added}
+use Rattle.cap_audit.proofs.Common.{and_parts, ap, append-nil, arith, behind, boot, boot_fits, boot_node, boot_slot, content_at, content_in, false, filter, filter-append, first, first_or_behind, fits, get_or, get_or-set_same, grown, grown_at, inl}
+use Rattle.cap_audit.proofs.Common.{inr, is_at, is_at_below, keeps, keeps_slots, leb, length, list_all, map, nat_lt, no_node, node_at, not, object_at, object_kept, read_written, refl, rest_rises, rise, set, slots_at, slots_of, step_fits, subst, sym}
+use Rattle.cap_audit.proofs.Common.{true, without, without_at, ℕ, ◌&&◌, ◌++◌, ◌<◌, ◌==◌, ◌^◌, ◌∙◌, ◌∷◌, ◌≡◌}
 use Rattle.std.specs.Map.{lookup}
-use Rattle.std.proofs.lemmas.Bool.{and_parts}
-use Rattle.std.proofs.lemmas.List.{append-nil, get_or-set_same}
-use Rattle.std.proofs.lemmas.List.Elements.{Contains-push_cases, filter-append}
-use Rattle.std.proofs.lemmas.Map.Views.{Contains-from_lookup}
-use Rattle.cap_model.specs.Kept.{IsKept, keeps_slots, keeps, rise, fits}
-use Rattle.cap_model.specs.Kinds.{is_at}
-use Rattle.cap_model.specs.Lookup.{object_at}
-use Rattle.cap_model.specs.State.{Node, State, node_at, content_at, content_in, boot, boot_slot, boot_node, no_node}
-use Rattle.cap_model.specs.declared.cap.Cap.{Cap}
 use Rattle.cap_model.specs.declared.kind.Kind.TheVariants as kinds
-use Rattle.cap_model.specs.declared.object.Object.{Object}
 use Rattle.cap_model.specs.declared.object.Object.TheVariants as objects
-use Rattle.cap_model.specs.declared.spec.Spec.{Spec}
-use Rattle.cap_model.specs.declared.state.Content.{Content}
-use Rattle.cap_model.specs.declared.state.Content.TheVariants.{Capability}
-use Rattle.cap_model.specs.declared.state.ThreadState.{ThreadState}
-use Rattle.cap_model.proofs.Kept.{object_kept, is_at_below}
-use Rattle.cap_machine.specs.declared.step.Step.{Step}
-use Rattle.cap_machine.specs.Effects.{grown, without, grown_at, without_at, added}
-use Rattle.cap_machine.specs.Runs.{Run}
-use Rattle.cap_machine.specs.StepTable.{Acts, StepTo}
-use Rattle.cap_machine.proofs.Applied.{read_written}
-use Rattle.cap_machine.proofs.Booting.{boot_fits}
-use Rattle.cap_machine.proofs.Fitting.{first_or_behind, step_fits, behind, first}
-use Rattle.cap_audit.specs.Quiet.{IsFresh, AreFresh, AreKept, Quiet}
-use Rattle.cap_audit.specs.Spread.{slots_of, slots_at, HasRoot}
+use Rattle.cap_audit.specs.Quiet.{IsFresh, AreFresh, AreKept}
 use Rattle.cap_audit.proofs.BootParts.{node_of, boot_node_at, boot_content, root_boot, nobody_waits}
-use Rattle.cap_machine.proofs.NodeSlots.{rest_rises}
 
 -- a run behind a run
-pub run_append : (spec : Spec) (xs ys : List Step) (s mid new : State) → Run spec s xs mid → Run spec mid ys new → Run spec s (xs ++ ys) new
+pub run_append : (spec : Spec) (xs ys : List Step) (s mid new : State) → Run spec s xs mid → Run spec mid ys new
+    → Run spec s (xs ++ ys) new
 run_append spec [] ys s mid new a b = subst (λ (x : State). Run spec x ys new) a b
 run_append spec (x ∷ xs) ys s mid new (next, one, rest) b = (next, one, run_append spec xs ys next mid new rest b)
 
@@ -41,17 +20,21 @@ run_append spec (x ∷ xs) ys s mid new (next, one, rest) b = (next, one, run_ap
 lookup_here : {X : Type 0} (e : ℕ × X) (es : List (ℕ × X)) (i : ℕ) → (e.0 == i) ≡ true → lookup (λ n. n == i) (e ∷ es) ≡ Some e.1
 lookup_here e es i is = rw is refl
 
-lookup_behind : {X : Type 0} (e : ℕ × X) (es : List (ℕ × X)) (i : ℕ) → (e.0 == i) ≡ false → lookup (λ n. n == i) (e ∷ es) ≡ lookup (λ n. n == i) es
+lookup_behind : {X : Type 0} (e : ℕ × X) (es : List (ℕ × X)) (i : ℕ) → (e.0 == i) ≡ false
+    → lookup (λ n. n == i) (e ∷ es) ≡ lookup (λ n. n == i) es
 lookup_behind e es i is = rw is refl
 
-lookup_front : {X : Type 0} (es fs : List (ℕ × X)) (i : ℕ) (v : X) → lookup (λ n. n == i) es ≡ Some v → lookup (λ n. n == i) (es ++ fs) ≡ Some v
+lookup_front : {X : Type 0} (es fs : List (ℕ × X)) (i : ℕ) (v : X) → lookup (λ n. n == i) es ≡ Some v
+    → lookup (λ n. n == i) (es ++ fs) ≡ Some v
 lookup_front [] fs i v h = absurd cc
 lookup_front {X} (e ∷ es) fs i v h = go (e.0 == i) refl (λ k. lookup_front es fs i v k) where
-  go : (b : Bool) → (e.0 == i) ≡ b → (lookup (λ n. n == i) es ≡ Some v → lookup (λ n. n == i) (es ++ fs) ≡ Some v) → lookup (λ n. n == i) (e ∷ (es ++ fs)) ≡ Some v
+  go : (b : Bool) → (e.0 == i) ≡ b → (lookup (λ n. n == i) es ≡ Some v → lookup (λ n. n == i) (es ++ fs) ≡ Some v)
+      → lookup (λ n. n == i) (e ∷ (es ++ fs)) ≡ Some v
   go true is rest = lookup_here e (es ++ fs) i is ∙ (sym (lookup_here e es i is) ∙ h)
   go false is rest = lookup_behind e (es ++ fs) i is ∙ rest (sym (lookup_behind e es i is) ∙ h)
 
-lookup_back : {X : Type 0} (es fs : List (ℕ × X)) (i : ℕ) → lookup (λ n. n == i) es ≡ None → lookup (λ n. n == i) (es ++ fs) ≡ lookup (λ n. n == i) fs
+lookup_back : {X : Type 0} (es fs : List (ℕ × X)) (i : ℕ) → lookup (λ n. n == i) es ≡ None
+    → lookup (λ n. n == i) (es ++ fs) ≡ lookup (λ n. n == i) fs
 lookup_back [] fs i h = refl
 lookup_back {X} (e ∷ es) fs i h = go (e.0 == i) refl (λ k. lookup_back es fs i k) where
   go : (b : Bool) → (e.0 == i) ≡ b → (lookup (λ n. n == i) es ≡ None → lookup (λ n. n == i) (es ++ fs) ≡ lookup (λ n. n == i) fs)
@@ -59,7 +42,8 @@ lookup_back {X} (e ∷ es) fs i h = go (e.0 == i) refl (λ k. lookup_back es fs 
   go true is rest = absurd (let x : ◌≡◌ {A = Option X} None (Some e.1) = sym h ∙ lookup_here e es i is in cc)
   go false is rest = lookup_behind e (es ++ fs) i is ∙ rest (sym (lookup_behind e es i is) ∙ h)
 
-pub there_by_lookup : (node : Node) (i : ℕ) (content : Content) → content_at node i ≡ Some content → Contains node.slots (i, content)
+pub there_by_lookup : (node : Node) (i : ℕ) (content : Content) → content_at node i ≡ Some content
+    → Contains node.slots (i, content)
 there_by_lookup node i content h = Contains-from_lookup {eq = λ q n. n == q} (λ x y e. grind arith) i content node.slots h
 
 next_free : (node : Node) → IsFresh node → content_at node node.next ≡ None
@@ -67,13 +51,17 @@ unfolding IsFresh
 next_free node fresh = go (content_at node node.next) refl where
   go : (o : Option Content) → content_at node node.next ≡ o → o ≡ None
   go None h = refl
-  go (Some content) h = absurd (let less : node.next < node.next = fresh node.next content (there_by_lookup node node.next content h) in omega arith)
+  go (Some content) h =
+      absurd (let less : node.next < node.next = fresh node.next content (there_by_lookup node node.next content h) in
+      omega arith)
 
 pub grown_there : (node : Node) (content : Content) → IsFresh node → content_at (grown node content) node.next ≡ Some content
 grown_there node content fresh =
-    lookup_back node.slots ((node.next, content) ∷ []) node.next (next_free node fresh) ∙ (let same : (node.next == node.next) ≡ true = grind arith in rw same refl)
+    lookup_back node.slots ((node.next, content) ∷ []) node.next (next_free node fresh)
+    ∙ (let same : (node.next == node.next) ≡ true = grind arith in rw same refl)
 
-pub grown_keeps : (node : Node) (content : Content) (i : ℕ) (old : Content) → content_at node i ≡ Some old → content_at (grown node content) i ≡ Some old
+pub grown_keeps : (node : Node) (content : Content) (i : ℕ) (old : Content) → content_at node i ≡ Some old
+    → content_at (grown node content) i ≡ Some old
 grown_keeps node content i old h = lookup_front node.slots ((node.next, content) ∷ []) i old h
 
 pub grown_fresh : (node : Node) (content : Content) → IsFresh node → IsFresh (grown node content)
@@ -85,7 +73,8 @@ grown_fresh node content fresh i x there = elim (Contains-push_cases node.slots 
 
 -- at boot
 
-pub above : (x : ℕ × Cap) (slots : List (ℕ × Cap)) (i : ℕ) (cap : Cap) → rise (x ∷ slots) ≡ true → Contains slots (i, cap) → x.0 < i
+pub above : (x : ℕ × Cap) (slots : List (ℕ × Cap)) (i : ℕ) (cap : Cap) → rise (x ∷ slots) ≡ true
+    → Contains slots (i, cap) → x.0 < i
 above x [] i cap rises there = absurd (let w = there.1 in omega arith)
 above x (y ∷ slots) i cap rises there =
     let both = and_parts (nat_lt x.0 y.0) (rise (y ∷ slots)) rises in
@@ -95,7 +84,8 @@ above x (y ∷ slots) i cap rises there =
       | inr more ↦ (let h : y.0 < i = above y slots i cap both.1 more in omega arith)
     ]
 
-slot_found : (slots : List (ℕ × Cap)) (i : ℕ) (cap : Cap) → rise slots ≡ true → Contains slots (i, cap) → lookup (λ n. n == i) (map boot_slot slots) ≡ Some (Capability cap)
+slot_found : (slots : List (ℕ × Cap)) (i : ℕ) (cap : Cap) → rise slots ≡ true → Contains slots (i, cap)
+    → lookup (λ n. n == i) (map boot_slot slots) ≡ Some (Capability cap)
 slot_found [] i cap rises there = absurd (let w = there.1 in omega arith)
 slot_found (x ∷ slots) i cap rises there = elim (first_or_behind x slots (i, cap) there) [
   | inl same ↦ (
@@ -106,10 +96,12 @@ slot_found (x ∷ slots) i cap rises there = elim (first_or_behind x slots (i, c
       rw other (slot_found slots i cap (rest_rises x slots rises) more))
 ]
 
-all_below : (spec : Spec) (bound : ℕ) (slots : List (ℕ × Cap)) (i : ℕ) (cap : Cap) → list_all (λ (slot : ℕ × Cap). nat_lt slot.0 bound && fits spec slot.1) slots ≡ true → Contains slots (i, cap) → i < bound
+all_below : (spec : Spec) (bound : ℕ) (slots : List (ℕ × Cap)) (i : ℕ) (cap : Cap)
+    → list_all (λ (slot : ℕ × Cap). nat_lt slot.0 bound && fits spec slot.1) slots ≡ true → Contains slots (i, cap) → i < bound
 all_below spec bound [] i cap all there = absurd (let w = there.1 in omega arith)
 all_below spec bound (x ∷ slots) i cap all there =
-    let both = and_parts (nat_lt x.0 bound && fits spec x.1) (list_all (λ (slot : ℕ × Cap). nat_lt slot.0 bound && fits spec slot.1) slots) all in
+    let both = and_parts (nat_lt x.0 bound && fits spec x.1)
+    (list_all (λ (slot : ℕ × Cap). nat_lt slot.0 bound && fits spec slot.1) slots) all in
     elim (first_or_behind x slots (i, cap) there) [
       | inl same ↦ (
           let less : nat_lt x.0 bound ≡ true = (and_parts (nat_lt x.0 bound) (fits spec x.1) both.0).0 in
@@ -119,24 +111,34 @@ all_below spec bound (x ∷ slots) i cap all there =
     ]
 
 -- what the slots of an object of a kept spec are at boot
-object_found : (spec : Spec) (object : Object) (i : ℕ) (cap : Cap) → keeps spec object ≡ true → Contains (slots_of (Some object)) (i, cap)
+object_found : (spec : Spec) (object : Object) (i : ℕ) (cap : Cap) → keeps spec object ≡ true
+    → Contains (slots_of (Some object)) (i, cap)
     → (i < (boot_node object).next) × (content_at (boot_node object) i ≡ Some (Capability cap))
 object_found spec (objects.CNode bits slots) i cap kept there =
     let all = and_parts (nat_lt 0 bits && leb bits 16) (keeps_slots (fits spec) (2 ^ bits) slots) kept in
-    let of_slots = and_parts (rise slots) (list_all (λ (slot : ℕ × Cap). nat_lt slot.0 (2 ^ bits) && fits spec slot.1) slots) all.1 in
+    let of_slots = and_parts (rise slots) (list_all (λ (slot : ℕ × Cap). nat_lt slot.0 (2 ^ bits) && fits spec slot.1)
+    slots) all.1 in
     (all_below spec (2 ^ bits) slots i cap of_slots.1 there, slot_found slots i cap of_slots.0 there)
 object_found spec _ i cap kept there = absurd (let w = there.1 in omega arith)
 
-boot_found : (spec : Spec) (c i : ℕ) (cap : Cap) → IsKept spec → Contains (slots_at spec c) (i, cap) → (i < (node_at (boot spec) c).next) × (content_in (boot spec) c i ≡ Some (Capability cap))
+boot_found : (spec : Spec) (c i : ℕ) (cap : Cap) → IsKept spec → Contains (slots_at spec c) (i, cap)
+    → (i < (node_at (boot spec) c).next) × (content_in (boot spec) c i ≡ Some (Capability cap))
 boot_found spec c i cap kept there = go (object_at spec c) refl where
-  go : (o : Option Object) → object_at spec c ≡ o → (i < (node_at (boot spec) c).next) × (content_in (boot spec) c i ≡ Some (Capability cap))
-  go None h = absurd (let x : Contains (slots_of None) (i, cap) = subst (λ (o : Option Object). Contains (slots_of o) (i, cap)) h there in let w = x.1 in omega arith)
+  go : (o : Option Object) → object_at spec c ≡ o → (i < (node_at (boot spec) c).next)
+      × (content_in (boot spec) c i ≡ Some (Capability cap))
+  go None h = absurd (let x : Contains (slots_of None) (i, cap) = subst (λ (o : Option Object). Contains (slots_of o) (i, cap)) h
+      there in let w = x.1 in omega arith)
   go (Some object) h =
       let here : node_at (boot spec) c ≡ boot_node object = boot_node_at spec c ∙ ap node_of h in
-      let f = object_found spec object i cap (object_kept spec c object kept h) (subst (λ (o : Option Object). Contains (slots_of o) (i, cap)) h there) in
-      (subst (λ (n : Node). i < n.next) (sym here) f.0, subst (λ (n : Node). content_at n i ≡ Some (Capability cap)) (sym here) f.1)
+      let f = object_found spec object i cap (object_kept spec c object kept h)
+      (subst (λ (o : Option Object). Contains (slots_of o) (i, cap)) h there) in (
+        subst (λ (n : Node). i < n.next) (sym here) f.0,
+        subst (λ (n : Node). content_at n i ≡ Some (Capability cap))
+            (sym here) f.1,
+      )
 
-pub slot_at_boot : (spec : Spec) (c i : ℕ) (cap : Cap) → IsKept spec → Contains (slots_at spec c) (i, cap) → content_in (boot spec) c i ≡ Some (Capability cap)
+pub slot_at_boot : (spec : Spec) (c i : ℕ) (cap : Cap) → IsKept spec → Contains (slots_at spec c) (i, cap)
+    → content_in (boot spec) c i ≡ Some (Capability cap)
 slot_at_boot spec c i cap kept there = (boot_found spec c i cap kept there).1
 
 boot_fresh : (spec : Spec) (c : ℕ) → IsKept spec → IsFresh (node_at (boot spec) c)
@@ -149,7 +151,8 @@ pub kept_on : (a b c : List Node) → AreKept a b → AreKept b c → AreKept a 
 unfolding AreKept
 kept_on a b c f g d i content h = g d i content (f d i content h)
 
-pub kept_at : (a b : List Node) (d i : ℕ) (content : Content) → AreKept a b → content_at (get_or a d no_node) i ≡ Some content → content_at (get_or b d no_node) i ≡ Some content
+pub kept_at : (a b : List Node) (d i : ℕ) (content : Content) → AreKept a b → content_at (get_or a d no_node) i ≡ Some content
+    → content_at (get_or b d no_node) i ≡ Some content
 unfolding AreKept
 kept_at a b d i content f h = f d i content h
 
@@ -165,30 +168,38 @@ written_fresh nodes d node fresh here c = elim (read_written nodes d c node no_n
   | inr e ↦ subst (λ (n : Node). IsFresh n) (sym e.1) here
 ]
 
-written_kept : (nodes : List Node) (d : ℕ) (node : Node) → ((i : ℕ) (content : Content) → content_at (get_or nodes d no_node) i ≡ Some content → content_at node i ≡ Some content) → AreKept nodes (set nodes d node)
+written_kept : (nodes : List Node) (d : ℕ) (node : Node)
+    → ((i : ℕ) (content : Content) → content_at (get_or nodes d no_node) i ≡ Some content → content_at node i ≡ Some content)
+    → AreKept nodes (set nodes d node)
 unfolding AreKept
 written_kept nodes d node here c i content h = elim (read_written nodes d c node no_node) [
   | inl e ↦ subst (λ (n : Node). content_at n i ≡ Some content) (sym e) h
-  | inr e ↦ subst (λ (n : Node). content_at n i ≡ Some content) (sym e.1) (here i content (subst (λ (k : ℕ). content_at (get_or nodes k no_node) i ≡ Some content) e.0 h))
+  | inr e ↦ subst (λ (n : Node). content_at n i ≡ Some content) (sym e.1)
+      (here i content (subst (λ (k : ℕ). content_at (get_or nodes k no_node) i ≡ Some content) e.0 h))
 ]
 
 pub grown_all_fresh : (nodes : List Node) (d : ℕ) (content : Content) → AreFresh nodes → AreFresh (grown_at nodes d content)
 unfolding AreFresh
-grown_all_fresh nodes d content fresh = written_fresh nodes d (grown (get_or nodes d no_node) content) fresh (grown_fresh (get_or nodes d no_node) content (fresh d))
+grown_all_fresh nodes d content fresh = written_fresh nodes d (grown (get_or nodes d no_node) content) fresh
+    (grown_fresh (get_or nodes d no_node) content (fresh d))
 
 pub grown_all_kept : (nodes : List Node) (d : ℕ) (content : Content) → AreKept nodes (grown_at nodes d content)
-grown_all_kept nodes d content = written_kept nodes d (grown (get_or nodes d no_node) content) (λ i old h. grown_keeps (get_or nodes d no_node) content i old h)
+grown_all_kept nodes d content = written_kept nodes d (grown (get_or nodes d no_node) content)
+    (λ i old h. grown_keeps (get_or nodes d no_node) content i old h)
 
 pub grown_at_next : (nodes : List Node) (d : ℕ) (content : Content) → AreFresh nodes → d < length nodes
     → content_at (get_or (grown_at nodes d content) d no_node) (get_or nodes d no_node).next ≡ Some content
 unfolding AreFresh
 grown_at_next nodes d content fresh less =
-    let e : get_or (grown_at nodes d content) d no_node ≡ grown (get_or nodes d no_node) content = get_or-set_same nodes d (grown (get_or nodes d no_node) content) no_node less in
-    subst (λ (n : Node). content_at n (get_or nodes d no_node).next ≡ Some content) (sym e) (grown_there (get_or nodes d no_node) content (fresh d))
+    let e : get_or (grown_at nodes d content) d no_node ≡ grown (get_or nodes d no_node) content =
+    get_or-set_same nodes d (grown (get_or nodes d no_node) content) no_node less in
+    subst (λ (n : Node). content_at n (get_or nodes d no_node).next ≡ Some content) (sym e)
+    (grown_there (get_or nodes d no_node) content (fresh d))
 
 -- a content that is taken out again leaves the CNode as it was, but for its next number
 
-all_others : (es : List (ℕ × Content)) (k : ℕ) → ((i : ℕ) (x : Content) → Contains es (i, x) → i < k) → filter (λ (slot : ℕ × Content). not (slot.0 == k)) es ≡ es
+all_others : (es : List (ℕ × Content)) (k : ℕ) → ((i : ℕ) (x : Content) → Contains es (i, x) → i < k)
+    → filter (λ (slot : ℕ × Content). not (slot.0 == k)) es ≡ es
 all_others [] k less = refl
 all_others (e ∷ es) k less =
     let here : e.0 < k = less e.0 e.1 (first e es (e.0, e.1) refl) in
@@ -200,42 +211,62 @@ unfolding IsFresh
 out_again node content fresh =
     let same : (node.next == node.next) ≡ true = grind arith in
     let last : filter (λ (slot : ℕ × Content). not (slot.0 == node.next)) ((node.next, content) ∷ []) ≡ [] = rw same refl in
-    rw (filter-append (λ (slot : ℕ × Content). not (slot.0 == node.next)) node.slots ((node.next, content) ∷ []), all_others node.slots node.next fresh, last) (append-nil node.slots)
+    rw (
+      filter-append (λ (slot : ℕ × Content). not (slot.0 == node.next)) node.slots ((node.next, content) ∷ []),
+      all_others node.slots node.next fresh,
+      last,
+    ) (append-nil node.slots)
 
 out_fresh : (node : Node) (content : Content) → IsFresh node → IsFresh (without (grown node content) node.next)
 unfolding IsFresh
 out_fresh node content fresh i x there =
-    let less : i < node.next = fresh i x (subst (λ (es : List (ℕ × Content)). Contains es (i, x)) (out_again node content fresh) there) in
+    let less : i < node.next =
+    fresh i x (subst (λ (es : List (ℕ × Content)). Contains es (i, x)) (out_again node content fresh) there) in
     omega arith
 
-out_keeps : (node : Node) (content : Content) (i : ℕ) (old : Content) → IsFresh node → content_at node i ≡ Some old → content_at (without (grown node content) node.next) i ≡ Some old
-out_keeps node content i old fresh h = subst (λ (es : List (ℕ × Content)). lookup (λ n. n == i) es ≡ Some old) (sym (out_again node content fresh)) h
+out_keeps : (node : Node) (content : Content) (i : ℕ) (old : Content) → IsFresh node → content_at node i ≡ Some old
+    → content_at (without (grown node content) node.next) i ≡ Some old
+out_keeps node content i old fresh h = subst (λ (es : List (ℕ × Content)). lookup (λ n. n == i) es ≡ Some old)
+    (sym (out_again node content fresh)) h
 
 -- the same in a list of CNodes
 
-pub out_all_fresh : (nodes : List Node) (d : ℕ) (content : Content) → AreFresh nodes → d < length nodes → AreFresh (without_at (grown_at nodes d content) d (get_or nodes d no_node).next)
+pub out_all_fresh : (nodes : List Node) (d : ℕ) (content : Content) → AreFresh nodes → d < length nodes
+    → AreFresh (without_at (grown_at nodes d content) d (get_or nodes d no_node).next)
 unfolding AreFresh
 out_all_fresh nodes d content fresh less =
-    let e : get_or (grown_at nodes d content) d no_node ≡ grown (get_or nodes d no_node) content = get_or-set_same nodes d (grown (get_or nodes d no_node) content) no_node less in
-    written_fresh (grown_at nodes d content) d (without (get_or (grown_at nodes d content) d no_node) (get_or nodes d no_node).next) (grown_all_fresh nodes d content fresh)
-    (subst (λ (n : Node). IsFresh (without n (get_or nodes d no_node).next)) (sym e) (out_fresh (get_or nodes d no_node) content (fresh d)))
+    let e : get_or (grown_at nodes d content) d no_node ≡ grown (get_or nodes d no_node) content =
+    get_or-set_same nodes d (grown (get_or nodes d no_node) content) no_node less in
+    written_fresh (grown_at nodes d content) d (without (get_or (grown_at nodes d content) d no_node)
+    (get_or nodes d no_node).next) (grown_all_fresh nodes d content fresh)
+    (subst (λ (n : Node). IsFresh (without n (get_or nodes d no_node).next)) (sym e)
+    (out_fresh (get_or nodes d no_node) content (fresh d)))
 
-pub out_all_kept : (nodes : List Node) (d : ℕ) (content : Content) → AreFresh nodes → d < length nodes → AreKept nodes (without_at (grown_at nodes d content) d (get_or nodes d no_node).next)
+pub out_all_kept : (nodes : List Node) (d : ℕ) (content : Content) → AreFresh nodes → d < length nodes
+    → AreKept nodes (without_at (grown_at nodes d content) d (get_or nodes d no_node).next)
 unfolding AreFresh AreKept
 out_all_kept nodes d content fresh less c i old h =
-    let e : get_or (grown_at nodes d content) d no_node ≡ grown (get_or nodes d no_node) content = get_or-set_same nodes d (grown (get_or nodes d no_node) content) no_node less in
-    elim (read_written (grown_at nodes d content) d c (without (get_or (grown_at nodes d content) d no_node) (get_or nodes d no_node).next) no_node) [
+    let e : get_or (grown_at nodes d content) d no_node ≡ grown (get_or nodes d no_node) content =
+    get_or-set_same nodes d (grown (get_or nodes d no_node) content) no_node less in
+    elim (read_written (grown_at nodes d content) d c (without (get_or (grown_at nodes d content) d no_node)
+    (get_or nodes d no_node).next) no_node) [
       | inl same ↦ subst (λ (n : Node). content_at n i ≡ Some old) (sym same) (grown_all_kept nodes d content c i old h)
       | inr at_d ↦ subst (λ (n : Node). content_at n i ≡ Some old) (sym at_d.1)
           (subst (λ (n : Node). content_at (without n (get_or nodes d no_node).next) i ≡ Some old) (sym e)
-          (out_keeps (get_or nodes d no_node) content i old (fresh d) (subst (λ (k : ℕ). content_at (get_or nodes k no_node) i ≡ Some old) at_d.0 h)))
+          (out_keeps (get_or nodes d no_node) content i old (fresh d)
+          (subst (λ (k : ℕ). content_at (get_or nodes k no_node) i ≡ Some old) at_d.0 h)))
     ]
 
 -- quiet states
 
 pub boot_quiet : (spec : Spec) → IsKept spec → Quiet spec (boot spec)
 unfolding AreFresh
-boot_quiet spec kept = record { fits = boot_fits spec kept; threads = λ t. refl; fresh = λ c. boot_fresh spec c kept; begun = kept_same (boot spec).nodes }
+boot_quiet spec kept = record {
+  fits = boot_fits spec kept;
+  threads = λ t. refl;
+  fresh = λ c. boot_fresh spec c kept;
+  begun = kept_same (boot spec).nodes;
+}
 
 -- from s these steps lead to a quiet state that has what s has
 pub record Onward (spec : Spec) (s : State) (new : State) : Type 0 where
@@ -273,7 +304,8 @@ module _ (spec : Spec) (s : State) (q : Quiet spec s) where
   quiet_cnode t c root = (q.fits.threads t).root c (quiet_acts t c root).root
 
   pub quiet_node : (c : ℕ) → is_at spec kinds.CNode c ≡ true → c < length s.nodes
-  quiet_node c is = let less : c < length spec.entries = is_at_below spec kinds.CNode c is in let same : length s.nodes ≡ length spec.entries = q.fits.as_many_nodes in omega arith
+  quiet_node c is = let less : c < length spec.entries = is_at_below spec kinds.CNode c is in
+      let same : length s.nodes ≡ length spec.entries = q.fits.as_many_nodes in omega arith
 
   -- one step that copies a capability
   pub copied : (d : ℕ) (cap : Cap) (step : Step) → StepTo spec s step (added s d cap) → Lands spec s d cap (step ∷ [])
@@ -284,16 +316,25 @@ module _ (spec : Spec) (s : State) (q : Quiet spec s) where
       fits = step_fits spec s (added s d cap) step q.fits leads;
       threads = q.threads;
       fresh = grown_all_fresh s.nodes d (Capability cap) q.fresh;
-      begun = kept_on (boot spec).nodes s.nodes (grown_at s.nodes d (Capability cap)) q.begun (grown_all_kept s.nodes d (Capability cap));
+      begun = kept_on (boot spec).nodes s.nodes (grown_at s.nodes d (Capability cap)) q.begun
+          (grown_all_kept s.nodes d (Capability cap));
     };
     nodes = refl;
   }
 
   -- where the copy is
-  pub landed_there : (d : ℕ) (cap : Cap) (steps : List Step) → is_at spec kinds.CNode d ≡ true → (l : Lands spec s d cap steps) → content_in l.new d (node_at s d).next ≡ Some (Capability cap)
+  pub landed_there : (d : ℕ) (cap : Cap) (steps : List Step) → is_at spec kinds.CNode d ≡ true → (l : Lands spec s d cap steps)
+      → content_in l.new d (node_at s d).next ≡ Some (Capability cap)
   landed_there d cap steps is l =
-      subst (λ (nodes : List Node). content_at (get_or nodes d no_node) (node_at s d).next ≡ Some (Capability cap)) (sym l.nodes) (grown_at_next s.nodes d (Capability cap) q.fresh (quiet_node d is))
+      subst (λ (nodes : List Node). content_at (get_or nodes d no_node) (node_at s d).next ≡ Some (Capability cap)) (sym l.nodes)
+      (grown_at_next s.nodes d (Capability cap) q.fresh (quiet_node d is))
 
   pub lands_onward : (d : ℕ) (cap : Cap) (steps : List Step) → (l : Lands spec s d cap steps) → Onward spec s l.new
   lands_onward d cap steps l =
-      record { steps = steps; run = l.run; quiet = l.quiet; kept = subst (λ (nodes : List Node). AreKept s.nodes nodes) (sym l.nodes) (grown_all_kept s.nodes d (Capability cap)) }
+      record {
+        steps = steps;
+        run = l.run;
+        quiet = l.quiet;
+        kept = subst (λ (nodes : List Node). AreKept s.nodes nodes)
+            (sym l.nodes) (grown_all_kept s.nodes d (Capability cap));
+      }

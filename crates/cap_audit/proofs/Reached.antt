@@ -1,24 +1,9 @@
 -- What the Spread has, runs reach; and so every edge of an audit.
-use Rattle.std.proofs.Common.{◌≡◌, ℕ, true, List, [], ◌++◌, Some, refl, subst, inl, inr}
-use Rattle.cap_model.specs.ObjectLabels.{label_of}
-use Rattle.cap_model.specs.declared.authority.Authority.{Authority}
-use Rattle.cap_model.specs.declared.authority.Authority.TheVariants as authorities
-use Rattle.cap_model.specs.Auth.{Auth}
-use Rattle.cap_model.specs.Kept.{IsKept}
-use Rattle.cap_model.specs.Kinds.{is_at}
+use Rattle.cap_audit.proofs.Common.{Audited, Auth, Authority, Calls, Cap, Capability, IsKept, List, Quiet, Reaches, Shows, Some, Spec, Spread, State, Step, [], at_boot, boot, content_in, inl, inr, is_at, label_of, node_at, of_bind, of_call, of_map}
+use Rattle.cap_audit.proofs.Common.{of_save, of_spread, refl, subst, true, ℕ, ◌++◌, ◌≡◌}
+use Rattle.authorities.specs.declared.authority.Authority.TheVariants as authorities
 use Rattle.cap_model.specs.declared.kind.Kind.TheVariants as kinds
-use Rattle.cap_model.specs.State.{State, node_at, content_in, boot}
-use Rattle.cap_model.specs.declared.cap.Cap.{Cap}
-use Rattle.cap_model.specs.declared.spec.Spec.{Spec}
-use Rattle.cap_model.specs.declared.state.Content.TheVariants.{Capability}
-use Rattle.cap_machine.specs.Runs.{Reaches}
-use Rattle.cap_machine.specs.declared.step.Step.{Step}
-use Rattle.cap_audit.specs.Audited.{Audited, at_boot, of_spread, of_map, of_bind, of_call, of_save}
-use Rattle.cap_audit.specs.Quiet.{Quiet}
-use Rattle.cap_audit.specs.Shows.{Shows}
 use Rattle.cap_audit.specs.Spread as spread
-use Rattle.cap_audit.specs.Spread.{Spread}
-use Rattle.cap_audit.specs.Within.{Calls}
 use Rattle.cap_audit.proofs.Quiet.{run_append, kept_at, there_by_lookup, slot_at_boot, boot_quiet, Lands, landed_there, lands_onward, quiet_cnode, Onward, onward_same, onward_then}
 use Rattle.cap_audit.proofs.Sequences.{take_on, put_on, grant_on, reply_on, save_on, map_on, bind_on}
 
@@ -30,29 +15,50 @@ pub record Gets (spec : Spec) (s : State) (c : ℕ) (cap : Cap) : Type 0 where
   pub there : content_in new c number ≡ Some (Capability cap)
 
 -- what was there is there later on
-stays : (spec : Spec) (s new : State) (c i : ℕ) (cap : Cap) → Onward spec s new → content_in s c i ≡ Some (Capability cap) → content_in new c i ≡ Some (Capability cap)
+stays : (spec : Spec) (s new : State) (c i : ℕ) (cap : Cap) → Onward spec s new → content_in s c i ≡ Some (Capability cap)
+    → content_in new c i ≡ Some (Capability cap)
 stays spec s new c i cap on h = kept_at s.nodes new.nodes c i (Capability cap) on.kept h
 
 later : (spec : Spec) (s mid : State) (c : ℕ) (cap : Cap) → Onward spec s mid → Gets spec mid c cap → Gets spec s c cap
-later spec s mid c cap on g = record { new = g.new; onward = onward_then spec s mid g.new on g.onward; number = g.number; there = g.there }
+later spec s mid c cap on g = record {
+  new = g.new;
+  onward = onward_then spec s mid g.new on g.onward;
+  number = g.number;
+  there = g.there;
+}
 
 module _ (spec : Spec) (kept : IsKept spec) where
-  gets_landed : (s : State) (q : Quiet spec s) (d : ℕ) (cap : Cap) (steps : List Step) → is_at spec kinds.CNode d ≡ true → Lands spec s d cap steps → Gets spec s d cap
-  gets_landed s q d cap steps is l = record { new = l.new; onward = lands_onward spec s q d cap steps l; number = (node_at s d).next; there = landed_there spec s q d cap steps is l }
+  gets_landed : (s : State) (q : Quiet spec s) (d : ℕ) (cap : Cap) (steps : List Step) → is_at spec kinds.CNode d ≡ true
+      → Lands spec s d cap steps → Gets spec s d cap
+  gets_landed s q d cap steps is l = record {
+    new = l.new;
+    onward = lands_onward spec s q d cap steps l;
+    number = (node_at s d).next;
+    there = landed_there spec s q d cap steps is l;
+  }
 
   pub spread_gets : (c : ℕ) (cap : Cap) → Spread spec c cap → (s : State) → Quiet spec s → Gets spec s c cap
   spread_gets c cap (spread.own i there) s q =
-      record { new = s; onward = onward_same spec s q; number = i; there = kept_at (boot spec).nodes s.nodes c i (Capability cap) q.begun (slot_at_boot spec c i cap kept there) }
+      record {
+        new = s;
+        onward = onward_same spec s q;
+        number = i;
+        there = kept_at (boot spec).nodes s.nodes c i (Capability cap)
+            q.begun (slot_at_boot spec c i cap kept there);
+      }
   spread_gets c cap (spread.take t to root of is has) s q =
       let a : Gets spec s c to = spread_gets c to of s q in
       let b : Gets spec a.new to.object cap = spread_gets to.object cap has a.new a.onward.quiet in
-      let on = take_on spec b.new b.onward.quiet t c a.number b.number to cap root (stays spec a.new b.new c a.number to b.onward a.there) is b.there in
+      let on = take_on spec b.new b.onward.quiet t c a.number b.number to cap root (stays spec a.new b.new c a.number to b.onward
+      a.there) is b.there in
       later spec s a.new c cap a.onward
-      (later spec a.new b.new c cap b.onward (gets_landed b.new b.onward.quiet c cap _ (quiet_cnode spec b.new b.onward.quiet t c root) on))
+      (later spec a.new b.new c cap b.onward (gets_landed b.new b.onward.quiet c cap _
+      (quiet_cnode spec b.new b.onward.quiet t c root) on))
   spread_gets d cap (spread.put t c to root of is same has) s q =
       let a : Gets spec s c to = spread_gets c to of s q in
       let b : Gets spec a.new c cap = spread_gets c cap has a.new a.onward.quiet in
-      let on = put_on spec b.new b.onward.quiet t c a.number b.number to cap root (stays spec a.new b.new c a.number to b.onward a.there) is b.there in
+      let on = put_on spec b.new b.onward.quiet t c a.number b.number to cap root (stays spec a.new b.new c a.number to b.onward
+      a.there) is b.there in
       subst (λ (n : ℕ). Gets spec s n cap) same
       (later spec s a.new to.object cap a.onward
       (later spec a.new b.new to.object cap b.onward (gets_landed b.new b.onward.quiet to.object cap _ is on)))
@@ -62,22 +68,27 @@ module _ (spec : Spec) (kept : IsKept spec) where
       let e : Gets spec b.new c cap = spread_gets c cap has b.new b.onward.quiet in
       let own = stays spec b.new e.new c a.number to e.onward (stays spec a.new b.new c a.number to b.onward a.there) in
       let listens = stays spec b.new e.new d b.number from e.onward b.there in
-      let on = grant_on spec e.new e.onward.quiet t u c d a.number b.number e.number to from cap roots meet may own listens e.there in
+      let on = grant_on spec e.new e.onward.quiet t u c d a.number b.number e.number to from cap roots meet may own
+      listens e.there in
       later spec s a.new d cap a.onward
       (later spec a.new b.new d cap b.onward
-      (later spec b.new e.new d cap e.onward (gets_landed e.new e.onward.quiet d cap _ (quiet_cnode spec e.new e.onward.quiet u d roots.peer_root) on)))
+      (later spec b.new e.new d cap e.onward (gets_landed e.new e.onward.quiet d cap _ (quiet_cnode spec e.new e.onward.quiet u d
+      roots.peer_root) on)))
   spread_gets c cap (spread.reply t u d to from roots of peer meet may back has) s q =
       let a : Gets spec s c to = spread_gets c to of s q in
       let b : Gets spec a.new d from = spread_gets d from peer a.new a.onward.quiet in
       let e : Gets spec b.new d cap = spread_gets d cap has b.new b.onward.quiet in
       let own = stays spec b.new e.new c a.number to e.onward (stays spec a.new b.new c a.number to b.onward a.there) in
       let listens = stays spec b.new e.new d b.number from e.onward b.there in
-      let on = reply_on spec e.new e.onward.quiet t u c d a.number b.number to from roots meet may own listens e.number cap back e.there in
+      let on = reply_on spec e.new e.onward.quiet t u c d a.number b.number to from roots meet may own listens e.number cap
+      back e.there in
       later spec s a.new c cap a.onward
       (later spec a.new b.new c cap b.onward
-      (later spec b.new e.new c cap e.onward (gets_landed e.new e.onward.quiet c cap _ (quiet_cnode spec e.new e.onward.quiet t c roots.root) on)))
+      (later spec b.new e.new c cap e.onward (gets_landed e.new e.onward.quiet c cap _ (quiet_cnode spec e.new e.onward.quiet t c
+      roots.root) on)))
 
-  reaches : (labels : List ℕ) (new : State) (l : ℕ) (a : Authority) (m : ℕ) → Onward spec (boot spec) new → Auth spec labels new l a m → Reaches spec labels l a m
+  reaches : (labels : List ℕ) (new : State) (l : ℕ) (a : Authority) (m : ℕ) → Onward spec (boot spec) new
+      → Auth spec labels new l a m → Reaches spec labels l a m
   reaches labels new l a m on auth = (on.steps, new, on.run, auth)
 
   -- both threads' capabilities for a call, at their numbers
@@ -104,35 +115,60 @@ module _ (spec : Spec) (kept : IsKept spec) where
         listens = b.there;
       }
 
-  shown_reached : (labels : List ℕ) (s : State) (l : ℕ) (a : Authority) (m : ℕ) (steps : List Step) → Onward spec (boot spec) s → Shows spec labels s steps l a m → Reaches spec labels l a m
-  shown_reached labels s l a m steps on shown = (on.steps ++ shown.front, shown.state, run_append spec on.steps shown.front (boot spec) s shown.state on.run shown.run, shown.auth)
+  shown_reached : (labels : List ℕ) (s : State) (l : ℕ) (a : Authority) (m : ℕ) (steps : List Step) → Onward spec (boot spec) s
+      → Shows spec labels s steps l a m → Reaches spec labels l a m
+  shown_reached labels s l a m steps on shown = (
+    on.steps ++ shown.front,
+    shown.state,
+    run_append spec on.steps shown.front (boot spec) s shown.state on.run
+        shown.run,
+    shown.auth,
+  )
 
   pub audited_reached : (labels : List ℕ) (l : ℕ) (a : Authority) (m : ℕ) → Audited spec labels l a m → Reaches spec labels l a m
   audited_reached labels l a m (at_boot e) = ([], boot spec, refl, inr e)
   audited_reached labels l a m (of_spread (c, cap, has, conf, from, to)) =
       let g : Gets spec (boot spec) c cap = spread_gets c cap has (boot spec) (boot_quiet spec kept) in
-      reaches labels g.new l a m g.onward (inl (c, g.number, cap, there_by_lookup (node_at g.new c) g.number (Capability cap) g.there, conf, from, to))
+      reaches labels g.new l a m g.onward (inl (
+        c,
+        g.number,
+        cap,
+        there_by_lookup (node_at g.new c) g.number (Capability cap)
+            g.there,
+        conf,
+        from,
+        to,
+      ))
   audited_reached labels l a m (of_map (frame, space, maps, conf, from, to)) =
-      let x : Gets spec (boot spec) maps.root frame = spread_gets maps.root frame maps.has_frame (boot spec) (boot_quiet spec kept) in
+      let x : Gets spec (boot spec) maps.root frame = spread_gets maps.root frame maps.has_frame (boot spec)
+      (boot_quiet spec kept) in
       let y : Gets spec x.new maps.root space = spread_gets maps.root space maps.has x.new x.onward.quiet in
       let on =
-      map_on spec y.new y.onward.quiet labels maps.thread maps.root x.number y.number frame space maps.rooted (stays spec x.new y.new maps.root x.number frame y.onward x.there) maps.is_frame y.there maps.is in
+      map_on spec y.new y.onward.quiet labels maps.thread maps.root x.number y.number frame space maps.rooted
+      (stays spec x.new y.new maps.root x.number frame y.onward x.there) maps.is_frame y.there maps.is in
       rw (from, to) (reaches labels on.0 (label_of labels space.object) a (label_of labels frame.object)
       (onward_then spec (boot spec) y.new on.0 (onward_then spec (boot spec) x.new y.new x.onward y.onward) on.1) (on.4 a conf))
   audited_reached labels l a m (of_bind (d, n, binds, is, from, to)) =
-      let x : Gets spec (boot spec) binds.root binds.irq = spread_gets binds.root binds.irq binds.has_irq (boot spec) (boot_quiet spec kept) in
+      let x : Gets spec (boot spec) binds.root binds.irq = spread_gets binds.root binds.irq binds.has_irq (boot spec)
+      (boot_quiet spec kept) in
       let y : Gets spec x.new binds.root binds.bound = spread_gets binds.root binds.bound binds.has x.new x.onward.quiet in
       let on =
-      bind_on spec y.new y.onward.quiet labels binds.thread binds.root x.number y.number binds.irq binds.bound binds.rooted (stays spec x.new y.new binds.root x.number binds.irq y.onward x.there)
+      bind_on spec y.new y.onward.quiet labels binds.thread binds.root x.number y.number binds.irq binds.bound binds.rooted
+      (stays spec x.new y.new binds.root x.number binds.irq y.onward x.there)
       binds.is_irq y.there binds.is binds.writes in
-      rw (from, is, to, ← binds.of_irq, ← binds.of_bound) (reaches labels on.0 (label_of labels binds.irq.object) authorities.AsyncSend (label_of labels binds.bound.object)
+      rw (from, is, to, ← binds.of_irq, ← binds.of_bound) (reaches labels on.0 (label_of labels binds.irq.object)
+      authorities.AsyncSend (label_of labels binds.bound.object)
       (onward_then spec (boot spec) y.new on.0 (onward_then spec (boot spec) x.new y.new x.onward y.onward) on.1) on.4)
   audited_reached labels l a m (of_call (t, u, to, from, calls, is, out, in_to)) =
       let r : CallReady t u to from = call_ready t u to from calls in
-      let on = save_on spec r.state r.onward.quiet t u r.calls.root r.calls.peer_root r.i r.j to from r.calls.roots r.calls.meet r.calls.may r.own r.listens labels in
-      rw (out, is, in_to) (shown_reached labels r.state (label_of labels u) authorities.Reply (label_of labels t) on.1.steps r.onward on.3)
+      let on = save_on spec r.state r.onward.quiet t u r.calls.root r.calls.peer_root r.i r.j to from r.calls.roots r.calls.meet
+      r.calls.may r.own r.listens labels in
+      rw (out, is, in_to) (shown_reached labels r.state (label_of labels u) authorities.Reply (label_of labels t) on.1.steps
+      r.onward on.3)
   audited_reached labels l a m (of_save (t, u, c, to, from, calls, root, is, out, in_to)) =
       let r : CallReady t u to from = call_ready t u to from calls in
-      let on = save_on spec r.state r.onward.quiet t u r.calls.root r.calls.peer_root r.i r.j to from r.calls.roots r.calls.meet r.calls.may r.own r.listens labels in
+      let on = save_on spec r.state r.onward.quiet t u r.calls.root r.calls.peer_root r.i r.j to from r.calls.roots r.calls.meet
+      r.calls.may r.own r.listens labels in
       let same : r.calls.peer_root ≡ c = (let e = r.calls.roots.peer_root in cc) in
-      rw (out, is, in_to, ← same) (shown_reached labels r.state (label_of labels r.calls.peer_root) authorities.Reply (label_of labels t) on.1.steps r.onward on.4)
+      rw (out, is, in_to, ← same) (shown_reached labels r.state (label_of labels r.calls.peer_root) authorities.Reply
+      (label_of labels t) on.1.steps r.onward on.4)

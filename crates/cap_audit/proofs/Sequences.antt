@@ -1,33 +1,11 @@
 -- The steps that an audit makes, from one quiet state to the next.
-use Rattle.std.proofs.Common.{◌≡◌, ◌≢◌, ◌<◌, ℕ, Bool, true, false, ◌&&◌, List, [], ◌∷◌, ◌++◌, Option, Some, None, refl, sym, ap, subst, inl, inr, arith, get_or, set, length, ◌∙◌}
-use Rattle.std.proofs.lemmas.Bool.{cases_eq}
-use Rattle.std.proofs.lemmas.List.{get_or-set_same, get_or-set_other, length-set}
-use Rattle.std.proofs.lemmas.List.Elements.{Contains-push}
-use Rattle.cap_model.specs.ObjectLabels.{label_of}
-use Rattle.cap_model.specs.declared.authority.Authority.{Authority}
-use Rattle.cap_model.specs.declared.authority.Authority.TheVariants as authorities
-use Rattle.cap_model.specs.Auth.{Auth, of_reply, of_saved, of_mapped, of_irq}
-use Rattle.cap_model.specs.Confers.{kind_confers, confers}
-use Rattle.cap_model.specs.Kinds.{kind_at, is_at, is_space_root}
-use Rattle.cap_model.specs.Lessened.{lessened, both_rights}
-use Rattle.cap_model.specs.State.{State, node_at, thread_at, content_in, boot, no_thread}
-use Rattle.cap_model.specs.declared.cap.Cap.{Cap}
+use Rattle.cap_audit.proofs.Common.{Acts, Auth, Authority, Bool, Cap, Capability, Contains-push, HasRoot, HaveRoots, List, Mapped, MayCall, MayGrant, Meet, None, Option, Peer, Pending, Quiet, Rights, SavedReply, Shows, Some, Spec, State, StepTo}
+use Rattle.cap_audit.proofs.Common.{ThreadState, [], added, ap, arith, boot, both_rights, called, called_threads, cases_eq, confers, content_in, false, get_or, get_or-set_other, get_or-set_same, grown_at, inl, inr, is_at, is_at_below, is_space_root}
+use Rattle.cap_audit.proofs.Common.{kind_at, kind_confers, kind_is, label_of, length, length-set, lessened, no_thread, node_at, nothing_pending, of_irq, of_mapped, of_reply, of_saved, read_write, refl, released, replied, replied_threads, saved, set}
+use Rattle.cap_audit.proofs.Common.{step_fits, subst, sym, thread_at, true, with_pending, without_at, ℕ, ◌&&◌, ◌++◌, ◌<◌, ◌∙◌, ◌∷◌, ◌≡◌, ◌≢◌}
+use Rattle.authorities.specs.declared.authority.Authority.TheVariants as authorities
 use Rattle.cap_model.specs.declared.kind.Kind.TheVariants as kinds
-use Rattle.cap_model.specs.declared.rights.Rights.{Rights}
-use Rattle.cap_model.specs.declared.spec.Spec.{Spec}
-use Rattle.cap_model.specs.declared.state.Content.TheVariants.{Capability, SavedReply}
-use Rattle.cap_model.specs.declared.state.Mapped.{Mapped}
-use Rattle.cap_model.specs.declared.state.Pending.{Pending}
-use Rattle.cap_model.specs.declared.state.ThreadState.{ThreadState}
-use Rattle.cap_model.proofs.Kept.{kind_is, is_at_below}
 use Rattle.cap_machine.specs.declared.step.Step.TheVariants as steps
-use Rattle.cap_machine.specs.Effects.{without_at, grown_at, with_pending, called_threads, replied_threads, read_write, added, called, replied, saved, released}
-use Rattle.cap_machine.specs.StepTable.{Acts, Peer, StepTo}
-use Rattle.cap_machine.proofs.Fitting.{step_fits}
-use Rattle.cap_audit.specs.Quiet.{Quiet}
-use Rattle.cap_audit.specs.Shows.{Shows}
-use Rattle.cap_audit.specs.Spread.{HasRoot, HaveRoots, Meet, MayGrant, MayCall}
-use Rattle.cap_model.proofs.BootPlaces.{nothing_pending}
 use Rattle.cap_audit.proofs.Quiet.{kept_on, kept_same, grown_all_fresh, grown_all_kept, grown_at_next, out_all_fresh, out_all_kept, there_by_lookup, Lands, Onward, quiet_acts, quiet_cnode, quiet_node, copied}
 
 abbrev pub all_rights : Rights
@@ -38,17 +16,24 @@ and_true true = refl
 and_true false = refl
 
 pub lessened_all : (cap : Cap) → lessened cap all_rights ≡ cap
-lessened_all cap = rw (and_true cap.rights.read, and_true cap.rights.write, and_true cap.rights.grant, and_true cap.rights.reply) refl
+lessened_all cap = rw (
+  and_true cap.rights.read,
+  and_true cap.rights.write,
+  and_true cap.rights.grant,
+  and_true cap.rights.reply,
+) refl
 
 -- a frame's rights are kept by a map with all rights, as far as they confer anything
-frame_whole : (r : Rights) (a : Authority) → kind_confers kinds.Frame r a ≡ true → kind_confers kinds.Frame (both_rights r (read_write all_rights)) a ≡ true
+frame_whole : (r : Rights) (a : Authority) → kind_confers kinds.Frame r a ≡ true
+    → kind_confers kinds.Frame (both_rights r (read_write all_rights)) a ≡ true
 frame_whole r authorities.Read h = and_true r.read ∙ h
 frame_whole r authorities.Write h = and_true r.write ∙ h
 frame_whole r _ h = h
 
 -- threads while a call is on, and after it
 
-module _ (threads : List ThreadState) (t u : ℕ) (g : Bool) (other : t ≢ u) (t_less : t < length threads) (u_less : u < length threads) where
+module _ (threads : List ThreadState) (t u : ℕ) (g : Bool) (other : t ≢ u) (t_less : t < length threads)
+    (u_less : u < length threads) where
   owing : List ThreadState
   owing = with_pending threads u (Some (record { caller = t; grants = g }))
 
@@ -58,29 +43,35 @@ module _ (threads : List ThreadState) (t u : ℕ) (g : Bool) (other : t ≢ u) (
 
   owing_t : get_or owing t no_thread ≡ get_or threads t no_thread
   unfolding owing
-  owing_t = get_or-set_other threads u t (record (get_or threads u no_thread) { pending = Some (record { caller = t; grants = g }) }) no_thread other
+  owing_t =
+      get_or-set_other threads u t (record (get_or threads u no_thread) { pending = Some (record { caller = t; grants = g }) })
+      no_thread other
 
   called_length : length (called_threads threads t u g) ≡ length threads
   unfolding owing
   called_length = length-set owing t (record (get_or owing t no_thread) { waits = true }) ∙ owing_length
 
-  pub called_u : get_or (called_threads threads t u g) u no_thread ≡ record (get_or threads u no_thread) { pending = Some (record { caller = t; grants = g }) }
+  pub called_u : get_or (called_threads threads t u g) u no_thread ≡ record (get_or threads u no_thread)
+      { pending = Some (record { caller = t; grants = g }) }
   unfolding owing
   called_u =
       get_or-set_other owing t u (record (get_or owing t no_thread) { waits = true }) no_thread (λ e. other (sym e))
-      ∙ get_or-set_same threads u (record (get_or threads u no_thread) { pending = Some (record { caller = t; grants = g }) }) no_thread u_less
+      ∙ get_or-set_same threads u (record (get_or threads u no_thread) { pending = Some (record { caller = t; grants = g }) })
+      no_thread u_less
 
   pub called_t : get_or (called_threads threads t u g) t no_thread ≡ record (get_or threads t no_thread) { waits = true }
   unfolding owing
   called_t =
-      get_or-set_same owing t (record (get_or owing t no_thread) { waits = true }) no_thread (subst (λ (n : ℕ). t < n) (sym owing_length) t_less)
+      get_or-set_same owing t (record (get_or owing t no_thread) { waits = true }) no_thread
+      (subst (λ (n : ℕ). t < n) (sym owing_length) t_less)
       ∙ ap (λ (x : ThreadState). record x { waits = true }) owing_t
 
   called_k : (k : ℕ) → k ≢ t → k ≢ u → get_or (called_threads threads t u g) k no_thread ≡ get_or threads k no_thread
   unfolding owing
   called_k k not_t not_u =
       get_or-set_other owing t k (record (get_or owing t no_thread) { waits = true }) no_thread not_t
-      ∙ get_or-set_other threads u k (record (get_or threads u no_thread) { pending = Some (record { caller = t; grants = g }) }) no_thread not_u
+      ∙ get_or-set_other threads u k (record (get_or threads u no_thread) { pending = Some (record { caller = t; grants = g }) })
+      no_thread not_u
 
   module _ (none : (get_or threads u no_thread).pending ≡ None) (runs : (get_or threads t no_thread).waits ≡ false) where
     answered : List ThreadState
@@ -88,29 +79,37 @@ module _ (threads : List ThreadState) (t u : ℕ) (g : Bool) (other : t ≢ u) (
 
     answered_length : length answered ≡ length threads
     unfolding answered
-    answered_length = length-set (called_threads threads t u g) u (record (get_or (called_threads threads t u g) u no_thread) { pending = None }) ∙ called_length
+    answered_length = length-set (called_threads threads t u g) u (record (get_or (called_threads threads t u g) u no_thread)
+        { pending = None }) ∙ called_length
 
     pub answered_u : get_or (with_pending (called_threads threads t u g) u None) u no_thread ≡ get_or threads u no_thread
     answered_u =
-        get_or-set_same (called_threads threads t u g) u (record (get_or (called_threads threads t u g) u no_thread) { pending = None }) no_thread (subst (λ (n : ℕ). u < n) (sym called_length) u_less)
-        ∙ (ap (λ (x : ThreadState). record x { pending = None }) called_u ∙ ap (λ (p : Option Pending). record (get_or threads u no_thread) { pending = p }) (sym none))
+        get_or-set_same (called_threads threads t u g) u (record (get_or (called_threads threads t u g) u no_thread)
+        { pending = None }) no_thread (subst (λ (n : ℕ). u < n) (sym called_length) u_less)
+        ∙ (ap (λ (x : ThreadState). record x { pending = None }) called_u
+        ∙ ap (λ (p : Option Pending). record (get_or threads u no_thread) { pending = p }) (sym none))
 
     answered_t : get_or answered t no_thread ≡ record (get_or threads t no_thread) { waits = true }
     unfolding answered
-    answered_t = get_or-set_other (called_threads threads t u g) u t (record (get_or (called_threads threads t u g) u no_thread) { pending = None }) no_thread other ∙ called_t
+    answered_t = get_or-set_other (called_threads threads t u g) u t (record (get_or (called_threads threads t u g) u no_thread)
+        { pending = None }) no_thread other ∙ called_t
 
     -- all is as it was
     pub replied_k : (k : ℕ) → get_or (replied_threads (called_threads threads t u g) u t) k no_thread ≡ get_or threads k no_thread
     unfolding answered
     replied_k k = elim (cases_eq k t) [
       | inl is_t ↦ rw is_t
-          (get_or-set_same answered t (record (get_or answered t no_thread) { waits = false }) no_thread (subst (λ (n : ℕ). t < n) (sym answered_length) t_less)
-          ∙ (ap (λ (x : ThreadState). record x { waits = false }) answered_t ∙ ap (λ (b : Bool). record (get_or threads t no_thread) { waits = b }) (sym runs)))
+          (get_or-set_same answered t (record (get_or answered t no_thread) { waits = false }) no_thread
+          (subst (λ (n : ℕ). t < n) (sym answered_length) t_less)
+          ∙ (ap (λ (x : ThreadState). record x { waits = false }) answered_t
+          ∙ ap (λ (b : Bool). record (get_or threads t no_thread) { waits = b }) (sym runs)))
       | inr not_t ↦
           get_or-set_other answered t k (record (get_or answered t no_thread) { waits = false }) no_thread not_t
           ∙ elim (cases_eq k u) [
             | inl is_u ↦ rw is_u answered_u
-            | inr not_u ↦ get_or-set_other (called_threads threads t u g) u k (record (get_or (called_threads threads t u g) u no_thread) { pending = None }) no_thread not_u ∙ called_k k not_t not_u
+            | inr not_u ↦ get_or-set_other (called_threads threads t u g) u k
+                (record (get_or (called_threads threads t u g) u no_thread) { pending = None }) no_thread not_u
+                ∙ called_k k not_t not_u
           ]
     ]
 
@@ -129,19 +128,38 @@ module _ (spec : Spec) (s : State) (q : Quiet spec s) where
       let same : length s.threads ≡ length spec.entries = q.fits.as_many_threads in
       omega arith
 
-  pub take_on : (t c i j : ℕ) (to cap : Cap) → HasRoot spec t c → content_in s c i ≡ Some (Capability to) → is_at spec kinds.CNode to.object ≡ true
+  pub take_on : (t c i j : ℕ) (to cap : Cap) → HasRoot spec t c → content_in s c i ≡ Some (Capability to)
+      → is_at spec kinds.CNode to.object ≡ true
       → content_in s to.object j ≡ Some (Capability cap) → Lands spec s c cap (steps.Take t i j all_rights ∷ [])
   take_on t c i j to cap root own is there =
-      copied spec s q c cap (steps.Take t i j all_rights)
-      (c, to, cap, quiet_acts spec s q t c root, record { there = own; is = is }, there, ap (λ (x : Cap). added s c x) (sym (lessened_all cap)))
+      copied spec s q c cap (steps.Take t i j all_rights) (
+        c,
+        to,
+        cap,
+        quiet_acts spec s q t c root,
+        record { there = own; is = is },
+        there,
+        ap (λ (x : Cap). added s c x)
+            (sym (lessened_all cap)),
+      )
 
-  pub put_on : (t c i j : ℕ) (to cap : Cap) → HasRoot spec t c → content_in s c i ≡ Some (Capability to) → is_at spec kinds.CNode to.object ≡ true
+  pub put_on : (t c i j : ℕ) (to cap : Cap) → HasRoot spec t c → content_in s c i ≡ Some (Capability to)
+      → is_at spec kinds.CNode to.object ≡ true
       → content_in s c j ≡ Some (Capability cap) → Lands spec s to.object cap (steps.Put t i j all_rights ∷ [])
   put_on t c i j to cap root own is there =
-      copied spec s q to.object cap (steps.Put t i j all_rights)
-      (c, to, cap, quiet_acts spec s q t c root, record { there = own; is = is }, there, ap (λ (x : Cap). added s to.object x) (sym (lessened_all cap)))
+      copied spec s q to.object cap (steps.Put t i j all_rights) (
+        c,
+        to,
+        cap,
+        quiet_acts spec s q t c root,
+        record { there = own; is = is },
+        there,
+        ap (λ (x : Cap). added s to.object x)
+            (sym (lessened_all cap)),
+      )
 
-  peer : (t u c d j : ℕ) (to from : Cap) → HaveRoots spec t u c d → Meet spec to from → content_in s d j ≡ Some (Capability from) → Peer spec s t u j to.object d from
+  peer : (t u c d j : ℕ) (to from : Cap) → HaveRoots spec t u c d → Meet spec to from → content_in s d j ≡ Some (Capability from)
+      → Peer spec s t u j to.object d from
   peer t u c d j to from roots meet there = record {
     other = roots.other;
     acts = quiet_acts spec s q u d roots.peer_root;
@@ -150,7 +168,8 @@ module _ (spec : Spec) (s : State) (q : Quiet spec s) where
     same = meet.same;
   }
 
-  pub grant_on : (t u c d i j k : ℕ) (to from cap : Cap) → HaveRoots spec t u c d → Meet spec to from → MayGrant to → content_in s c i ≡ Some (Capability to)
+  pub grant_on : (t u c d i j k : ℕ) (to from cap : Cap) → HaveRoots spec t u c d → Meet spec to from → MayGrant to
+      → content_in s c i ≡ Some (Capability to)
       → content_in s d j ≡ Some (Capability from) → content_in s c k ≡ Some (Capability cap)
       → Lands spec s d cap (steps.Grant t i u j k all_rights ∷ [])
   grant_on t u c d i j k to from cap roots meet may own listens there =
@@ -169,7 +188,8 @@ module _ (spec : Spec) (s : State) (q : Quiet spec s) where
       )
 
   -- a call, from which it goes on in three ways
-  module _ (t u c d i j : ℕ) (to from : Cap) (roots : HaveRoots spec t u c d) (meet : Meet spec to from) (may : MayCall to) (own : content_in s c i ≡ Some (Capability to))
+  module _ (t u c d i j : ℕ) (to from : Cap) (roots : HaveRoots spec t u c d) (meet : Meet spec to from) (may : MayCall to)
+      (own : content_in s c i ≡ Some (Capability to))
       (listens : content_in s d j ≡ Some (Capability from)) where
     pub calling : State
     calling = called s t u from.rights.grant
@@ -178,7 +198,17 @@ module _ (spec : Spec) (s : State) (q : Quiet spec s) where
     owed_reply = record { caller = t; grants = from.rights.grant }
 
     pub call_step : StepTo spec s (steps.Call t i u j) (called s t u from.rights.grant)
-    call_step = (c, to, d, from, quiet_acts spec s q t c roots.root, record { there = own; is = meet.is }, may, peer t u c d j to from roots meet listens, refl)
+    call_step = (
+      c,
+      to,
+      d,
+      from,
+      quiet_acts spec s q t c roots.root,
+      record { there = own; is = meet.is },
+      may,
+      peer t u c d j to from roots meet listens,
+      refl,
+    )
 
     at_u : thread_at (called s t u from.rights.grant) u ≡ record (thread_at s u) { pending = Some owed_reply }
     at_u = called_u s.threads t u from.rights.grant roots.other (quiet_thread t c roots.root) (quiet_thread u d roots.peer_root)
@@ -203,25 +233,39 @@ module _ (spec : Spec) (s : State) (q : Quiet spec s) where
     t_runs : (thread_at s t).waits ≡ false
     t_runs = (quiet_acts spec s q t c roots.root).runs
 
-    settled : (k : ℕ) → get_or (replied_threads (called_threads s.threads t u from.rights.grant) u t) k no_thread ≡ thread_at (boot spec) k
+    settled : (k : ℕ) → get_or (replied_threads (called_threads s.threads t u from.rights.grant) u t) k no_thread ≡ thread_at
+        (boot spec) k
     settled k =
-        replied_k s.threads t u from.rights.grant roots.other (quiet_thread t c roots.root) (quiet_thread u d roots.peer_root) u_owed_none t_runs k ∙ q.threads k
+        replied_k s.threads t u from.rights.grant roots.other (quiet_thread t c roots.root) (quiet_thread u d roots.peer_root)
+        u_owed_none t_runs k ∙ q.threads k
 
     -- the call brings a copy back
     pub reply_on : (k : ℕ) (cap : Cap) → from.rights.grant ≡ true → content_in s d k ≡ Some (Capability cap)
         → Lands spec s c cap (steps.Call t i u j ∷ (steps.Reply u (Some (k, all_rights)) ∷ []))
     reply_on k cap grants there =
         let new = added (replied (called s t u from.rights.grant) u t) c cap in
-        let answer : StepTo spec (called s t u from.rights.grant) (steps.Reply u (Some (k, all_rights))) new =
-        (d, owed_reply, cap, c, u_acts, u_owes, grants, there, t_rooted, ap (λ (x : Cap). added (replied (called s t u from.rights.grant) u t) c x) (sym (lessened_all cap))) in
+        let answer : StepTo spec (called s t u from.rights.grant) (steps.Reply u (Some (k, all_rights))) new = (
+          d,
+          owed_reply,
+          cap,
+          c,
+          u_acts,
+          u_owes,
+          grants,
+          there,
+          t_rooted,
+          ap (λ (x : Cap). added (replied (called s t u from.rights.grant) u t) c x) (sym (lessened_all cap)),
+        ) in
         record {
           new = new;
           run = (called s t u from.rights.grant, call_step, (new, answer, refl));
           quiet = record {
-            fits = step_fits spec (called s t u from.rights.grant) new (steps.Reply u (Some (k, all_rights))) (step_fits spec s (called s t u from.rights.grant) (steps.Call t i u j) q.fits call_step) answer;
+            fits = step_fits spec (called s t u from.rights.grant) new (steps.Reply u (Some (k, all_rights)))
+                (step_fits spec s (called s t u from.rights.grant) (steps.Call t i u j) q.fits call_step) answer;
             threads = settled;
             fresh = grown_all_fresh s.nodes c (Capability cap) q.fresh;
-            begun = kept_on (boot spec).nodes s.nodes (grown_at s.nodes c (Capability cap)) q.begun (grown_all_kept s.nodes c (Capability cap));
+            begun = kept_on (boot spec).nodes s.nodes (grown_at s.nodes c (Capability cap)) q.begun
+                (grown_all_kept s.nodes c (Capability cap));
           };
           nodes = refl;
         }
@@ -235,7 +279,8 @@ module _ (spec : Spec) (s : State) (q : Quiet spec s) where
         × (more.steps ≡ steps.Call t i u j ∷ (steps.Save u ∷ (steps.ReplyTo u (node_at s d).next None ∷ [])))
         × Shows spec labels s more.steps (label_of labels u) authorities.Reply (label_of labels t)
         × Shows spec labels s more.steps (label_of labels d) authorities.Reply (label_of labels t)
-        × (new.nodes ≡ without_at (grown_at s.nodes d (SavedReply (record { caller = t; grants = from.rights.grant }))) d (node_at s d).next)
+        × (new.nodes ≡ without_at (grown_at s.nodes d (SavedReply (record { caller = t; grants = from.rights.grant }))) d
+        (node_at s d).next)
     save_on labels =
         let mid = called s t u from.rights.grant in
         let n = (node_at s d).next in
@@ -243,21 +288,29 @@ module _ (spec : Spec) (s : State) (q : Quiet spec s) where
         let new = released (saved (called s t u from.rights.grant) u d owed_reply) d (node_at s d).next t in
         let less : d < length s.nodes = quiet_node spec s q d (quiet_cnode spec s q u d roots.peer_root) in
         let save_step : StepTo spec mid (steps.Save u) kept = (d, owed_reply, u_acts, u_owes, refl) in
-        let there : content_in kept d n ≡ Some (SavedReply owed_reply) = grown_at_next s.nodes d (SavedReply owed_reply) q.fresh less in
+        let there : content_in kept d n ≡ Some (SavedReply owed_reply) = grown_at_next s.nodes d (SavedReply owed_reply)
+        q.fresh less in
         let u_after : thread_at kept u ≡ thread_at s u =
-        answered_u s.threads t u from.rights.grant roots.other (quiet_thread t c roots.root) (quiet_thread u d roots.peer_root) u_owed_none t_runs in
+        answered_u s.threads t u from.rights.grant roots.other (quiet_thread t c roots.root) (quiet_thread u d roots.peer_root)
+        u_owed_none t_runs in
         let a : Acts s u d = quiet_acts spec s q u d roots.peer_root in
-        let acts : Acts kept u d = record { runs = ap (λ (x : ThreadState). x.waits) u_after ∙ a.runs; root = ap (λ (x : ThreadState). x.root) u_after ∙ a.root } in
-        let release_step : StepTo spec kept (steps.ReplyTo u (node_at s d).next None) new = (d, owed_reply, acts, there, refl) in (
+        let acts : Acts kept u d = record {
+          runs = ap (λ (x : ThreadState). x.waits) u_after ∙ a.runs;
+          root = ap (λ (x : ThreadState). x.root) u_after ∙ a.root;
+        } in
+        let release_step : StepTo spec kept (steps.ReplyTo u (node_at s d).next None) new =
+        (d, owed_reply, acts, there, refl) in (
           new,
           record {
             steps = steps.Call t i u j ∷ (steps.Save u ∷ (steps.ReplyTo u (node_at s d).next None ∷ []));
             run = (mid, call_step, (kept, save_step, (new, release_step, refl)));
             quiet = record {
-              fits = step_fits spec kept new (steps.ReplyTo u (node_at s d).next None) (step_fits spec mid kept (steps.Save u) (step_fits spec s mid (steps.Call t i u j) q.fits call_step) save_step) release_step;
+              fits = step_fits spec kept new (steps.ReplyTo u (node_at s d).next None) (step_fits spec mid kept (steps.Save u)
+                  (step_fits spec s mid (steps.Call t i u j) q.fits call_step) save_step) release_step;
               threads = settled;
               fresh = out_all_fresh s.nodes d (SavedReply owed_reply) q.fresh less;
-              begun = kept_on (boot spec).nodes s.nodes new.nodes q.begun (out_all_kept s.nodes d (SavedReply owed_reply) q.fresh less);
+              begun = kept_on (boot spec).nodes s.nodes new.nodes q.begun (out_all_kept s.nodes d (SavedReply owed_reply)
+                  q.fresh less);
             };
             kept = out_all_kept s.nodes d (SavedReply owed_reply) q.fresh less;
           },
@@ -276,25 +329,55 @@ module _ (spec : Spec) (s : State) (q : Quiet spec s) where
             parts = refl;
             state = kept;
             run = (mid, call_step, (kept, save_step, refl));
-            auth = inr (of_saved (d, n, owed_reply, there_by_lookup (node_at kept d) n (SavedReply owed_reply) there, refl, refl, refl));
+            auth = inr (of_saved (
+              d,
+              n,
+              owed_reply,
+              there_by_lookup (node_at kept d) n (SavedReply owed_reply) there,
+              refl,
+              refl,
+              refl,
+            ));
           },
           refl,
         )
 
   -- a frame is added to a space
-  pub map_on : (labels : List ℕ) (t c i j : ℕ) (frame space : Cap) → HasRoot spec t c → content_in s c i ≡ Some (Capability frame) → is_at spec kinds.Frame frame.object ≡ true
+  pub map_on : (labels : List ℕ) (t c i j : ℕ) (frame space : Cap) → HasRoot spec t c → content_in s c i ≡ Some (Capability frame)
+      → is_at spec kinds.Frame frame.object ≡ true
       → content_in s c j ≡ Some (Capability space) → is_space_root spec space.object ≡ true
       → (new : State) × (more : Onward spec s new) × (more.steps ≡ steps.Map t i j all_rights ∷ []) × (new.nodes ≡ s.nodes)
-      × ((a : Authority) → confers spec frame a ≡ true → Auth spec labels new (label_of labels space.object) a (label_of labels frame.object))
+      × ((a : Authority) → confers spec frame a ≡ true → Auth spec labels new (label_of labels space.object) a
+      (label_of labels frame.object))
   map_on labels t c i j frame space root own is of is_space =
-      let added : Mapped = record { space = space.object; frame = frame.object; rights = both_rights frame.rights (read_write all_rights) } in
+      let added : Mapped = record {
+        space = space.object;
+        frame = frame.object;
+        rights = both_rights frame.rights (read_write all_rights);
+      } in
       let new : State = record s { mapped = s.mapped ++ added ∷ [] } in
-      let leads : StepTo spec s (steps.Map t i j all_rights) new = (c, frame, space, quiet_acts spec s q t c root, record { there = own; is = is }, record { there = of; is = is_space }, refl) in (
+      let leads : StepTo spec s (steps.Map t i j all_rights) new = (
+        c,
+        frame,
+        space,
+        quiet_acts spec s q t c root,
+        record { there = own; is = is },
+        record {
+          there = of;
+          is = is_space;
+        },
+        refl,
+      ) in (
         new,
         record {
           steps = steps.Map t i j all_rights ∷ [];
           run = (new, leads, refl);
-          quiet = record { fits = step_fits spec s new (steps.Map t i j all_rights) q.fits leads; threads = q.threads; fresh = q.fresh; begun = q.begun };
+          quiet = record {
+            fits = step_fits spec s new (steps.Map t i j all_rights) q.fits leads;
+            threads = q.threads;
+            fresh = q.fresh;
+            begun = q.begun;
+          };
           kept = kept_same s.nodes;
         },
         refl,
@@ -302,20 +385,31 @@ module _ (spec : Spec) (s : State) (q : Quiet spec s) where
         λ a conf. inr (of_mapped (
           added,
           Contains-push s.mapped added,
-          frame_whole frame.rights a (let k : kind_at spec frame.object ≡ Some kinds.Frame = kind_is spec kinds.Frame frame.object is in rw k at conf),
+          frame_whole frame.rights a (let k : kind_at spec frame.object ≡ Some kinds.Frame = kind_is spec kinds.Frame frame.object
+              is in rw k at conf),
           refl,
           refl,
         )),
       )
 
   -- an interrupt is bound to a notification
-  pub bind_on : (labels : List ℕ) (t c i j : ℕ) (irq bound : Cap) → HasRoot spec t c → content_in s c i ≡ Some (Capability irq) → is_at spec kinds.Irq irq.object ≡ true
+  pub bind_on : (labels : List ℕ) (t c i j : ℕ) (irq bound : Cap) → HasRoot spec t c → content_in s c i ≡ Some (Capability irq)
+      → is_at spec kinds.Irq irq.object ≡ true
       → content_in s c j ≡ Some (Capability bound) → is_at spec kinds.Notification bound.object ≡ true → bound.rights.write ≡ true
       → (new : State) × (more : Onward spec s new) × (more.steps ≡ steps.Bind t i j ∷ []) × (new.nodes ≡ s.nodes)
       × Auth spec labels new (label_of labels irq.object) authorities.AsyncSend (label_of labels bound.object)
   bind_on labels t c i j irq bound root own is of is_bound writes =
       let new : State = record s { irqs = set s.irqs irq.object (Some bound.object) } in
-      let leads : StepTo spec s (steps.Bind t i j) new = (c, irq, bound, quiet_acts spec s q t c root, record { there = own; is = is }, record { there = of; is = is_bound }, writes, refl) in
+      let leads : StepTo spec s (steps.Bind t i j) new = (
+        c,
+        irq,
+        bound,
+        quiet_acts spec s q t c root,
+        record { there = own; is = is },
+        record { there = of; is = is_bound },
+        writes,
+        refl,
+      ) in
       let less : irq.object < length s.irqs = (
       let a : irq.object < length spec.entries = is_at_below spec kinds.Irq irq.object is in
       let b : length s.irqs ≡ length spec.entries = q.fits.as_many_irqs in
@@ -324,10 +418,22 @@ module _ (spec : Spec) (s : State) (q : Quiet spec s) where
         record {
           steps = steps.Bind t i j ∷ [];
           run = (new, leads, refl);
-          quiet = record { fits = step_fits spec s new (steps.Bind t i j) q.fits leads; threads = q.threads; fresh = q.fresh; begun = q.begun };
+          quiet = record {
+            fits = step_fits spec s new (steps.Bind t i j) q.fits leads;
+            threads = q.threads;
+            fresh = q.fresh;
+            begun = q.begun;
+          };
           kept = kept_same s.nodes;
         },
         refl,
         refl,
-        inr (of_irq (irq.object, bound.object, get_or-set_same s.irqs irq.object (Some bound.object) None less, refl, refl, refl)),
+        inr (of_irq (
+          irq.object,
+          bound.object,
+          get_or-set_same s.irqs irq.object (Some bound.object) None less,
+          refl,
+          refl,
+          refl,
+        )),
       )

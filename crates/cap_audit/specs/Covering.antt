@@ -48,7 +48,8 @@ pub record FillsAll (doors : Doors) (new : Doors) : Type 0 where
   pub each : (passage : Passage) (e : ℕ) → Fills (hub_at doors passage e) (hub_at new passage e)
 
 -- more ways and more members, with all that was
-pub record Opens (spec : Spec) (f : Found) (net : Lanes) (doors : Doors) (new : Found) (wide : Lanes) (full : Doors) : Type 0 where
+pub record Opens (spec : Spec) (f : Found) (net : Lanes) (doors : Doors) (new : Found) (wide : Lanes)
+    (full : Doors) : Type 0 where
   pub widened : Widened spec f net new wide
   pub hubs : AreHubs spec new wide full
   pub fills : FillsAll doors full
@@ -58,7 +59,8 @@ pub record Opens (spec : Spec) (f : Found) (net : Lanes) (doors : Doors) (new : 
 pub record Covered (spec : Spec) (net : Lanes) (doors : Doors) (c : ℕ) (cap : Cap) : Type 0 where
   pub there : (t : ℕ) → HasRoot spec t c → is_at spec kinds.CNode cap.object ≡ true → Path net c cap.object
   pub back : (t : ℕ) → HasRoot spec t c → is_at spec kinds.CNode cap.object ≡ true → Path net cap.object c
-  pub stands : (t : ℕ) (passage : Passage) (side : Side) → HasRoot spec t c → is_at spec kinds.Endpoint cap.object ≡ true → Allows passage side cap
+  pub stands : (t : ℕ) (passage : Passage) (side : Side) → HasRoot spec t c → is_at spec kinds.Endpoint cap.object ≡ true
+      → Allows passage side cap
       → StandsAt side net (hub_at doors passage cap.object) c
 
 abbrev pub AreCovered : Spec → Found → Lanes → Doors → ℕ → Type 0
@@ -72,13 +74,15 @@ pub record AreRoots (spec : Spec) (threads : List (Option ℕ)) : Type 0 where
   pub all_ones : (c t : ℕ) → HasRoot spec t c → slice_index_or threads c None ≡ None → ⊥
 
 -- the root came to its hub
-pub record Attends (spec : Spec) (f : Found) (net : Lanes) (doors : Doors) (passage : Passage) (side : Side) (member : Member) (new : Found) (wide : Lanes) (full : Doors)
+pub record Attends (spec : Spec) (f : Found) (net : Lanes) (doors : Doors) (passage : Passage) (side : Side) (member : Member)
+    (new : Found) (wide : Lanes) (full : Doors)
     : Type 0 where
   pub opens : Opens spec f net doors new wide full
   pub stands : Allows passage side member.cap → StandsAt side wide (hub_at full passage member.cap.object) member.node
 
 -- the capability is covered
-pub record Covers (spec : Spec) (f : Found) (net : Lanes) (doors : Doors) (c : ℕ) (cap : Cap) (new : Found) (wide : Lanes) (full : Doors) : Type 0 where
+pub record Covers (spec : Spec) (f : Found) (net : Lanes) (doors : Doors) (c : ℕ) (cap : Cap) (new : Found) (wide : Lanes)
+    (full : Doors) : Type 0 where
   pub opens : Opens spec f net doors new wide full
   pub covered : Covered spec wide full c cap
 
@@ -92,10 +96,12 @@ pub record IsSearch (spec : Spec) (f : Found) (net : Lanes) (doors : Doors) (don
 
 -- every capability of a slot is found
 pub record HasSlots (spec : Spec) (f : Found) : Type 0 where
-  pub each : (c i : ℕ) (cap : Cap) → Contains (slots_at spec c) (i, cap) → (v : ℕ) × (slice_get f.values v ≡ Some cap) × (is_known f c v ≡ true)
+  pub each : (c i : ℕ) (cap : Cap) → Contains (slots_at spec c) (i, cap) → (v : ℕ) × (slice_get f.values v ≡ Some cap)
+      × (is_known f c v ≡ true)
 
 -- one of a list of hubs with the root that came
-pub record AddedAt (spec : Spec) (f : Found) (net : Lanes) (passage : Passage) (side : Side) (e : ℕ) (member : Member) (hubs : List Gathering) (new : Found) (wide : Lanes)
+pub record AddedAt (spec : Spec) (f : Found) (net : Lanes) (passage : Passage) (side : Side) (e : ℕ) (member : Member)
+    (hubs : List Gathering) (new : Found) (wide : Lanes)
     (filled : List Gathering) : Type 0 where
   pub full : Gathering
   pub set : filled ≡ slice_set hubs e full
@@ -109,7 +115,8 @@ pub record Links (spec : Spec) (f : Found) (net : Lanes) (c : ℕ) (d : ℕ) (ne
   pub back : Path wide d c
 
 -- the pair's capability is covered
-pub record CoversPair (spec : Spec) (f : Found) (net : Lanes) (doors : Doors) (pair : Pair) (new : Found) (wide : Lanes) (full : Doors) : Type 0 where
+pub record CoversPair (spec : Spec) (f : Found) (net : Lanes) (doors : Doors) (pair : Pair) (new : Found) (wide : Lanes)
+    (full : Doors) : Type 0 where
   pub opens : Opens spec f net doors new wide full
   pub covered : (cap : Cap) → slice_get f.values pair.held.value ≡ Some cap → Covered spec wide full pair.node cap
 
@@ -127,4 +134,5 @@ pub record IsFoundAt (f : Found) (c : ℕ) (cap : Cap) : Type 0 where
 -- those of one class are known to have the same
 pub record AreAlike (spec : Spec) (f : Found) (classes : List ℕ) : Type 0 where
   pub as_many : length classes ≡ length spec.entries
-  pub known : (c d v : ℕ) → c < length classes → d < length classes → slice_index classes c ≡ slice_index classes d → is_known f c v ≡ true → is_known f d v ≡ true
+  pub known : (c d v : ℕ) → c < length classes → d < length classes → slice_index classes c ≡ slice_index classes d
+      → is_known f c v ≡ true → is_known f d v ≡ true

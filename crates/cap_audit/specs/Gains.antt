@@ -4,7 +4,7 @@ use Rattle.std.specs.List.{Contains}
 use Rattle.cap_machine.specs.Sources.{OfCap}
 use Rattle.cap_model.specs.ObjectLabels.{label_of}
 use Rattle.cap_model.specs.Tables.{has, Has}
-use Rattle.cap_model.specs.declared.authority.Authority.{Authority}
+use Rattle.authorities.specs.declared.authority.Authority.{Authority}
 use Rattle.cap_model.specs.declared.edge.Edge.{Edge}
 use Rattle.cap_machine.specs.Runs.{Run}
 use Rattle.cap_machine.specs.declared.step.Step.{Step}
@@ -19,7 +19,8 @@ use Rattle.cap_audit.specs.Spread.{Spread}
 use Rattle.cap_audit.specs.declared.found.Pair.{Pair}
 
 -- the steps lead to a state that has all that was found, and show these edges
-pub record IsMade (spec : Spec) (labels : List ℕ) (f : Found) (edges : List Edge) (steps : List Step) (nexts : List ℕ) : Type 0 where
+pub record IsMade (spec : Spec) (labels : List ℕ) (f : Found) (edges : List Edge) (steps : List Step)
+    (nexts : List ℕ) : Type 0 where
   pub state : State
   pub run : Run spec (boot spec) steps state
   pub quiet : Quiet spec state
@@ -78,7 +79,8 @@ OfSome P items e = Below (AtPlace P items) (length items) e
 pub record IsAll (spec : Spec) (f : Found) : Type 0 where
   pub queued : (k : ℕ) (pair : Pair) → slice_get f.queue k ≡ Some pair → Contains (held_by f pair.node) pair.held
   pub every : (c : ℕ) (cap : Cap) → Spread spec c cap
-      → (k : ℕ) × (pair : Pair) × (slice_get f.queue k ≡ Some pair) × (pair.node ≡ c) × (slice_get f.values pair.held.value ≡ Some cap)
+      → (k : ℕ) × (pair : Pair) × (slice_get f.queue k ≡ Some pair) × (pair.node ≡ c)
+      × (slice_get f.values pair.held.value ≡ Some cap)
 
 -- what the capability of a pair confers
 pub record OfPair (spec : Spec) (labels : List ℕ) (f : Found) (pair : Pair) (e : Edge) : Type 0 where

@@ -4,7 +4,7 @@ use Rattle.std.specs.List.{Contains}
 use Rattle.cap_model.specs.Edges.{edge}
 use Rattle.cap_model.specs.ObjectLabels.{label_of}
 use Rattle.cap_model.specs.Tables.{has}
-use Rattle.cap_model.specs.declared.authority.Authority.TheVariants.{Reply}
+use Rattle.authorities.specs.declared.authority.Authority.TheVariants.{Reply}
 use Rattle.cap_model.specs.declared.edge.Edge.{Edge}
 use Rattle.cap_machine.specs.declared.step.Step.{Step}
 use Rattle.cap_machine.specs.declared.step.Step.TheVariants as steps
@@ -37,7 +37,8 @@ pub record AreParties (spec : Spec) (f : Found) (caller : Party) (listener : Par
 -- the edge of the call, or that of its save
 abbrev pub OfParties : List ℕ → Party → Party → Edge → Type 0
 OfParties labels caller listener e =
-    (e ≡ edge (label_of labels listener.thread) Reply (label_of labels caller.thread)) ⊎ (e ≡ edge (label_of labels listener.node) Reply (label_of labels caller.thread))
+    (e ≡ edge (label_of labels listener.thread) Reply (label_of labels caller.thread))
+    ⊎ (e ≡ edge (label_of labels listener.node) Reply (label_of labels caller.thread))
 
 -- a call, whose reply is saved at the next number there and given by it
 abbrev pub call_steps : List ℕ → Party → Party → List Step
@@ -67,7 +68,8 @@ pub record MayCallAt (spec : Spec) (f : Found) (o : ℕ) (door : Pair) : Type 0 
 pub record AreGates (spec : Spec) (f : Found) (heads : List ℕ) (gates : List (List Pair)) (n : ℕ) : Type 0 where
   pub as_many : length gates ≡ length spec.entries
   pub may : (o k : ℕ) (door : Pair) → slice_get (row_at gates o) k ≡ Some door → MayCallAt spec f o door
-  pub every : (k : ℕ) (pair : Pair) (cap : Cap) → k < n → slice_get f.queue k ≡ Some pair → slice_get f.values pair.held.value ≡ Some cap
+  pub every : (k : ℕ) (pair : Pair) (cap : Cap) → k < n → slice_get f.queue k ≡ Some pair
+      → slice_get f.values pair.held.value ≡ Some cap
       → is_wanted spec wants.Caller cap ≡ true → slice_index_or heads pair.node pair.node ≡ pair.node
       → (i : ℕ) × (door : Pair) × (slice_get (row_at gates cap.object) i ≡ Some door) × (door.node ≡ pair.node)
 
@@ -82,7 +84,8 @@ pub record Meets (spec : Spec) (f : Found) (at : Place) (peer : Place) : Type 0 
 
 -- what a call of t to another thread u makes, whose root is d
 abbrev pub OfCall : List ℕ → ℕ → ℕ → ℕ → Edge → Type 0
-OfCall labels u d t e = (t ≢ u) × ((e ≡ edge (label_of labels u) Reply (label_of labels t)) ⊎ (e ≡ edge (label_of labels d) Reply (label_of labels t)))
+OfCall labels u d t e = (t ≢ u) × ((e ≡ edge (label_of labels u) Reply (label_of labels t))
+    ⊎ (e ≡ edge (label_of labels d) Reply (label_of labels t)))
 
 -- what the calls of those with the root c to those with the root d make
 abbrev pub Between : List ℕ → List (List ℕ) → ℕ → ℕ → Edge → Type 0
@@ -90,10 +93,12 @@ Between labels rosters c d e = OfSome (λ (u : ℕ). OfSome (OfCall labels u d) 
 
 -- the same of those for whom c stands to those for whom d stands
 abbrev pub OfKinds : List ℕ → List (List ℕ) → List (List ℕ) → ℕ → ℕ → Edge → Type 0
-OfKinds labels rosters members c d e = OfSome (λ (y : ℕ). OfSome (λ (x : ℕ). Between labels rosters x y) (row_at members c)) (row_at members d) e
+OfKinds labels rosters members c d e = OfSome (λ (y : ℕ). OfSome (λ (x : ℕ). Between labels rosters x y) (row_at members c))
+    (row_at members d) e
 
 -- what the calls to those for whom the CNode of a pair stands make, where it stands for itself and its capability listens
-pub record OfListening (spec : Spec) (labels : List ℕ) (f : Found) (heads : List ℕ) (rosters : List (List ℕ)) (members : List (List ℕ)) (gates : List (List Pair)) (pair : Pair)
+pub record OfListening (spec : Spec) (labels : List ℕ) (f : Found) (heads : List ℕ) (rosters : List (List ℕ))
+    (members : List (List ℕ)) (gates : List (List Pair)) (pair : Pair)
     (e : Edge) : Type 0 where
   pub cap : Cap
   pub is : slice_get f.values pair.held.value ≡ Some cap
@@ -102,7 +107,8 @@ pub record OfListening (spec : Spec) (labels : List ℕ) (f : Found) (heads : Li
   pub by : OfSome (λ (door : Pair). OfKinds labels rosters members door.node pair.node) (row_at gates cap.object) e
 
 -- all that calls are shown by
-pub record AreReady (spec : Spec) (f : Found) (heads : List ℕ) (rosters : List (List ℕ)) (members : List (List ℕ)) (gates : List (List Pair)) : Type 0 where
+pub record AreReady (spec : Spec) (f : Found) (heads : List ℕ) (rosters : List (List ℕ)) (members : List (List ℕ))
+    (gates : List (List Pair)) : Type 0 where
   pub kept : IsKept spec
   pub all : IsAll spec f
   pub alike : AreStandIns f heads
@@ -121,23 +127,28 @@ pub record MeetBy (spec : Spec) (f : Found) (value : ℕ) (peer_value : ℕ) : T
   pub may : MayCall to
 
 -- of those that have met, all calls are shown
-pub record AreMet (labels : List ℕ) (rosters : List (List ℕ)) (members : List (List ℕ)) (met : List (List ℕ)) (edges : List Edge) : Type 0 where
-  pub shown : (c k d : ℕ) (e : Edge) → slice_get (row_at met c) k ≡ Some d → OfKinds labels rosters members c d e → e.from ≢ e.to → has edges e ≡ true
+pub record AreMet (labels : List ℕ) (rosters : List (List ℕ)) (members : List (List ℕ)) (met : List (List ℕ))
+    (edges : List Edge) : Type 0 where
+  pub shown : (c k d : ℕ) (e : Edge) → slice_get (row_at met c) k ≡ Some d → OfKinds labels rosters members c d e → e.from ≢ e.to
+      → has edges e ≡ true
 
 -- the report gains the edges, and more have met
-pub record Greets (rosters : List (List ℕ)) (members : List (List ℕ)) (P : Edge → Type 0) (m : Made) (new : Made) (met : List (List ℕ)) : Type 0 where
+pub record Greets (rosters : List (List ℕ)) (members : List (List ℕ)) (P : Edge → Type 0) (m : Made) (new : Made)
+    (met : List (List ℕ)) : Type 0 where
   pub gains : Gains P m new
   pub are : AreMet m.labels rosters members met new.edges
 
 -- at these places the nodes have the value
 pub record ArePlaces (f : Found) (nodes : List ℕ) (value : ℕ) (places : List Place) : Type 0 where
-  pub stand : (k : ℕ) (at : Place) → slice_get places k ≡ Some at → Contains (held_by f at.node) (record { value = value; number = at.number })
+  pub stand : (k : ℕ) (at : Place) → slice_get places k ≡ Some at
+      → Contains (held_by f at.node) (record { value = value; number = at.number })
   pub every : (k c : ℕ) (held : Held) → slice_get nodes k ≡ Some c → Contains (held_by f c) held → held.value ≡ value
       → (i : ℕ) × (at : Place) × (slice_get places i ≡ Some at) × (at.node ≡ c)
 
 -- the capability of a pair by which it may call, where its CNode stands for itself
 abbrev pub caller_of : Spec → Found → List ℕ → Pair → Option Pick
-caller_of spec f heads pair = if slice_index_or heads pair.node pair.node == pair.node then pick_of spec f wants.Caller pair.held else None
+caller_of spec f heads pair = if slice_index_or heads pair.node pair.node == pair.node then pick_of spec f wants.Caller
+    pair.held else None
 
 -- the thread in the list of its root, where it has one
 abbrev pub enrolled : List (List ℕ) → Option ℕ → ℕ → List (List ℕ)

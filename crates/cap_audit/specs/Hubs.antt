@@ -81,16 +81,19 @@ pub record Widened (spec : Spec) (f : Found) (net : Lanes) (new : Found) (wide :
   pub gone : (done : ℕ) → done ≤ length f.queue → HaveGone f net done → HaveGone new wide done
 
 -- the root came to the hub
-pub record Comes (spec : Spec) (f : Found) (net : Lanes) (passage : Passage) (e : ℕ) (hub : Gathering) (new : Found) (wide : Lanes) (full : Gathering) : Type 0 where
+pub record Comes (spec : Spec) (f : Found) (net : Lanes) (passage : Passage) (e : ℕ) (hub : Gathering) (new : Found)
+    (wide : Lanes) (full : Gathering) : Type 0 where
   pub widened : Widened spec f net new wide
   pub is : IsHub spec new wide passage e full
   pub fills : Fills hub full
 
 -- ways lead from the giver to each of these, or to the taker from each of these
-pub record Given (spec : Spec) (f : Found) (net : Lanes) (giver : Member) (takers : List Member) (new : Found) (wide : Lanes) : Type 0 where
+pub record Given (spec : Spec) (f : Found) (net : Lanes) (giver : Member) (takers : List Member) (new : Found)
+    (wide : Lanes) : Type 0 where
   pub widened : Widened spec f net new wide
   pub paths : (taker : Member) → Contains takers taker → Path wide giver.node taker.node
 
-pub record Taken (spec : Spec) (f : Found) (net : Lanes) (givers : List Member) (taker : Member) (new : Found) (wide : Lanes) : Type 0 where
+pub record Taken (spec : Spec) (f : Found) (net : Lanes) (givers : List Member) (taker : Member) (new : Found)
+    (wide : Lanes) : Type 0 where
   pub widened : Widened spec f net new wide
   pub paths : (giver : Member) → Contains givers giver → Path wide giver.node taker.node

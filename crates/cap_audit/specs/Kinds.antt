@@ -59,7 +59,8 @@ pub record AreLeft (heads : List ℕ) (all : List (Option ℕ)) (roots : List (O
 pub record AreMembers (heads : List ℕ) (members : List (List ℕ)) (n : ℕ) : Type 0 where
   pub as_many : length members ≡ length heads
   pub stands : (h k c : ℕ) → slice_get (row_at members h) k ≡ Some c → stand_in heads c ≡ h
-  pub every : (c : ℕ) → c < n → stand_in heads c < length heads → (k : ℕ) × (slice_get (row_at members (stand_in heads c)) k ≡ Some c)
+  pub every : (c : ℕ) → c < n → stand_in heads c < length heads
+      → (k : ℕ) × (slice_get (row_at members (stand_in heads c)) k ≡ Some c)
 
 -- the queue says that c holds the value
 pub record IsQueued (f : Found) (c : ℕ) (value : ℕ) : Type 0 where

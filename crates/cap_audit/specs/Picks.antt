@@ -3,7 +3,7 @@ use Rattle.std.specs.Prelude.{◌≡◌, ◌&&◌, ◌||◌, ◌==◌, ◌∷◌
 use Rattle.cap_machine.specs.Sources.{OfCap}
 use Rattle.cap_model.specs.Edges.{edge}
 use Rattle.cap_model.specs.ObjectLabels.{label_of}
-use Rattle.cap_model.specs.declared.authority.Authority.TheVariants.{AsyncSend}
+use Rattle.authorities.specs.declared.authority.Authority.TheVariants.{AsyncSend}
 use Rattle.cap_model.specs.declared.edge.Edge.{Edge}
 use Rattle.cap_machine.specs.declared.step.Step.{Step}
 use Rattle.cap_machine.specs.declared.step.Step.TheVariants as steps
@@ -28,12 +28,14 @@ is_wanted spec wants.Frame cap = is_at spec kinds.Frame cap.object
 is_wanted spec wants.Space cap = is_space_root spec cap.object
 is_wanted spec wants.Irq cap = is_at spec kinds.Irq cap.object
 is_wanted spec wants.Bound cap = is_at spec kinds.Notification cap.object && cap.rights.write
-is_wanted spec wants.Caller cap = is_at spec kinds.Endpoint cap.object && (cap.rights.write && (cap.rights.grant || cap.rights.reply))
+is_wanted spec wants.Caller cap = is_at spec kinds.Endpoint cap.object
+    && (cap.rights.write && (cap.rights.grant || cap.rights.reply))
 is_wanted spec wants.Listener cap = is_at spec kinds.Endpoint cap.object && cap.rights.read
 
 abbrev pub pick_in : Spec → Wanted → Held → Option Cap → Option Pick
 pick_in spec wanted held None = None
-pick_in spec wanted held (Some cap) = if is_wanted spec wanted cap then Some (record { number = held.number; cap = cap }) else None
+pick_in spec wanted held (Some cap) =
+    if is_wanted spec wanted cap then Some (record { number = held.number; cap = cap }) else None
 
 abbrev pub pick_of : Spec → Found → Wanted → Held → Option Pick
 pick_of spec f wanted held = pick_in spec wanted held (slice_get f.values held.value)
@@ -41,7 +43,8 @@ pick_of spec f wanted held = pick_in spec wanted held (slice_get f.values held.v
 -- the first place of a node that has the value
 abbrev pub place_in : ℕ → ℕ → List Held → Option Place
 place_in node value [] = None
-place_in node value (held ∷ helds) = if held.value == value then Some (record { node = node; number = held.number }) else place_in node value helds
+place_in node value (held ∷ helds) = if held.value == value then Some (record { node = node; number = held.number }) else place_in
+    node value helds
 
 abbrev pub place_of : Found → ℕ → ℕ → Option Place
 place_of f value node = place_in node value (held_by f node)
@@ -115,4 +118,5 @@ OfRoot spec labels f deed (Some t) c e = OfDeeds spec labels f deed c e
 
 -- the same of each object, by the list of roots
 abbrev pub OfRoots : Spec → List ℕ → Found → Deed → List (Option ℕ) → Edge → Type 0
-OfRoots spec labels f deed roots e = Below (λ (c : ℕ). OfRoot spec labels f deed (slice_index_or roots c None) c) (length spec.entries) e
+OfRoots spec labels f deed roots e = Below (λ (c : ℕ). OfRoot spec labels f deed (slice_index_or roots c None) c)
+    (length spec.entries) e

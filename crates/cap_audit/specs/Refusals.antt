@@ -22,7 +22,9 @@ pub record IsThreadSlot (spec : Spec) (slots : List (ℕ × Cap)) (i : ℕ) : Ty
   pub there : slice_get slots place ≡ Some slot
   pub number : slot.0 ≡ i
   pub thread : is_at spec kinds.Thread slot.1.object ≡ true
-  pub before : (k : ℕ) (other : ℕ × Cap) → k < place → slice_get slots k ≡ Some other → is_at spec kinds.Thread other.1.object ≡ true → ⊥
+  pub before : (k : ℕ) (other : ℕ × Cap) → k < place → slice_get slots k ≡ Some other
+      → is_at spec kinds.Thread other.1.object ≡ true → ⊥
 
 abbrev pub HasNoThread : Spec → List (ℕ × Cap) → Type 0
-HasNoThread spec slots = (k : ℕ) (slot : ℕ × Cap) → slice_get slots k ≡ Some slot → is_at spec kinds.Thread slot.1.object ≡ true → ⊥
+HasNoThread spec slots = (k : ℕ) (slot : ℕ × Cap) → slice_get slots k ≡ Some slot
+    → is_at spec kinds.Thread slot.1.object ≡ true → ⊥

@@ -1,7 +1,7 @@
 -- What `audit` answers.
 use Rattle.std.specs.Prelude.{◌≡◌, ◌≢◌, ◌<◌, ◌*◌, ◌↔◌, ℕ, List}
 use Rattle.cap_model.specs.Tables.{Has}
-use Rattle.cap_model.specs.declared.authority.Authority.{Authority}
+use Rattle.authorities.specs.declared.authority.Authority.{Authority}
 use Rattle.cap_model.specs.declared.edge.Edge.{Edge}
 use Rattle.cap_audit.specs.Refusals.{IsFirstThread}
 use Rattle.cap_audit.specs.Shows.{IsRun, Shows}
@@ -24,5 +24,6 @@ pub record IsReport (spec : Spec) (labels : List ℕ) (edges : List Edge) (steps
 -- where there is none
 abbrev pub AuditRefused : Spec → AuditRefusal → Type 0
 AuditRefused spec (HoldsTcb cnode slot) = IsFirstThread spec cnode slot
-AuditRefused spec (Limit cnodes caps) = HoldsNoThread spec × (cnodes ≡ cnodes_of spec) × (caps ≡ caps_of spec) × (4000000 < cnodes * caps)
+AuditRefused spec (Limit cnodes caps) = HoldsNoThread spec × (cnodes ≡ cnodes_of spec) × (caps ≡ caps_of spec)
+    × (4000000 < cnodes * caps)
 AuditRefused spec NoMemory = Unit {0}

@@ -62,12 +62,15 @@ steps_of (courses.Reply t i u j) n = steps.Call t i u j ∷ (steps.Reply u (Some
 
 -- what is held by c goes along the course to d
 abbrev pub Leads : Spec → Found → ℕ → ℕ → Course → Type 0
-Leads spec f c d (courses.Take t i) = (cap : Cap) × HasRoot spec t d × HoldsAt f d i cap × (is_at spec kinds.CNode cap.object ≡ true) × (cap.object ≡ c)
-Leads spec f c d (courses.Put t i) = (cap : Cap) × HasRoot spec t c × HoldsAt f c i cap × (is_at spec kinds.CNode cap.object ≡ true) × (cap.object ≡ d)
+Leads spec f c d (courses.Take t i) = (cap : Cap) × HasRoot spec t d × HoldsAt f d i cap
+    × (is_at spec kinds.CNode cap.object ≡ true) × (cap.object ≡ c)
+Leads spec f c d (courses.Put t i) = (cap : Cap) × HasRoot spec t c × HoldsAt f c i cap
+    × (is_at spec kinds.CNode cap.object ≡ true) × (cap.object ≡ d)
 Leads spec f c d (courses.Grant t i u j) =
     (to : Cap) × (from : Cap) × HaveRoots spec t u c d × HoldsAt f c i to × HoldsAt f d j from × Meet spec to from × MayGrant to
 Leads spec f c d (courses.Reply t i u j) =
-    (to : Cap) × (from : Cap) × HaveRoots spec t u d c × HoldsAt f d i to × HoldsAt f c j from × Meet spec to from × MayCall to × (from.rights.grant ≡ true)
+    (to : Cap) × (from : Cap) × HaveRoots spec t u d c × HoldsAt f d i to × HoldsAt f c j from × Meet spec to from × MayCall to
+    × (from.rights.grant ≡ true)
 
 abbrev pub IsWay : Spec → Found → ℕ → Way → Type 0
 IsWay spec f c way = Leads spec f c way.to way.course
@@ -79,7 +82,8 @@ pub record IsFound (spec : Spec) (f : Found) : Type 0 where
   pub nexts : (c : ℕ) → (node_at state c).next ≡ slice_index f.nexts c
   pub there : (c i : ℕ) (cap : Cap) → HoldsAt f c i cap → content_in state c i ≡ Some (Capability cap)
   pub queued : (k : ℕ) (pair : Pair) → slice_get f.queue k ≡ Some pair → Contains (held_by f pair.node) pair.held
-  pub known : (c v : ℕ) → is_known f c v ≡ true → (k : ℕ) × (pair : Pair) × (slice_get f.queue k ≡ Some pair) × (pair.node ≡ c) × (pair.held.value ≡ v)
+  pub known : (c v : ℕ) → is_known f c v ≡ true → (k : ℕ) × (pair : Pair) × (slice_get f.queue k ≡ Some pair) × (pair.node ≡ c)
+      × (pair.held.value ≡ v)
   pub marked : (k : ℕ) (pair : Pair) → slice_get f.queue k ≡ Some pair → is_known f pair.node pair.held.value ≡ true
   pub valued : (c : ℕ) (held : Held) → Contains (held_by f c) held → held.value < length f.values
   pub rows : (c : ℕ) → is_at spec kinds.CNode c ≡ true → length (marks_of f c) ≡ length f.values

@@ -2,7 +2,7 @@
 use Rattle.std.specs.Prelude.{◌≡◌, ◌⊎◌, ℕ, List, length}
 use Rattle.cap_model.specs.Edges.{edge}
 use Rattle.cap_model.specs.ObjectLabels.{label_of}
-use Rattle.cap_model.specs.declared.authority.Authority.TheVariants.{Reply}
+use Rattle.authorities.specs.declared.authority.Authority.TheVariants.{Reply}
 use Rattle.cap_model.specs.declared.edge.Edge.{Edge}
 use Rattle.cap_model.specs.Auth.{Auth}
 use Rattle.cap_model.specs.Kept.{IsKept}
@@ -37,8 +37,10 @@ OfBoot spec labels e = Auth spec labels (boot spec) e.from e.authority e.to
 
 -- what maps and binds of some thread make, whose root stands for itself
 pub data OfAllDeeds (spec : Spec) (labels : List ℕ) (f : Found) (heads : List ℕ) (e : Edge) : Type 0 where
-  by_map : (t c : ℕ) → HasRoot spec t c → stand_in heads c ≡ c → OfDeeds spec labels f deeds.Map c e → OfAllDeeds spec labels f heads e
-  by_bind : (t c : ℕ) → HasRoot spec t c → stand_in heads c ≡ c → OfDeeds spec labels f deeds.Bind c e → OfAllDeeds spec labels f heads e
+  by_map : (t c : ℕ) → HasRoot spec t c → stand_in heads c ≡ c → OfDeeds spec labels f deeds.Map c e
+      → OfAllDeeds spec labels f heads e
+  by_bind : (t c : ℕ) → HasRoot spec t c → stand_in heads c ≡ c → OfDeeds spec labels f deeds.Bind c e
+      → OfAllDeeds spec labels f heads e
 
 -- what a call of t to u by the Spread makes, whose roots are c and d
 pub record OfAllCalls (spec : Spec) (labels : List ℕ) (e : Edge) : Type 0 where

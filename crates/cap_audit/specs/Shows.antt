@@ -1,6 +1,6 @@
 -- What a list of steps shows: it is a run, and an edge stands in the state that some front of it leads to.
 use Rattle.std.specs.Prelude.{◌≡◌, ℕ, List, ◌++◌}
-use Rattle.cap_model.specs.declared.authority.Authority.{Authority}
+use Rattle.authorities.specs.declared.authority.Authority.{Authority}
 use Rattle.cap_machine.specs.declared.step.Step.{Step}
 use Rattle.cap_machine.specs.Runs.{Run}
 use Rattle.cap_model.specs.Auth.{Auth}

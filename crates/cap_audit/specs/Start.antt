@@ -32,7 +32,14 @@ blank_rows width entries = map (λ e. blank_row width e.object) entries
 
 -- a value more
 abbrev pub with_value : Found → Cap → Found
-with_value f cap = record { values = f.values ++ cap ∷ []; held = f.held; known = f.known; queue = f.queue; steps = f.steps; nexts = f.nexts }
+with_value f cap = record {
+  values = f.values ++ cap ∷ [];
+  held = f.held;
+  known = f.known;
+  queue = f.queue;
+  steps = f.steps;
+  nexts = f.nexts;
+}
 
 -- the values have this one at the place, and nothing else changed but that it may be a new one
 abbrev pub HasValue : Found → Cap → Found → ℕ → Type 0
@@ -72,14 +79,16 @@ pub record Starts (spec : Spec) (f : Found) (n : ℕ) (m : ℕ) : Type 0 where
   pub own : (c i : ℕ) (cap : Cap) → HoldsAt f c i cap → Contains (slots_at spec c) (i, cap)
   pub queued : (k : ℕ) (pair : Pair) → slice_get f.queue k ≡ Some pair → Contains (held_by f pair.node) pair.held
   pub valued : (c : ℕ) (held : Held) → Contains (held_by f c) held → held.value < length f.values
-  pub slots : (c k : ℕ) (slot : ℕ × Cap) → slice_get (slots_at spec c) k ≡ Some slot → (c < n) ⊎ ((c ≡ n) × (k < m)) → Queued f c slot.1
+  pub slots : (c k : ℕ) (slot : ℕ × Cap) → slice_get (slots_at spec c) k ≡ Some slot → (c < n) ⊎ ((c ≡ n) × (k < m))
+      → Queued f c slot.1
 
 -- what the pairs before a place say is known, and nothing else
 pub record Marks (spec : Spec) (f : Found) (done : ℕ) : Type 0 where
   pub starts : Starts spec f (length spec.entries) 0
   pub row_each : length f.known ≡ length spec.entries
   pub rows : (c : ℕ) → is_at spec kinds.CNode c ≡ true → length (marks_of f c) ≡ length f.values
-  pub known : (c v : ℕ) → is_known f c v ≡ true → (k : ℕ) × (pair : Pair) × (slice_get f.queue k ≡ Some pair) × (pair.node ≡ c) × (pair.held.value ≡ v)
+  pub known : (c v : ℕ) → is_known f c v ≡ true → (k : ℕ) × (pair : Pair) × (slice_get f.queue k ≡ Some pair) × (pair.node ≡ c)
+      × (pair.held.value ≡ v)
   pub marked : (k : ℕ) (pair : Pair) → k < done → slice_get f.queue k ≡ Some pair → is_known f pair.node pair.held.value ≡ true
 
 abbrev pub repeated : {A : Type 0} → A → ℕ → List A

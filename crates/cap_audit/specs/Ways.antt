@@ -69,7 +69,8 @@ pub record Connects (spec : Spec) (f : Found) (net : Lanes) (c : ℕ) (d : ℕ) 
 -- the class of d is now the class of c, and no other class changed
 pub record Merges (old : List ℕ) (c : ℕ) (d : ℕ) (new : List ℕ) : Type 0 where
   pub as_many : length new ≡ length old
-  pub each : (x : ℕ) → (slice_index new x ≡ slice_index old x) ⊎ ((slice_index old x ≡ slice_index old d) × (slice_index new x ≡ slice_index old c))
+  pub each : (x : ℕ) → (slice_index new x ≡ slice_index old x) ⊎ ((slice_index old x ≡ slice_index old d)
+      × (slice_index new x ≡ slice_index old c))
 
 -- a way more
 abbrev pub with_way : Lanes → ℕ → Way → Lanes

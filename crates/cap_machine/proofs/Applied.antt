@@ -15,19 +15,25 @@ use Rattle.cap_machine.specs.Progress.{NextsFit}
 use Rattle.cap_machine.specs.Refused.{MayTakeMemory}
 
 -- what is read after a write is what was there, or, at the place itself, what was written
-pub read_written : {A : Type 0} (xs : List A) (i k : ℕ) (v d : A) → (get_or (set xs i v) k d ≡ get_or xs k d) ⊎ ((k ≡ i) × (get_or (set xs i v) k d ≡ v))
+pub read_written : {A : Type 0} (xs : List A) (i k : ℕ) (v d : A) → (get_or (set xs i v) k d ≡ get_or xs k d)
+    ⊎ ((k ≡ i) × (get_or (set xs i v) k d ≡ v))
 read_written [] i k v d = inl refl
 read_written (x ∷ xs) zero zero v d = inr (refl, refl)
 read_written (x ∷ xs) zero (suc k) v d = inl refl
 read_written (x ∷ xs) (suc i) zero v d = inl refl
-read_written (x ∷ xs) (suc i) (suc k) v d = elim (read_written xs i k v d) [ inl e ↦ inl e | inr e ↦ inr (ap (λ n. suc n) e.0, e.1) ]
+read_written (x ∷ xs) (suc i) (suc k) v d = elim (read_written xs i k v d) [
+  | inl e ↦ inl e
+  | inr e ↦
+      inr (ap (λ n. suc n) e.0, e.1)
+]
 
 written : (nodes : List Node) (n c : ℕ) (node : Node) → NextsFit nodes n → node.next ≤ 65536 + n → NextsFit (set nodes c node) n
 written nodes n c node fit small = record {
   fits = λ k.
       let f : (get_or nodes k no_node).next ≤ 65536 + n = fit.fits k in
       elim (read_written nodes c k node no_node) [
-        | inl e ↦ let g : (get_or (set nodes c node) k no_node).next ≡ (get_or nodes k no_node).next = ap (λ (x : Node). x.next) e in omega arith
+        | inl e ↦ let g : (get_or (set nodes c node) k no_node).next ≡ (get_or nodes k no_node).next =
+            ap (λ (x : Node). x.next) e in omega arith
         | inr e ↦ let g : (get_or (set nodes c node) k no_node).next ≡ node.next = ap (λ (x : Node). x.next) e.1 in omega arith
       ];
 }
@@ -36,7 +42,8 @@ later : (nodes : List Node) (n : ℕ) → NextsFit nodes n → NextsFit nodes (n
 later nodes n fit = record { fits = λ k. let f : (get_or nodes k no_node).next ≤ 65536 + n = fit.fits k in omega arith }
 
 grows : (nodes : List Node) (n c : ℕ) (content : Content) → NextsFit nodes n → NextsFit (grown_at nodes c content) (n + 1)
-grows nodes n c content fit = written nodes (n + 1) c (grown (get_or nodes c no_node) content) (later nodes n fit) (let f = fit.fits c in omega arith)
+grows nodes n c content fit = written nodes (n + 1) c (grown (get_or nodes c no_node) content) (later nodes n fit)
+    (let f = fit.fits c in omega arith)
 
 drops : (nodes : List Node) (n c i : ℕ) → NextsFit nodes n → NextsFit (without_at nodes c i) n
 drops nodes n c i fit = written nodes n c (without (get_or nodes c no_node) i) fit (fit.fits c)
@@ -53,7 +60,8 @@ nexts_fit s n (Bind irq notification) fit = later s.nodes n fit
 nexts_fit s n (Drop node i) fit = drops s.nodes (n + 1) node i (later s.nodes n fit)
 nexts_fit s n (Save t node pending) fit = grows s.nodes n node (SavedReply pending) fit
 nexts_fit s n (Release node i caller) fit = drops s.nodes (n + 1) node i (later s.nodes n fit)
-nexts_fit s n (ReleaseAdd node i caller to x) fit = drops (grown_at s.nodes to (Capability x)) (n + 1) node i (grows s.nodes n to (Capability x) fit)
+nexts_fit s n (ReleaseAdd node i caller to x) fit = drops (grown_at s.nodes to (Capability x)) (n + 1) node i
+    (grows s.nodes n to (Capability x) fit)
 
 takes_or_not : (y : Change) → TakesMemory y ⊎ (TakesMemory y → ⊥)
 takes_or_not (Add node x) = inl tt
@@ -74,6 +82,7 @@ pub may_take : (step : Step) (y : Change) → (TakesMemory y → MayTakeMemory s
 may_take step y takes must = elim (takes_or_not y) [ inl t ↦ takes t | inr not ↦ absurd (must not) ]
 
 -- the state that a change was made to is the changed state
-pub turned : (s : State) (y : Change) (nodes : List Node) (threads : List ThreadState) (irqs : List (Option ℕ)) (mapped : List Mapped) → Turned y s (parts nodes threads irqs mapped)
+pub turned : (s : State) (y : Change) (nodes : List Node) (threads : List ThreadState) (irqs : List (Option ℕ))
+    (mapped : List Mapped) → Turned y s (parts nodes threads irqs mapped)
     → parts nodes threads irqs mapped ≡ changed s y
 turned s y nodes threads irqs mapped t = rw (t.in_nodes, t.in_threads, t.in_irqs, t.in_mapped) refl

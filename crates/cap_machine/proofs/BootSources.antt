@@ -6,8 +6,8 @@ use Rattle.cap_model.specs.Adds.{Adds}
 use Rattle.cap_model.specs.Edges.{edge}
 use Rattle.cap_model.specs.ObjectLabels.{label_of}
 use Rattle.cap_model.specs.Tables.{Has}
-use Rattle.cap_model.specs.declared.authority.Authority.{Authority}
-use Rattle.cap_model.specs.declared.authority.Authority.TheVariants.{Control, AsyncSend}
+use Rattle.authorities.specs.declared.authority.Authority.{Authority}
+use Rattle.authorities.specs.declared.authority.Authority.TheVariants.{Control, AsyncSend}
 use Rattle.cap_model.specs.declared.edge.Edge.{Edge}
 use Rattle.cap_model.specs.Auth.{of_buffer, of_table, of_root, of_space, of_reply, of_saved, of_mapped, of_irq, buffer_of, table_of, Auth}
 use Rattle.cap_model.specs.declared.cap.Cap.{Cap}
@@ -25,7 +25,8 @@ use Rattle.cap_machine.specs.Sources.{OfOption, OfLink, OfCap, OfObject, OfSpec}
 module _ (spec : Spec) (labels : List ℕ) where
   -- from the boot state to the objects
 
-  held_object : (from : ℕ) (object : Object) (i : ℕ) (x : Cap) (e : Edge) → Contains (boot_node object).slots (i, Capability x) → OfCap spec labels from x e → OfObject spec labels from object e
+  held_object : (from : ℕ) (object : Object) (i : ℕ) (x : Cap) (e : Edge) → Contains (boot_node object).slots (i, Capability x)
+      → OfCap spec labels from x e → OfObject spec labels from object e
   held_object from (CNode bits slots) i x e there of_cap =
       let k = contains_at (map boot_slot slots) (i, Capability x) there in
       let s = slot_of slots k.0 i (Capability x) k.1 in
@@ -34,34 +35,52 @@ module _ (spec : Spec) (labels : List ℕ) where
       record { place = k.0; item = s.0; there = s.1; by = subst (λ (y : Cap). OfCap spec labels from y e) same of_cap }
   held_object from _ i x e there of_cap = absurd (let w = there.1 in omega arith)
 
-  buffer_object : (from : ℕ) (object : Object) (x : Cap) (e : Edge) → buffer_of (Some object) ≡ Some x → OfCap spec labels from x e → OfObject spec labels from object e
+  buffer_object : (from : ℕ) (object : Object) (x : Cap) (e : Edge) → buffer_of (Some object) ≡ Some x
+      → OfCap spec labels from x e → OfObject spec labels from object e
   buffer_object from (Thread tcb) x e there of_cap = inr (inr (record { some = x; there = there; by = of_cap }))
   buffer_object from _ x e there of_cap = absurd cc
 
-  table_object : (from : ℕ) (object : Object) (i : ℕ) (x : Cap) (e : Edge) → Contains (table_of (Some object)) (i, x) → OfCap spec labels from x e → OfObject spec labels from object e
-  table_object from (Pages level slots) i x e c of_cap = let k = contains_at slots (i, x) c in record { place = k.0; item = (i, x); there = k.1; by = of_cap }
+  table_object : (from : ℕ) (object : Object) (i : ℕ) (x : Cap) (e : Edge) → Contains (table_of (Some object)) (i, x)
+      → OfCap spec labels from x e → OfObject spec labels from object e
+  table_object from (Pages level slots) i x e c of_cap = let k = contains_at slots (i, x) c in
+      record { place = k.0; item = (i, x); there = k.1; by = of_cap }
   table_object from _ i x e c of_cap = absurd (let w = c.1 in omega arith)
 
-  root_object : (from : ℕ) (object : Object) (e : Edge) → OfOption (OfLink labels from Control) (boot_thread object).root e → OfObject spec labels from object e
+  root_object : (from : ℕ) (object : Object) (e : Edge) → OfOption (OfLink labels from Control) (boot_thread object).root e
+      → OfObject spec labels from object e
   root_object from (Thread tcb) e link = inl link
   root_object from _ e link = absurd (let w = link.there in cc)
 
-  space_object : (from : ℕ) (object : Object) (e : Edge) → OfOption (OfLink labels from Control) (boot_thread object).space e → OfObject spec labels from object e
+  space_object : (from : ℕ) (object : Object) (e : Edge) → OfOption (OfLink labels from Control) (boot_thread object).space e
+      → OfObject spec labels from object e
   space_object from (Thread tcb) e link = inr (inl link)
   space_object from _ e link = absurd (let w = link.there in cc)
 
-  irq_object : (from : ℕ) (object : Object) (e : Edge) → OfOption (OfLink labels from AsyncSend) (boot_irq object) e → OfObject spec labels from object e
+  irq_object : (from : ℕ) (object : Object) (e : Edge) → OfOption (OfLink labels from AsyncSend) (boot_irq object) e
+      → OfObject spec labels from object e
   irq_object from (Irq bound) e link = link
   irq_object from _ e link = absurd (let w = link.there in cc)
 
-  buffer_place : (t : ℕ) (o : Option Entry) (x : Cap) (e : Edge) → slice_get spec.entries t ≡ o → buffer_of (entry_object o) ≡ Some x → OfCap spec labels (label_of labels t) x e → OfSpec spec labels e
+  buffer_place : (t : ℕ) (o : Option Entry) (x : Cap) (e : Edge) → slice_get spec.entries t ≡ o
+      → buffer_of (entry_object o) ≡ Some x → OfCap spec labels (label_of labels t) x e → OfSpec spec labels e
   buffer_place t None x e here there of_cap = absurd cc
-  buffer_place t (Some entry) x e here there of_cap = record { place = t; item = entry; there = here; by = buffer_object (label_of labels t) entry.object x e there of_cap }
+  buffer_place t (Some entry) x e here there of_cap = record {
+    place = t;
+    item = entry;
+    there = here;
+    by = buffer_object (label_of labels t) entry.object x e there of_cap;
+  }
 
-  table_place : (t : ℕ) (o : Option Entry) (i : ℕ) (x : Cap) (e : Edge) → slice_get spec.entries t ≡ o → Contains (table_of (entry_object o)) (i, x) → OfCap spec labels (label_of labels t) x e
+  table_place : (t : ℕ) (o : Option Entry) (i : ℕ) (x : Cap) (e : Edge) → slice_get spec.entries t ≡ o
+      → Contains (table_of (entry_object o)) (i, x) → OfCap spec labels (label_of labels t) x e
       → OfSpec spec labels e
   table_place t None i x e here c of_cap = absurd (let w = c.1 in omega arith)
-  table_place t (Some entry) i x e here c of_cap = record { place = t; item = entry; there = here; by = table_object (label_of labels t) entry.object i x e c of_cap }
+  table_place t (Some entry) i x e here c of_cap = record {
+    place = t;
+    item = entry;
+    there = here;
+    by = table_object (label_of labels t) entry.object i x e c of_cap;
+  }
 
   pub auth_source : (l : ℕ) (a : Authority) (m : ℕ) → Auth spec labels (boot spec) l a m → OfSpec spec labels (edge l a m)
   auth_source l a m (inl (c, i, x, there, conf, from, to)) =
@@ -70,14 +89,29 @@ module _ (spec : Spec) (labels : List ℕ) where
           place = c;
           item = found.0;
           there = found.1;
-          by = held_object (label_of labels c) found.0.object i x (edge l a m) (subst (λ (n : Node). Contains n.slots (i, Capability x)) found.2 there) (record { from_is = from; conferred = conf; to_is = to });
+          by = held_object (label_of labels c) found.0.object i x (edge l a m)
+              (subst (λ (n : Node). Contains n.slots (i, Capability x)) found.2 there) (record {
+                from_is = from;
+                conferred = conf;
+                to_is = to;
+              });
         }
-        | inr none ↦ absurd (let c : Contains no_node.slots (i, Capability x) = subst (λ (n : Node). Contains n.slots (i, Capability x)) none there in let w = c.1 in omega arith)
+        | inr none ↦
+            absurd (let c : Contains no_node.slots (i, Capability x) = subst (λ (n : Node). Contains n.slots (i, Capability x))
+            none there in let w = c.1 in omega arith)
       ]
   auth_source l a m (inr (of_buffer (t, x, there, conf, from, to))) =
-      buffer_place t (slice_get spec.entries t) x (edge l a m) refl there (record { from_is = from; conferred = conf; to_is = to })
+      buffer_place t (slice_get spec.entries t) x (edge l a m) refl there (record {
+        from_is = from;
+        conferred = conf;
+        to_is = to;
+      })
   auth_source l a m (inr (of_table (p, i, x, there, conf, from, to))) =
-      table_place p (slice_get spec.entries p) i x (edge l a m) refl there (record { from_is = from; conferred = conf; to_is = to })
+      table_place p (slice_get spec.entries p) i x (edge l a m) refl there (record {
+        from_is = from;
+        conferred = conf;
+        to_is = to;
+      })
   auth_source l a m (inr (of_root (t, d, there, is, from, to))) =
       elim (at_entry boot_thread spec.entries t no_thread) [
         | inl found ↦ record {
@@ -85,7 +119,11 @@ module _ (spec : Spec) (labels : List ℕ) where
           item = found.0;
           there = found.1;
           by = root_object (label_of labels t) found.0.object (edge l a m)
-              (record { some = d; there = subst (λ (n : ThreadState). n.root ≡ Some d) found.2 there; by = record { from_is = from; authority_is = is; to_is = to } });
+              (record {
+                some = d;
+                there = subst (λ (n : ThreadState). n.root ≡ Some d) found.2 there;
+                by = record { from_is = from; authority_is = is; to_is = to };
+              });
         }
         | inr none ↦ absurd (let n = subst (λ (n : ThreadState). n.root ≡ Some d) none there in cc)
       ]
@@ -96,7 +134,11 @@ module _ (spec : Spec) (labels : List ℕ) where
           item = found.0;
           there = found.1;
           by = space_object (label_of labels t) found.0.object (edge l a m)
-              (record { some = d; there = subst (λ (n : ThreadState). n.space ≡ Some d) found.2 there; by = record { from_is = from; authority_is = is; to_is = to } });
+              (record {
+                some = d;
+                there = subst (λ (n : ThreadState). n.space ≡ Some d) found.2 there;
+                by = record { from_is = from; authority_is = is; to_is = to };
+              });
         }
         | inr none ↦ absurd (let n = subst (λ (n : ThreadState). n.space ≡ Some d) none there in cc)
       ]
@@ -110,23 +152,46 @@ module _ (spec : Spec) (labels : List ℕ) where
           item = found.0;
           there = found.1;
           by = irq_object (label_of labels d) found.0.object (edge l a m)
-              (record { some = n; there = subst (λ (o : Option ℕ). o ≡ Some n) found.2 there; by = record { from_is = from; authority_is = is; to_is = to } });
+              (record {
+                some = n;
+                there = subst (λ (o : Option ℕ). o ≡ Some n) found.2 there;
+                by = record { from_is = from; authority_is = is; to_is = to };
+              });
         }
         | inr none ↦ absurd (let n = subst (λ (o : Option ℕ). o ≡ Some n) none there in cc)
       ]
 
   -- and back
 
-  boot_contains : (slots : List (ℕ × Cap)) (k : ℕ) (slot : ℕ × Cap) → slice_get slots k ≡ Some slot → Contains (map boot_slot slots) (slot.0, Capability slot.1)
-  boot_contains slots k slot h = at_contains (map boot_slot slots) (boot_slot slot) k (let e = slice_get-map boot_slot slots k in rw (e, h) refl)
+  boot_contains : (slots : List (ℕ × Cap)) (k : ℕ) (slot : ℕ × Cap) → slice_get slots k ≡ Some slot
+      → Contains (map boot_slot slots) (slot.0, Capability slot.1)
+  boot_contains slots k slot h = at_contains (map boot_slot slots) (boot_slot slot) k (let e = slice_get-map boot_slot slots k in
+      rw (e, h) refl)
 
-  object_auth : (o : ℕ) (entry : Entry) (object : Object) (l : ℕ) (a : Authority) (m : ℕ) → slice_get spec.entries o ≡ Some entry → entry.object ≡ object
+  object_auth : (o : ℕ) (entry : Entry) (object : Object) (l : ℕ) (a : Authority) (m : ℕ) → slice_get spec.entries o ≡ Some entry
+      → entry.object ≡ object
       → OfObject spec labels (label_of labels o) object (edge l a m) → Auth spec labels (boot spec) l a m
   object_auth o entry (CNode bits slots) l a m here is of =
       let node : node_at (boot spec) o ≡ boot_node entry.object = entry_at boot_node spec.entries o no_node entry here in
-      inl (o, of.item.0, of.item.1, rw (node, is) (boot_contains slots of.place of.item of.there), of.by.conferred, of.by.from_is, of.by.to_is)
+      inl (
+        o,
+        of.item.0,
+        of.item.1,
+        rw (node, is) (boot_contains slots of.place of.item of.there),
+        of.by.conferred,
+        of.by.from_is,
+        of.by.to_is,
+      )
   object_auth o entry (Pages level slots) l a m here is of =
-      inr (of_table (o, of.item.0, of.item.1, rw (here, is) (at_contains slots of.item of.place of.there), of.by.conferred, of.by.from_is, of.by.to_is))
+      inr (of_table (
+        o,
+        of.item.0,
+        of.item.1,
+        rw (here, is) (at_contains slots of.item of.place of.there),
+        of.by.conferred,
+        of.by.from_is,
+        of.by.to_is,
+      ))
   object_auth o entry (Thread tcb) l a m here is (inl h) =
       let live : thread_at (boot spec) o ≡ boot_thread entry.object = entry_at boot_thread spec.entries o no_thread entry here in
       inr (of_root (o, h.some, rw (live, is) h.there, h.by.authority_is, h.by.from_is, h.by.to_is))
@@ -146,7 +211,8 @@ module _ (spec : Spec) (labels : List ℕ) where
   source_auth l a m h = object_auth h.place h.item h.item.object l a m h.there refl h.by
 
   -- the edges that were gathered from the spec
-  pub boot_sources : (edges : List Edge) → Adds (OfSpec spec labels) [] edges → (l : ℕ) (a : Authority) (m : ℕ) → (Has edges l a m) ↔ Auth spec labels (boot spec) l a m
+  pub boot_sources : (edges : List Edge) → Adds (OfSpec spec labels) [] edges → (l : ℕ) (a : Authority) (m : ℕ)
+      → (Has edges l a m) ↔ Auth spec labels (boot spec) l a m
   boot_sources edges grown l a m = (
     λ h. elim (grown.only (edge l a m) h) [ inl none ↦ absurd cc | inr of ↦ source_auth l a m of ],
     λ h. grown.added (edge l a m) (auth_source l a m h),

@@ -83,7 +83,8 @@ saves s c i = (is_some (content_in s c i), NoCap i) ∷ (is_saved_reply (content
 
 -- u is another thread, which runs and has a root
 abbrev pub meets : State → ℕ → ℕ → List (Bool × Why)
-meets s t u = (not (t == u), SamePeer) ∷ (not (thread_at s u).waits, PeerWaiting) ∷ (is_some (thread_at s u).root, PeerNoRoot) ∷ []
+meets s t u = (not (t == u), SamePeer) ∷ (not (thread_at s u).waits, PeerWaiting)
+    ∷ (is_some (thread_at s u).root, PeerNoRoot) ∷ []
 
 -- what d has at j listens to the endpoint e
 abbrev pub hears : Spec → State → ℕ → ℕ → ℕ → List (Bool × Why)
@@ -113,7 +114,11 @@ checks spec s (Grant t i u j k r) =
     ∷ (any s (root_of s t) k ++ listens spec s t u j (cap_of s (root_of s t) i).object)))
 checks spec s (Call t i u j) =
     acts s t ++ (own (is_at spec kinds.Endpoint) s (root_of s t) i
-    ++ (((cap_of s (root_of s t) i).rights.write && ((cap_of s (root_of s t) i).rights.grant || (cap_of s (root_of s t) i).rights.reply), NoRight i)
+    ++ ((
+      (cap_of s (root_of s t) i).rights.write && ((cap_of s (root_of s t) i).rights.grant
+          || (cap_of s (root_of s t) i).rights.reply),
+      NoRight i,
+    )
     ∷ listens spec s t u j (cap_of s (root_of s t) i).object))
 checks spec s (Reply t None) = acts s t ++ owes s t
 checks spec s (Reply t (Some copy)) =
@@ -132,4 +137,5 @@ checks spec s (Save t) = acts s t ++ owes s t
 checks spec s (ReplyTo t i None) = acts s t ++ saves s (root_of s t) i
 checks spec s (ReplyTo t i (Some copy)) =
     acts s t ++ (saves s (root_of s t) i
-    ++ (((reply_of s (root_of s t) i).grants, NoGrant) ∷ (any s (root_of s t) copy.0 ++ reachable s (reply_of s (root_of s t) i).caller)))
+    ++ (((reply_of s (root_of s t) i).grants, NoGrant)
+    ∷ (any s (root_of s t) copy.0 ++ reachable s (reply_of s (root_of s t) i).caller)))

@@ -64,7 +64,8 @@ caller_root s caller = or_why (thread_at s caller).root PeerNoRoot
 
 -- the root of the peer
 abbrev pub peer_root : State → ℕ → ℕ → Result ℕ Why
-peer_root s t u = asking (not (t == u)) SamePeer (asking (not (thread_at s u).waits) PeerWaiting (or_why (thread_at s u).root PeerNoRoot))
+peer_root s t u =
+    asking (not (t == u)) SamePeer (asking (not (thread_at s u).waits) PeerWaiting (or_why (thread_at s u).root PeerNoRoot))
 
 -- what the peer listens with
 abbrev pub peer_cap : Spec → State → ℕ → ℕ → ℕ → Result Cap Why
@@ -82,11 +83,13 @@ decide spec s (Put t i j r) =
     and_then (acting s t) (λ c. and_then (own_cap (is_at spec kinds.CNode) s c i) (λ to. and_then (any_cap s c j) (λ cap.
     Ok (changes.Add to.object (lessened cap r)))))
 decide spec s (Grant t i u j k r) =
-    and_then (acting s t) (λ c. and_then (own_cap (is_at spec kinds.Endpoint) s c i) (λ to. asking (to.rights.write && to.rights.grant) (NoRight i)
+    and_then (acting s t) (λ c. and_then (own_cap (is_at spec kinds.Endpoint) s c i)
+    (λ to. asking (to.rights.write && to.rights.grant) (NoRight i)
     (and_then (any_cap s c k) (λ cap. and_then (peer_root s t u) (λ d. and_then (peer_cap spec s d j to.object) (λ from.
     Ok (changes.Add d (lessened cap r))))))))
 decide spec s (Call t i u j) =
-    and_then (acting s t) (λ c. and_then (own_cap (is_at spec kinds.Endpoint) s c i) (λ to. asking (to.rights.write && (to.rights.grant || to.rights.reply)) (NoRight i)
+    and_then (acting s t) (λ c. and_then (own_cap (is_at spec kinds.Endpoint) s c i)
+    (λ to. asking (to.rights.write && (to.rights.grant || to.rights.reply)) (NoRight i)
     (and_then (peer_root s t u) (λ d. and_then (peer_cap spec s d j to.object) (λ from.
     Ok (changes.Call t u from.rights.grant))))))
 decide spec s (Reply t None) =
@@ -97,16 +100,20 @@ decide spec s (Reply t (Some copy)) =
     (and_then (any_cap s c copy.0) (λ cap. and_then (caller_root s pending.caller) (λ d.
     Ok (changes.ReplyAdd t pending.caller d (lessened cap copy.1)))))))
 decide spec s (SetCspace t i j) =
-    and_then (acting s t) (λ c. and_then (own_cap (is_at spec kinds.Thread) s c i) (λ to. and_then (own_cap (is_at spec kinds.CNode) s c j) (λ cap.
+    and_then (acting s t) (λ c. and_then (own_cap (is_at spec kinds.Thread) s c i)
+    (λ to. and_then (own_cap (is_at spec kinds.CNode) s c j) (λ cap.
     Ok (changes.Root to.object cap.object))))
 decide spec s (SetVspace t i j) =
-    and_then (acting s t) (λ c. and_then (own_cap (is_at spec kinds.Thread) s c i) (λ to. and_then (own_cap (is_space_root spec) s c j) (λ cap.
+    and_then (acting s t) (λ c. and_then (own_cap (is_at spec kinds.Thread) s c i)
+    (λ to. and_then (own_cap (is_space_root spec) s c j) (λ cap.
     Ok (changes.Space to.object cap.object))))
 decide spec s (Map t i j r) =
-    and_then (acting s t) (λ c. and_then (own_cap (is_at spec kinds.Frame) s c i) (λ frame. and_then (own_cap (is_space_root spec) s c j) (λ cap.
+    and_then (acting s t) (λ c. and_then (own_cap (is_at spec kinds.Frame) s c i)
+    (λ frame. and_then (own_cap (is_space_root spec) s c j) (λ cap.
     Ok (changes.Map (record { space = cap.object; frame = frame.object; rights = both_rights frame.rights (read_write r) })))))
 decide spec s (Bind t i j) =
-    and_then (acting s t) (λ c. and_then (own_cap (is_at spec kinds.Irq) s c i) (λ irq. and_then (own_cap (is_at spec kinds.Notification) s c j) (λ cap.
+    and_then (acting s t) (λ c. and_then (own_cap (is_at spec kinds.Irq) s c i)
+    (λ irq. and_then (own_cap (is_at spec kinds.Notification) s c j) (λ cap.
     asking cap.rights.write (NoRight j) (Ok (changes.Bind irq.object cap.object)))))
 decide spec s (Drop t i) =
     and_then (acting s t) (λ c. and_then (or_why (content_in s c i) (NoCap i)) (λ content.

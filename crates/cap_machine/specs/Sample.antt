@@ -22,7 +22,8 @@ tcb cspace = Thread (record { addr = 0; ip = 0; sp = 0; prio = 0; elf = None; cs
 abbrev pub all : Rights
 all = rights true true true true
 
--- CNodes 0 and 1, threads 2 (in 0), 3 (in 1) and 4 (in none), endpoints 5 and 10, a notification 6, a space root 7, a frame 8, an interrupt 9
+-- CNodes 0 and 1, threads 2 (in 0), 3 (in 1) and 4 (in none), endpoints 5 and 10, a notification 6, a space root 7, a frame 8, an
+-- interrupt 9
 abbrev pub sample : Spec
 sample = record {
   arch = Arm11;

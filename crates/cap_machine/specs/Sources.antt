@@ -2,8 +2,8 @@
 -- state takes from its spec. These words say the same as the definition of a state's authorities, source by source.
 use Rattle.std.specs.Prelude.{◌≡◌, ◌⊎◌, ℕ, true, List, slice_get, Option, Some}
 use Rattle.cap_model.specs.ObjectLabels.{label_of}
-use Rattle.cap_model.specs.declared.authority.Authority.{Authority}
-use Rattle.cap_model.specs.declared.authority.Authority.TheVariants.{Control, AsyncSend}
+use Rattle.authorities.specs.declared.authority.Authority.{Authority}
+use Rattle.authorities.specs.declared.authority.Authority.TheVariants.{Control, AsyncSend}
 use Rattle.cap_model.specs.declared.edge.Edge.{Edge}
 use Rattle.cap_model.specs.declared.cap.Cap.{Cap}
 use Rattle.cap_model.specs.declared.object.Object.{Object}
@@ -43,7 +43,8 @@ OfSlots spec labels from slots e = OfEach (λ place slot. OfCap spec labels from
 
 abbrev pub OfTcb : Spec → List ℕ → ℕ → Tcb → Edge → Type 0
 OfTcb spec labels from tcb e =
-    OfOption (OfLink labels from Control) tcb.cspace e ⊎ (OfOption (OfLink labels from Control) tcb.vspace e ⊎ OfOption (OfCap spec labels from) tcb.buffer e)
+    OfOption (OfLink labels from Control) tcb.cspace e ⊎ (OfOption (OfLink labels from Control) tcb.vspace e
+    ⊎ OfOption (OfCap spec labels from) tcb.buffer e)
 
 -- the edges at boot that an object with this label is the source of
 abbrev pub OfObject : Spec → List ℕ → ℕ → Object → Edge → Type 0

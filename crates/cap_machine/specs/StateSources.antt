@@ -3,7 +3,7 @@
 use Rattle.std.specs.Prelude.{◌≡◌, ◌⊎◌, ℕ, true, List, Option}
 use Rattle.cap_machine.specs.Sources.{OfEach, OfOption, OfLink, OfCap, OfSlots}
 use Rattle.cap_model.specs.ObjectLabels.{label_of}
-use Rattle.cap_model.specs.declared.authority.Authority.TheVariants.{Control, AsyncSend, Reply}
+use Rattle.authorities.specs.declared.authority.Authority.TheVariants.{Control, AsyncSend, Reply}
 use Rattle.cap_model.specs.declared.edge.Edge.{Edge}
 use Rattle.cap_model.specs.Confers.{kind_confers}
 use Rattle.cap_model.specs.State.{Node, State}
@@ -31,7 +31,8 @@ OfNodes spec labels nodes e = OfEach (λ c node. OfNode spec labels (label_of la
 abbrev pub OfThread : List ℕ → ℕ → ThreadState → Edge → Type 0
 OfThread labels from thread e =
     OfOption (OfLink labels from Control) thread.root e
-    ⊎ (OfOption (OfLink labels from Control) thread.space e ⊎ OfOption (λ reply. OfLink labels from Reply reply.caller) thread.pending e)
+    ⊎ (OfOption (OfLink labels from Control) thread.space e ⊎ OfOption (λ reply. OfLink labels from Reply reply.caller)
+    thread.pending e)
 
 abbrev pub OfThreads : List ℕ → List ThreadState → Edge → Type 0
 OfThreads labels threads e = OfEach (λ t thread. OfThread labels (label_of labels t) thread) threads e
@@ -59,4 +60,5 @@ OfSpecParts spec labels e = OfEach (λ place entry. OfFixed spec labels (label_o
 
 abbrev pub OfState : Spec → List ℕ → State → Edge → Type 0
 OfState spec labels s e =
-    OfNodes spec labels s.nodes e ⊎ (OfThreads labels s.threads e ⊎ (OfIrqs labels s.irqs e ⊎ (OfMapped labels s.mapped e ⊎ OfSpecParts spec labels e)))
+    OfNodes spec labels s.nodes e
+    ⊎ (OfThreads labels s.threads e ⊎ (OfIrqs labels s.irqs e ⊎ (OfMapped labels s.mapped e ⊎ OfSpecParts spec labels e)))

@@ -66,16 +66,25 @@ StepTo spec s (Reply t (Some copy)) new =
     × Has s c copy.0 cap × ((thread_at s pending.caller).root ≡ Some d)
     × (new ≡ added (replied s t pending.caller) d (lessened cap copy.1))
 StepTo spec s (SetCspace t i j) new =
-    (c : ℕ) × (to : Cap) × (cap : Cap) × Acts s t c × Own (is_at spec kinds.Thread) s c i to × Own (is_at spec kinds.CNode) s c j cap
+    (c : ℕ) × (to : Cap) × (cap : Cap) × Acts s t c × Own (is_at spec kinds.Thread) s c i to
+    × Own (is_at spec kinds.CNode) s c j cap
     × (new ≡ record s { threads = with_root s.threads to.object cap.object })
 StepTo spec s (SetVspace t i j) new =
     (c : ℕ) × (to : Cap) × (cap : Cap) × Acts s t c × Own (is_at spec kinds.Thread) s c i to × Own (is_space_root spec) s c j cap
     × (new ≡ record s { threads = with_space s.threads to.object cap.object })
 StepTo spec s (Map t i j r) new =
-    (c : ℕ) × (frame : Cap) × (cap : Cap) × Acts s t c × Own (is_at spec kinds.Frame) s c i frame × Own (is_space_root spec) s c j cap
-    × (new ≡ record s { mapped = s.mapped ++ record { space = cap.object; frame = frame.object; rights = both_rights frame.rights (read_write r) } ∷ [] })
+    (c : ℕ) × (frame : Cap) × (cap : Cap) × Acts s t c × Own (is_at spec kinds.Frame) s c i frame
+    × Own (is_space_root spec) s c j cap
+    × (new ≡ record s {
+      mapped = s.mapped ++ record {
+        space = cap.object;
+        frame = frame.object;
+        rights = both_rights frame.rights (read_write r);
+      } ∷ [];
+    })
 StepTo spec s (Bind t i j) new =
-    (c : ℕ) × (irq : Cap) × (cap : Cap) × Acts s t c × Own (is_at spec kinds.Irq) s c i irq × Own (is_at spec kinds.Notification) s c j cap
+    (c : ℕ) × (irq : Cap) × (cap : Cap) × Acts s t c × Own (is_at spec kinds.Irq) s c i irq
+    × Own (is_at spec kinds.Notification) s c j cap
     × (cap.rights.write ≡ true)
     × (new ≡ record s { irqs = slice_set s.irqs irq.object (Some cap.object) })
 StepTo spec s (Drop t i) new =
@@ -88,6 +97,7 @@ StepTo spec s (ReplyTo t i None) new =
     (c : ℕ) × (reply : Pending) × Acts s t c × (content_in s c i ≡ Some (SavedReply reply))
     × (new ≡ released s c i reply.caller)
 StepTo spec s (ReplyTo t i (Some copy)) new =
-    (c : ℕ) × (reply : Pending) × (cap : Cap) × (d : ℕ) × Acts s t c × (content_in s c i ≡ Some (SavedReply reply)) × (reply.grants ≡ true)
+    (c : ℕ) × (reply : Pending) × (cap : Cap) × (d : ℕ) × Acts s t c × (content_in s c i ≡ Some (SavedReply reply))
+    × (reply.grants ≡ true)
     × Has s c copy.0 cap × ((thread_at s reply.caller).root ≡ Some d)
     × (new ≡ released (added s d (lessened cap copy.1)) c i reply.caller)

@@ -3,7 +3,7 @@
 ghost use Rattle.cap_machine.specs.Sources.{OfObject, OfSpec, OfTcb};
 ghost use Rattle.cap_model.specs.Adds.{Adds};
 ghost use Rattle.cap_model.specs.Tables.{Has};
-ghost use Rattle.cap_model.specs.declared.authority.Authority.{Authority};
+ghost use Rattle.authorities.specs.declared.authority.Authority.{Authority};
 ghost use Rattle.cap_model.specs.Auth.{Auth};
 ghost use Rattle.cap_model.specs.State.{boot};
 ghost use Rattle.std.specs.Prelude.{◌≡◌, ◌≤◌, ◌^◌, ◌<◌, ◌↔◌, ℕ, length, IfOk};

@@ -2,7 +2,7 @@
 
 ghost use Rattle.cap_machine.specs.Sources.{OfCap, OfLink, OfOption, OfSlots};
 ghost use Rattle.cap_model.specs.Adds.{Adds};
-ghost use Rattle.cap_model.specs.declared.authority.Authority.{Authority};
+ghost use Rattle.authorities.specs.declared.authority.Authority.{Authority};
 ghost use Rattle.std.specs.List.{All};
 ghost use Rattle.std.specs.Prelude.{◌<◌, length, IfOk};
 

@@ -3,7 +3,7 @@
 ghost use Rattle.cap_machine.specs.Sources.{OfLink, OfOption};
 ghost use Rattle.cap_model.specs.Adds.{Adds};
 ghost use Rattle.cap_model.specs.Tables.{Has};
-ghost use Rattle.cap_model.specs.declared.authority.Authority.{Authority};
+ghost use Rattle.authorities.specs.declared.authority.Authority.{Authority};
 ghost use Rattle.cap_machine.specs.StateSources.{OfContent, OfNodes, OfThread, OfThreads, OfIrqs, OfAdded, OfMapped, OfFixed, OfSpecParts, OfState};
 ghost use Rattle.cap_model.specs.Auth.{Auth};
 ghost use Rattle.cap_model.specs.FitsSpec.{FitsSpec};

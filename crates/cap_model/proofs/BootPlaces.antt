@@ -20,12 +20,15 @@ use Rattle.cap_model.specs.declared.state.ThreadState.{ThreadState}
 use Rattle.cap_model.proofs.Kept.{all_at, rise_tail, rises}
 
 pub at_entry : {A : Type 0} (f : Object → A) (entries : List Entry) (o : ℕ) (d : A)
-    → ((entry : Entry) × (slice_get entries o ≡ Some entry) × (get_or (map (λ (e : Entry). f e.object) entries) o d ≡ f entry.object)) ⊎ (get_or (map (λ (e : Entry). f e.object) entries) o d ≡ d)
+    → ((entry : Entry) × (slice_get entries o ≡ Some entry)
+    × (get_or (map (λ (e : Entry). f e.object) entries) o d ≡ f entry.object))
+    ⊎ (get_or (map (λ (e : Entry). f e.object) entries) o d ≡ d)
 at_entry f [] o d = inr refl
 at_entry f (x ∷ entries) zero d = inl (x, refl, refl)
 at_entry f (x ∷ entries) (suc o) d = at_entry f entries o d
 
-pub entry_at : {A : Type 0} (f : Object → A) (entries : List Entry) (o : ℕ) (d : A) (entry : Entry) → slice_get entries o ≡ Some entry
+pub entry_at : {A : Type 0} (f : Object → A) (entries : List Entry) (o : ℕ) (d : A) (entry : Entry)
+    → slice_get entries o ≡ Some entry
     → get_or (map (λ (e : Entry). f e.object) entries) o d ≡ f entry.object
 entry_at f [] o d entry h = absurd cc
 entry_at f (x ∷ entries) zero d entry h = let s : x ≡ entry = cc in rw s refl
@@ -41,7 +44,8 @@ at_contains xs x k h = (k, slice_get_within xs k x h, get_or_from_slice_get xs k
 pub slot_of : (slots : List (ℕ × Cap)) (k i : ℕ) (content : Content) → slice_get (map boot_slot slots) k ≡ Some (i, content)
     → (slot : ℕ × Cap) × (slice_get slots k ≡ Some slot) × (Capability slot.1 ≡ content) × (slot.0 ≡ i)
 slot_of slots k i content h = go (slice_get slots k) refl where
-  go : (o : Option (ℕ × Cap)) → slice_get slots k ≡ o → (slot : ℕ × Cap) × (slice_get slots k ≡ Some slot) × (Capability slot.1 ≡ content) × (slot.0 ≡ i)
+  go : (o : Option (ℕ × Cap)) → slice_get slots k ≡ o → (slot : ℕ × Cap) × (slice_get slots k ≡ Some slot)
+      × (Capability slot.1 ≡ content) × (slot.0 ≡ i)
   go None there = absurd (
       let e : slice_get (map boot_slot slots) k ≡ option_map boot_slot (slice_get slots k) = slice_get-map boot_slot slots k in
       let f : option_map boot_slot (slice_get slots k) ≡ None = rw there refl in
@@ -68,14 +72,16 @@ found_at (x ∷ slots) (suc k) slot up there =
     let other : (x.0 == slot.0) ≡ false = grind arith in
     rw other (found_at slots k slot (rise_tail x slots up) there)
 
-in_node : (spec : Spec) (object : Object) (i : ℕ) (content : Content) → keeps spec object ≡ true → Contains (boot_node object).slots (i, content)
+in_node : (spec : Spec) (object : Object) (i : ℕ) (content : Content) → keeps spec object ≡ true
+    → Contains (boot_node object).slots (i, content)
     → content_at (boot_node object) i ≡ Some content
 in_node spec (CNode bits slots) i content kept there =
     let k = contains_at (map boot_slot slots) (i, content) there in
     let s = slot_of slots k.0 i content k.1 in
     let of_slots = (and_parts (nat_lt 0 bits && leb bits 16) (keeps_slots (fits spec) (2 ^ bits) slots) kept).1 in
     let up : rise slots ≡ true = (and_parts (rise slots) _ of_slots).0 in
-    subst (λ (n : ℕ). lookup (λ m. m == n) (map boot_slot slots) ≡ Some content) s.3 (found_at slots k.0 s.0 up s.1 ∙ ap (λ c. Some c) s.2)
+    subst (λ (n : ℕ). lookup (λ m. m == n) (map boot_slot slots) ≡ Some content) s.3 (found_at slots k.0 s.0 up s.1
+    ∙ ap (λ c. Some c) s.2)
 in_node spec _ i content kept there = absurd (let w = there.1 in omega arith)
 
 -- a CNode without slots has nothing
@@ -83,11 +89,14 @@ none_without : (c i : ℕ) (content : Content) → Contains no_node.slots (i, co
 none_without c i content there = let w = there.1 in absurd (omega arith)
 
 -- a slot that stands is found at its number
-pub number_found : (spec : Spec) (c i : ℕ) (content : Content) → IsKept spec → Contains (node_at (boot spec) c).slots (i, content) → content_in (boot spec) c i ≡ Some content
+pub number_found : (spec : Spec) (c i : ℕ) (content : Content) → IsKept spec → Contains (node_at (boot spec) c).slots (i, content)
+    → content_in (boot spec) c i ≡ Some content
 number_found spec c i content kept there = elim (at_entry boot_node spec.entries c no_node) [
   | inl found ↦
-      let here : Contains (boot_node found.0.object).slots (i, content) = subst (λ (n : Node). Contains n.slots (i, content)) found.2 there in
-      let fine : keeps spec found.0.object ≡ true = all_at (λ (e : Entry). keeps spec e.object) spec.entries c found.0 kept.objects found.1 in
+      let here : Contains (boot_node found.0.object).slots (i, content) = subst (λ (n : Node). Contains n.slots (i, content))
+      found.2 there in
+      let fine : keeps spec found.0.object ≡ true = all_at (λ (e : Entry). keeps spec e.object) spec.entries c found.0
+      kept.objects found.1 in
       ap (λ (n : Node). content_at n i) found.2 ∙ in_node spec found.0.object i content fine here
   | inr none ↦ absurd (none_without c i content (subst (λ (n : Node). Contains n.slots (i, content)) none there))
 ]
@@ -114,6 +123,7 @@ none_saved_here _ i reply there = let w = there.1 in absurd (omega arith)
 -- nothing is saved at boot
 pub none_saved : (spec : Spec) (c i : ℕ) (reply : Pending) → Contains (node_at (boot spec) c).slots (i, SavedReply reply) → ⊥
 none_saved spec c i reply there = elim (at_entry boot_node spec.entries c no_node) [
-  | inl found ↦ none_saved_here found.0.object i reply (subst (λ (n : Node). Contains n.slots (i, SavedReply reply)) found.2 there)
+  | inl found ↦ none_saved_here found.0.object i reply (subst (λ (n : Node). Contains n.slots (i, SavedReply reply))
+      found.2 there)
   | inr none ↦ none_without c i (SavedReply reply) (subst (λ (n : Node). Contains n.slots (i, SavedReply reply)) none there)
 ]

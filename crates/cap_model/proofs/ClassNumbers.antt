@@ -11,5 +11,6 @@ not_there false none = refl
 
 -- labels whose classes have one number are alike
 pub class_alike : (edges : List Edge) (l m : ℕ) (n : Option ℕ) → IsClassOf edges l n → IsClassOf edges m n → OutAlike edges l m
-class_alike edges l m None p q a x other = not_there (has edges (edge l a x)) (p a x other) ∙ sym (not_there (has edges (edge m a x)) (q a x other))
+class_alike edges l m None p q a x other = not_there (has edges (edge l a x)) (p a x other)
+    ∙ sym (not_there (has edges (edge m a x)) (q a x other))
 class_alike edges l m (Some n) p q a x other = p.alike a x other ∙ sym (q.alike a x other)

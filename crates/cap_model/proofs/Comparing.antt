@@ -18,7 +18,8 @@ equal_self e = itself (ordered.cmp e e) (total-law.antisymm e e)
 
 pub compared_same : (d e : Edge) → is_eq (ordered.cmp d e) ≡ same_edge d e
 compared_same d e = one_truth (is_eq (ordered.cmp d e)) (same_edge d e)
-    (λ h. let same = cmp-same d e (is_equal (ordered.cmp d e) h) in subst (λ (x : Edge). same_edge d x ≡ true) same (same_edge_self d))
+    (λ h. let same = cmp-same d e (is_equal (ordered.cmp d e) h) in
+    subst (λ (x : Edge). same_edge d x ≡ true) same (same_edge_self d))
     (λ h. let same = same_edge_true d e h in subst (λ (x : Edge). is_eq (ordered.cmp d x) ≡ true) same (ap is_eq (equal_self d)))
 
 pub contains_same : (edges : List Edge) (e : Edge) → list_any (λ (d : Edge). is_eq (ordered.cmp e d)) edges ≡ has edges e
@@ -33,14 +34,17 @@ or_cond false false = refl
 
 -- the clause of `insert`, in words of edges
 pub inserted_same : (old new : List Edge) (edge : Edge)
-    → ((e : Edge) → list_any (λ (d : Edge). is_eq (ordered.cmp e d)) new ≡ cond (is_eq (ordered.cmp edge e)) true (list_any (λ (d : Edge). is_eq (ordered.cmp e d)) old))
+    → ((e : Edge) → list_any (λ (d : Edge). is_eq (ordered.cmp e d)) new ≡ cond (is_eq (ordered.cmp edge e)) true
+    (list_any (λ (d : Edge). is_eq (ordered.cmp e d)) old))
     → (e : Edge) → has new e ≡ (has old e || same_edge edge e)
 inserted_same old new edge h e =
-    sym (contains_same new e) ∙ (h e ∙ (or_cond (is_eq (ordered.cmp edge e)) (list_any (λ (d : Edge). is_eq (ordered.cmp e d)) old)
+    sym (contains_same new e)
+    ∙ (h e ∙ (or_cond (is_eq (ordered.cmp edge e)) (list_any (λ (d : Edge). is_eq (ordered.cmp e d)) old)
     ∙ rw (contains_same old e, compared_same edge e) refl))
 
 -- and of its length
-pub inserted_length : (old new : List Edge) (edge : Edge) (added : Bool) → has old edge ≡ false → added ≡ not (list_any (λ (d : Edge). is_eq (ordered.cmp edge d)) old)
+pub inserted_length : (old new : List Edge) (edge : Edge) (added : Bool) → has old edge ≡ false
+    → added ≡ not (list_any (λ (d : Edge). is_eq (ordered.cmp edge d)) old)
     → length new ≡ length old + (if added then 1 else 0) → length new ≡ length old + 1
 inserted_length old new edge added none is more =
     let new_one : added ≡ true = is ∙ ap not (contains_same old edge ∙ none) in

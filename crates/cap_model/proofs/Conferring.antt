@@ -4,8 +4,8 @@ use Rattle.std.proofs.Common.{subst}
 use Rattle.cap_model.specs.declared.rights.Rights.{Rights}
 use Rattle.cap_model.specs.declared.cap.Cap.{Cap}
 use Rattle.cap_model.specs.declared.spec.Spec.{Spec}
-use Rattle.cap_model.specs.declared.authority.Authority.{Authority}
-use Rattle.cap_model.specs.declared.authority.Authority.TheVariants.{Receive, SyncSend, AsyncSend, Reset, Grant, Read, Write, Call, Reply, GrantBack}
+use Rattle.authorities.specs.declared.authority.Authority.{Authority}
+use Rattle.authorities.specs.declared.authority.Authority.TheVariants.{Receive, SyncSend, AsyncSend, Reset, Grant, Read, Write, Call, Reply, GrantBack}
 use Rattle.cap_model.specs.declared.kind.Kind.{Kind}
 use Rattle.cap_model.specs.declared.kind.Kind.TheVariants.{Endpoint, Notification, Frame}
 use Rattle.cap_model.specs.Confers.{kind_confers, option_confers, confers}
@@ -29,7 +29,8 @@ call_true true false true w' g' p' e = refl
 call_true true false false true g' p' e = cc
 call_true true false false false g' p' e = cc
 
-pub lessened_kind : (k : Kind) (rights r : Rights) (a : Authority) → kind_confers k (both_rights rights r) a ≡ true → kind_confers k rights a ≡ true
+pub lessened_kind : (k : Kind) (rights r : Rights) (a : Authority) → kind_confers k (both_rights rights r) a ≡ true
+    → kind_confers k rights a ≡ true
 lessened_kind Endpoint rights r Reset e = refl
 lessened_kind Endpoint rights r Receive e = left_true _ _ e
 lessened_kind Endpoint rights r SyncSend e = left_true _ _ e
@@ -43,12 +44,14 @@ lessened_kind Frame rights r Read e = left_true _ _ e
 lessened_kind Frame rights r Write e = left_true _ _ e
 lessened_kind _ rights r _ e = e
 
-pub lessened_option : (k : Option Kind) (rights r : Rights) (a : Authority) → option_confers k (both_rights rights r) a ≡ true → option_confers k rights a ≡ true
+pub lessened_option : (k : Option Kind) (rights r : Rights) (a : Authority) → option_confers k (both_rights rights r) a ≡ true
+    → option_confers k rights a ≡ true
 lessened_option None rights r a e = e
 lessened_option (Some k) rights r a e = lessened_kind k rights r a e
 
 -- a lessened capability confers no more
-pub lessened_confers : (spec : Spec) (cap : Cap) (r : Rights) (a : Authority) → confers spec (lessened cap r) a ≡ true → confers spec cap a ≡ true
+pub lessened_confers : (spec : Spec) (cap : Cap) (r : Rights) (a : Authority) → confers spec (lessened cap r) a ≡ true
+    → confers spec cap a ≡ true
 lessened_confers spec cap r a e = lessened_option (kind_at spec cap.object) cap.rights r a e
 
 reply_kind : (k : Kind) (rights : Rights) → kind_confers k rights Reply ≡ false
@@ -62,7 +65,8 @@ no_reply_option (Some k) rights = reply_kind k rights
 -- no capability confers Reply
 pub not_reply : (spec : Spec) (cap : Cap) (a : Authority) → confers spec cap a ≡ true → a ≢ Reply
 not_reply spec cap a e same =
-    let f : option_confers (kind_at spec cap.object) cap.rights Reply ≡ false = no_reply_option (kind_at spec cap.object) cap.rights in
+    let f : option_confers (kind_at spec cap.object) cap.rights Reply ≡ false = no_reply_option (kind_at spec cap.object)
+    cap.rights in
     let g : confers spec cap Reply ≡ true = subst (λ b. confers spec cap b ≡ true) same e in
     cc
 

@@ -3,10 +3,10 @@ use Rattle.std.proofs.Common.{◌≡◌, ◌⊎◌, ◌==◌, ◌&&◌, true, Li
 use Rattle.std.proofs.lemmas.Bool.{and_parts, cases_lt, eqb-true}
 use Rattle.std.specs.Cmp.Derive.{one_truth}
 use Rattle.cam_base.proofs.Orders.{same_itself}
-use Rattle.cap_model.specs.Authorities.{number_of}
+use Rattle.authorities.specs.Authorities.{number_of}
 use Rattle.cap_model.specs.Edges.{same_edge, AtMost, Before}
-use Rattle.cap_model.specs.declared.authority.Authority.{Authority}
-use Rattle.cap_model.specs.declared.authority.Authority.TheVariants.{Receive, SyncSend, AsyncSend, Reset, Grant, Read, Write, Control, Call, Reply, GrantBack, Handle}
+use Rattle.authorities.specs.declared.authority.Authority.{Authority}
+use Rattle.authorities.specs.declared.authority.Authority.TheVariants.{Receive, SyncSend, AsyncSend, Reset, Grant, Read, Write, Control, Call, Reply, GrantBack, Handle}
 use Rattle.cap_model.specs.declared.edge.Edge.{Edge}
 
 -- ---- equality
@@ -30,15 +30,18 @@ back GrantBack = refl
 back Handle = refl
 
 pub same_number : (a b : Authority) → number_of a ≡ number_of b → a ≡ b
-same_number a b e = let f : get_or authorities (number_of a) Receive ≡ get_or authorities (number_of b) Receive = ap (λ n. get_or authorities n Receive) e in let g = back a in let h = back b in cc
+same_number a b e = let f : get_or authorities (number_of a) Receive ≡ get_or authorities (number_of b) Receive =
+    ap (λ n. get_or authorities n Receive) e in let g = back a in let h = back b in cc
 
 pub edges_same : (d e : Edge) → d.from ≡ e.from → d.authority ≡ e.authority → d.to ≡ e.to → d ≡ e
 edges_same d e f a t =
-    let g : ◌≡◌ {A = Edge} (record { from = d.from; authority = d.authority; to = d.to }) (record { from = e.from; authority = e.authority; to = e.to }) = rw (f, a, t) refl in g
+    let g : ◌≡◌ {A = Edge} (record { from = d.from; authority = d.authority; to = d.to })
+    (record { from = e.from; authority = e.authority; to = e.to }) = rw (f, a, t) refl in g
 
 pub same_edge_true : (d e : Edge) → same_edge d e ≡ true → d ≡ e
 same_edge_true d e h =
-    let p : (d.from == e.from ≡ true) × (number_of d.authority == number_of e.authority && d.to == e.to ≡ true) = and_parts _ _ h in
+    let p : (d.from == e.from ≡ true) × (number_of d.authority == number_of e.authority && d.to == e.to ≡ true) =
+    and_parts _ _ h in
     let q : (number_of d.authority == number_of e.authority ≡ true) × (d.to == e.to ≡ true) = and_parts _ _ p.1 in
     edges_same d e (eqb-true _ _ p.0) (same_number _ _ (eqb-true _ _ q.0)) (eqb-true _ _ q.1)
 
@@ -51,7 +54,12 @@ pub at_most_self : (e : Edge) → AtMost e e
 at_most_self e = record { by_from = omega arith; by_authority = λ f. omega arith; by_to = λ f g. omega arith }
 
 pub before_at_most : (d e : Edge) → Before d e → AtMost d e
-before_at_most d e b = record { by_from = b.by_from; by_authority = b.by_authority; by_to = λ f g. let l = b.by_to f g in omega arith }
+before_at_most d e b = record {
+  by_from = b.by_from;
+  by_authority = b.by_authority;
+  by_to = λ f g. let l = b.by_to f g in
+      omega arith;
+}
 
 pub at_most_trans : (c d e : Edge) → AtMost c d → AtMost d e → AtMost c e
 at_most_trans c d e p q = record { by_from = omega arith; by_authority = λ f. omega arith; by_to = λ f g. omega arith }
@@ -74,7 +82,8 @@ not_before_at_most d e p q = not_before_self e (at_most_before e d e q p)
 pub at_most_both : (d e : Edge) → AtMost d e → AtMost e d → d ≡ e
 at_most_both d e p q =
     let f : d.from ≡ e.from = (let a = p.by_from in let b = q.by_from in omega arith) in
-    let n : number_of d.authority ≡ number_of e.authority = (let a = p.by_authority f in let b = q.by_authority (sym f) in omega arith) in
+    let n : number_of d.authority ≡ number_of e.authority = (let a = p.by_authority f in let b = q.by_authority (sym f) in
+    omega arith) in
     let t : d.to ≡ e.to = (let a = p.by_to f n in let b = q.by_to (sym f) (sym n) in omega arith) in
     edges_same d e f (same_number d.authority e.authority n) t
 
@@ -82,7 +91,11 @@ pub before_or_not : (d e : Edge) → Before d e ⊎ AtMost e d
 before_or_not d e = elim (cases_lt d.from e.from) [
   | inl l ↦ inl (record { by_from = omega arith; by_authority = λ f. absurd (omega arith); by_to = λ f g. absurd (omega arith) })
   | inr from ↦ elim (cases_lt e.from d.from) [
-    | inl l ↦ inr (record { by_from = omega arith; by_authority = λ f. absurd (omega arith); by_to = λ f g. absurd (omega arith) })
+    | inl l ↦ inr (record {
+      by_from = omega arith;
+      by_authority = λ f. absurd (omega arith);
+      by_to = λ f g. absurd (omega arith);
+    })
     | inr same ↦ elim (cases_lt (number_of d.authority) (number_of e.authority)) [
       | inl l ↦ inl (record { by_from = omega arith; by_authority = λ f. omega arith; by_to = λ f g. absurd (omega arith) })
       | inr number ↦ elim (cases_lt (number_of e.authority) (number_of d.authority)) [

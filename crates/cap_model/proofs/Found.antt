@@ -19,16 +19,21 @@ flip_at a b true e h =
     absurd cc
 
 -- an earlier name is no later one
-earlier : (name : List ℕ) (es : List Entry) (i : ℕ) (e : Entry) → list_any (λ m. bytes_eq m name) (map (λ (x : Entry). x.name) es) ≡ false → slice_get es i ≡ Some e
+earlier : (name : List ℕ) (es : List Entry) (i : ℕ) (e : Entry)
+    → list_any (λ m. bytes_eq m name) (map (λ (x : Entry). x.name) es) ≡ false → slice_get es i ≡ Some e
     → bytes_eq name e.name ≡ false
 earlier name [] i e none there = absurd cc
 earlier name (x ∷ xs) zero e none there =
     let same : x ≡ e = cc in
-    let other : bytes_eq x.name name ≡ false = (or_parts (bytes_eq x.name name) (list_any (λ m. bytes_eq m name) (map (λ (y : Entry). y.name) xs)) none).0 in
+    let other : bytes_eq x.name name ≡ false =
+    (or_parts (bytes_eq x.name name) (list_any (λ m. bytes_eq m name) (map (λ (y : Entry). y.name) xs)) none).0 in
     subst (λ (y : Entry). bytes_eq name y.name ≡ false) same (flip_at x.name name (bytes_eq name x.name) refl other)
-earlier name (x ∷ xs) (suc i) e none there = earlier name xs i e ((or_parts (bytes_eq x.name name) (list_any (λ m. bytes_eq m name) (map (λ (y : Entry). y.name) xs)) none).1) there
+earlier name (x ∷ xs) (suc i) e none there =
+    earlier name xs i e ((or_parts (bytes_eq x.name name) (list_any (λ m. bytes_eq m name) (map (λ (y : Entry). y.name) xs))
+    none).1) there
 
-first_at : (es : List Entry) (i : ℕ) (e : Entry) → names_differ es ≡ true → slice_get es i ≡ Some e → position_or_len (λ (x : Entry). bytes_eq x.name e.name) es ≡ i
+first_at : (es : List Entry) (i : ℕ) (e : Entry) → names_differ es ≡ true → slice_get es i ≡ Some e
+    → position_or_len (λ (x : Entry). bytes_eq x.name e.name) es ≡ i
 first_at [] i e apart there = absurd cc
 first_at (x ∷ xs) zero e apart there =
     let same : x ≡ e = cc in
@@ -36,7 +41,8 @@ first_at (x ∷ xs) zero e apart there =
     rw equal refl
 first_at (x ∷ xs) (suc i) e apart there =
     let parts = and_parts (not (list_any (λ m. bytes_eq m x.name) (map (λ (y : Entry). y.name) xs))) (names_differ xs) apart in
-    let other : bytes_eq x.name e.name ≡ false = earlier x.name xs i e (not-true (list_any (λ m. bytes_eq m x.name) (map (λ (y : Entry). y.name) xs)) parts.0) there in
+    let other : bytes_eq x.name e.name ≡ false =
+    earlier x.name xs i e (not-true (list_any (λ m. bytes_eq m x.name) (map (λ (y : Entry). y.name) xs)) parts.0) there in
     let rest : position_or_len (λ (y : Entry). bytes_eq y.name e.name) xs ≡ i = first_at xs i e parts.1 there in
     rw other (omega (arith, rest))
 
@@ -45,8 +51,11 @@ below [] i e there = absurd cc
 below (x ∷ xs) zero e there = omega arith
 below (x ∷ xs) (suc i) e there = let less : i < length xs = below xs i e there in omega arith
 
-pub found : (spec : Spec) (place : ℕ) (entry : Entry) → IsKept spec → slice_get spec.entries place ≡ Some entry → place_of spec.entries entry.name ≡ Some place
+pub found : (spec : Spec) (place : ℕ) (entry : Entry) → IsKept spec → slice_get spec.entries place ≡ Some entry
+    → place_of spec.entries entry.name ≡ Some place
 found spec place entry kept there =
-    let first : position_or_len (λ (x : Entry). bytes_eq x.name entry.name) spec.entries ≡ place = first_at spec.entries place entry kept.names there in
-    let less : nat_lt place (length spec.entries) ≡ true = (Decides-ltb place (length spec.entries)).1 (below spec.entries place entry there) in
+    let first : position_or_len (λ (x : Entry). bytes_eq x.name entry.name) spec.entries ≡ place =
+    first_at spec.entries place entry kept.names there in
+    let less : nat_lt place (length spec.entries) ≡ true = (Decides-ltb place (length spec.entries)).1
+    (below spec.entries place entry there) in
     rw (first, less) refl

@@ -17,7 +17,8 @@ use Rattle.cap_model.specs.Kinds.{kind_at, kind_of_object, kind_number, same_kin
 use Rattle.cap_model.specs.Lookup.{entry_object, object_at}
 
 -- what all pass, the one at a place passes
-pub all_at : {A : Type 0} (test : A → Bool) (xs : List A) (i : ℕ) (x : A) → list_all test xs ≡ true → slice_get xs i ≡ Some x → test x ≡ true
+pub all_at : {A : Type 0} (test : A → Bool) (xs : List A) (i : ℕ) (x : A) → list_all test xs ≡ true → slice_get xs i ≡ Some x
+    → test x ≡ true
 all_at test [] i x all there = absurd cc
 all_at test (y ∷ ys) zero x all there =
     let same : y ≡ x = cc in
@@ -25,19 +26,25 @@ all_at test (y ∷ ys) zero x all there =
 all_at test (y ∷ ys) (suc i) x all there = all_at test ys i x (and_parts (test y) (list_all test ys) all).1 there
 
 -- the object at a place is kept
-entry_kept : (spec : Spec) (entries : List Entry) (place : ℕ) (object : Object) → list_all (λ (e : Entry). keeps spec e.object) entries ≡ true → entry_object (slice_get entries place) ≡ Some object
+entry_kept : (spec : Spec) (entries : List Entry) (place : ℕ) (object : Object)
+    → list_all (λ (e : Entry). keeps spec e.object) entries ≡ true → entry_object (slice_get entries place) ≡ Some object
     → keeps spec object ≡ true
 entry_kept spec [] place object all there = absurd cc
 entry_kept spec (e ∷ es) zero object all there =
     let same : e.object ≡ object = cc in
-    subst (λ o. keeps spec o ≡ true) same (and_parts (keeps spec e.object) (list_all (λ (x : Entry). keeps spec x.object) es) all).0
-entry_kept spec (e ∷ es) (suc place) object all there = entry_kept spec es place object (and_parts (keeps spec e.object) (list_all (λ (x : Entry). keeps spec x.object) es) all).1 there
+    subst (λ o. keeps spec o ≡ true) same
+    (and_parts (keeps spec e.object) (list_all (λ (x : Entry). keeps spec x.object) es) all).0
+entry_kept spec (e ∷ es) (suc place) object all there =
+    entry_kept spec es place object (and_parts (keeps spec e.object) (list_all (λ (x : Entry). keeps spec x.object) es) all).1
+    there
 
-pub object_kept : (spec : Spec) (place : ℕ) (object : Object) → IsKept spec → object_at spec place ≡ Some object → keeps spec object ≡ true
+pub object_kept : (spec : Spec) (place : ℕ) (object : Object) → IsKept spec → object_at spec place ≡ Some object
+    → keeps spec object ≡ true
 object_kept spec place object kept there = entry_kept spec spec.entries place object kept.objects there
 
 -- where there is an object, the place is in the spec
-entry_below : (entries : List Entry) (place : ℕ) (object : Object) → entry_object (slice_get entries place) ≡ Some object → place < length entries
+entry_below : (entries : List Entry) (place : ℕ) (object : Object) → entry_object (slice_get entries place) ≡ Some object
+    → place < length entries
 entry_below [] place object there = absurd cc
 entry_below (e ∷ es) zero object there = omega arith
 entry_below (e ∷ es) (suc place) object there = let below : place < length es = entry_below es place object there in omega arith
@@ -84,7 +91,8 @@ is_that (Some here) kind h = ap Some (one_kind here kind h)
 pub kind_is : (spec : Spec) (kind : Kind) (place : ℕ) → is_at spec kind place ≡ true → kind_at spec place ≡ Some kind
 kind_is spec kind place h = is_that (kind_at spec place) kind h
 
-some_below : (spec : Spec) (place : ℕ) (here : Option Object) → here ≡ object_at spec place → is_some here ≡ true → place < length spec.entries
+some_below : (spec : Spec) (place : ℕ) (here : Option Object) → here ≡ object_at spec place → is_some here ≡ true
+    → place < length spec.entries
 some_below spec place None same h = absurd cc
 some_below spec place (Some object) same h = object_below spec place object (sym same)
 
@@ -111,7 +119,8 @@ pub fits_below : (spec : Spec) (cap : Cap) → fits spec cap ≡ true → cap.ob
 fits_below spec cap h = some_below spec cap.object (object_at spec cap.object) refl (none_fits (object_at spec cap.object) cap h)
 
 -- a slot's number is below the size, and its capability fits
-pub slot_kept : (fit : Cap → Bool) (size : ℕ) (slots : List (ℕ × Cap)) (i : ℕ) (slot : ℕ × Cap) → keeps_slots fit size slots ≡ true → slice_get slots i ≡ Some slot
+pub slot_kept : (fit : Cap → Bool) (size : ℕ) (slots : List (ℕ × Cap)) (i : ℕ) (slot : ℕ × Cap)
+    → keeps_slots fit size slots ≡ true → slice_get slots i ≡ Some slot
     → (slot.0 < size) × (fit slot.1 ≡ true)
 slot_kept fit size slots i slot kept there =
     let test = λ (x : ℕ × Cap). nat_lt x.0 size && fit x.1 in
@@ -124,7 +133,8 @@ pub rise_tail : {A : Type 0} (x : ℕ × A) (xs : List (ℕ × A)) → rise (x �
 rise_tail x [] h = refl
 rise_tail x (y ∷ ys) h = (and_parts (nat_lt x.0 y.0) (rise (y ∷ ys)) h).1
 
-rise_over : {A : Type 0} (x : ℕ × A) (xs : List (ℕ × A)) (j : ℕ) (z : ℕ × A) → rise (x ∷ xs) ≡ true → slice_get xs j ≡ Some z → x.0 < z.0
+rise_over : {A : Type 0} (x : ℕ × A) (xs : List (ℕ × A)) (j : ℕ) (z : ℕ × A) → rise (x ∷ xs) ≡ true
+    → slice_get xs j ≡ Some z → x.0 < z.0
 rise_over x [] j z h there = absurd cc
 rise_over {A = A} x (y ∷ ys) zero z h there =
     let below : x.0 < y.0 = ltb-true x.0 y.0 (and_parts (nat_lt x.0 y.0) (rise (y ∷ ys)) h).0 in
@@ -135,7 +145,8 @@ rise_over x (y ∷ ys) (suc j) z h there =
     let more : y.0 < z.0 = rise_over y ys j z (rise_tail x (y ∷ ys) h) there in
     omega arith
 
-pub rises : {A : Type 0} (xs : List (ℕ × A)) (i j : ℕ) (x y : ℕ × A) → rise xs ≡ true → i < j → slice_get xs i ≡ Some x → slice_get xs j ≡ Some y → x.0 < y.0
+pub rises : {A : Type 0} (xs : List (ℕ × A)) (i j : ℕ) (x y : ℕ × A) → rise xs ≡ true → i < j → slice_get xs i ≡ Some x
+    → slice_get xs j ≡ Some y → x.0 < y.0
 rises [] i j x y h less here there = absurd cc
 rises (z ∷ zs) i zero x y h less here there = absurd (omega arith)
 rises {A = A} (z ∷ zs) zero (suc j) x y h less here there =

@@ -18,7 +18,8 @@ tests spec = (nat_lt (length spec.entries) (2 ^ 32) && names_differ spec.entries
 
 from_tests : (spec : Spec) → tests spec ≡ true → IsKept spec
 from_tests spec h =
-    let both = and_parts (nat_lt (length spec.entries) (2 ^ 32) && names_differ spec.entries) (all_kept spec && keeps_lines spec spec.irqs) h in
+    let both = and_parts (nat_lt (length spec.entries) (2 ^ 32) && names_differ spec.entries) (all_kept spec
+    && keeps_lines spec spec.irqs) h in
     let front = and_parts (nat_lt (length spec.entries) (2 ^ 32)) (names_differ spec.entries) both.0 in
     let back = and_parts (all_kept spec) (keeps_lines spec spec.irqs) both.1 in
     record { few = ltb-true (length spec.entries) (2 ^ 32) front.0; names = front.1; objects = back.0; lines = back.1 }

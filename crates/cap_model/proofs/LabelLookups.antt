@@ -12,7 +12,8 @@ numbers_of_rest l labels apart i j d less within = apart (suc i) (suc j) d (omeg
 label_is : (l : ℕ × List ℕ) (n : ℕ) (name : List ℕ) → l.0 ≡ n → l.1 ≡ name → l ≡ (n, name)
 label_is l n name a b = let e : ◌≡◌ {A = ℕ × List ℕ} (l.0, l.1) (n, name) = rw (a, b) refl in e
 
-label_name-at : (labels : List (ℕ × List ℕ)) (i n : ℕ) (name : List ℕ) → NumbersDiffer labels → slice_get labels i ≡ Some (n, name) → label_name labels n ≡ Some name
+label_name-at : (labels : List (ℕ × List ℕ)) (i n : ℕ) (name : List ℕ) → NumbersDiffer labels
+    → slice_get labels i ≡ Some (n, name) → label_name labels n ≡ Some name
 label_name-at [] i n name apart h = absurd cc
 label_name-at (l ∷ labels) zero n name apart h =
     let is : l ≡ (n, name) = cc in
@@ -30,12 +31,14 @@ label_name-at (l ∷ labels) (suc i) n name apart h =
     ]
 
 -- the label at a place, with what the code compares and reads of it
-pub label_name-there : (labels : List (ℕ × List ℕ)) (i n : ℕ) (l : ℕ × List ℕ) (name : List ℕ) → slice_get labels i ≡ Some l → l.0 ≡ n → name ≡ l.1 → NumbersDiffer labels → Some name ≡ label_name labels n
+pub label_name-there : (labels : List (ℕ × List ℕ)) (i n : ℕ) (l : ℕ × List ℕ) (name : List ℕ) → slice_get labels i ≡ Some l
+    → l.0 ≡ n → name ≡ l.1 → NumbersDiffer labels → Some name ≡ label_name labels n
 label_name-there labels i n l name h a b apart =
     let is : l ≡ (n, name) = label_is l n name a (sym b) in
     sym (label_name-at labels i n name apart (rw (← is) h))
 
-label_name-found : (labels : List (ℕ × List ℕ)) (n : ℕ) (name : List ℕ) → label_name labels n ≡ Some name → Contains labels (n, name)
+label_name-found : (labels : List (ℕ × List ℕ)) (n : ℕ) (name : List ℕ) → label_name labels n ≡ Some name
+    → Contains labels (n, name)
 label_name-found [] n name h = absurd cc
 label_name-found (l ∷ labels) n name h =
     elim (eqb_tells l.0 n) [
@@ -49,6 +52,7 @@ label_name-found (l ∷ labels) n name h =
     ]
 
 -- what a look-up that answers a borrow has found
-pub label_name-found_now : (labels : List (ℕ × List ℕ)) (n : ℕ) (found : Option (Bor (List ℕ))) → option_map (λ b. b.now) found ≡ label_name labels n → IfSome found (λ b. Contains labels (n, b.now))
+pub label_name-found_now : (labels : List (ℕ × List ℕ)) (n : ℕ) (found : Option (Bor (List ℕ)))
+    → option_map (λ b. b.now) found ≡ label_name labels n → IfSome found (λ b. Contains labels (n, b.now))
 label_name-found_now labels n None h = tt
 label_name-found_now labels n (Some b) h = label_name-found labels n b.now (sym h)

@@ -5,7 +5,6 @@ pub mod Examples
 pub mod Found
 pub mod Kept
 pub mod KeptExamples
-pub mod AuthorityBits
 pub mod EdgeOrder
 pub mod LabelLookups
 pub mod TableMembers
@@ -20,6 +19,5 @@ pub mod MadeRows
 pub mod Runs
 pub mod SharedRows
 pub mod ClassNumbers
-pub mod Words
 pub mod Comparing
 pub mod Ranges

@@ -9,8 +9,8 @@ use Rattle.std.proofs.lemmas.Option.{slice_get_within, slice_get-get_or, same_So
 use Rattle.cap_model.specs.Making.{place_in, list_cmp, IsMade, HasNew, HasClass, HasRow}
 use Rattle.cap_model.specs.Rows.{reply_to, edges_of, table_edges, IsClass, IsTable}
 use Rattle.cap_model.specs.Tables.{IsSorted}
-use Rattle.cap_model.specs.declared.authority.Authority.{Authority}
-use Rattle.cap_model.specs.declared.authority.Authority.TheVariants.{Reply}
+use Rattle.authorities.specs.declared.authority.Authority.{Authority}
+use Rattle.authorities.specs.declared.authority.Authority.TheVariants.{Reply}
 use Rattle.cap_model.specs.declared.edge.Edge.{Edge}
 use Rattle.cap_model.specs.declared.making.Made.{Made}
 use Rattle.cap_model.specs.declared.rows.Class.{Class}
@@ -21,7 +21,8 @@ use Rattle.cam_base.specs.Gather.{IsIn}
 use Rattle.cam_base.proofs.Gathered.{place_of, get_behind, get_front, split_get}
 use Rattle.cam_base.proofs.NumberedLists.{flat_map_same, single}
 
-pub pushed : {X : Type 0} (xs : List X) (x : X) (k : ℕ) (y : X) → slice_get (xs ++ x ∷ []) k ≡ Some y → (slice_get xs k ≡ Some y) ⊎ ((k ≡ length xs) × (x ≡ y))
+pub pushed : {X : Type 0} (xs : List X) (x : X) (k : ℕ) (y : X) → slice_get (xs ++ x ∷ []) k ≡ Some y
+    → (slice_get xs k ≡ Some y) ⊎ ((k ≡ length xs) × (x ≡ y))
 pushed xs x k y e = elim (split_get xs (x ∷ []) k y e) [
   | inl h ↦ inl h
   | inr h ↦ let s = single x y h.0 h.2 in inr (let z = s.0 in let n = h.1 in omega arith, s.1)
@@ -34,16 +35,19 @@ pushed_last xs x = get_behind xs (x ∷ []) 0 (length xs) (omega arith)
 
 module _ (classes classes' : List Class) (rows : List Row) (r : Row) (c : Class) (table : IsTable classes rows)
     (grows : (k : ℕ) (d : Class) → slice_get classes k ≡ Some d → slice_get classes' k ≡ Some d)
-    (fresh : (k : ℕ) (d : Class) → slice_get classes' k ≡ Some d → (slice_get classes k ≡ Some d) ⊎ ((k ≡ r.class) × (d.label ≡ r.label)))
+    (fresh : (k : ℕ) (d : Class) → slice_get classes' k ≡ Some d → (slice_get classes k ≡ Some d)
+    ⊎ ((k ≡ r.class) × (d.label ≡ r.label)))
     (there : slice_get classes' r.class ≡ Some c) where
-  class_of_row : (i : ℕ) (s : Row) → slice_get rows i ≡ Some s → (d : Class) × (slice_get classes s.class ≡ Some d) × (slice_get classes' s.class ≡ Some d)
+  class_of_row : (i : ℕ) (s : Row) → slice_get rows i ≡ Some s → (d : Class) × (slice_get classes s.class ≡ Some d)
+      × (slice_get classes' s.class ≡ Some d)
   class_of_row i s e =
       let d : Class = get_or classes s.class c in
       let old : slice_get classes s.class ≡ Some d = slice_get-get_or classes s.class c (table.classed i s e) in
       (d, old, grows s.class d old)
 
   same_edges : (some : List Row) → ((s : Row) → IsIn s some → IsIn s rows) → table_edges classes' some ≡ table_edges classes some
-  same_edges some within = flat_map_same (λ s. edges_of (slice_get classes' s.class) s) (λ s. edges_of (slice_get classes s.class) s) some (λ s i. (
+  same_edges some within = flat_map_same (λ s. edges_of (slice_get classes' s.class) s)
+      (λ s. edges_of (slice_get classes s.class) s) some (λ s i. (
       let at = place_of s rows (within s i) in
       let d = class_of_row at.0 s at.1 in
       ap (λ o. edges_of o s) (d.2 ∙ sym d.1)))
@@ -52,12 +56,15 @@ module _ (classes classes' : List Class) (rows : List Row) (r : Row) (c : Class)
   edges_added =
       flat_map-append (λ s. edges_of (slice_get classes' s.class) s) rows (r ∷ [])
       ∙ ap (λ es. es ++ (edges_of (slice_get classes' r.class) r ++ [])) (same_edges rows (λ s i. i))
-      ∙ ap (λ es. table_edges classes rows ++ es) (append-nil (edges_of (slice_get classes' r.class) r) ∙ ap (λ o. edges_of o r) there)
+      ∙ ap (λ es. table_edges classes rows ++ es) (append-nil (edges_of (slice_get classes' r.class) r)
+      ∙ ap (λ o. edges_of o r) there)
 
   pub row_added : c.label ≤ r.label → ((k : ℕ) (d : Class) → slice_get classes' k ≡ Some d → IsClass d)
-      → ((j k : ℕ) (d e : Class) → slice_get classes' j ≡ Some d → slice_get classes' k ≡ Some e → d.pairs.items ≡ e.pairs.items → j ≡ k)
+      → ((j k : ℕ) (d e : Class) → slice_get classes' j ≡ Some d → slice_get classes' k ≡ Some e
+      → d.pairs.items ≡ e.pairs.items → j ≡ k)
       → ((i : ℕ) (s : Row) → slice_get rows i ≡ Some s → s.label < r.label) → r.first ≡ length (table_edges classes rows)
-      → IsSorted (map (reply_to 0) r.replies.items) → IsSorted (table_edges classes rows ++ edges_of (Some c) r) → IsTable classes' (rows ++ r ∷ [])
+      → IsSorted (map (reply_to 0) r.replies.items) → IsSorted (table_edges classes rows ++ edges_of (Some c) r)
+      → IsTable classes' (rows ++ r ∷ [])
   row_added low lists apart up first replies sorted = record {
     sorted = subst IsSorted (sym edges_added) sorted;
     rising = record {
@@ -77,10 +84,13 @@ module _ (classes classes' : List Class) (rows : List Row) (r : Row) (c : Class)
         | inl h ↦ (
             let w = slice_get_within rows i s h in
             let front : take i (rows ++ r ∷ []) ≡ take i rows = take-append-le i rows (r ∷ []) (omega arith) in
-            table.places.first i s h ∙ sym (ap (λ (ss : List Row). length (table_edges classes' ss)) front ∙ ap (λ (es : List Edge). length es) (same_edges (take i rows) (λ z k. in_take i rows z k))))
+            table.places.first i s h ∙ sym (ap (λ (ss : List Row). length (table_edges classes' ss)) front
+            ∙ ap (λ (es : List Edge). length es) (same_edges (take i rows) (λ z k. in_take i rows z k))))
         | inr h ↦ (
-            let all : take i (rows ++ r ∷ []) ≡ rows = ap (λ (n : ℕ). take n (rows ++ r ∷ [])) h.0 ∙ take-append_seam rows (r ∷ []) in
-            ap (λ (z : Row). z.first) (sym h.1) ∙ first ∙ sym (ap (λ (ss : List Row). length (table_edges classes' ss)) all ∙ ap (λ (es : List Edge). length es) (same_edges rows (λ z k. k))))
+            let all : take i (rows ++ r ∷ []) ≡ rows = ap (λ (n : ℕ). take n (rows ++ r ∷ [])) h.0
+            ∙ take-append_seam rows (r ∷ []) in
+            ap (λ (z : Row). z.first) (sym h.1) ∙ first ∙ sym (ap (λ (ss : List Row). length (table_edges classes' ss)) all
+            ∙ ap (λ (es : List Edge). length es) (same_edges rows (λ z k. k))))
       ];
     };
     classed = λ i s p. elim (pushed rows r i s p) [
@@ -111,35 +121,45 @@ module _ (classes classes' : List Class) (rows : List Row) (r : Row) (c : Class)
 
 -- ---- one class more
 
-module _ (edges : List Edge) (old new : Made) (label : ℕ) (pairs : List (Authority × ℕ)) (before k : ℕ) (made : IsMade edges old) (h : HasNew old label pairs before new k) where
+module _ (edges : List Edge) (old new : Made) (label : ℕ) (pairs : List (Authority × ℕ)) (before k : ℕ) (made : IsMade edges old)
+    (h : HasNew old label pairs before new k) where
   known_more : (j : ℕ) (d : Class) → slice_get new.classes.items j ≡ Some d → place_in new d.pairs.items ≡ Some j
-  known_more j d p = elim (pushed old.classes.items h.class j d (subst (λ (cs : List Class). slice_get cs j ≡ Some d) h.classes p)) [
-    | inl q ↦ by_test (is_eq (list_cmp pairs d.pairs.items)) refl q
-    | inr q ↦ (
-        let same : pairs ≡ d.pairs.items = sym h.pairs_are ∙ ap (λ (z : Class). z.pairs.items) q.1 in
-        let test : is_eq (list_cmp pairs d.pairs.items) ≡ true = ap (λ (ps : List (Authority × ℕ)). is_eq (list_cmp pairs ps)) (sym same) ∙ ap is_eq (list_itself pairs) in
-        let here : j ≡ k = q.0 ∙ sym h.place in
-        h.places d ∙ ap (λ (b : Bool). cond b (Some k) (place_in old d.pairs.items)) test ∙ ap (λ (n : ℕ). Some n) (sym here))
-  ]
+  known_more j d p =
+      elim (pushed old.classes.items h.class j d (subst (λ (cs : List Class). slice_get cs j ≡ Some d) h.classes p)) [
+        | inl q ↦ by_test (is_eq (list_cmp pairs d.pairs.items)) refl q
+        | inr q ↦ (
+            let same : pairs ≡ d.pairs.items = sym h.pairs_are ∙ ap (λ (z : Class). z.pairs.items) q.1 in
+            let test : is_eq (list_cmp pairs d.pairs.items) ≡ true = ap (λ (ps : List (Authority × ℕ)). is_eq (list_cmp pairs ps))
+            (sym same) ∙ ap is_eq (list_itself pairs) in
+            let here : j ≡ k = q.0 ∙ sym h.place in
+            h.places d ∙ ap (λ (b : Bool). cond b (Some k) (place_in old d.pairs.items)) test ∙ ap (λ (n : ℕ). Some n) (sym here))
+      ]
     where
-      by_test : (b : Bool) → is_eq (list_cmp pairs d.pairs.items) ≡ b → slice_get old.classes.items j ≡ Some d → place_in new d.pairs.items ≡ Some j
+      by_test : (b : Bool) → is_eq (list_cmp pairs d.pairs.items) ≡ b → slice_get old.classes.items j ≡ Some d
+          → place_in new d.pairs.items ≡ Some j
       by_test true t q =
           let same = is_eq-same pairs d.pairs.items t in
           let z : None ≡ Some j = sym h.none ∙ ap (λ (ps : List (Authority × ℕ)). place_in old ps) same ∙ made.known j d q in cc
       by_test false t q = h.places d ∙ ap (λ (b : Bool). cond b (Some k) (place_in old d.pairs.items)) t ∙ made.known j d q
 
-  only_more : (q : Class) (j : ℕ) → place_in new q.pairs.items ≡ Some j → (c : Class) × (slice_get new.classes.items j ≡ Some c) × (c.pairs.items ≡ q.pairs.items)
+  only_more : (q : Class) (j : ℕ) → place_in new q.pairs.items ≡ Some j → (c : Class) × (slice_get new.classes.items j ≡ Some c)
+      × (c.pairs.items ≡ q.pairs.items)
   only_more q j e = by_test (is_eq (list_cmp pairs q.pairs.items)) refl
     where
-      by_test : (b : Bool) → is_eq (list_cmp pairs q.pairs.items) ≡ b → (c : Class) × (slice_get new.classes.items j ≡ Some c) × (c.pairs.items ≡ q.pairs.items)
+      by_test : (b : Bool) → is_eq (list_cmp pairs q.pairs.items) ≡ b → (c : Class) × (slice_get new.classes.items j ≡ Some c)
+          × (c.pairs.items ≡ q.pairs.items)
       by_test true t =
-          let there : Some k ≡ Some j = ap (λ (b : Bool). cond b (Some k) (place_in old q.pairs.items)) (sym t) ∙ sym (h.places q) ∙ e in
+          let there : Some k ≡ Some j = ap (λ (b : Bool). cond b (Some k) (place_in old q.pairs.items)) (sym t)
+          ∙ sym (h.places q) ∙ e in
           let here : length old.classes.items ≡ j = sym h.place ∙ same_Some k j there in
           let at : slice_get new.classes.items j ≡ Some h.class =
-          ap (λ (cs : List Class). slice_get cs j) h.classes ∙ subst (λ (n : ℕ). slice_get (old.classes.items ++ h.class ∷ []) n ≡ Some h.class) here (pushed_last old.classes.items h.class) in
+          ap (λ (cs : List Class). slice_get cs j) h.classes
+          ∙ subst (λ (n : ℕ). slice_get (old.classes.items ++ h.class ∷ []) n ≡ Some h.class) here
+          (pushed_last old.classes.items h.class) in
           (h.class, at, h.pairs_are ∙ is_eq-same pairs q.pairs.items t)
       by_test false t =
-          let there : place_in old q.pairs.items ≡ Some j = ap (λ (b : Bool). cond b (Some k) (place_in old q.pairs.items)) (sym t) ∙ sym (h.places q) ∙ e in
+          let there : place_in old q.pairs.items ≡ Some j = ap (λ (b : Bool). cond b (Some k) (place_in old q.pairs.items))
+          (sym t) ∙ sym (h.places q) ∙ e in
           let c = made.only q j there in
           (c.0, ap (λ (cs : List Class). slice_get cs j) h.classes ∙ get_front old.classes.items (h.class ∷ []) j c.0 c.1, c.2)
 
@@ -157,42 +177,53 @@ one_before c d p q same = elim (cases_lt d.before c.before) [
   | inr ge ↦ ge
 ]
 
-module _ (edges run : List Edge) (old mid new : Made) (r : Row) (pairs : List (Authority × ℕ)) (before : ℕ) (made : IsMade edges old)
+module _ (edges run : List Edge) (old mid new : Made) (r : Row) (pairs : List (Authority × ℕ)) (before : ℕ)
+    (made : IsMade edges old)
     (is_class : (c : Class) → c.pairs.items ≡ pairs → c.before ≡ before → IsClass c)
     (run_is : (c : Class) → c.pairs.items ≡ pairs → c.before ≡ before → edges_of (Some c) r ≡ run)
     (replies : IsSorted (map (reply_to 0) r.replies.items)) (first : r.first ≡ length edges)
     (new_classes : new.classes.items ≡ mid.classes.items) (new_rows : new.rows.items ≡ mid.rows.items ++ r ∷ [])
     (new_places : (q : Class) → place_in new q.pairs.items ≡ place_in mid q.pairs.items)
     (up : (i : ℕ) (s : Row) → slice_get old.rows.items i ≡ Some s → s.label < r.label) (sorted : IsSorted (edges ++ run)) where
-  finish : (c : Class) → slice_get mid.classes.items r.class ≡ Some c → c.pairs.items ≡ pairs → c.before ≡ before → c.label ≤ r.label
+  finish : (c : Class) → slice_get mid.classes.items r.class ≡ Some c → c.pairs.items ≡ pairs → c.before ≡ before
+      → c.label ≤ r.label
       → ((k : ℕ) (d : Class) → slice_get old.classes.items k ≡ Some d → slice_get mid.classes.items k ≡ Some d)
-      → ((k : ℕ) (d : Class) → slice_get mid.classes.items k ≡ Some d → (slice_get old.classes.items k ≡ Some d) ⊎ ((k ≡ r.class) × (d.label ≡ r.label)))
+      → ((k : ℕ) (d : Class) → slice_get mid.classes.items k ≡ Some d → (slice_get old.classes.items k ≡ Some d)
+      ⊎ ((k ≡ r.class) × (d.label ≡ r.label)))
       → ((k : ℕ) (d : Class) → slice_get mid.classes.items k ≡ Some d → IsClass d)
       → ((k : ℕ) (d : Class) → slice_get mid.classes.items k ≡ Some d → place_in mid d.pairs.items ≡ Some k)
-      → ((q : Class) (k : ℕ) → place_in mid q.pairs.items ≡ Some k → (d : Class) × (slice_get mid.classes.items k ≡ Some d) × (d.pairs.items ≡ q.pairs.items))
+      → ((q : Class) (k : ℕ) → place_in mid q.pairs.items ≡ Some k → (d : Class) × (slice_get mid.classes.items k ≡ Some d)
+      × (d.pairs.items ≡ q.pairs.items))
       → mid.rows.items ≡ old.rows.items → HasRow edges old r.label run new
   finish c there pairs_are before_is low grows fresh lists known only rows_same =
       let rows : new.rows.items ≡ old.rows.items ++ r ∷ [] = new_rows ∙ ap (λ (rs : List Row). rs ++ r ∷ []) rows_same in
       let run_of : edges_of (Some c) r ≡ run = run_is c pairs_are before_is in
-      let all : table_edges old.classes.items old.rows.items ++ edges_of (Some c) r ≡ edges ++ run = ap (λ es. es ++ edges_of (Some c) r) made.same ∙ ap (λ es. edges ++ es) run_of in
-      let apart : (j k : ℕ) (d e : Class) → slice_get mid.classes.items j ≡ Some d → slice_get mid.classes.items k ≡ Some e → d.pairs.items ≡ e.pairs.items → j ≡ k =
+      let all : table_edges old.classes.items old.rows.items ++ edges_of (Some c) r ≡ edges ++ run =
+      ap (λ es. es ++ edges_of (Some c) r) made.same ∙ ap (λ es. edges ++ es) run_of in
+      let apart : (j k : ℕ) (d e : Class) → slice_get mid.classes.items j ≡ Some d → slice_get mid.classes.items k ≡ Some e
+      → d.pairs.items ≡ e.pairs.items → j ≡ k =
       λ j k d e p q same. same_Some j k (sym (known j d p) ∙ ap (λ ps. place_in mid ps) same ∙ known k e q) in
-      let table : IsTable mid.classes.items (old.rows.items ++ r ∷ []) = row_added old.classes.items mid.classes.items old.rows.items r c made.table grows fresh there low lists apart up
+      let table : IsTable mid.classes.items (old.rows.items ++ r ∷ []) = row_added old.classes.items mid.classes.items
+      old.rows.items r c made.table grows fresh there low lists apart up
       (first ∙ ap (λ (es : List Edge). length es) (sym made.same)) replies (subst IsSorted (sym all) sorted) in
       record {
         made = record {
-          table = subst (λ (cs : List Class). IsTable cs new.rows.items) (sym new_classes) (subst (λ (rs : List Row). IsTable mid.classes.items rs) (sym rows) table);
-          same = ap (λ (cs : List Class). table_edges cs new.rows.items) new_classes ∙ ap (λ (rs : List Row). table_edges mid.classes.items rs) rows
+          table = subst (λ (cs : List Class). IsTable cs new.rows.items) (sym new_classes)
+              (subst (λ (rs : List Row). IsTable mid.classes.items rs) (sym rows) table);
+          same = ap (λ (cs : List Class). table_edges cs new.rows.items) new_classes
+              ∙ ap (λ (rs : List Row). table_edges mid.classes.items rs) rows
               ∙ edges_added old.classes.items mid.classes.items old.rows.items r c made.table grows fresh there ∙ all;
           known = λ k d p. new_places d ∙ known k d (subst (λ (cs : List Class). slice_get cs k ≡ Some d) new_classes p);
-          only = λ q k e. (let d = only q k (sym (new_places q) ∙ e) in (d.0, subst (λ (cs : List Class). slice_get cs k ≡ Some d.0) (sym new_classes) d.1, d.2));
+          only = λ q k e. (let d = only q k (sym (new_places q) ∙ e) in
+              (d.0, subst (λ (cs : List Class). slice_get cs k ≡ Some d.0) (sym new_classes) d.1, d.2));
         };
         row = r;
         rows = rows;
         label_is = refl;
       }
 
-  pub row_made : (q : Class) → q.pairs.items ≡ pairs → HasClass old r.label pairs before mid r.class → HasRow edges old r.label run new
+  pub row_made : (q : Class) → q.pairs.items ≡ pairs → HasClass old r.label pairs before mid r.class
+      → HasRow edges old r.label run new
   row_made q listed (inl h) =
       let found = made.only q r.class (ap (λ ps. place_in old ps) listed ∙ h.there) in
       let c : Class = found.0 in
@@ -205,16 +236,21 @@ module _ (edges run : List Edge) (old mid new : Made) (r : Row) (pairs : List (A
       let n = made.table.numbered r.class c found.1 in
       let low = up n.0 n.1 n.2 in
       let label = n.4 in
-      finish c (subst (λ (m : Made). slice_get m.classes.items r.class ≡ Some c) (sym h.same) found.1) pairs_are (omega arith) (omega arith)
+      finish c (subst (λ (m : Made). slice_get m.classes.items r.class ≡ Some c) (sym h.same) found.1) pairs_are (omega arith)
+      (omega arith)
       (λ k d p. subst (λ (m : Made). slice_get m.classes.items k ≡ Some d) (sym h.same) p)
       (λ k d p. inl (subst (λ (m : Made). slice_get m.classes.items k ≡ Some d) h.same p))
       (λ k d p. made.table.lists k d (subst (λ (m : Made). slice_get m.classes.items k ≡ Some d) h.same p))
-      (subst (λ (m : Made). (k : ℕ) (d : Class) → slice_get m.classes.items k ≡ Some d → place_in m d.pairs.items ≡ Some k) (sym h.same) made.known)
-      (subst (λ (m : Made). (q : Class) (k : ℕ) → place_in m q.pairs.items ≡ Some k → (d : Class) × (slice_get m.classes.items k ≡ Some d) × (d.pairs.items ≡ q.pairs.items)) (sym h.same) made.only)
+      (subst (λ (m : Made). (k : ℕ) (d : Class) → slice_get m.classes.items k ≡ Some d → place_in m d.pairs.items ≡ Some k)
+      (sym h.same) made.known)
+      (subst (λ (m : Made). (q : Class) (k : ℕ) → place_in m q.pairs.items ≡ Some k
+      → (d : Class) × (slice_get m.classes.items k ≡ Some d) × (d.pairs.items ≡ q.pairs.items)) (sym h.same) made.only)
       (ap (λ (m : Made). m.rows.items) h.same)
   row_made q listed (inr h) =
       let label = h.label_is in
-      finish h.class (ap (λ (cs : List Class). slice_get cs r.class) h.classes ∙ subst (λ (n : ℕ). slice_get (old.classes.items ++ h.class ∷ []) n ≡ Some h.class) (sym h.place) (pushed_last old.classes.items h.class))
+      finish h.class (ap (λ (cs : List Class). slice_get cs r.class) h.classes
+      ∙ subst (λ (n : ℕ). slice_get (old.classes.items ++ h.class ∷ []) n ≡ Some h.class) (sym h.place)
+      (pushed_last old.classes.items h.class))
       h.pairs_are h.before_is (omega arith)
       (λ k d p. ap (λ (cs : List Class). slice_get cs k) h.classes ∙ get_front old.classes.items (h.class ∷ []) k d p)
       (λ k d p. elim (pushed old.classes.items h.class k d (subst (λ (cs : List Class). slice_get cs k ≡ Some d) h.classes p)) [

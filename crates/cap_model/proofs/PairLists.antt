@@ -7,7 +7,7 @@ use Rattle.cap_model.specs.contracts.edge.EdgeOrd.TheImpl.{ghosts as ordered}
 use Rattle.cap_model.specs.contracts.edge.EdgeOrd.TheImpl.Laws.{total-law}
 use Rattle.cap_model.specs.Making.{list_cmp}
 use Rattle.cap_model.specs.Rows.{edge_to}
-use Rattle.cap_model.specs.declared.authority.Authority.{Authority}
+use Rattle.authorities.specs.declared.authority.Authority.{Authority}
 use Rattle.cap_model.proofs.EdgeCompare.{cmp-same}
 use Rattle.cap_model.proofs.RowEdges.{pair_is}
 

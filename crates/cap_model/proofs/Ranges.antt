@@ -7,12 +7,12 @@ use Rattle.std.specs.List.{filter}
 use Rattle.std.specs.List.Sorted.{IsStrictlySortedBy}
 use Rattle.std.specs.Ordering.{is_gt, is_le, is_lt}
 use Rattle.std.specs.declared.cmp.Ordering.{Ordering}
-use Rattle.cap_model.specs.Authorities.{number_of}
+use Rattle.authorities.specs.Authorities.{number_of}
 use Rattle.cap_model.specs.Edges.{edge, same_edge, AtMost}
 use Rattle.cap_model.specs.Tables.{has, IsSorted}
 use Rattle.cap_model.specs.contracts.edge.EdgeOrd.TheImpl.{ghosts as ordered}
-use Rattle.cap_model.specs.declared.authority.Authority.{Authority}
-use Rattle.cap_model.specs.declared.authority.Authority.TheVariants.{Receive, SyncSend, AsyncSend, Reset, Grant, Read, Write, Control, Call, Reply, GrantBack, Handle}
+use Rattle.authorities.specs.declared.authority.Authority.{Authority}
+use Rattle.authorities.specs.declared.authority.Authority.TheVariants.{Receive, SyncSend, AsyncSend, Reset, Grant, Read, Write, Control, Call, Reply, GrantBack, Handle}
 use Rattle.cap_model.specs.declared.edge.Edge.{Edge}
 use Rattle.cap_model.proofs.EdgeCompare.{cmp-after, cmp-before, cmp-same}
 use Rattle.cap_model.proofs.EdgeOrder.{at_most_before, at_most_self, before_at_most, same_edge_true, same_number, not_before_self}
@@ -67,21 +67,29 @@ and_true false b p q = p
 
 module _ (edges : List Edge) (first last e : Edge) where
   has_filtered : has (filter (lies_between first last) edges) e ≡ (lies_between first last e && has edges e)
-  has_filtered = any-filter_same (λ d. same_edge d e) (lies_between first last) (lies_between first last e) (λ d same. ap (lies_between first last) (same_edge_true d e same)) edges
+  has_filtered = any-filter_same (λ d. same_edge d e) (lies_between first last) (lies_between first last e)
+      (λ d same. ap (lies_between first last) (same_edge_true d e same)) edges
 
   pub between_is : (has (filter (lies_between first last) edges) e ≡ true) ↔ IsBetween edges first last e
   between_is = (
     λ h.
         let both = and_parts (lies_between first last e) (has edges e) (sym has_filtered ∙ h) in
         let ends = and_parts (is_le (ordered.cmp first e)) (not (is_lt (ordered.cmp last e))) both.0 in
-        record { there = both.1; above = at_most_compared first e ends.0; below = below_by last e (ordered.cmp last e) refl ends.1 },
+        record {
+          there = both.1;
+          above = at_most_compared first e ends.0;
+          below = below_by last e (ordered.cmp last e) refl ends.1;
+        },
     λ b.
         has_filtered ∙ and_true (lies_between first last e) (has edges e)
-        (and_true (is_le (ordered.cmp first e)) (not (is_lt (ordered.cmp last e))) (compared_at_most first e b.above) (not_past_by last e (ordered.cmp last e) refl b.below)) b.there,
+        (and_true (is_le (ordered.cmp first e)) (not (is_lt (ordered.cmp last e))) (compared_at_most first e b.above)
+        (not_past_by last e (ordered.cmp last e) refl b.below)) b.there,
   )
 
-pub between_sorted : (first last : Edge) (edges : List Edge) → IsStrictlySortedBy ordered.cmp edges → IsSorted (filter (lies_between first last) edges)
-between_sorted first last edges s = sorted_by_place (filter (lies_between first last) edges) (IsStrictlySortedBy-filter ordered.cmp (lies_between first last) edges s)
+pub between_sorted : (first last : Edge) (edges : List Edge) → IsStrictlySortedBy ordered.cmp edges
+    → IsSorted (filter (lies_between first last) edges)
+between_sorted first last edges s = sorted_by_place (filter (lies_between first last) edges)
+    (IsStrictlySortedBy-filter ordered.cmp (lies_between first last) edges s)
 
 -- ---- out of a label
 
@@ -116,14 +124,16 @@ module _ (label : ℕ) (a : Authority) where
   pub with_forward : AtMost (edge label a 0) (edge label a 4294967295)
   with_forward = record { by_from = omega arith; by_authority = λ f. omega arith; by_to = λ f g. omega arith }
 
-  pub with_label : (e : Edge) → AtMost (edge label a 0) e → AtMost e (edge label a 4294967295) → (e.from ≡ label) × (e.authority ≡ a)
+  pub with_label : (e : Edge) → AtMost (edge label a 0) e → AtMost e (edge label a 4294967295)
+      → (e.from ≡ label) × (e.authority ≡ a)
   with_label e p q =
       let from : e.from ≡ label = let x : label ≤ e.from = p.by_from in let y : e.from ≤ label = q.by_from in omega arith in
       let x : number_of a ≤ number_of e.authority = p.by_authority (sym from) in
       let y : number_of e.authority ≤ number_of a = q.by_authority from in
       (from, same_number e.authority a (omega arith))
 
-  pub label_with : (m : ℕ) → m < 2 ^ 32 → AtMost (edge label a 0) (edge label a m) × AtMost (edge label a m) (edge label a 4294967295)
+  pub label_with : (m : ℕ) → m < 2 ^ 32 → AtMost (edge label a 0) (edge label a m)
+      × AtMost (edge label a m) (edge label a 4294967295)
   label_with m less = (
     record { by_from = omega arith; by_authority = λ f. omega arith; by_to = λ f g. omega arith },
     record { by_from = omega arith; by_authority = λ f. omega arith; by_to = λ f g. omega arith },

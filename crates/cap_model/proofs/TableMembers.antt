@@ -5,7 +5,7 @@ use Rattle.std.proofs.lemmas.Bool.{cases_lt}
 use Rattle.std.proofs.lemmas.Option.{slice_get_within, slice_get_read, get_or_from_slice_get}
 use Rattle.cap_model.specs.Edges.{edge, same_edge, AtMost, Before}
 use Rattle.cap_model.specs.Tables.{has, Has, IsSorted}
-use Rattle.cap_model.specs.declared.authority.Authority.{Authority}
+use Rattle.authorities.specs.declared.authority.Authority.{Authority}
 use Rattle.cap_model.specs.declared.edge.Edge.{Edge}
 use Rattle.cap_model.proofs.EdgeOrder.{same_edge_true, same_edge_self, at_most_self, before_at_most, not_before_self, not_before_both}
 
@@ -29,7 +29,8 @@ at_has (d ∷ edges) e h =
     ] refl h
 
 -- what stands no earlier is not less
-pub later_at_most : (edges : List Edge) (i k : ℕ) (d e : Edge) → IsSorted edges → i ≤ k → slice_get edges i ≡ Some d → slice_get edges k ≡ Some e → AtMost d e
+pub later_at_most : (edges : List Edge) (i k : ℕ) (d e : Edge) → IsSorted edges → i ≤ k → slice_get edges i ≡ Some d
+    → slice_get edges k ≡ Some e → AtMost d e
 later_at_most edges i k d e sorted le p q =
     elim (cases_lt i k) [
       | inl l ↦ before_at_most d e (sorted.by_place i k d e l p q)
@@ -53,7 +54,8 @@ has_head : (d : Edge) (edges : List Edge) → has (d ∷ edges) d ≡ true
 has_head d edges = rw (same_edge_self d) refl
 
 -- two lists in order that have the same edges begin with the same one
-heads_same : (c d : Edge) (xs ys : List Edge) → IsSorted (c ∷ xs) → IsSorted (d ∷ ys) → ((e : Edge) → has (c ∷ xs) e ≡ has (d ∷ ys) e) → c ≡ d
+heads_same : (c d : Edge) (xs ys : List Edge) → IsSorted (c ∷ xs) → IsSorted (d ∷ ys)
+    → ((e : Edge) → has (c ∷ xs) e ≡ has (d ∷ ys) e) → c ≡ d
 heads_same c d xs ys p q same =
     let there : has (d ∷ ys) c ≡ true = (let s = same c in let h = has_head c xs in cc) in
     let back : has (c ∷ xs) d ≡ true = (let s = same d in let h = has_head d ys in cc) in
@@ -65,17 +67,24 @@ heads_same c d xs ys p q same =
       ]
     ]
 
-tails_same : (d : Edge) (xs ys : List Edge) → IsSorted (d ∷ xs) → IsSorted (d ∷ ys) → ((e : Edge) → has (d ∷ xs) e ≡ has (d ∷ ys) e) → (e : Edge) → has xs e ≡ has ys e
+tails_same : (d : Edge) (xs ys : List Edge) → IsSorted (d ∷ xs) → IsSorted (d ∷ ys)
+    → ((e : Edge) → has (d ∷ xs) e ≡ has (d ∷ ys) e) → (e : Edge) → has xs e ≡ has ys e
 tails_same d xs ys p q same e = go (has xs e) (has ys e) refl refl where
   go : (a b : Bool) → has xs e ≡ a → has ys e ≡ b → a ≡ b
   go true true f g = refl
   go false false f g = refl
   go true false f g = absurd (
       let h : has (d ∷ ys) e ≡ true = (let s = same e in let t : has (d ∷ xs) e ≡ true = rw f (or_true (same_edge d e)) in cc) in
-      elim (first_or_later d e ys h) [ inl is ↦ not_before_self e (subst (λ (x : Edge). Before x e) is (head_before d e xs p f)) | inr k ↦ let z : true ≡ false = cc in cc ])
+      elim (first_or_later d e ys h) [
+        | inl is ↦ not_before_self e (subst (λ (x : Edge). Before x e) is (head_before d e xs p f))
+        | inr k ↦ let z : true ≡ false = cc in cc
+      ])
   go false true f g = absurd (
       let h : has (d ∷ xs) e ≡ true = (let s = same e in let t : has (d ∷ ys) e ≡ true = rw g (or_true (same_edge d e)) in cc) in
-      elim (first_or_later d e xs h) [ inl is ↦ not_before_self e (subst (λ (x : Edge). Before x e) is (head_before d e ys q g)) | inr k ↦ let z : true ≡ false = cc in cc ])
+      elim (first_or_later d e xs h) [
+        | inl is ↦ not_before_self e (subst (λ (x : Edge). Before x e) is (head_before d e ys q g))
+        | inr k ↦ let z : true ≡ false = cc in cc
+      ])
 
 -- a list in order is determined by the edges that it has
 pub one_table : (xs ys : List Edge) → IsSorted xs → IsSorted ys → ((e : Edge) → has xs e ≡ has ys e) → xs ≡ ys
@@ -85,7 +94,8 @@ one_table (c ∷ xs) [] p q same = absurd (let s = same c in let h = has_head c 
 one_table (c ∷ xs) (d ∷ ys) p q same =
     let is : c ≡ d = heads_same c d xs ys p q same in
     let q' : IsSorted (c ∷ ys) = subst (λ (x : Edge). IsSorted (x ∷ ys)) (sym is) q in
-    let same' : (e : Edge) → has (c ∷ xs) e ≡ has (c ∷ ys) e = subst (λ (x : Edge). (e : Edge) → has (c ∷ xs) e ≡ has (x ∷ ys) e) (sym is) same in
+    let same' : (e : Edge) → has (c ∷ xs) e ≡ has (c ∷ ys) e = subst (λ (x : Edge). (e : Edge) → has (c ∷ xs) e ≡ has (x ∷ ys) e)
+    (sym is) same in
     let rest : xs ≡ ys = one_table xs ys (sorted_tail c xs p) (sorted_tail c ys q') (tails_same c xs ys p q' same') in
     cc
 
@@ -95,7 +105,8 @@ pub contains_has : (edges : List Edge) (e : Edge) → Contains edges e → has e
 contains_has edges e c = has_at edges c.0 e (slice_get_read edges _ c.0 e refl c.1 (sym c.2))
 
 pub has_contains : (edges : List Edge) (e : Edge) → has edges e ≡ true → Contains edges e
-has_contains edges e h = let there = at_has edges e h in (there.0, slice_get_within edges there.0 e there.1, get_or_from_slice_get edges there.0 e e there.1)
+has_contains edges e h = let there = at_has edges e h in
+    (there.0, slice_get_within edges there.0 e there.1, get_or_from_slice_get edges there.0 e e there.1)
 
 pub has-contains : (edges : List Edge) (l : ℕ) (a : Authority) (m : ℕ) → (Has edges l a m) ↔ (Contains edges (edge l a m))
 has-contains edges l a m = (has_contains edges (edge l a m), contains_has edges (edge l a m))

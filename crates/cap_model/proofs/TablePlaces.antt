@@ -21,18 +21,21 @@ rises d e x most = go (ordered.cmp d x) (ordered.cmp e x) refl refl where
   go Equal Equal p q = omega arith
   go Equal Greater p q = omega arith
   go Greater Less p q = absurd (not_before_at_most e d (before_chain e x d (cmp-before e x q) (cmp-after d x p)) most)
-  go Greater Equal p q = absurd (not_before_at_most x d (cmp-after d x p) (subst (λ (y : Edge). AtMost d y) (cmp-same e x q) most))
+  go Greater Equal p q =
+      absurd (not_before_at_most x d (cmp-after d x p) (subst (λ (y : Edge). AtMost d y) (cmp-same e x q) most))
   go Greater Greater p q = omega arith
 
 -- what a search of a table by binary search answers
-pub is_ok-search : (edges : List Edge) (e : Edge) (found : Result ℕ ℕ) → IsSorted edges → IsSearchInRange found (length edges) → IsBinarySearchResult (λ d. ordered.cmp d e) edges found → is_ok found ≡ has edges e
+pub is_ok-search : (edges : List Edge) (e : Edge) (found : Result ℕ ℕ) → IsSorted edges → IsSearchInRange found (length edges)
+    → IsBinarySearchResult (λ d. ordered.cmp d e) edges found → is_ok found ≡ has edges e
 is_ok-search edges e (Ok i) sorted within found =
     let here : get_or edges i e ≡ e = cmp-same (get_or edges i e) e (found e) in
     sym (has_at edges i e (subst (λ (x : Edge). slice_get edges i ≡ Some x) here (slice_get-get_or edges i e within)))
 is_ok-search edges e (Err i) sorted within found = go (has edges e) refl where
   parted : IsPartitionPoint (λ d. ordered.cmp d e ≡ Less) (λ d. ordered.cmp d e ≡ Greater) edges i
   parted = found (λ j k d le l. rises (get_or edges j d) (get_or edges k d) e
-      (later_at_most edges j k (get_or edges j d) (get_or edges k d) sorted le (slice_get-get_or edges j d (omega arith)) (slice_get-get_or edges k d l)))
+      (later_at_most edges j k (get_or edges j d) (get_or edges k d) sorted le (slice_get-get_or edges j d (omega arith))
+      (slice_get-get_or edges k d l)))
 
   go : (b : Bool) → has edges e ≡ b → false ≡ b
   go false h = refl
@@ -41,24 +44,32 @@ is_ok-search edges e (Err i) sorted within found = go (has edges e) refl where
       let l = slice_get_within edges k.0 e k.1 in
       let here : get_or edges k.0 e ≡ e = get_or_from_slice_get edges k.0 e e k.1 in
       absurd (elim (cases_lt k.0 i) [
-        | inl below ↦ not_before_self e (cmp-before e e (subst (λ (x : Edge). ordered.cmp x e ≡ Less) here (parted.0 k.0 e (omega arith) below)))
-        | inr above ↦ not_before_self e (cmp-after e e (subst (λ (x : Edge). ordered.cmp x e ≡ Greater) here (parted.1 k.0 e above l)))
+        | inl below ↦
+            not_before_self e
+            (cmp-before e e (subst (λ (x : Edge). ordered.cmp x e ≡ Less) here (parted.0 k.0 e (omega arith) below)))
+        | inr above ↦
+            not_before_self e (cmp-after e e (subst (λ (x : Edge). ordered.cmp x e ≡ Greater) here (parted.1 k.0 e above l)))
       ])
 
 pub parted_from : (edges : List Edge) (label : ℕ) → IsSorted edges → IsPartitionedBy (λ e. nat_lt e.from label) edges
 parted_from edges label sorted i j d le l h =
-    let most : AtMost (get_or edges i d) (get_or edges j d) = later_at_most edges i j (get_or edges i d) (get_or edges j d) sorted le (slice_get-get_or edges i d (omega arith)) (slice_get-get_or edges j d l) in
+    let most : AtMost (get_or edges i d) (get_or edges j d) = later_at_most edges i j (get_or edges i d) (get_or edges j d) sorted
+    le (slice_get-get_or edges i d (omega arith)) (slice_get-get_or edges j d l) in
     let from : (get_or edges i d).from ≤ (get_or edges j d).from = most.by_from in
     grind arith
 
-pub first_from_parted : (edges : List Edge) (label at : ℕ) → at ≤ length edges → IsPartitionPoint (λ e. nat_lt e.from label ≡ true) (λ e. nat_lt e.from label ≡ false) edges at → IsFirstFrom edges label at
+pub first_from_parted : (edges : List Edge) (label at : ℕ) → at ≤ length edges
+    → IsPartitionPoint (λ e. nat_lt e.from label ≡ true) (λ e. nat_lt e.from label ≡ false) edges at → IsFirstFrom edges label at
 first_from_parted edges label at bound parted = record {
   bound = bound;
-  below = λ k d l h. let p = parted.0 k d (omega arith) l in let is : get_or edges k d ≡ d = get_or_from_slice_get edges k d d h in let q : nat_lt d.from label ≡ true = rw (← is) p in grind arith;
-  above = λ k d le h. let p = parted.1 k d le (slice_get_within edges k d h) in let is : get_or edges k d ≡ d = get_or_from_slice_get edges k d d h in let q : nat_lt d.from label ≡ false = rw (← is) p in grind arith;
+  below = λ k d l h. let p = parted.0 k d (omega arith) l in let is : get_or edges k d ≡ d =
+      get_or_from_slice_get edges k d d h in let q : nat_lt d.from label ≡ true = rw (← is) p in grind arith;
+  above = λ k d le h. let p = parted.1 k d le (slice_get_within edges k d h) in let is : get_or edges k d ≡ d =
+      get_or_from_slice_get edges k d d h in let q : nat_lt d.from label ≡ false = rw (← is) p in grind arith;
 }
 
-pub firsts_in_order : (edges : List Edge) (e : Edge) (label low high : ℕ) → IsFirstFrom edges label low → IsFirstFrom edges (label + 1) high → low ≤ high
+pub firsts_in_order : (edges : List Edge) (e : Edge) (label low high : ℕ) → IsFirstFrom edges label low
+    → IsFirstFrom edges (label + 1) high → low ≤ high
 firsts_in_order edges e label low high p q =
     elim (cases_lt high low) [
       | inl less ↦

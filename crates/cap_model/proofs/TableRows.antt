@@ -8,13 +8,13 @@ use Rattle.std.proofs.lemmas.List.{length-append, take-append-drop, take_all}
 use Rattle.std.proofs.lemmas.List.Concat.{flat_map-append}
 use Rattle.std.proofs.lemmas.Option.{slice_get_within, slice_get-get_or, slice_get_past, slice_get_read, get_or_from_slice_get}
 use Rattle.std.proofs.lemmas.Bool.Decides.{eqb_tells}
-use Rattle.cap_model.specs.Authorities.{number_of}
+use Rattle.authorities.specs.Authorities.{number_of}
 use Rattle.cap_model.specs.Classes.{IsClassOf}
 use Rattle.cap_model.specs.Edges.{edge}
 use Rattle.cap_model.specs.Rows.{edge_to, edges_of, table_edges, IsClass, HasRising, HasPlaces, FirstsRise, IsRowOf, NoRowOf, IsRowFrom, IsRowPast, IsTable}
 use Rattle.cap_model.specs.Tables.{has, Has, IsSorted, IsFirstFrom}
-use Rattle.cap_model.specs.declared.authority.Authority.{Authority}
-use Rattle.cap_model.specs.declared.authority.Authority.TheVariants.{Reply}
+use Rattle.authorities.specs.declared.authority.Authority.{Authority}
+use Rattle.authorities.specs.declared.authority.Authority.TheVariants.{Reply}
 use Rattle.cap_model.specs.declared.edge.Edge.{Edge}
 use Rattle.cap_model.specs.declared.rows.Class.{Class}
 use Rattle.cap_model.specs.declared.rows.Row.{Row}
@@ -29,19 +29,25 @@ use Rattle.cap_model.proofs.Runs.{taken_place}
 -- ---- lists one behind another
 
 module _ {X Y : Type 0} (f : X → List Y) where
-  pub around : (xs : List X) (i : ℕ) (x : X) → slice_get xs i ≡ Some x → flat_map f xs ≡ flat_map f (take i xs) ++ (f x ++ flat_map f (drop (suc i) xs))
+  pub around : (xs : List X) (i : ℕ) (x : X) → slice_get xs i ≡ Some x → flat_map f xs ≡ flat_map f (take i xs)
+      ++ (f x ++ flat_map f (drop (suc i) xs))
   around [] i x e = cc
   around (z ∷ xs) zero x e = let same : z ≡ x = cc in ap (λ w. f w ++ flat_map f xs) same
-  around (z ∷ xs) (suc i) x e = ap (λ ys. f z ++ ys) (around xs i x e) ∙ sym (append_assoc (f z) (flat_map f (take i xs)) (f x ++ flat_map f (drop (suc i) xs)))
+  around (z ∷ xs) (suc i) x e = ap (λ ys. f z ++ ys) (around xs i x e)
+      ∙ sym (append_assoc (f z) (flat_map f (take i xs)) (f x ++ flat_map f (drop (suc i) xs)))
 
-  pub one_more : (xs : List X) (i : ℕ) (x : X) → slice_get xs i ≡ Some x → length (flat_map f (take (suc i) xs)) ≡ length (flat_map f (take i xs)) + length (f x)
+  pub one_more : (xs : List X) (i : ℕ) (x : X) → slice_get xs i ≡ Some x
+      → length (flat_map f (take (suc i) xs)) ≡ length (flat_map f (take i xs)) + length (f x)
   one_more [] i x e = cc
-  one_more (z ∷ xs) zero x e = let same : z ≡ x = cc in let l = length-append (f z) [] in let m : length (f z) ≡ length (f x) = ap (λ w. length (f w)) same in omega arith
+  one_more (z ∷ xs) zero x e = let same : z ≡ x = cc in let l = length-append (f z) [] in let m : length (f z) ≡ length (f x) =
+      ap (λ w. length (f w)) same in omega arith
   one_more (z ∷ xs) (suc i) x e =
       let ih = one_more xs i x e in
-      let a = length-append (f z) (flat_map f (take (suc i) xs)) in let b = length-append (f z) (flat_map f (take i xs)) in omega arith
+      let a = length-append (f z) (flat_map f (take (suc i) xs)) in let b = length-append (f z) (flat_map f (take i xs)) in
+      omega arith
 
-  pub get_of : (xs : List X) (i j at : ℕ) (x : X) → slice_get xs i ≡ Some x → at ≡ length (flat_map f (take i xs)) + j → j < length (f x) → slice_get (flat_map f xs) at ≡ slice_get (f x) j
+  pub get_of : (xs : List X) (i j at : ℕ) (x : X) → slice_get xs i ≡ Some x → at ≡ length (flat_map f (take i xs)) + j
+      → j < length (f x) → slice_get (flat_map f xs) at ≡ slice_get (f x) j
   get_of xs i j at x e n l =
       ap (λ ys. slice_get ys at) (around xs i x e)
       ∙ get_behind (flat_map f (take i xs)) (f x ++ flat_map f (drop (suc i) xs)) j at n
@@ -53,26 +59,32 @@ module _ {X Y : Type 0} (f : X → List Y) where
 dropped_at : {X : Type 0} (i : ℕ) (xs : List X) (k : ℕ) (x : X) → slice_get (drop i xs) k ≡ Some x → slice_get xs (i + k) ≡ Some x
 dropped_at zero xs k x e = let same : 0 + k ≡ k = omega arith in ap (λ n. slice_get xs n) same ∙ e
 dropped_at (suc i) [] k x e = cc
-dropped_at (suc i) (y ∷ xs) k x e = let same : suc i + k ≡ suc (i + k) = omega arith in ap (λ n. slice_get (y ∷ xs) n) same ∙ dropped_at i xs k x e
+dropped_at (suc i) (y ∷ xs) k x e = let same : suc i + k ≡ suc (i + k) = omega arith in ap (λ n. slice_get (y ∷ xs) n) same
+    ∙ dropped_at i xs k x e
 
 -- ---- binary search among rows
 
-module _ (p : Row → Bool) (rows : List Row) (at : ℕ) (bound : at ≤ length rows) (point : IsPartitionPoint (λ r. p r ≡ true) (λ r. p r ≡ false) rows at) where
+module _ (p : Row → Bool) (rows : List Row) (at : ℕ) (bound : at ≤ length rows) (point : IsPartitionPoint (λ r. p r ≡ true)
+    (λ r. p r ≡ false) rows at) where
   pub before_point : (k : ℕ) (r : Row) → k < at → slice_get rows k ≡ Some r → p r ≡ true
-  before_point k r l h = let is : get_or rows k r ≡ r = get_or_from_slice_get rows k r r h in subst (λ (x : Row). p x ≡ true) is (point.0 k r (omega arith) l)
+  before_point k r l h = let is : get_or rows k r ≡ r = get_or_from_slice_get rows k r r h in
+      subst (λ (x : Row). p x ≡ true) is (point.0 k r (omega arith) l)
 
   pub behind_point : (k : ℕ) (r : Row) → at ≤ k → slice_get rows k ≡ Some r → p r ≡ false
-  behind_point k r l h = let is : get_or rows k r ≡ r = get_or_from_slice_get rows k r r h in subst (λ (x : Row). p x ≡ false) is (point.1 k r l (slice_get_within rows k r h))
+  behind_point k r l h = let is : get_or rows k r ≡ r = get_or_from_slice_get rows k r r h in
+      subst (λ (x : Row). p x ≡ false) is (point.1 k r l (slice_get_within rows k r h))
 
 pub labels_parted : (rows : List Row) (label : ℕ) → HasRising rows → IsPartitionedBy (λ r. nat_lt r.label label) rows
 labels_parted rows label rising i j d le l h = elim (cases_lt i j) [
   | inl less ↦
-      let up : (get_or rows i d).label < (get_or rows j d).label = rising.by_place i j _ _ less (slice_get-get_or rows i d (omega arith)) (slice_get-get_or rows j d l) in
+      let up : (get_or rows i d).label < (get_or rows j d).label =
+      rising.by_place i j _ _ less (slice_get-get_or rows i d (omega arith)) (slice_get-get_or rows j d l) in
       grind arith
   | inr ge ↦ let same : j ≡ i = omega arith in subst (λ k. nat_lt (get_or rows k d).label label ≡ true) same h
 ]
 
-pub row_from : (rows : List Row) (label at : ℕ) → at ≤ length rows → IsPartitionPoint (λ r. nat_lt r.label label ≡ true) (λ r. nat_lt r.label label ≡ false) rows at → IsRowFrom rows label at
+pub row_from : (rows : List Row) (label at : ℕ) → at ≤ length rows → IsPartitionPoint (λ r. nat_lt r.label label ≡ true)
+    (λ r. nat_lt r.label label ≡ false) rows at → IsRowFrom rows label at
 row_from rows label at bound point = record {
   bound = bound;
   below = λ k r l h. let t = before_point (λ r. nat_lt r.label label) rows at bound point k r l h in grind arith;
@@ -80,7 +92,8 @@ row_from rows label at bound point = record {
 }
 
 -- behind the row of a label
-pub row_from-behind : (rows : List Row) (label near : ℕ) (r : Row) → HasRising rows → slice_get rows near ≡ Some r → r.label ≡ label → IsRowFrom rows (label + 1) (near + 1)
+pub row_from-behind : (rows : List Row) (label near : ℕ) (r : Row) → HasRising rows → slice_get rows near ≡ Some r
+    → r.label ≡ label → IsRowFrom rows (label + 1) (near + 1)
 row_from-behind rows label near r rising there is = record {
   bound = (let w = slice_get_within rows near r there in omega arith);
   below = λ k s l h. elim (cases_lt k near) [
@@ -96,10 +109,12 @@ row_from-behind rows label near r rising there is = record {
 
 pub firsts_parted : (rows : List Row) (place : ℕ) → FirstsRise rows → IsPartitionedBy (λ r. nat_le r.first place) rows
 firsts_parted rows place rise i j d le l h =
-    let up : (get_or rows i d).first ≤ (get_or rows j d).first = rise.by_place i j _ _ le (slice_get-get_or rows i d (omega arith)) (slice_get-get_or rows j d l) in
+    let up : (get_or rows i d).first ≤ (get_or rows j d).first =
+    rise.by_place i j _ _ le (slice_get-get_or rows i d (omega arith)) (slice_get-get_or rows j d l) in
     grind arith
 
-pub row_past : (rows : List Row) (place at : ℕ) → at ≤ length rows → IsPartitionPoint (λ r. nat_le r.first place ≡ true) (λ r. nat_le r.first place ≡ false) rows at → IsRowPast rows place at
+pub row_past : (rows : List Row) (place at : ℕ) → at ≤ length rows → IsPartitionPoint (λ r. nat_le r.first place ≡ true)
+    (λ r. nat_le r.first place ≡ false) rows at → IsRowPast rows place at
 row_past rows place at bound point = record {
   bound = bound;
   below = λ k r l h. let t = before_point (λ r. nat_le r.first place) rows at bound point k r l h in grind arith;
@@ -107,7 +122,8 @@ row_past rows place at bound point = record {
 }
 
 -- a row of another label at the place where the label's row would stand
-pub no_row : (rows : List Row) (label at : ℕ) → HasRising rows → IsRowFrom rows label at → ((r : Row) → slice_get rows at ≡ Some r → r.label ≡ label → ⊥) → NoRowOf rows label
+pub no_row : (rows : List Row) (label at : ℕ) → HasRising rows → IsRowFrom rows label at
+    → ((r : Row) → slice_get rows at ≡ Some r → r.label ≡ label → ⊥) → NoRowOf rows label
 no_row rows label at rising from other i r e same = elim (cases_lt i at) [
   | inl l ↦ let b : r.label < label = from.below i r l e in omega arith
   | inr ge ↦ elim (cases_lt at i) [
@@ -123,7 +139,8 @@ no_row rows label at rising from other i r e same = elim (cases_lt i at) [
 
 -- ---- the rows of a table
 
-taken_rises : {X Y : Type 0} (f : X → List Y) (xs : List X) (i j : ℕ) → i ≤ j → length (flat_map f (take i xs)) ≤ length (flat_map f (take j xs))
+taken_rises : {X Y : Type 0} (f : X → List Y) (xs : List X) (i j : ℕ) → i ≤ j
+    → length (flat_map f (take i xs)) ≤ length (flat_map f (take j xs))
 taken_rises f xs zero j le = omega arith
 taken_rises f [] (suc i) j le = omega arith
 taken_rises f (x ∷ xs) (suc i) zero le = absurd (omega (arith, le))
@@ -157,7 +174,8 @@ module _ (classes : List Class) (rows : List Row) where
       let first = places.first i r e in
       let le : r.first ≤ place = past.below i r (omega arith) e in
       elim (cases_lt (place - r.first) (length (edges_of (slice_get classes r.class) r))) [
-        | inl less ↦ sym (get_of (λ r. edges_of (slice_get classes r.class) r) rows i (place - r.first) place r e (omega arith) less)
+        | inl less ↦ sym (get_of (λ r. edges_of (slice_get classes r.class) r) rows i (place - r.first) place r e
+            (omega arith) less)
         | inr ge ↦
             let more = one_more (λ r. edges_of (slice_get classes r.class) r) rows i r e in
             let bound = past.bound in
@@ -169,32 +187,39 @@ module _ (classes : List Class) (rows : List Row) where
                   absurd (omega arith)
               | inr l ↦
                   let all : take (suc i) rows ≡ rows = take_all (suc i) rows l in
-                  let same : length (table_edges classes (take (suc i) rows)) ≡ length (table_edges classes rows) = ap (λ ys. length (table_edges classes ys)) all in
+                  let same : length (table_edges classes (take (suc i) rows)) ≡ length (table_edges classes rows) =
+                  ap (λ ys. length (table_edges classes ys)) all in
                   omega arith
             ] in
-            slice_get_past (edges_of (slice_get classes r.class) r) (place - r.first) ge ∙ sym (slice_get_past (table_edges classes rows) place end)
+            slice_get_past (edges_of (slice_get classes r.class) r) (place - r.first) ge
+            ∙ sym (slice_get_past (table_edges classes rows) place end)
       ]
 
   -- which edges there are
-  pub in_table : (i : ℕ) (r : Row) (e : Edge) → slice_get rows i ≡ Some r → IsIn e (edges_of (slice_get classes r.class) r) → IsIn e (table_edges classes rows)
+  pub in_table : (i : ℕ) (r : Row) (e : Edge) → slice_get rows i ≡ Some r → IsIn e (edges_of (slice_get classes r.class) r)
+      → IsIn e (table_edges classes rows)
   in_table i r e there h = in_flat_map (λ r. edges_of (slice_get classes r.class) r) r e rows (in_place r rows i there) h
 
-  pub from_table : (e : Edge) → IsIn e (table_edges classes rows) → (i : ℕ) × (r : Row) × (slice_get rows i ≡ Some r) × IsIn e (edges_of (slice_get classes r.class) r) × (r.label ≡ e.from)
+  pub from_table : (e : Edge) → IsIn e (table_edges classes rows) → (i : ℕ) × (r : Row) × (slice_get rows i ≡ Some r)
+      × IsIn e (edges_of (slice_get classes r.class) r) × (r.label ≡ e.from)
   from_table e h =
       let p = from_flat_map (λ r. edges_of (slice_get classes r.class) r) e rows h in
       let there = place_of p.0 rows p.1 in
       (there.0, p.0, there.1, p.2, sym (of_label (slice_get classes p.0.class) p.0 e p.2))
 
-  pub one_row : (i j : ℕ) (r s : Row) → HasRising rows → slice_get rows i ≡ Some r → slice_get rows j ≡ Some s → r.label ≡ s.label → r ≡ s
+  pub one_row : (i j : ℕ) (r s : Row) → HasRising rows → slice_get rows i ≡ Some r → slice_get rows j ≡ Some s
+      → r.label ≡ s.label → r ≡ s
   one_row i j r s rising p q same = elim (cases_lt i j) [
     | inl l ↦ absurd (let up = rising.by_place i j r s l p q in omega arith)
     | inr ge ↦ elim (cases_lt j i) [
       | inl l ↦ absurd (let up = rising.by_place j i s r l q p in omega arith)
-      | inr le ↦ let here : i ≡ j = omega arith in let t : slice_get rows j ≡ Some r = subst (λ k. slice_get rows k ≡ Some r) here p in cc
+      | inr le ↦ let here : i ≡ j = omega arith in let t : slice_get rows j ≡ Some r =
+          subst (λ k. slice_get rows k ≡ Some r) here p in cc
     ]
   ]
 
-  pub has_of_row : (i : ℕ) (r : Row) (e : Edge) → HasRising rows → slice_get rows i ≡ Some r → r.label ≡ e.from → has (edges_of (slice_get classes r.class) r) e ≡ has (table_edges classes rows) e
+  pub has_of_row : (i : ℕ) (r : Row) (e : Edge) → HasRising rows → slice_get rows i ≡ Some r → r.label ≡ e.from
+      → has (edges_of (slice_get classes r.class) r) e ≡ has (table_edges classes rows) e
   has_of_row i r e rising there label = one_truth _ _
       (λ h. has_in _ e (in_table i r e there (in_has _ e h)))
       (λ h. (
@@ -210,38 +235,48 @@ module _ (classes : List Class) (rows : List Row) where
       go false h = refl
 
   -- where the edges from a label on begin
-  pub first_from : (label at : ℕ) → IsRowFrom rows label at → IsFirstFrom (table_edges classes rows) label (length (table_edges classes (take at rows)))
+  pub first_from : (label at : ℕ) → IsRowFrom rows label at
+      → IsFirstFrom (table_edges classes rows) label (length (table_edges classes (take at rows)))
   first_from label at from =
-      let two : table_edges classes rows ≡ table_edges classes (take at rows) ++ table_edges classes (drop at rows) = in_two (λ r. edges_of (slice_get classes r.class) r) rows at in
-      let long : length (table_edges classes rows) ≡ length (table_edges classes (take at rows)) + length (table_edges classes (drop at rows)) =
-      ap (λ (ys : List Edge). length ys) two ∙ length-append (table_edges classes (take at rows)) (table_edges classes (drop at rows)) in
+      let two : table_edges classes rows ≡ table_edges classes (take at rows) ++ table_edges classes (drop at rows) =
+      in_two (λ r. edges_of (slice_get classes r.class) r) rows at in
+      let long : length (table_edges classes rows) ≡ length (table_edges classes (take at rows)) + length
+      (table_edges classes (drop at rows)) =
+      ap (λ (ys : List Edge). length ys) two ∙ length-append (table_edges classes (take at rows))
+      (table_edges classes (drop at rows)) in
       record {
         bound = omega arith;
-        below = λ k d less e. elim (split_get (table_edges classes (take at rows)) (table_edges classes (drop at rows)) k d (subst (λ ys. slice_get ys k ≡ Some d) two e)) [
-          | inl h ↦ (
-              let p = from_flat_map (λ r. edges_of (slice_get classes r.class) r) d (take at rows) (in_place d _ k h) in
-              let there = place_of p.0 (take at rows) p.1 in
-              let t = taken_place at rows there.0 p.0 there.1 in
-              let same = of_label (slice_get classes p.0.class) p.0 d p.2 in
-              let low = from.below there.0 p.0 t.0 t.1 in omega arith)
-          | inr h ↦ absurd (let n = h.1 in omega arith)
-        ];
-        above = λ k d le e. elim (split_get (table_edges classes (take at rows)) (table_edges classes (drop at rows)) k d (subst (λ ys. slice_get ys k ≡ Some d) two e)) [
-          | inl h ↦ absurd (let w = slice_get_within (table_edges classes (take at rows)) k d h in omega arith)
-          | inr h ↦ (
-              let p = from_flat_map (λ r. edges_of (slice_get classes r.class) r) d (drop at rows) (in_place d _ h.0 h.2) in
-              let there = place_of p.0 (drop at rows) p.1 in
-              let t = dropped_at at rows there.0 p.0 there.1 in
-              let same = of_label (slice_get classes p.0.class) p.0 d p.2 in
-              let high = from.above (at + there.0) p.0 (omega arith) t in omega arith)
-        ];
+        below = λ k d less e. elim (split_get (table_edges classes (take at rows)) (table_edges classes (drop at rows)) k d
+            (subst (λ ys. slice_get ys k ≡ Some d) two e)) [
+              | inl h ↦ (
+                  let p = from_flat_map (λ r. edges_of (slice_get classes r.class) r) d (take at rows) (in_place d _ k h) in
+                  let there = place_of p.0 (take at rows) p.1 in
+                  let t = taken_place at rows there.0 p.0 there.1 in
+                  let same = of_label (slice_get classes p.0.class) p.0 d p.2 in
+                  let low = from.below there.0 p.0 t.0 t.1 in omega arith)
+              | inr h ↦ absurd (let n = h.1 in omega arith)
+            ];
+        above = λ k d le e. elim (split_get (table_edges classes (take at rows)) (table_edges classes (drop at rows)) k d
+            (subst (λ ys. slice_get ys k ≡ Some d) two e)) [
+              | inl h ↦ absurd (let w = slice_get_within (table_edges classes (take at rows)) k d h in omega arith)
+              | inr h ↦ (
+                  let p = from_flat_map (λ r. edges_of (slice_get classes r.class) r) d (drop at rows) (in_place d _ h.0 h.2) in
+                  let there = place_of p.0 (drop at rows) p.1 in
+                  let t = dropped_at at rows there.0 p.0 there.1 in
+                  let same = of_label (slice_get classes p.0.class) p.0 d p.2 in
+                  let high = from.above (at + there.0) p.0 (omega arith) t in omega arith)
+            ];
       }
 
-  pub place_from : (label at : ℕ) (r : Row) → HasPlaces classes rows → IsRowFrom rows label at → slice_get rows at ≡ Some r → IsFirstFrom (table_edges classes rows) label r.first
-  place_from label at r places from e = subst (λ n. IsFirstFrom (table_edges classes rows) label n) (sym (places.first at r e)) (first_from label at from)
+  pub place_from : (label at : ℕ) (r : Row) → HasPlaces classes rows → IsRowFrom rows label at → slice_get rows at ≡ Some r
+      → IsFirstFrom (table_edges classes rows) label r.first
+  place_from label at r places from e = subst (λ n. IsFirstFrom (table_edges classes rows) label n) (sym (places.first at r e))
+      (first_from label at from)
 
-  pub place_past : (label at : ℕ) → IsRowFrom rows label at → length rows ≤ at → IsFirstFrom (table_edges classes rows) label (length (table_edges classes rows))
-  place_past label at from le = subst (λ ys. IsFirstFrom (table_edges classes rows) label (length (table_edges classes ys))) (take_all at rows le) (first_from label at from)
+  pub place_past : (label at : ℕ) → IsRowFrom rows label at → length rows ≤ at
+      → IsFirstFrom (table_edges classes rows) label (length (table_edges classes rows))
+  place_past label at from le = subst (λ ys. IsFirstFrom (table_edges classes rows) label (length (table_edges classes ys)))
+      (take_all at rows le) (first_from label at from)
 
 -- ---- classes
 
@@ -256,10 +291,13 @@ unmapped l (p ∷ pairs) = ap (λ ps. p ∷ ps) (unmapped l pairs)
 same_pairs : (xs ys : List (Authority × ℕ)) → IsSorted (map (edge_to 0) xs) → IsSorted (map (edge_to 0) ys)
     → ((p : Authority × ℕ) → has (map (edge_to 0) xs) (edge_to 0 p) ≡ has (map (edge_to 0) ys) (edge_to 0 p)) → xs ≡ ys
 same_pairs xs ys p q same =
-    let one : map (edge_to 0) xs ≡ map (edge_to 0) ys = one_table (map (edge_to 0) xs) (map (edge_to 0) ys) p q (λ e. one_truth _ _ (there xs ys same e) (there ys xs (λ p. sym (same p)) e)) in
+    let one : map (edge_to 0) xs ≡ map (edge_to 0) ys = one_table (map (edge_to 0) xs) (map (edge_to 0) ys) p q
+    (λ e. one_truth _ _ (there xs ys same e) (there ys xs (λ p. sym (same p)) e)) in
     sym (unmapped 0 xs) ∙ ap (λ es. map pair_of es) one ∙ unmapped 0 ys
   where
-    there : (us vs : List (Authority × ℕ)) → ((p : Authority × ℕ) → has (map (edge_to 0) us) (edge_to 0 p) ≡ has (map (edge_to 0) vs) (edge_to 0 p)) → (e : Edge) → has (map (edge_to 0) us) e ≡ true → has (map (edge_to 0) vs) e ≡ true
+    there : (us vs : List (Authority × ℕ))
+        → ((p : Authority × ℕ) → has (map (edge_to 0) us) (edge_to 0 p) ≡ has (map (edge_to 0) vs) (edge_to 0 p)) → (e : Edge)
+        → has (map (edge_to 0) us) e ≡ true → has (map (edge_to 0) vs) e ≡ true
     there us vs same e h =
         let p = from_map (edge_to 0) e us (in_has _ e h) in
         subst (λ (d : Edge). has (map (edge_to 0) vs) d ≡ true) p.2 (sym (same p.0) ∙ has_in _ _ (in_map (edge_to 0) p.0 us p.1))
@@ -271,7 +309,8 @@ is_reply_or_not a = elim (eqb_tells (number_of a) 9) [
 ]
 
 -- no list of a class has a pair of Reply
-no_reply : (c d : Class) → IsClass c → IsClass d → (q : Authority × ℕ) → q.0 ≡ Reply → has (map (edge_to 0) c.pairs.items) (edge_to 0 q) ≡ has (map (edge_to 0) d.pairs.items) (edge_to 0 q)
+no_reply : (c d : Class) → IsClass c → IsClass d → (q : Authority × ℕ) → q.0 ≡ Reply
+    → has (map (edge_to 0) c.pairs.items) (edge_to 0 q) ≡ has (map (edge_to 0) d.pairs.items) (edge_to 0 q)
 no_reply c d p q' q is = one_truth _ _
     (λ h. absurd (others c p (q.0, q.1) (in_pairs 0 c.pairs.items 0 q.0 q.1 (in_has _ _ h)) is))
     (λ h. absurd (others d q' (q.0, q.1) (in_pairs 0 d.pairs.items 0 q.0 q.1 (in_has _ _ h)) is))
@@ -281,7 +320,8 @@ some_number n l some = elim (eqb_tells n 0) [ inl t ↦ absurd (let e = t.1 in o
 
 module _ (classes : List Class) (rows : List Row) (table : IsTable classes rows) where
   -- the edges other than Reply out of a row's label are those of its class
-  pub has_pairs : (i : ℕ) (r : Row) (c : Class) (a : Authority) (x : ℕ) → slice_get rows i ≡ Some r → slice_get classes r.class ≡ Some c → a ≢ Reply
+  pub has_pairs : (i : ℕ) (r : Row) (c : Class) (a : Authority) (x : ℕ) → slice_get rows i ≡ Some r
+      → slice_get classes r.class ≡ Some c → a ≢ Reply
       → has (table_edges classes rows) (edge r.label a x) ≡ has (map (edge_to 0) c.pairs.items) (edge_to 0 (a, x))
   has_pairs i r c a x there class other =
       sym (has_of_row classes rows i r (edge r.label a x) table.rising there refl)
@@ -289,25 +329,33 @@ module _ (classes : List Class) (rows : List Row) (table : IsTable classes rows)
       ∙ sym (has_pair c r (table.lists r.class c class) a x other)
 
   pub no_class : (label : ℕ) → NoRowOf rows label → IsClassOf (table_edges classes rows) label None
-  no_class label none a x other h = let n : has (table_edges classes rows) (edge label a x) ≡ false = lacks_row classes rows (edge label a x) none in let z : true ≡ false = sym h ∙ n in cc
+  no_class label none a x other h = let n : has (table_edges classes rows) (edge label a x) ≡ false =
+      lacks_row classes rows (edge label a x) none in let z : true ≡ false = sym h ∙ n in cc
 
-  pub no_pairs : (label : ℕ) (r : Row) (c : Class) → IsRowOf rows label r → slice_get classes r.class ≡ Some c → c.pairs.items ≡ [] → IsClassOf (table_edges classes rows) label None
+  pub no_pairs : (label : ℕ) (r : Row) (c : Class) → IsRowOf rows label r → slice_get classes r.class ≡ Some c
+      → c.pairs.items ≡ [] → IsClassOf (table_edges classes rows) label None
   no_pairs label r c row class empty a x other h =
       let e : has (table_edges classes rows) (edge label a x) ≡ has (map (edge_to 0) c.pairs.items) (edge_to 0 (a, x)) =
-      subst (λ l. has (table_edges classes rows) (edge l a x) ≡ has (map (edge_to 0) c.pairs.items) (edge_to 0 (a, x))) row.2 (has_pairs row.0 r c a x row.1 class other) in
-      let n : has (map (edge_to 0) c.pairs.items) (edge_to 0 (a, x)) ≡ false = ap (λ ps. has (map (edge_to 0) ps) (edge_to 0 (a, x))) empty in
+      subst (λ l. has (table_edges classes rows) (edge l a x) ≡ has (map (edge_to 0) c.pairs.items) (edge_to 0 (a, x))) row.2
+      (has_pairs row.0 r c a x row.1 class other) in
+      let n : has (map (edge_to 0) c.pairs.items) (edge_to 0 (a, x)) ≡ false =
+      ap (λ ps. has (map (edge_to 0) ps) (edge_to 0 (a, x))) empty in
       let z : true ≡ false = sym h ∙ e ∙ n in cc
 
-  pub class_is : (label : ℕ) (r : Row) (c : Class) → IsRowOf rows label r → slice_get classes r.class ≡ Some c → 0 < length c.pairs.items → IsClassOf (table_edges classes rows) label (Some c.label)
+  pub class_is : (label : ℕ) (r : Row) (c : Class) → IsRowOf rows label r → slice_get classes r.class ≡ Some c
+      → 0 < length c.pairs.items → IsClassOf (table_edges classes rows) label (Some c.label)
   class_is label r c row class some =
       let is_class : IsClass c = table.lists r.class c class in
       let p : Authority × ℕ = get_or c.pairs.items 0 (Reply, 0) in
       let among : IsIn p c.pairs.items = in_place p c.pairs.items 0 (slice_get-get_or c.pairs.items 0 (Reply, 0) some) in
       let other : p.0 ≢ Reply = others c is_class p among in
-      let out : (l i : ℕ) (s : Row) (d : Class) (a : Authority) (x : ℕ) → slice_get rows i ≡ Some s → slice_get classes s.class ≡ Some d → s.label ≡ l → a ≢ Reply
+      let out : (l i : ℕ) (s : Row) (d : Class) (a : Authority) (x : ℕ) → slice_get rows i ≡ Some s
+      → slice_get classes s.class ≡ Some d → s.label ≡ l → a ≢ Reply
       → has (table_edges classes rows) (edge l a x) ≡ has (map (edge_to 0) d.pairs.items) (edge_to 0 (a, x)) =
-      λ l i s d a x e k same o. subst (λ m. has (table_edges classes rows) (edge m a x) ≡ has (map (edge_to 0) d.pairs.items) (edge_to 0 (a, x))) same (has_pairs i s d a x e k o) in
-      let here : Has (table_edges classes rows) label p.0 p.1 = out label row.0 r c p.0 p.1 row.1 class row.2 other ∙ has_in _ _ (in_map (edge_to 0) p c.pairs.items among) in
+      λ l i s d a x e k same o. subst (λ m. has (table_edges classes rows) (edge m a x) ≡ has (map (edge_to 0) d.pairs.items)
+      (edge_to 0 (a, x))) same (has_pairs i s d a x e k o) in
+      let here : Has (table_edges classes rows) label p.0 p.1 = out label row.0 r c p.0 p.1 row.1 class row.2 other
+      ∙ has_in _ _ (in_map (edge_to 0) p c.pairs.items among) in
       record {
         some = (p.0, p.1, other, here);
         alike = λ a x o. (
@@ -321,10 +369,12 @@ module _ (classes : List Class) (rows : List Row) (table : IsTable classes rows)
             let within = table.classed from.0 s from.2 in
             let d : Class = get_or classes s.class c in
             let class' : slice_get classes s.class ≡ Some d = slice_get-get_or classes s.class c within in
-            let same : c.pairs.items ≡ d.pairs.items = same_pairs c.pairs.items d.pairs.items is_class.sorted (table.lists s.class d class').sorted (λ q.
+            let same : c.pairs.items ≡ d.pairs.items = same_pairs c.pairs.items d.pairs.items is_class.sorted
+            (table.lists s.class d class').sorted (λ q.
             elim (is_reply_or_not q.0) [
               | inl is ↦ no_reply c d is_class (table.lists s.class d class') q is
-              | inr o ↦ sym (out label row.0 r c q.0 q.1 row.1 class row.2 o) ∙ alike q.0 q.1 o ∙ out m from.0 s d q.0 q.1 from.2 class' from.4 o
+              | inr o ↦ sym (out label row.0 r c q.0 q.1 row.1 class row.2 o) ∙ alike q.0 q.1 o ∙ out m from.0 s d q.0 q.1 from.2
+                  class' from.4 o
             ]) in
             let one : r.class ≡ s.class = table.apart r.class s.class c d class class' same in
             let this : slice_get classes s.class ≡ Some c = subst (λ k. slice_get classes k ≡ Some c) one class in
@@ -336,18 +386,22 @@ module _ (classes : List Class) (rows : List Row) (table : IsTable classes rows)
       → n ≡ (if length c.pairs.items == 0 then None else Some c.label) → IsClassOf (table_edges classes rows) label n
   class_number label r c n row class is = go c.pairs.items refl
     where
-      at_number : (m : Option ℕ) → n ≡ m → IsClassOf (table_edges classes rows) label m → IsClassOf (table_edges classes rows) label n
+      at_number : (m : Option ℕ) → n ≡ m → IsClassOf (table_edges classes rows) label m
+          → IsClassOf (table_edges classes rows) label n
       at_number m e h = subst (λ (o : Option ℕ). IsClassOf (table_edges classes rows) label o) (sym e) h
 
       go : (ps : List (Authority × ℕ)) → c.pairs.items ≡ ps → IsClassOf (table_edges classes rows) label n
-      go [] e = at_number None (is ∙ ap (λ (ps : List (Authority × ℕ)). if length ps == 0 then None else Some c.label) e) (no_pairs label r c row class e)
+      go [] e = at_number None (is ∙ ap (λ (ps : List (Authority × ℕ)). if length ps == 0 then None else Some c.label) e)
+          (no_pairs label r c row class e)
       go (p ∷ ps) e =
           let long : length c.pairs.items ≡ length ps + 1 = ap (λ (qs : List (Authority × ℕ)). length qs) e ∙ omega arith in
-          at_number (Some c.label) (is ∙ some_number (length c.pairs.items) c.label (omega arith)) (class_is label r c row class (omega arith))
+          at_number (Some c.label) (is ∙ some_number (length c.pairs.items) c.label (omega arith))
+          (class_is label r c row class (omega arith))
 
 -- ---- what code has read of them
 
-pub at_past : (read rows : List Row) (place past : ℕ) (r : Row) → read ≡ rows → IsRowPast read place past → (past ≡ 0 → ⊥) → r ≡ get_or rows (past - 1) r
+pub at_past : (read rows : List Row) (place past : ℕ) (r : Row) → read ≡ rows → IsRowPast read place past → (past ≡ 0 → ⊥)
+    → r ≡ get_or rows (past - 1) r
     → (slice_get rows (past - 1) ≡ Some r) × IsRowPast rows place (past - 1 + 1)
 at_past read rows place past r same is_past some e =
     let there : IsRowPast rows place past = subst (λ (rs : List Row). IsRowPast rs place past) same is_past in
@@ -363,5 +417,6 @@ row_in read rows label r same row = (row.0, subst (λ (rs : List Row). slice_get
 pub none_in : (read rows : List Row) (label : ℕ) → read ≡ rows → NoRowOf read label → NoRowOf rows label
 none_in read rows label same none = subst (λ (rs : List Row). NoRowOf rs label) same none
 
-pub class_there : (classes : List Class) (rows : List Row) → IsTable classes rows → (i : ℕ) (r : Row) (c : Class) → slice_get rows i ≡ Some r → c ≡ get_or classes r.class c → slice_get classes r.class ≡ Some c
+pub class_there : (classes : List Class) (rows : List Row) → IsTable classes rows → (i : ℕ) (r : Row) (c : Class)
+    → slice_get rows i ≡ Some r → c ≡ get_or classes r.class c → slice_get classes r.class ≡ Some c
 class_there classes rows table i r c there e = slice_get_read classes (length classes) r.class c refl (table.classed i r there) e

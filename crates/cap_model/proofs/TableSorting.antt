@@ -28,9 +28,13 @@ sorted_by_place edges s = record {
 
 module _ (sorted kept : List Edge) (dedup_clause : IsFiltered (DiffersFromLast compared.eq) [] sorted kept) where
   pub sorted_then_dedup : IsInOrder ordered.cmp sorted → IsSorted kept
-  sorted_then_dedup s = rw (dedup_is compared.eq sorted kept dedup_clause) (sorted_by_place (dedup compared.eq sorted) (IsStrictlySortedBy-dedup total-law matches_eq-law sorted s))
+  sorted_then_dedup s = rw (dedup_is compared.eq sorted kept dedup_clause) (sorted_by_place (dedup compared.eq sorted)
+      (IsStrictlySortedBy-dedup total-law matches_eq-law sorted s))
 
   pub has-sorted_then_dedup : (edges : List Edge) → IsPermutation edges sorted → (e : Edge) → has kept e ≡ has edges e
-  has-sorted_then_dedup edges p e = rw (dedup_is compared.eq sorted kept dedup_clause) (one_truth (has (dedup compared.eq sorted) e) (has edges e)
-      (λ h. contains_has edges e (Contains-permutation sorted edges e (IsPermutation-sym edges sorted p) (Contains-from_dedup compared.eq sorted e (has_contains (dedup compared.eq sorted) e h))))
-      (λ h. contains_has (dedup compared.eq sorted) e (Contains-dedup laws-law eq-same sorted e (Contains-permutation edges sorted e p (has_contains edges e h)))))
+  has-sorted_then_dedup edges p e = rw (dedup_is compared.eq sorted kept dedup_clause)
+      (one_truth (has (dedup compared.eq sorted) e) (has edges e)
+      (λ h. contains_has edges e (Contains-permutation sorted edges e (IsPermutation-sym edges sorted p)
+      (Contains-from_dedup compared.eq sorted e (has_contains (dedup compared.eq sorted) e h))))
+      (λ h. contains_has (dedup compared.eq sorted) e (Contains-dedup laws-law eq-same sorted e
+      (Contains-permutation edges sorted e p (has_contains edges e h)))))

@@ -1,6 +1,6 @@
 -- How a list of edges grows: it keeps what it had, gains each edge with a property, and no other.
 use Rattle.std.specs.Prelude.{◌≡◌, ◌⊎◌, ℕ, true, List}
-use Rattle.cap_model.specs.AuthoritySets.{set_has}
+use Rattle.authorities.specs.AuthoritySets.{set_has}
 use Rattle.cap_model.specs.Tables.{has}
 use Rattle.cap_model.specs.declared.edge.Edge.{Edge}
 

@@ -9,8 +9,8 @@
 use Rattle.std.specs.Prelude.{◌≡◌, ◌⊎◌, ℕ, true, List, [], Option, Some, None}
 use Rattle.std.specs.List.{Contains}
 use Rattle.cap_model.specs.ObjectLabels.{label_of}
-use Rattle.cap_model.specs.declared.authority.Authority.{Authority}
-use Rattle.cap_model.specs.declared.authority.Authority.TheVariants.{AsyncSend, Control, Reply}
+use Rattle.authorities.specs.declared.authority.Authority.{Authority}
+use Rattle.authorities.specs.declared.authority.Authority.TheVariants.{AsyncSend, Control, Reply}
 use Rattle.cap_model.specs.declared.cap.Cap.{Cap}
 use Rattle.cap_model.specs.declared.kind.Kind.TheVariants.{Frame}
 use Rattle.cap_model.specs.declared.object.Object.{Object}
@@ -26,7 +26,8 @@ use Rattle.cap_model.specs.State.{State, node_at, thread_at, irq_at}
 -- what c's capabilities confer
 abbrev pub Held : Spec → List ℕ → State → ℕ → Authority → ℕ → Type 0
 Held spec labels s l a m =
-    (c i : ℕ) × (cap : Cap) × Contains (node_at s c).slots (i, Capability cap) × (confers spec cap a ≡ true) × (l ≡ label_of labels c) × (m ≡ label_of labels cap.object)
+    (c i : ℕ) × (cap : Cap) × Contains (node_at s c).slots (i, Capability cap) × (confers spec cap a ≡ true)
+    × (l ≡ label_of labels c) × (m ≡ label_of labels cap.object)
 
 abbrev pub buffer_of : Option Object → Option Cap
 buffer_of (Some (objects.Thread tcb)) = tcb.buffer
@@ -38,26 +39,33 @@ table_of _ = []
 
 abbrev pub OfBuffer : Spec → List ℕ → ℕ → Authority → ℕ → Type 0
 OfBuffer spec labels l a m =
-    (t : ℕ) × (cap : Cap) × (buffer_of (object_at spec t) ≡ Some cap) × (confers spec cap a ≡ true) × (l ≡ label_of labels t) × (m ≡ label_of labels cap.object)
+    (t : ℕ) × (cap : Cap) × (buffer_of (object_at spec t) ≡ Some cap) × (confers spec cap a ≡ true) × (l ≡ label_of labels t)
+    × (m ≡ label_of labels cap.object)
 
 abbrev pub OfTable : Spec → List ℕ → ℕ → Authority → ℕ → Type 0
 OfTable spec labels l a m =
-    (p i : ℕ) × (cap : Cap) × Contains (table_of (object_at spec p)) (i, cap) × (confers spec cap a ≡ true) × (l ≡ label_of labels p) × (m ≡ label_of labels cap.object)
+    (p i : ℕ) × (cap : Cap) × Contains (table_of (object_at spec p)) (i, cap) × (confers spec cap a ≡ true)
+    × (l ≡ label_of labels p) × (m ≡ label_of labels cap.object)
 
 abbrev pub OfRoot : List ℕ → State → ℕ → Authority → ℕ → Type 0
-OfRoot labels s l a m = (t d : ℕ) × ((thread_at s t).root ≡ Some d) × (a ≡ Control) × (l ≡ label_of labels t) × (m ≡ label_of labels d)
+OfRoot labels s l a m = (t d : ℕ) × ((thread_at s t).root ≡ Some d) × (a ≡ Control) × (l ≡ label_of labels t)
+    × (m ≡ label_of labels d)
 
 abbrev pub OfSpace : List ℕ → State → ℕ → Authority → ℕ → Type 0
-OfSpace labels s l a m = (t d : ℕ) × ((thread_at s t).space ≡ Some d) × (a ≡ Control) × (l ≡ label_of labels t) × (m ≡ label_of labels d)
+OfSpace labels s l a m = (t d : ℕ) × ((thread_at s t).space ≡ Some d) × (a ≡ Control) × (l ≡ label_of labels t)
+    × (m ≡ label_of labels d)
 
 abbrev pub OfReply : List ℕ → State → ℕ → Authority → ℕ → Type 0
-OfReply labels s l a m = (t : ℕ) × (pending : Pending) × ((thread_at s t).pending ≡ Some pending) × (a ≡ Reply) × (l ≡ label_of labels t) × (m ≡ label_of labels pending.caller)
+OfReply labels s l a m = (t : ℕ) × (pending : Pending) × ((thread_at s t).pending ≡ Some pending) × (a ≡ Reply)
+    × (l ≡ label_of labels t) × (m ≡ label_of labels pending.caller)
 
 abbrev pub OfSaved : List ℕ → State → ℕ → Authority → ℕ → Type 0
-OfSaved labels s l a m = (c i : ℕ) × (saved : Pending) × Contains (node_at s c).slots (i, SavedReply saved) × (a ≡ Reply) × (l ≡ label_of labels c) × (m ≡ label_of labels saved.caller)
+OfSaved labels s l a m = (c i : ℕ) × (saved : Pending) × Contains (node_at s c).slots (i, SavedReply saved) × (a ≡ Reply)
+    × (l ≡ label_of labels c) × (m ≡ label_of labels saved.caller)
 
 abbrev pub OfMapped : List ℕ → State → ℕ → Authority → ℕ → Type 0
-OfMapped labels s l a m = (added : Mapped) × Contains s.mapped added × (kind_confers Frame added.rights a ≡ true) × (l ≡ label_of labels added.space) × (m ≡ label_of labels added.frame)
+OfMapped labels s l a m = (added : Mapped) × Contains s.mapped added × (kind_confers Frame added.rights a ≡ true)
+    × (l ≡ label_of labels added.space) × (m ≡ label_of labels added.frame)
 
 abbrev pub OfIrq : List ℕ → State → ℕ → Authority → ℕ → Type 0
 OfIrq labels s l a m = (d n : ℕ) × (irq_at s d ≡ Some n) × (a ≡ AsyncSend) × (l ≡ label_of labels d) × (m ≡ label_of labels n)

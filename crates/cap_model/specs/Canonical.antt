@@ -38,7 +38,8 @@ elf_field (Some elf) = together (codes ", elf: \"" ∷ elf ∷ codes "\"" ∷ []
 -- `tcb_0 = tcb (addr: 0x40003000, ip: 0x10000, sp: 0x40002000, elf: "Client", prio: 254)`
 abbrev pub tcb_line : List ℕ → Tcb → List ℕ
 tcb_line name tcb =
-    together (name ∷ codes " = tcb (addr: " ∷ hex_text tcb.addr ∷ codes ", ip: " ∷ hex_text tcb.ip ∷ codes ", sp: " ∷ hex_text tcb.sp ∷ [])
+    together (name ∷ codes " = tcb (addr: " ∷ hex_text tcb.addr ∷ codes ", ip: " ∷ hex_text tcb.ip ∷ codes ", sp: "
+    ∷ hex_text tcb.sp ∷ [])
     ⊹ elf_field tcb.elf ⊹ together (codes ", prio: " ∷ decimal tcb.prio ∷ codes ")\n" ∷ [])
 
 -- `, paddr: 0x1000`
@@ -50,7 +51,8 @@ paddr_field (Some paddr) = together (codes ", paddr: " ∷ hex_text paddr ∷ []
 abbrev pub fill_field : Option Fill → List ℕ
 fill_field None = []
 fill_field (Some fill) =
-    together (codes ", fill: [{" ∷ decimal fill.offset ∷ codes " " ∷ decimal fill.length ∷ codes " CDL_FrameFill_FileData \"" ∷ fill.file ∷ codes "\" " ∷ hex_text fill.at ∷ codes "}]" ∷ [])
+    together (codes ", fill: [{" ∷ decimal fill.offset ∷ codes " " ∷ decimal fill.length ∷ codes " CDL_FrameFill_FileData \""
+    ∷ fill.file ∷ codes "\" " ∷ hex_text fill.at ∷ codes "}]" ∷ [])
 
 -- `frame_0 = frame (4k, fill: [{0 2048 CDL_FrameFill_FileData "Client" 0x1000}])`
 abbrev pub frame_line : List ℕ → Option ℕ → Option Fill → List ℕ
@@ -78,7 +80,8 @@ params true true rights badge = together (codes " (" ∷ rights_word rights ∷ 
 
 -- `ep_0 (WP, badge: 1)`, and the end of the line
 abbrev pub cap_end : Spec → Cap → List ℕ
-cap_end spec cap = name_at spec cap.object ⊹ params (has_rights cap.rights) (not (cap.badge == 0)) cap.rights cap.badge ⊹ codes "\n"
+cap_end spec cap = name_at spec cap.object ⊹ params (has_rights cap.rights) (not (cap.badge == 0)) cap.rights
+    cap.badge ⊹ codes "\n"
 
 -- `0x1: ep_0 (WP, badge: 1)`
 abbrev pub slot_line : Spec → ℕ × Cap → List ℕ
@@ -106,7 +109,8 @@ has_slot tcb = is_some tcb.cspace || (is_some tcb.vspace || is_some tcb.buffer)
 abbrev pub tcb_text : Spec → List ℕ → Tcb → Bool → List ℕ
 tcb_text spec name tcb false = []
 tcb_text spec name tcb true =
-    together (name ∷ codes " {\n" ∷ []) ⊹ named_line spec (codes "cspace: ") tcb.cspace ⊹ named_line spec (codes "vspace: ") tcb.vspace ⊹ buffer_line spec tcb.buffer ⊹ codes "}\n"
+    together (name ∷ codes " {\n" ∷ []) ⊹ named_line spec (codes "cspace: ") tcb.cspace ⊹ named_line spec (codes "vspace: ")
+    tcb.vspace ⊹ buffer_line spec tcb.buffer ⊹ codes "}\n"
 
 -- `irq_0 {`, its notification, `}`
 abbrev pub irq_text : Spec → List ℕ → Option ℕ → List ℕ

@@ -3,8 +3,8 @@
 use Rattle.std.specs.Prelude.{◌≡◌, ◌≢◌, ◌≤◌, ℕ, List, Option, Some, None}
 use Rattle.cap_model.specs.Edges.{edge}
 use Rattle.cap_model.specs.Tables.{has, Has}
-use Rattle.cap_model.specs.declared.authority.Authority.{Authority}
-use Rattle.cap_model.specs.declared.authority.Authority.TheVariants.{Reply}
+use Rattle.authorities.specs.declared.authority.Authority.{Authority}
+use Rattle.authorities.specs.declared.authority.Authority.TheVariants.{Reply}
 use Rattle.cap_model.specs.declared.edge.Edge.{Edge}
 
 -- the same edges other than Reply go out of l and of m

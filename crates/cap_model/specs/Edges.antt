@@ -1,7 +1,7 @@
 -- The order of edges: by the label they come from, then by the authority's number, then by the label they go to.
 use Rattle.std.specs.Prelude.{◌≡◌, ◌<◌, ◌≤◌, ℕ, ◌==◌, Bool, ◌&&◌}
-use Rattle.cap_model.specs.Authorities.{number_of}
-use Rattle.cap_model.specs.declared.authority.Authority.{Authority}
+use Rattle.authorities.specs.Authorities.{number_of}
+use Rattle.authorities.specs.declared.authority.Authority.{Authority}
 use Rattle.cap_model.specs.declared.edge.Edge.{Edge}
 
 abbrev pub edge : ℕ → Authority → ℕ → Edge

@@ -23,7 +23,16 @@ abbrev pub named : List ℕ → Object → Entry
 named name object = record { name = name; object = object }
 
 abbrev pub thread : List ℕ → ℕ → Object
-thread elf cspace = Thread (record { addr = 0; ip = 0; sp = 0; prio = 254; elf = Some elf; cspace = Some cspace; vspace = None; buffer = None })
+thread elf cspace = Thread (record {
+  addr = 0;
+  ip = 0;
+  sp = 0;
+  prio = 254;
+  elf = Some elf;
+  cspace = Some cspace;
+  vspace = None;
+  buffer = None;
+})
 
 abbrev pub lines : List (List ℕ) → List ℕ
 lines = flat_map (λ line. line)
@@ -83,7 +92,8 @@ abbrev pub driver : Spec
 driver = record {
   arch = Arm11;
   entries =
-      named (codes "cnode_0") (CNode 2 ((1, cap 2 (rights true false false false) 0) ∷ (2, plain 4) ∷ (3, cap 3 (rights true true false false) 0) ∷ []))
+      named (codes "cnode_0") (CNode 2 ((1, cap 2 (rights true false false false) 0) ∷ (2, plain 4)
+      ∷ (3, cap 3 (rights true true false false) 0) ∷ []))
       ∷ named (codes "tcb_0") (thread (codes "Driver") 0)
       ∷ named (codes "ntfn_0") Notification
       ∷ named (codes "lock_0") Notification
@@ -129,11 +139,21 @@ space = record {
   arch = Aarch64;
   entries =
       named (codes "cnode_0") (CNode 1 [])
-      ∷ named (codes "tcb_0") (Thread (record { addr = 0x8000003000; ip = 0x10000; sp = 0x8000002000; prio = 7; elf = None; cspace = None; vspace = Some 2; buffer = Some (cap 8 (rights true true false false) 0) }))
+      ∷ named (codes "tcb_0") (Thread (record {
+        addr = 0x8000003000;
+        ip = 0x10000;
+        sp = 0x8000002000;
+        prio = 7;
+        elf = None;
+        cspace = None;
+        vspace = Some 2;
+        buffer = Some (cap 8 (rights true true false false) 0);
+      }))
       ∷ named (codes "pgd_0") (Pages Global ((1, plain 3) ∷ []))
       ∷ named (codes "pud_0") (Pages Upper ((0, plain 4) ∷ []))
       ∷ named (codes "pd_0") (Pages Directory ((511, plain 5) ∷ []))
-      ∷ named (codes "pt_0") (Pages Table ((1, cap 6 (rights true false false false) 0) ∷ (3, cap 8 (rights true true false false) 0) ∷ (16, cap 7 (rights true true false false) 0) ∷ []))
+      ∷ named (codes "pt_0") (Pages Table ((1, cap 6 (rights true false false false) 0)
+      ∷ (3, cap 8 (rights true true false false) 0) ∷ (16, cap 7 (rights true true false false) 0) ∷ []))
       ∷ named (codes "frame_0") (Frame None (Some (record { offset = 0; length = 2048; file = codes "Client"; at = 0x1000 })))
       ∷ named (codes "frame_1") (Frame (Some 0x101f1000) None)
       ∷ named (codes "frame_2") (Frame None None)

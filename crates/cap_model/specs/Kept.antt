@@ -34,7 +34,8 @@ if_any test (Some x) = test x
 
 -- no right but those of `most`
 abbrev pub within : Rights → Rights → Bool
-within r most = ((not r.read || most.read) && (not r.write || most.write)) && ((not r.grant || most.grant) && (not r.reply || most.reply))
+within r most = ((not r.read || most.read) && (not r.write || most.write))
+    && ((not r.grant || most.grant) && (not r.reply || most.reply))
 
 -- rights and a badge only where the kind has them
 abbrev pub fits_kind : Option Kind → Cap → Bool
@@ -64,7 +65,8 @@ keeps_table spec level (Some n) slots = keeps_slots (fits_as spec (child level))
 
 -- the root is a CNode, the space a space root, the IPC buffer a frame, and the priority at most 255
 abbrev pub keeps_tcb : Spec → Tcb → Bool
-keeps_tcb spec tcb = (leb tcb.prio 255 && if_any (is_at spec kinds.CNode) tcb.cspace) && (if_any (is_space_root spec) tcb.vspace && if_any (fits_as spec kinds.Frame) tcb.buffer)
+keeps_tcb spec tcb = (leb tcb.prio 255 && if_any (is_at spec kinds.CNode) tcb.cspace)
+    && (if_any (is_space_root spec) tcb.vspace && if_any (fits_as spec kinds.Frame) tcb.buffer)
 
 -- some bytes, within the frame
 abbrev pub keeps_fill : Fill → Bool
@@ -88,7 +90,8 @@ names_differ entries = differ bytes_eq (map (λ entry. entry.name) entries)
 
 -- the lines rise by number, each to an interrupt object, and no two to one
 abbrev pub keeps_lines : Spec → List (ℕ × ℕ) → Bool
-keeps_lines spec lines = (rise lines && differ (λ a b. a == b) (map (λ line. line.1) lines)) && list_all (λ line. is_at spec kinds.Irq line.1) lines
+keeps_lines spec lines = (rise lines && differ (λ a b. a == b) (map (λ line. line.1) lines))
+    && list_all (λ line. is_at spec kinds.Irq line.1) lines
 
 pub record IsKept (spec : Spec) : Type 0 where
   pub few : length spec.entries < 2 ^ 32

@@ -26,10 +26,20 @@ held object r badge = spec_of Arm11 (CNode 1 ((1, cap 1 r badge) ∷ []) ∷ obj
 -- a thread in front of one object
 abbrev pub thread_at : Arch → ℕ → Option ℕ → Option ℕ → Option Cap → Object → Spec
 thread_at arch prio cspace vspace buffer object =
-    spec_of arch (Thread (record { addr = 0; ip = 0; sp = 0; prio = prio; elf = None; cspace = cspace; vspace = vspace; buffer = buffer }) ∷ object ∷ [])
+    spec_of arch (Thread (record {
+      addr = 0;
+      ip = 0;
+      sp = 0;
+      prio = prio;
+      elf = None;
+      cspace = cspace;
+      vspace = vspace;
+      buffer = buffer;
+    }) ∷ object ∷ [])
 
 abbrev pub filled : ℕ → ℕ → Spec
-filled offset length = spec_of Arm11 (Frame None (Some (record { offset = offset; length = length; file = codes "f"; at = 0 })) ∷ [])
+filled offset length =
+    spec_of Arm11 (Frame None (Some (record { offset = offset; length = length; file = codes "f"; at = 0 })) ∷ [])
 
 -- a page table in front of one object
 abbrev pub table_over : Arch → Object → Object → Spec
@@ -69,7 +79,10 @@ kept_ones =
 
 abbrev pub faulty_ones : List Spec
 faulty_ones =
-    record (spec_of Arm11 []) { entries = named (codes "a") Endpoint ∷ named (codes "b") Endpoint ∷ named (codes "a") Endpoint ∷ [] }
+    record (spec_of Arm11 []) {
+      entries = named (codes "a") Endpoint ∷ named (codes "b") Endpoint
+          ∷ named (codes "a") Endpoint ∷ [];
+    }
     ∷ spec_of Arm11 (CNode 0 [] ∷ [])
     ∷ spec_of Arm11 (CNode 17 [] ∷ [])
     ∷ spec_of Arm11 (CNode 1 ((2, plain 0) ∷ []) ∷ [])

@@ -5,7 +5,12 @@ use Rattle.cap_model.specs.declared.rights.Rights.{Rights}
 
 -- the meet of the two: the rights that stand in both
 abbrev pub both_rights : Rights → Rights → Rights
-both_rights rights r = record { read = rights.read && r.read; write = rights.write && r.write; grant = rights.grant && r.grant; reply = rights.reply && r.reply }
+both_rights rights r = record {
+  read = rights.read && r.read;
+  write = rights.write && r.write;
+  grant = rights.grant && r.grant;
+  reply = rights.reply && r.reply;
+}
 
 -- object and badge stay
 abbrev pub lessened : Cap → Rights → Cap

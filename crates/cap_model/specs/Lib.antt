@@ -12,8 +12,6 @@ pub mod Lookup
 pub mod RightsWord
 pub mod State
 pub mod Adds
-pub mod Authorities
-pub mod AuthoritySets
 pub mod Classes
 pub mod Edges
 pub mod Making

@@ -6,8 +6,8 @@ use Rattle.std.specs.declared.cmp.Ordering.{Ordering}
 use Rattle.std.specs.Ordering.{nat_cmp, ordering_then, is_eq}
 use Rattle.cap_model.specs.Rows.{table_edges, IsTable}
 use Rattle.cap_model.specs.Tables.{IsSorted}
-use Rattle.cap_model.specs.contracts.authority.AuthorityOrd.TheImpl.{ghosts as numbered}
-use Rattle.cap_model.specs.declared.authority.Authority.{Authority}
+use Rattle.authorities.specs.contracts.authority.AuthorityOrd.TheImpl.{ghosts as numbered}
+use Rattle.authorities.specs.declared.authority.Authority.{Authority}
 use Rattle.cap_model.specs.declared.edge.Edge.{Edge}
 use Rattle.cap_model.specs.declared.making.Made.{Made}
 use Rattle.cap_model.specs.declared.rows.Class.{Class}
@@ -30,7 +30,8 @@ pub record IsMade (edges : List Edge) (m : Made) : Type 0 where
   pub table : IsTable m.classes.items m.rows.items
   pub same : table_edges m.classes.items m.rows.items ≡ edges
   pub known : (k : ℕ) (c : Class) → slice_get m.classes.items k ≡ Some c → place_in m c.pairs.items ≡ Some k
-  pub only : (q : Class) (k : ℕ) → place_in m q.pairs.items ≡ Some k → (c : Class) × (slice_get m.classes.items k ≡ Some c) × (c.pairs.items ≡ q.pairs.items)
+  pub only : (q : Class) (k : ℕ) → place_in m q.pairs.items ≡ Some k → (c : Class) × (slice_get m.classes.items k ≡ Some c)
+      × (c.pairs.items ≡ q.pairs.items)
 
 -- a class with this list is among the classes, and its place is k
 pub record HasOld (old : Made) (pairs : List (Authority × ℕ)) (new : Made) (k : ℕ) : Type 0 where
@@ -47,7 +48,8 @@ pub record HasNew (old : Made) (label : ℕ) (pairs : List (Authority × ℕ)) (
   pub pairs_are : class.pairs.items ≡ pairs
   pub before_is : class.before ≡ before
   pub rows : new.rows.items ≡ old.rows.items
-  pub places : (q : Class) → place_in new q.pairs.items ≡ cond (is_eq (list_cmp pairs q.pairs.items)) (Some k) (place_in old q.pairs.items)
+  pub places : (q : Class) → place_in new q.pairs.items ≡ cond (is_eq (list_cmp pairs q.pairs.items)) (Some k)
+      (place_in old q.pairs.items)
 
 abbrev pub HasClass : Made → ℕ → List (Authority × ℕ) → ℕ → Made → ℕ → Type 0
 HasClass old label pairs before new k = HasOld old pairs new k ⊎ HasNew old label pairs before new k
@@ -66,5 +68,6 @@ pub record HasRow (edges : List Edge) (old : Made) (label : ℕ) (run : List Edg
 
 abbrev pub IsPart : Made → ℕ → ℕ → List Edge → Made → Type 0
 IsPart old label first run new =
-    (edges : List Edge) → IsMade edges old → first ≡ length edges → ((i : ℕ) (r : Row) → slice_get old.rows.items i ≡ Some r → r.label < label)
+    (edges : List Edge) → IsMade edges old → first ≡ length edges → ((i : ℕ) (r : Row) → slice_get old.rows.items i ≡ Some r
+    → r.label < label)
     → IsSorted (edges ++ run) → HasRow edges old label run new

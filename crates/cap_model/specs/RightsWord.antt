@@ -24,4 +24,5 @@ letter true l more = l ∷ more
 letter false l more = more
 
 abbrev pub rights_word : Rights → List ℕ
-rights_word r = letter r.read read_letter (letter r.write write_letter (letter r.grant grant_letter (letter r.reply reply_letter [])))
+rights_word r =
+    letter r.read read_letter (letter r.write write_letter (letter r.grant grant_letter (letter r.reply reply_letter [])))

@@ -2,11 +2,11 @@
 -- a label with its class and the labels that it may reply to.
 use Rattle.std.specs.Prelude.{◌≡◌, ◌<◌, ◌≤◌, ℕ, List, [], ◌++◌, length, take, drop, map, slice_get, Option, Some, None}
 use Rattle.std.specs.List.{flat_map}
-use Rattle.cap_model.specs.Authorities.{number_of}
+use Rattle.authorities.specs.Authorities.{number_of}
 use Rattle.cap_model.specs.Edges.{edge}
 use Rattle.cap_model.specs.Tables.{IsSorted}
-use Rattle.cap_model.specs.declared.authority.Authority.{Authority}
-use Rattle.cap_model.specs.declared.authority.Authority.TheVariants.{Reply}
+use Rattle.authorities.specs.declared.authority.Authority.{Authority}
+use Rattle.authorities.specs.declared.authority.Authority.TheVariants.{Reply}
 use Rattle.cap_model.specs.declared.edge.Edge.{Edge}
 use Rattle.cap_model.specs.declared.rows.Class.{Class}
 use Rattle.cap_model.specs.declared.rows.Row.{Row}
@@ -78,6 +78,8 @@ pub record IsTable (classes : List Class) (rows : List Row) : Type 0 where
   pub replies : (i : ℕ) (r : Row) → slice_get rows i ≡ Some r → IsSorted (map (reply_to 0) r.replies.items)
   pub lists : (k : ℕ) (c : Class) → slice_get classes k ≡ Some c → IsClass c
   -- the least label of a class is one of its labels
-  pub numbered : (k : ℕ) (c : Class) → slice_get classes k ≡ Some c → (i : ℕ) × (r : Row) × (slice_get rows i ≡ Some r) × (r.class ≡ k) × (r.label ≡ c.label)
+  pub numbered : (k : ℕ) (c : Class) → slice_get classes k ≡ Some c → (i : ℕ) × (r : Row) × (slice_get rows i ≡ Some r)
+      × (r.class ≡ k) × (r.label ≡ c.label)
   -- no two classes have one list
-  pub apart : (j k : ℕ) (c d : Class) → slice_get classes j ≡ Some c → slice_get classes k ≡ Some d → c.pairs.items ≡ d.pairs.items → j ≡ k
+  pub apart : (j k : ℕ) (c d : Class) → slice_get classes j ≡ Some c → slice_get classes k ≡ Some d
+      → c.pairs.items ≡ d.pairs.items → j ≡ k

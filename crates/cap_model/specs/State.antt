@@ -67,4 +67,9 @@ boot_irq (Irq notification) = notification
 boot_irq _ = None
 
 abbrev pub boot : Spec → State
-boot spec = record { nodes = map (λ e. boot_node e.object) spec.entries; threads = map (λ e. boot_thread e.object) spec.entries; irqs = map (λ e. boot_irq e.object) spec.entries; mapped = [] }
+boot spec = record {
+  nodes = map (λ e. boot_node e.object) spec.entries;
+  threads = map (λ e. boot_thread e.object) spec.entries;
+  irqs = map (λ e. boot_irq e.object) spec.entries;
+  mapped = [];
+}

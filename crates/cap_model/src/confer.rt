@@ -1,5 +1,5 @@
-ghost use Rattle.cap_model.specs.Authorities.{number_of};
-ghost use Rattle.cap_model.specs.AuthoritySets.{IsSetOf};
+ghost use Rattle.authorities.specs.Authorities.{number_of};
+ghost use Rattle.authorities.specs.AuthoritySets.{IsSetOf};
 ghost use Rattle.cap_model.specs.Confers.{confers, kind_confers};
 ghost use Rattle.cap_model.specs.Kinds.{is_space_root};
 ghost use Rattle.std.specs.Prelude.{◌≡◌, ◌==◌, ◌<◌, length};

@@ -1,5 +1,5 @@
 ghost use Rattle.cap_model.specs.Adds.{Adds, Is, IsOfSet};
-ghost use Rattle.cap_model.specs.Authorities.{number_of};
+ghost use Rattle.authorities.specs.Authorities.{number_of};
 ghost use Rattle.std.specs.Prelude.{IfOk, ◌≡◌};
 
 use crate::{Authority, AuthoritySet, Edge};

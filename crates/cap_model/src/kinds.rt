@@ -1,23 +1,11 @@
 //! Laws over the definitions. These functions do nothing: what they ensure is the law.
 
-ghost use Rattle.cap_model.specs.Authorities.{authority_of, text_of};
-ghost use Rattle.cap_model.specs.AuthoritySets.{IsSetOf};
 ghost use Rattle.cap_model.specs.Edges.{edge, AtMost, Before};
 ghost use Rattle.cap_model.specs.Tables.{has, Has, IsSorted};
-ghost use Rattle.cap_model.specs.declared.authority.Authority.{Authority};
+ghost use Rattle.authorities.specs.declared.authority.Authority.{Authority};
 ghost use Rattle.cap_model.specs.declared.edge.Edge.{Edge};
-ghost use Rattle.std.specs.Prelude.{◌≡◌, ◌⊎◌, ◌↔◌, ℕ, Bool, Some, List as Items};
+ghost use Rattle.std.specs.Prelude.{◌≡◌, ◌⊎◌, ◌↔◌, ℕ, List as Items};
 ghost use Rattle.std.specs.List.{Contains};
-
-/// Each authority is that of its word.
-pub fn authorities_are_their_words()
-    ensures { (a : Authority) → authority_of (text_of a) ≡ Some a }
-{}
-
-/// Two sets of the authorities that pass one test are one set.
-pub fn sets_are_their_members()
-    ensures { (passes : Authority → Bool) (a b : ℕ) → IsSetOf passes a → IsSetOf passes b → a ≡ b }
-{}
 
 /// The order of edges is total, and `Before` is its strict part.
 pub fn edges_are_ordered()

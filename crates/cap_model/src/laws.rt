@@ -1,7 +1,7 @@
 //! Laws of the definitions.
 
-ghost use Rattle.cap_model.specs.declared.authority.Authority.TheVariants.{Reply};
-ghost use Rattle.cap_model.specs.declared.authority.Authority.{Authority};
+ghost use Rattle.authorities.specs.declared.authority.Authority.TheVariants.{Reply};
+ghost use Rattle.authorities.specs.declared.authority.Authority.{Authority};
 ghost use Rattle.cap_model.specs.Canonical.{canonical};
 ghost use Rattle.cap_model.specs.Confers.{confers};
 ghost use Rattle.cap_model.specs.Example.{echo, echo_text, driver, driver_text, space, space_text};

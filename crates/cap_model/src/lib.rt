@@ -7,7 +7,6 @@
 //! labels, tables and growing sets of them, policies and the labels of objects have files of their own in `specs/`.
 #![tactic(auto)]
 
-mod authority;
 mod cap;
 mod confer;
 mod edge;
@@ -24,13 +23,12 @@ mod object_labels;
 mod policy;
 mod rights;
 mod rows;
-mod set;
 mod shared;
 mod spec;
 mod state;
 mod table;
 
-pub use authority::Authority;
+pub use authorities::{Authority, AuthoritySet};
 pub use cap::Cap;
 pub use confer::{conferred, frame_conferred, is_root};
 pub use edge::Edge;
@@ -38,10 +36,7 @@ pub use edge_set::EdgeSet;
 pub use growth::{with_edge, with_set};
 pub use hint::Hint;
 pub use kind::Kind;
-pub use kinds::{
-    authorities_are_their_words, edges_are_ordered, has_is_membership, sets_are_their_members,
-    tables_are_their_edges,
-};
+pub use kinds::{edges_are_ordered, has_is_membership, tables_are_their_edges};
 pub use laws::{
     conditions_are_sharp, examples_are_written, lessened_confers_no_more,
     no_capability_confers_reply, objects_are_found,
@@ -51,7 +46,6 @@ pub use object::{Fill, Object, Tcb};
 pub use object_labels::Labels;
 pub use policy::{Policy, is_label_name};
 pub use rights::Rights;
-pub use set::AuthoritySet;
 pub use spec::{Entry, Spec};
 pub use state::{Content, Mapped, Pending, ThreadState};
 pub use table::EdgeTable;

@@ -20,20 +20,26 @@ use Rattle.capdl_read.proofs.NoneTwice.{above_both}
 abbrev pub AreBehind : List (ℕ × Cap) → Option Key → Type 0
 AreBehind slots last = (n : ℕ) → is_above last (0, n) ≡ true → AllByRecursion (λ s. s.0 < n) slots
 
-insert_last : (slots : List (ℕ × Cap)) (n : ℕ) (cap : Cap) → AllByRecursion (λ s. s.0 < n) slots → insert_entry nat_cmp slots n cap ≡ slots ++ (n, cap) ∷ []
+insert_last : (slots : List (ℕ × Cap)) (n : ℕ) (cap : Cap) → AllByRecursion (λ s. s.0 < n) slots
+    → insert_entry nat_cmp slots n cap ≡ slots ++ (n, cap) ∷ []
 insert_last [] n cap below = refl
 insert_last (s ∷ ss) n cap below = rw (nat_cmp-greater n s.0 below.0) (ap (λ rest. s ∷ rest) (insert_last ss n cap below.1))
 
-below_all : (slots : List (ℕ × Cap)) (m n : ℕ) (cap : Cap) → AllByRecursion (λ s. s.0 < n) slots → m < n → AllByRecursion (λ s. s.0 < n) (slots ++ (m, cap) ∷ [])
+below_all : (slots : List (ℕ × Cap)) (m n : ℕ) (cap : Cap) → AllByRecursion (λ s. s.0 < n) slots → m < n
+    → AllByRecursion (λ s. s.0 < n) (slots ++ (m, cap) ∷ [])
 below_all [] m n cap below less = (less, _)
 below_all (s ∷ ss) m n cap below less = (below.0, below_all ss m n cap below.1 less)
 
 -- a slot above the last, put in, stands behind all
-pub put_behind : (new old : List (ℕ × Cap)) (last : Option Key) (s : Slot) (n : ℕ) (ss : List Slot) (i : ℕ) → i < length ss → (get_or ss i s).key ≡ keys.Number n → is_above last (0, n) ≡ true
-    → AreBehind old last → new ≡ old ++ (n, (get_or ss i s).cap) ∷ [] → (numbered_from new (drop (i + 1) ss) ≡ numbered_from old (drop i ss)) × AreBehind new (Some (0, n))
+pub put_behind : (new old : List (ℕ × Cap)) (last : Option Key) (s : Slot) (n : ℕ) (ss : List Slot) (i : ℕ) → i < length ss
+    → (get_or ss i s).key ≡ keys.Number n → is_above last (0, n) ≡ true
+    → AreBehind old last → new ≡ old ++ (n, (get_or ss i s).cap) ∷ []
+    → (numbered_from new (drop (i + 1) ss) ≡ numbered_from old (drop i ss)) × AreBehind new (Some (0, n))
 put_behind new old last s n ss i l k a behind p =
     let here = get_or ss i s in (
-      ap (λ z. numbered_from z (drop (i + 1) ss)) (p ∙ sym (insert_last old n here.cap (behind n a)) ∙ ap (λ (z : SlotKey). put_slot z here.cap old) (sym k))
+      ap (λ z. numbered_from z (drop (i + 1) ss)) (p ∙ sym (insert_last old n here.cap (behind n a))
+          ∙ ap (λ (z : SlotKey). put_slot z here.cap old) (sym k))
           ∙ ap (numbered_from old) (sym (drop-cons ss i s l ∙ ap (λ j. here ∷ drop j ss) (sym (add-one i)))),
-      λ m b. subst (AllByRecursion (λ s. s.0 < m)) (sym p) (below_all old n m here.cap (behind m (above_both last (0, n) (0, m) a b)) (ltb-true n m b)),
+      λ m b. subst (AllByRecursion (λ s. s.0 < m)) (sym p)
+          (below_all old n m here.cap (behind m (above_both last (0, n) (0, m) a b)) (ltb-true n m b)),
     )

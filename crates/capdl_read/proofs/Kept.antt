@@ -67,7 +67,8 @@ kind_is known (line.Frame fs) ss = refl
 kind_is known (line.Pages level place) ss = refl
 kind_is known line.Irq ss = refl
 
-root_is : (arch : Arch) (known : Knows) (k : KindLine) (ss : List SlotLine) → is_root_object arch (Some (object_said known k ss)) ≡ is_root_kind arch (kind_said k)
+root_is : (arch : Arch) (known : Knows) (k : KindLine) (ss : List SlotLine)
+    → is_root_object arch (Some (object_said known k ss)) ≡ is_root_kind arch (kind_said k)
 root_is arch known line.Endpoint ss = refl
 root_is arch known line.Notification ss = refl
 root_is arch known (line.CNode bits) ss = refl
@@ -78,14 +79,16 @@ root_is arch known line.Irq ss = refl
 
 -- ---- fields
 
-put_prio : (v : ThreadValue) (tcb : Tcb) → thread_value_off v ≡ [] → leb tcb.prio 255 ≡ true → leb (put_field v tcb).prio 255 ≡ true
+put_prio : (v : ThreadValue) (tcb : Tcb) → thread_value_off v ≡ [] → leb tcb.prio 255 ≡ true
+    → leb (put_field v tcb).prio 255 ≡ true
 put_prio (thread.Addr n) tcb e p = p
 put_prio (thread.Ip n) tcb e p = p
 put_prio (thread.Sp n) tcb e p = p
 put_prio (thread.Prio n) tcb e p = cond_nil (leb n.value 255) _ e
 put_prio (thread.Elf text) tcb e p = p
 
-fields_prio : (tcb : Tcb) (fs : List ThreadField) → flat_map (λ f. thread_value_off f.value) fs ≡ [] → leb tcb.prio 255 ≡ true → leb (fields_from tcb fs).prio 255 ≡ true
+fields_prio : (tcb : Tcb) (fs : List ThreadField) → flat_map (λ f. thread_value_off f.value) fs ≡ [] → leb tcb.prio 255 ≡ true
+    → leb (fields_from tcb fs).prio 255 ≡ true
 fields_prio tcb [] e p = p
 fields_prio tcb (f ∷ fs) e p =
     let q = nil_append (thread_value_off f.value) (flat_map (λ f. thread_value_off f.value) fs) e in
@@ -106,13 +109,15 @@ fields_slots : (tcb : Tcb) (fs : List ThreadField) → NoSlots tcb → NoSlots (
 fields_slots tcb [] p = p
 fields_slots tcb (f ∷ fs) p = fields_slots (put_field f.value tcb) fs (put_slots f.value tcb p)
 
-paddr_fits : (fs : List FrameField) → flat_map (λ f. frame_value_off f.value) fs ≡ [] → if_any (λ p. p % 4096 == 0) (paddr_said fs) ≡ true
+paddr_fits : (fs : List FrameField) → flat_map (λ f. frame_value_off f.value) fs ≡ []
+    → if_any (λ p. p % 4096 == 0) (paddr_said fs) ≡ true
 paddr_fits [] e = refl
 paddr_fits (f ∷ fs) e =
     let q = nil_append (frame_value_off f.value) (flat_map (λ f. frame_value_off f.value) fs) e in
     go f.value q.0 (paddr_fits fs q.1)
   where
-    go : (v : FrameValue) → frame_value_off v ≡ [] → if_any (λ p. p % 4096 == 0) (paddr_said fs) ≡ true → if_any (λ p. p % 4096 == 0) (paddr_or v (paddr_said fs)) ≡ true
+    go : (v : FrameValue) → frame_value_off v ≡ [] → if_any (λ p. p % 4096 == 0) (paddr_said fs) ≡ true
+        → if_any (λ p. p % 4096 == 0) (paddr_or v (paddr_said fs)) ≡ true
     go (frame.Paddr n) e ih = cond_nil (n.value % 4096 == 0) _ e
     go (frame.Fill fill) e ih = ih
 
@@ -126,18 +131,22 @@ fill_fits (f ∷ fs) e =
     one None e = refl
     one (Some f) e = cond_nil (keeps_fill (fill_of f)) _ e
 
-    go : (v : FrameValue) → frame_value_off v ≡ [] → if_any keeps_fill (fill_said fs) ≡ true → if_any keeps_fill (fill_or v (fill_said fs)) ≡ true
+    go : (v : FrameValue) → frame_value_off v ≡ [] → if_any keeps_fill (fill_said fs) ≡ true
+        → if_any keeps_fill (fill_or v (fill_said fs)) ≡ true
     go (frame.Paddr n) e ih = ih
     go (frame.Fill fill) e ih = one fill e
 
 -- ---- holders
 
-held_cases : (hs : List Holder) (n : List ℕ) → (held hs n ≡ []) ⊎ ((i : ℕ) × (h : Holder) × (slice_get hs i ≡ Some h) × (n ≡ h.id.name) × (held hs n ≡ h.slots))
+held_cases : (hs : List Holder) (n : List ℕ) → (held hs n ≡ []) ⊎ ((i : ℕ) × (h : Holder) × (slice_get hs i ≡ Some h)
+    × (n ≡ h.id.name) × (held hs n ≡ h.slots))
 held_cases [] n = inl refl
 held_cases (h ∷ hs) n = go (bytes_eq n h.id.name) refl (held_cases hs n)
   where
-    go : (b : Bool) → bytes_eq n h.id.name ≡ b → (held hs n ≡ []) ⊎ ((i : ℕ) × (g : Holder) × (slice_get hs i ≡ Some g) × (n ≡ g.id.name) × (held hs n ≡ g.slots))
-        → (cond b h.slots (held hs n) ≡ []) ⊎ ((i : ℕ) × (g : Holder) × (slice_get (h ∷ hs) i ≡ Some g) × (n ≡ g.id.name) × (cond b h.slots (held hs n) ≡ g.slots))
+    go : (b : Bool) → bytes_eq n h.id.name ≡ b → (held hs n ≡ []) ⊎ ((i : ℕ) × (g : Holder) × (slice_get hs i ≡ Some g)
+        × (n ≡ g.id.name) × (held hs n ≡ g.slots))
+        → (cond b h.slots (held hs n) ≡ []) ⊎ ((i : ℕ) × (g : Holder) × (slice_get (h ∷ hs) i ≡ Some g) × (n ≡ g.id.name)
+        × (cond b h.slots (held hs n) ≡ g.slots))
     go true e ih = inr (0, h, refl, (bytes_eq-Decides n h.id.name).0 e, refl)
     go false e ih = elim ih [ inl p ↦ inl p | inr p ↦ inr (suc p.0, p.1, p.2, p.3, p.4) ]
 
@@ -211,7 +220,8 @@ module _ (t : SpecTree) (sound : tree_faults t ≡ []) where
 
   -- ---- names
 
-  names_same : (os : List ObjectLine) → map (λ e. e.name) (map (entry_said known t.holders) os) ≡ map (λ i. i.name) (map (λ o. o.id) os)
+  names_same : (os : List ObjectLine) → map (λ e. e.name) (map (entry_said known t.holders) os) ≡ map (λ i. i.name)
+      (map (λ o. o.id) os)
   names_same [] = refl
   names_same (o ∷ os) = ap (λ z. o.id.name ∷ z) (names_same os)
 
@@ -220,19 +230,25 @@ module _ (t : SpecTree) (sound : tree_faults t ≡ []) where
 
   few_objects : length t.objects ≤ most_objects
   few_objects =
-      let e : past most_objects (map (λ o. o.id) t.objects) ≡ [] = (nil_append (past most_objects (map (λ o. o.id) t.objects)) _ limit_nil).0 in
+      let e : past most_objects (map (λ o. o.id) t.objects) ≡ [] =
+      (nil_append (past most_objects (map (λ o. o.id) t.objects)) _ limit_nil).0 in
       let l = none_past most_objects (map (λ o. o.id) t.objects) e in
       omega (arith, l, length-map t.objects (λ (o : ObjectLine). o.id))
 
   -- what a name stands for is an object of the spec, of that kind
-  there : (n : List ℕ) (k : Known) → known n ≡ Some k → (kind_at spec k.place ≡ Some k.kind) × (is_root_object spec.arch (object_at spec k.place) ≡ is_root_kind t.arch k.kind)
+  there : (n : List ℕ) (k : Known) → known n ≡ Some k → (kind_at spec k.place ≡ Some k.kind)
+      × (is_root_object spec.arch (object_at spec k.place) ≡ is_root_kind t.arch k.kind)
   there n k e =
       let r = known_there t.arch 0 t.objects n k e in
       let o = r.1 in
       let place : k.place ≡ r.0 = ap (λ (z : Known). z.place) r.3 ∙ (let z : 0 + r.0 ≡ r.0 = omega arith in z) in
       let kind : k.kind ≡ kind_said o.kind = ap (λ (z : Known). z.kind) r.3 in
-      let here : object_at spec k.place ≡ Some (object_said known o.kind (lines_of o)) = ap (object_at spec) place ∙ ap entry_object (slice_get-map (entry_said known t.holders) t.objects r.0 ∙ ap (option_map (entry_said known t.holders)) r.2) in
-      (ap (option_map kind_of_object) here ∙ ap (λ z. Some z) (kind_is known o.kind (lines_of o) ∙ sym kind), ap (is_root_object spec.arch) here ∙ root_is t.arch known o.kind (lines_of o) ∙ ap (is_root_kind t.arch) (sym kind))
+      let here : object_at spec k.place ≡ Some (object_said known o.kind (lines_of o)) = ap (object_at spec) place
+      ∙ ap entry_object (slice_get-map (entry_said known t.holders) t.objects r.0
+      ∙ ap (option_map (entry_said known t.holders)) r.2) in (
+        ap (option_map kind_of_object) here ∙ ap (λ z. Some z) (kind_is known o.kind (lines_of o) ∙ sym kind),
+        ap (is_root_object spec.arch) here ∙ root_is t.arch known o.kind (lines_of o) ∙ ap (is_root_kind t.arch) (sym kind),
+      )
 
   -- the capability of a slot
   module _ (s : SlotLine) (k : Known) (is : known s.object.name ≡ Some k) where
@@ -249,7 +265,8 @@ module _ (t : SpecTree) (sound : tree_faults t ≡ []) where
     root_here = ap (λ z. is_root_object spec.arch (object_at spec z)) place_is ∙ (there s.object.name k is).1
 
     cap_fits : flat_map (param_off k.kind) s.params ≡ [] → fits spec (cap_said known s) ≡ true
-    cap_fits e = ap (λ (z : Option Kind). fits_kind z (cap_said known s)) kind_here ∙ both _ _ (rights_fit k.kind s.params e) (badge_fits k.kind s.params e)
+    cap_fits e = ap (λ (z : Option Kind). fits_kind z (cap_said known s)) kind_here ∙ both _ _ (rights_fit k.kind s.params e)
+        (badge_fits k.kind s.params e)
       where
         both : (a b : Bool) → a ≡ true → b ≡ true → (a && b) ≡ true
         both a b p q = rw (p, q) refl
@@ -265,99 +282,136 @@ module _ (t : SpecTree) (sound : tree_faults t ≡ []) where
     | inr p ↦
         let h = p.1 in
         let hk = known_as t.arch j o in
-        let named : known h.id.name ≡ Some hk = ap known (sym p.3) ∙ known_here t.arch 0 t.objects j o differs g ∙ ap (λ i. Some (known_as t.arch i o)) (let z : 0 + j ≡ j = omega arith in z) in
-        let u = (nil_append (unknown known h.id) (flat_map (λ s. unknown known s.object) h.slots) (flat_map_nil (unknown_in known) t.holders p.0 h (nil_append (flat_map (unknown_in known) t.holders) _ unknown_nil).0 p.2)).1 in
+        let named : known h.id.name ≡ Some hk = ap known (sym p.3) ∙ known_here t.arch 0 t.objects j o differs g
+        ∙ ap (λ i. Some (known_as t.arch i o)) (let z : 0 + j ≡ j = omega arith in z) in
+        let u = (nil_append (unknown known h.id) (flat_map (λ s. unknown known s.object) h.slots)
+        (flat_map_nil (unknown_in known) t.holders p.0 h (nil_append (flat_map (unknown_in known) t.holders) _
+        unknown_nil).0 p.2)).1 in
         let off : slots_off t.arch known h.id (known h.id.name) h.slots ≡ [] =
-        flat_map_nil (off_in t.arch known) t.holders p.0 h (nil_append (flat_map (λ o. kind_off t.arch o.kind) t.objects) (flat_map (off_in t.arch known) t.holders) (nil_append (flat_map (λ o. kind_off t.arch o.kind) t.objects ++ flat_map (off_in t.arch known) t.holders) _ kind_nil).0).1 p.2 in
-        let off' : slots_off t.arch known h.id (Some hk) h.slots ≡ [] = subst (λ (z : Option Known). slots_off t.arch known h.id z h.slots ≡ []) named off in
-        let below : slots_past h.id (size_of (known h.id.name)) h.slots ≡ [] = flat_map_nil (past_in known) t.holders p.0 h range_nil p.2 in
-        let below' : slots_past h.id (size_of (Some hk)) h.slots ≡ [] = subst (λ (z : Option Known). slots_past h.id (size_of z) h.slots ≡ []) named below in
-        subst (λ (ss : List SlotLine). AllGood t.arch known hk ss) (sym p.4) (all_good t.arch known h.id hk h.slots u (nil_append (holder_off h.id (Some hk)) (flat_map (slot_off t.arch known h.id (Some hk)) h.slots) off').1 below')
+        flat_map_nil (off_in t.arch known) t.holders p.0 h (nil_append (flat_map (λ o. kind_off t.arch o.kind) t.objects)
+        (flat_map (off_in t.arch known) t.holders) (nil_append (flat_map (λ o. kind_off t.arch o.kind) t.objects
+        ++ flat_map (off_in t.arch known) t.holders) _ kind_nil).0).1 p.2 in
+        let off' : slots_off t.arch known h.id (Some hk) h.slots ≡ [] =
+        subst (λ (z : Option Known). slots_off t.arch known h.id z h.slots ≡ []) named off in
+        let below : slots_past h.id (size_of (known h.id.name)) h.slots ≡ [] = flat_map_nil (past_in known) t.holders p.0 h
+        range_nil p.2 in
+        let below' : slots_past h.id (size_of (Some hk)) h.slots ≡ [] =
+        subst (λ (z : Option Known). slots_past h.id (size_of z) h.slots ≡ []) named below in
+        subst (λ (ss : List SlotLine). AllGood t.arch known hk ss) (sym p.4) (all_good t.arch known h.id hk h.slots u
+        (nil_append (holder_off h.id (Some hk)) (flat_map (slot_off t.arch known h.id (Some hk)) h.slots) off').1 below')
   ]
 
   abbrev held_by : ℕ → Kind → Option ℕ → Known
   held_by j kind size = record { place = j; kind = kind; size = size }
 
-  node_fit : (j n : ℕ) (ss : List SlotLine) → AllGood t.arch known (held_by j kinds.CNode (Some n)) ss → AllFit t.arch known (fits spec) n ss
+  node_fit : (j n : ℕ) (ss : List SlotLine) → AllGood t.arch known (held_by j kinds.CNode (Some n)) ss
+      → AllFit t.arch known (fits spec) n ss
   node_fit j n [] g = tt
   node_fit j n (s ∷ ss) g = (one s.key (g.0).below (cap_fits s (g.0).object (g.0).is (g.0).params), node_fit j n ss g.1)
     where
-      one : (key : SlotKey) → IsBelow (Some n) key → fits spec (cap_said known s) ≡ true → IsFit t.arch known (fits spec) n key (cap_said known s)
+      one : (key : SlotKey) → IsBelow (Some n) key → fits spec (cap_said known s) ≡ true
+          → IsFit t.arch known (fits spec) n key (cap_said known s)
       one (keys.Number m) b f = and_true _ _ b f
       one keys.Cspace b f = tt
       one keys.Vspace b f = tt
       one keys.Buffer b f = tt
 
-  table_fit : (j n : ℕ) (level : Level) (ss : List SlotLine) → AllGood t.arch known (held_by j (kinds.Pages level) (Some n)) ss → AllFit t.arch known (fits_as spec (child level)) n ss
+  table_fit : (j n : ℕ) (level : Level) (ss : List SlotLine) → AllGood t.arch known (held_by j (kinds.Pages level) (Some n)) ss
+      → AllFit t.arch known (fits_as spec (child level)) n ss
   table_fit j n level [] g = tt
   table_fit j n level (s ∷ ss) g = (one s.key (g.0).below (g.0).takes, table_fit j n level ss g.1)
     where
-      one : (key : SlotKey) → IsBelow (Some n) key → takes t.arch (Some (held_by j (kinds.Pages level) (Some n))) key (g.0).object.kind s.params ≡ true → IsFit t.arch known (fits_as spec (child level)) n key (cap_said known s)
-      one (keys.Number m) b f = and_true _ _ b (and_true _ _ (at_is s (g.0).object (g.0).is (child level) ∙ f) (cap_fits s (g.0).object (g.0).is (g.0).params))
+      one : (key : SlotKey) → IsBelow (Some n) key → takes t.arch (Some (held_by j (kinds.Pages level) (Some n))) key
+          (g.0).object.kind s.params ≡ true → IsFit t.arch known (fits_as spec (child level)) n key (cap_said known s)
+      one (keys.Number m) b f =
+          and_true _ _ b (and_true _ _ (at_is s (g.0).object (g.0).is (child level) ∙ f)
+          (cap_fits s (g.0).object (g.0).is (g.0).params))
       one keys.Cspace b f = tt
       one keys.Vspace b f = tt
       one keys.Buffer b f = tt
 
-  named_all : (h : Known) (ss : List SlotLine) → AllGood t.arch known h ss → AllNamed t.arch known (is_at spec kinds.CNode) (is_space_root spec) (fits_as spec kinds.Frame) ss
+  named_all : (h : Known) (ss : List SlotLine) → AllGood t.arch known h ss
+      → AllNamed t.arch known (is_at spec kinds.CNode) (is_space_root spec) (fits_as spec kinds.Frame) ss
   named_all h [] g = tt
   named_all h (s ∷ ss) g = (one s.key (g.0).takes, named_all h ss g.1)
     where
-      one : (key : SlotKey) → takes t.arch (Some h) key (g.0).object.kind s.params ≡ true → IsNamed t.arch known (is_at spec kinds.CNode) (is_space_root spec) (fits_as spec kinds.Frame) key (cap_said known s)
+      one : (key : SlotKey) → takes t.arch (Some h) key (g.0).object.kind s.params ≡ true
+          → IsNamed t.arch known (is_at spec kinds.CNode) (is_space_root spec) (fits_as spec kinds.Frame) key (cap_said known s)
       one (keys.Number m) f = tt
       one keys.Cspace f = at_is s (g.0).object (g.0).is kinds.CNode ∙ f
       one keys.Vspace f = root_here s (g.0).object (g.0).is ∙ f
-      one keys.Buffer f = and_true _ _ (at_is s (g.0).object (g.0).is kinds.Frame ∙ f) (cap_fits s (g.0).object (g.0).is (g.0).params)
+      one keys.Buffer f = and_true _ _ (at_is s (g.0).object (g.0).is kinds.Frame ∙ f)
+          (cap_fits s (g.0).object (g.0).is (g.0).params)
 
-  held_all : (j : ℕ) (size : Option ℕ) (ss : List SlotLine) → AllGood t.arch known (held_by j kinds.Irq size) ss → AllHeld t.arch known (is_at spec kinds.Notification) ss
+  held_all : (j : ℕ) (size : Option ℕ) (ss : List SlotLine) → AllGood t.arch known (held_by j kinds.Irq size) ss
+      → AllHeld t.arch known (is_at spec kinds.Notification) ss
   held_all j size [] g = tt
   held_all j size (s ∷ ss) g = (one s.key (g.0).takes, held_all j size ss g.1)
     where
-      one : (key : SlotKey) → takes t.arch (Some (held_by j kinds.Irq size)) key (g.0).object.kind s.params ≡ true → IsHeld t.arch known (is_at spec kinds.Notification) key (place_said known s)
-      one (keys.Number m) f = at_is s (g.0).object (g.0).is kinds.Notification ∙ (and_parts (same_kind (g.0).object.kind kinds.Notification) _ f).0
+      one : (key : SlotKey) → takes t.arch (Some (held_by j kinds.Irq size)) key (g.0).object.kind s.params ≡ true
+          → IsHeld t.arch known (is_at spec kinds.Notification) key (place_said known s)
+      one (keys.Number m) f = at_is s (g.0).object (g.0).is kinds.Notification
+          ∙ (and_parts (same_kind (g.0).object.kind kinds.Notification) _ f).0
       one keys.Cspace f = tt
       one keys.Vspace f = tt
       one keys.Buffer f = tt
 
   -- ---- objects
 
-  node_kept : (j n : ℕ) (ss : List SlotLine) → are_bits n ≡ true → AllGood t.arch known (held_by j kinds.CNode (cond (are_bits n) (Some (2 ^ n)) None)) ss → keeps_cnode spec n (slots_said known ss) ≡ true
+  node_kept : (j n : ℕ) (ss : List SlotLine) → are_bits n ≡ true
+      → AllGood t.arch known (held_by j kinds.CNode (cond (are_bits n) (Some (2 ^ n)) None)) ss
+      → keeps_cnode spec n (slots_said known ss) ≡ true
   node_kept j n ss b g =
       let size : cond (are_bits n) (Some (2 ^ n)) None ≡ Some (2 ^ n) = rw b refl in
       let g' = subst (λ (z : Option ℕ). AllGood t.arch known (held_by j kinds.CNode z) ss) size g in
       and_true _ _ b (said_kept t.arch known (fits spec) (2 ^ n) ss (node_fit j (2 ^ n) ss g'))
 
-  table_kept : (j : ℕ) (level : Level) (size : Option ℕ) (ss : List SlotLine) → is_some size ≡ true → AllGood t.arch known (held_by j (kinds.Pages level) size) ss → keeps_table spec level size (slots_said known ss) ≡ true
+  table_kept : (j : ℕ) (level : Level) (size : Option ℕ) (ss : List SlotLine) → is_some size ≡ true
+      → AllGood t.arch known (held_by j (kinds.Pages level) size) ss → keeps_table spec level size (slots_said known ss) ≡ true
   table_kept j level None ss b g = absurd cc
   table_kept j level (Some n) ss b g = said_kept t.arch known (fits_as spec (child level)) n ss (table_fit j n level ss g)
 
-  tcb_kept : (h : Known) (fs : List ThreadField) (ss : List SlotLine) → flat_map (λ f. thread_value_off f.value) fs ≡ [] → AllGood t.arch known h ss → keeps_tcb spec (thread_said known fs ss) ≡ true
+  tcb_kept : (h : Known) (fs : List ThreadField) (ss : List SlotLine) → flat_map (λ f. thread_value_off f.value) fs ≡ []
+      → AllGood t.arch known h ss → keeps_tcb spec (thread_said known fs ss) ≡ true
   tcb_kept h fs ss e g =
       let begun = fields_from no_tcb fs in
       let empty = fields_slots no_tcb fs (refl, refl, refl) in
-      let first : Fits t.arch known (is_at spec kinds.CNode) (is_space_root spec) (fits_as spec kinds.Frame) begun =
-      (ap (if_any (is_at spec kinds.CNode)) empty.0, ap (if_any (is_space_root spec)) empty.1, ap (if_any (fits_as spec kinds.Frame)) empty.2) in
-      let f = named_fit t.arch known (is_at spec kinds.CNode) (is_space_root spec) (fits_as spec kinds.Frame) begun ss (named_all h ss g) first in
-      let prio : leb (thread_said known fs ss).prio 255 ≡ true = ap (λ z. leb z 255) (named_prio t.arch known begun ss) ∙ fields_prio no_tcb fs e refl in
+      let first : Fits t.arch known (is_at spec kinds.CNode) (is_space_root spec) (fits_as spec kinds.Frame) begun = (
+        ap (if_any (is_at spec kinds.CNode)) empty.0,
+        ap (if_any (is_space_root spec)) empty.1,
+        ap (if_any (fits_as spec kinds.Frame)) empty.2,
+      ) in
+      let f = named_fit t.arch known (is_at spec kinds.CNode) (is_space_root spec) (fits_as spec kinds.Frame) begun ss
+      (named_all h ss g) first in
+      let prio : leb (thread_said known fs ss).prio 255 ≡ true = ap (λ z. leb z 255) (named_prio t.arch known begun ss)
+      ∙ fields_prio no_tcb fs e refl in
       and_true _ _ (and_true _ _ prio f.0) (and_true _ _ f.1 f.2)
 
-  kind_kept : (j : ℕ) (k : KindLine) (ss : List SlotLine) → kind_off t.arch k ≡ [] → AllGood t.arch known (held_by j (kind_said k) (size_said t.arch k)) ss → keeps spec (object_said known k ss) ≡ true
+  kind_kept : (j : ℕ) (k : KindLine) (ss : List SlotLine) → kind_off t.arch k ≡ []
+      → AllGood t.arch known (held_by j (kind_said k) (size_said t.arch k)) ss → keeps spec (object_said known k ss) ≡ true
   kind_kept j line.Endpoint ss e g = refl
   kind_kept j line.Notification ss e g = refl
   kind_kept j (line.CNode bits) ss e g = node_kept j bits.value ss (cond_nil (are_bits bits.value) _ e) g
   kind_kept j (line.Thread fs) ss e g = tcb_kept (held_by j kinds.Thread None) fs ss e g
   kind_kept j (line.Frame fs) ss e g = and_true _ _ (paddr_fits fs e) (fill_fits fs e)
-  kind_kept j (line.Pages level place) ss e g = table_kept j level (size t.arch level) ss (cond_nil (is_some (size t.arch level)) _ e) g
+  kind_kept j (line.Pages level place) ss e g =
+      table_kept j level (size t.arch level) ss (cond_nil (is_some (size t.arch level)) _ e) g
   kind_kept j line.Irq ss e g = held_fits t.arch known (is_at spec kinds.Notification) ss (held_all j (Some 1) ss g)
 
-  objects_from : (os : List ObjectLine) → ((i : ℕ) (o : ObjectLine) → slice_get os i ≡ Some o → keeps spec (object_said known o.kind (lines_of o)) ≡ true) → list_all (λ e. keeps spec e.object) (map (entry_said known t.holders) os) ≡ true
+  objects_from : (os : List ObjectLine) → ((i : ℕ) (o : ObjectLine) → slice_get os i ≡ Some o
+      → keeps spec (object_said known o.kind (lines_of o)) ≡ true)
+      → list_all (λ e. keeps spec e.object) (map (entry_said known t.holders) os) ≡ true
   objects_from [] h = refl
   objects_from (o ∷ os) h = and_true _ _ (h zero o refl) (objects_from os (λ i p g. h (suc i) p g))
 
   objects_kept : list_all (λ e. keeps spec e.object) spec.entries ≡ true
   objects_kept =
       let kinds_nil : flat_map (λ o. kind_off t.arch o.kind) t.objects ≡ [] =
-      (nil_append (flat_map (λ o. kind_off t.arch o.kind) t.objects) (flat_map (off_in t.arch known) t.holders) (nil_append (flat_map (λ o. kind_off t.arch o.kind) t.objects ++ flat_map (off_in t.arch known) t.holders) _ kind_nil).0).0 in
-      objects_from t.objects (λ i o g. kind_kept i o.kind (lines_of o) (flat_map_nil (λ (o : ObjectLine). kind_off t.arch o.kind) t.objects i o kinds_nil g) (good_lines i o g))
+      (nil_append (flat_map (λ o. kind_off t.arch o.kind) t.objects) (flat_map (off_in t.arch known) t.holders)
+      (nil_append (flat_map (λ o. kind_off t.arch o.kind) t.objects ++ flat_map (off_in t.arch known) t.holders) _
+      kind_nil).0).0 in
+      objects_from t.objects (λ i o g. kind_kept i o.kind (lines_of o) (flat_map_nil (λ (o : ObjectLine). kind_off t.arch o.kind)
+      t.objects i o kinds_nil g) (good_lines i o g))
 
   -- ---- interrupt lines
 
@@ -371,11 +425,14 @@ module _ (t : SpecTree) (sound : tree_faults t ≡ []) where
   AllSound [] = Unit {0}
   AllSound (l ∷ ls) = Sound l × AllSound ls
 
-  sound_one : (l : IrqLine) (o : Option Known) → known l.object.name ≡ o → unknown known l.object ≡ [] → irq_off l.object (known l.object.name) ≡ [] → Sound l
-  sound_one l None e u f = absurd (let p : false ≡ true = rw e at (cond_nil (is_some (known l.object.name)) (at_id CapdlUnknown l.object) u) in cc)
+  sound_one : (l : IrqLine) (o : Option Known) → known l.object.name ≡ o → unknown known l.object ≡ []
+      → irq_off l.object (known l.object.name) ≡ [] → Sound l
+  sound_one l None e u f =
+      absurd (let p : false ≡ true = rw e at (cond_nil (is_some (known l.object.name)) (at_id CapdlUnknown l.object) u) in cc)
   sound_one l (Some k) e u f = (k, e, cond_nil (same_kind k.kind kinds.Irq) _ (rw e at f))
 
-  sound_all : (ls : List IrqLine) → flat_map (λ l. unknown known l.object) ls ≡ [] → flat_map (λ l. irq_off l.object (known l.object.name)) ls ≡ [] → AllSound ls
+  sound_all : (ls : List IrqLine) → flat_map (λ l. unknown known l.object) ls ≡ []
+      → flat_map (λ l. irq_off l.object (known l.object.name)) ls ≡ [] → AllSound ls
   sound_all [] u f = tt
   sound_all (l ∷ ls) u f =
       let p = nil_append (unknown known l.object) (flat_map (λ l. unknown known l.object) ls) u in
@@ -383,7 +440,8 @@ module _ (t : SpecTree) (sound : tree_faults t ≡ []) where
       (sound_one l (known l.object.name) refl p.0 q.0, sound_all ls p.1 q.1)
 
   -- different names stand for different objects
-  places_apart : (n m : List ℕ) (k q : Known) → known n ≡ Some k → known m ≡ Some q → bytes_eq m n ≡ false → not (k.place == q.place) ≡ true
+  places_apart : (n m : List ℕ) (k q : Known) → known n ≡ Some k → known m ≡ Some q → bytes_eq m n ≡ false
+      → not (k.place == q.place) ≡ true
   places_apart n m k q e f d = by_test (k.place == q.place) refl
     where
       same_get : (os : List ObjectLine) (i : ℕ) (o p : ObjectLine) → slice_get os i ≡ Some o → slice_get os i ≡ Some p → o ≡ p
@@ -394,8 +452,11 @@ module _ (t : SpecTree) (sound : tree_faults t ≡ []) where
       by_test true c =
           let r = known_there t.arch 0 t.objects n k e in
           let s = known_there t.arch 0 t.objects m q f in
-          let at : r.0 ≡ s.0 = (let x : k.place ≡ 0 + r.0 = ap (λ (z : Known). z.place) r.3 in let y : q.place ≡ 0 + s.0 = ap (λ (z : Known). z.place) s.3 in let w = eqb-true k.place q.place c in omega (arith, x, y, w)) in
-          let same : r.1 ≡ s.1 = same_get t.objects s.0 r.1 s.1 (subst (λ (i : ℕ). slice_get t.objects i ≡ Some r.1) at r.2) s.2 in
+          let at : r.0 ≡ s.0 = (let x : k.place ≡ 0 + r.0 = ap (λ (z : Known). z.place) r.3 in
+          let y : q.place ≡ 0 + s.0 = ap (λ (z : Known). z.place) s.3 in let w = eqb-true k.place q.place c in
+          omega (arith, x, y, w)) in
+          let same : r.1 ≡ s.1 = same_get t.objects s.0 r.1 s.1 (subst (λ (i : ℕ). slice_get t.objects i ≡ Some r.1)
+          at r.2) s.2 in
           let names : m ≡ n = s.4 ∙ ap (λ (o : ObjectLine). o.id.name) (sym same) ∙ sym r.4 in
           absurd (let a : bytes_eq m n ≡ true = (bytes_eq-Decides m n).1 names in let b = sym a ∙ d in cc)
 
@@ -406,21 +467,28 @@ module _ (t : SpecTree) (sound : tree_faults t ≡ []) where
   abbrev put : List (ℕ × ℕ) → IrqLine → List (ℕ × ℕ)
   put done l = insert_entry nat_cmp done l.number.value (place_of l)
 
-  lacked_more : (done : List (ℕ × ℕ)) (l : IrqLine) (ls : List IrqLine) → Sound l → AllSound ls → list_any (λ n. bytes_eq n l.object.name) (map (λ i. i.name) (map (λ l. l.object) ls)) ≡ false → AllLacked done ls → AllLacked (put done l) ls
+  lacked_more : (done : List (ℕ × ℕ)) (l : IrqLine) (ls : List IrqLine) → Sound l → AllSound ls
+      → list_any (λ n. bytes_eq n l.object.name) (map (λ i. i.name) (map (λ l. l.object) ls)) ≡ false → AllLacked done ls
+      → AllLacked (put done l) ls
   lacked_more done l [] s a d g = tt
   lacked_more done l (m ∷ ls) s a d g =
       let p = or_parts (bytes_eq m.object.name l.object.name) _ d in
       let apart : not (s.0.place == a.0.0.place) ≡ true = places_apart l.object.name m.object.name s.0 a.0.0 s.1 a.0.1 p.0 in
-      let apart' : not (place_of l == place_of m) ≡ true = ap (λ z. not (z == place_of m)) (ap place_or s.1) ∙ ap (λ z. not (s.0.place == z)) (ap place_or a.0.1) ∙ apart in
+      let apart' : not (place_of l == place_of m) ≡ true = ap (λ z. not (z == place_of m)) (ap place_or s.1)
+      ∙ ap (λ z. not (s.0.place == z)) (ap place_or a.0.1) ∙ apart in
       (all_insert (λ x. not (x.1 == place_of m)) done l.number.value (place_of l) g.0 apart', lacked_more done l ls s a.1 p.1 g.1)
 
-  lines_from_kept : (done : List (ℕ × ℕ)) (ls : List IrqLine) → AllSound ls → differ bytes_eq (map (λ i. i.name) (map (λ l. l.object) ls)) ≡ true → AllLacked done ls → rise done ≡ true → parts_differ done ≡ true → list_all (λ x. is_at spec kinds.Irq x.1) done ≡ true
+  lines_from_kept : (done : List (ℕ × ℕ)) (ls : List IrqLine) → AllSound ls
+      → differ bytes_eq (map (λ i. i.name) (map (λ l. l.object) ls)) ≡ true → AllLacked done ls → rise done ≡ true
+      → parts_differ done ≡ true → list_all (λ x. is_at spec kinds.Irq x.1) done ≡ true
       → keeps_lines spec (lines_from known done ls) ≡ true
   lines_from_kept done [] a d g r p k = and_true _ _ (and_true _ _ r p) k
   lines_from_kept done (l ∷ ls) a d g r p k =
       let q = and_parts (not (list_any (λ n. bytes_eq n l.object.name) (map (λ i. i.name) (map (λ l. l.object) ls)))) _ d in
-      let kind : is_at spec kinds.Irq (place_of l) ≡ true = ap (is_at spec kinds.Irq) (ap place_or a.0.1) ∙ ap (λ (z : Option Kind). is_kind z kinds.Irq) (there l.object.name a.0.0 a.0.1).0 ∙ a.0.2 in
-      lines_from_kept (put done l) ls a.1 q.1 (lacked_more done l ls a.0 a.1 (flip _ q.0) g.1) (rise_insert done l.number.value (place_of l) r) (differ_insert done l.number.value (place_of l) g.0 p)
+      let kind : is_at spec kinds.Irq (place_of l) ≡ true = ap (is_at spec kinds.Irq) (ap place_or a.0.1)
+      ∙ ap (λ (z : Option Kind). is_kind z kinds.Irq) (there l.object.name a.0.0 a.0.1).0 ∙ a.0.2 in
+      lines_from_kept (put done l) ls a.1 q.1 (lacked_more done l ls a.0 a.1 (flip _ q.0) g.1)
+      (rise_insert done l.number.value (place_of l) r) (differ_insert done l.number.value (place_of l) g.0 p)
       (all_insert (λ x. is_at spec kinds.Irq x.1) done l.number.value (place_of l) k kind)
     where
       flip : (b : Bool) → not b ≡ true → b ≡ false
@@ -433,12 +501,20 @@ module _ (t : SpecTree) (sound : tree_faults t ≡ []) where
 
   lines_kept : keeps_lines spec spec.irqs ≡ true
   lines_kept =
-      let u = (nil_append (flat_map (unknown_in known) t.holders) (flat_map (λ l. unknown known l.object) t.irqs) unknown_nil).1 in
-      let f = (nil_append (flat_map (λ o. kind_off t.arch o.kind) t.objects ++ flat_map (off_in t.arch known) t.holders) (flat_map (λ l. irq_off l.object (known l.object.name)) t.irqs) kind_nil).1 in
-      lines_from_kept [] t.irqs (sound_all t.irqs u f) (names_differ (map (λ l. l.object) t.irqs) rows.1) (nothing_lacked t.irqs) refl refl refl
+      let u = (nil_append (flat_map (unknown_in known) t.holders) (flat_map (λ l. unknown known l.object) t.irqs)
+      unknown_nil).1 in
+      let f = (nil_append (flat_map (λ o. kind_off t.arch o.kind) t.objects ++ flat_map (off_in t.arch known) t.holders)
+      (flat_map (λ l. irq_off l.object (known l.object.name)) t.irqs) kind_nil).1 in
+      lines_from_kept [] t.irqs (sound_all t.irqs u f) (names_differ (map (λ l. l.object) t.irqs) rows.1) (nothing_lacked t.irqs)
+      refl refl refl
 
   kept : IsKept spec
-  kept = record { few = omega (arith, few_objects, length-map t.objects (entry_said known t.holders)); names = names_kept; objects = objects_kept; lines = lines_kept }
+  kept = record {
+    few = omega (arith, few_objects, length-map t.objects (entry_said known t.holders));
+    names = names_kept;
+    objects = objects_kept;
+    lines = lines_kept;
+  }
 
 pub kept_text : (bytes : List ℕ) (s : Spec) → Text bytes s → IsKept s
 kept_text bytes s a = subst IsKept (sym a.means) (kept a.tree a.sound)

@@ -28,19 +28,26 @@ always_named text = go (is_name text) refl
 line_named : (o : ObjectLine) (ts : List Seen) → IsSpelledBy object_form o ts → is_name o.id.name ≡ true
 unfolding object_line
 line_named o ts (x, is, (a, b, parts, (s, id, one), rest)) =
-    subst (λ (z : ObjectLine). is_name z.id.name ≡ true) (sym is) (subst (λ (i : Id). is_name i.name ≡ true) (sym id) (always_named s.text))
+    subst (λ (z : ObjectLine). is_name z.id.name ≡ true) (sym is) (subst (λ (i : Id). is_name i.name ≡ true) (sym id)
+    (always_named s.text))
 
-lines_named : (os : List ObjectLine) (ts : List Seen) → Each (IsSpelledBy object_form) os ts → list_all (λ o. is_name o.id.name) os ≡ true
+lines_named : (os : List ObjectLine) (ts : List Seen) → Each (IsSpelledBy object_form) os ts
+    → list_all (λ o. is_name o.id.name) os ≡ true
 lines_named [] ts each = refl
 lines_named (o ∷ os) ts (a, b, parts, one, more) = rw (line_named o a one) (lines_named os b more)
 
 tree_named : (tree : SpecTree) (ts : List Seen) → IsSpecSpelled tree ts → list_all (λ o. is_name o.id.name) tree.objects ≡ true
 unfolding spec_line
-tree_named tree ts (x, is, (a, b, p, arch, (c, d, q, form, (e, f, r, objects, (g, h, u, (y, block, (i, j, v, begin, (k, l, w, many, end))), rest))))) =
+tree_named tree ts (
+  x,
+  is,
+  (a, b, p, arch, (c, d, q, form, (e, f, r, objects, (g, h, u, (y, block, (i, j, v, begin, (k, l, w, many, end))), rest)))),
+) =
     subst (λ (t : SpecTree). list_all (λ o. is_name o.id.name) t.objects ≡ true) (sym is)
     (subst (λ (os : List ObjectLine). list_all (λ o. is_name o.id.name) os ≡ true) (sym block) (lines_named y.1.0 k many))
 
-entries_named : (known : Knows) (holders : List Holder) (os : List ObjectLine) → list_all (λ o. is_name o.id.name) os ≡ true → list_all (λ (entry : Entry). is_name entry.name) (map (entry_said known holders) os) ≡ true
+entries_named : (known : Knows) (holders : List Holder) (os : List ObjectLine) → list_all (λ o. is_name o.id.name) os ≡ true
+    → list_all (λ (entry : Entry). is_name entry.name) (map (entry_said known holders) os) ≡ true
 entries_named known holders [] all = refl
 entries_named known holders (o ∷ os) all =
     let both = and_parts (is_name o.id.name) (list_all (λ (p : ObjectLine). is_name p.id.name) os) all in

@@ -24,7 +24,8 @@ goes_on : (b c : Bool) → cond b c false ≡ true → (b ≡ true) × (c ≡ tr
 goes_on true c e = (refl, e)
 goes_on false c e = absurd cc
 
-none_after : {X : Type 0} (name : List ℕ) (g : X → Keyed) (last : Option Key) (met : Key → Bool) (xs : List X) → IsFree last met → rises g last xs ≡ true → keys_after name met (map g xs) ≡ []
+none_after : {X : Type 0} (name : List ℕ) (g : X → Keyed) (last : Option Key) (met : Key → Bool) (xs : List X) → IsFree last met
+    → rises g last xs ≡ true → keys_after name met (map g xs) ≡ []
 none_after name g last met [] free e = refl
 none_after name g last met (x ∷ xs) free e =
     let k = (g x).0 in
@@ -34,5 +35,6 @@ none_after name g last met (x ∷ xs) free e =
     ∙ none_after name g (Some k) more xs (λ l b. rw (free l (above_both last k l p.0 b), other_key k l b) refl) p.1
 
 -- what is noted of rising keys
-pub none_twice : {X : Type 0} (name : List ℕ) (g : X → Keyed) (first : Option TextFault) (xs : List X) → rises g None xs ≡ true → first ≡ noted first (keys_twice name (map g xs))
+pub none_twice : {X : Type 0} (name : List ℕ) (g : X → Keyed) (first : Option TextFault) (xs : List X) → rises g None xs ≡ true
+    → first ≡ noted first (keys_twice name (map g xs))
 none_twice name g first xs e = sym (ap (noted first) (none_after name g None (λ k. false) xs (λ k a. refl) e))

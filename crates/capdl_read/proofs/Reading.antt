@@ -13,7 +13,16 @@ pub no_tree : (bytes : List ℕ) (e : Refused TextFault) → is_long bytes ≡ f
 no_tree bytes (refused.Fault f) few is = is few
 no_tree bytes refused.NoMemory few is = tt
 
-pub understood : (bytes : List ℕ) (tree : SpecTree) (r : Result Spec (Refused TextFault)) → is_long bytes ≡ false → IsTreeRead bytes (Ok tree) → IsMeant tree r → IsRead bytes r
-understood bytes tree (Ok spec) few is m = record { few = few; tokens = is.0; lexes = is.1; tree = tree; spelled = is.2; sound = m.0; means = m.1 }
+pub understood : (bytes : List ℕ) (tree : SpecTree) (r : Result Spec (Refused TextFault)) → is_long bytes ≡ false
+    → IsTreeRead bytes (Ok tree) → IsMeant tree r → IsRead bytes r
+understood bytes tree (Ok spec) few is m = record {
+  few = few;
+  tokens = is.0;
+  lexes = is.1;
+  tree = tree;
+  spelled = is.2;
+  sound = m.0;
+  means = m.1;
+}
 understood bytes tree (Err (refused.Fault f)) few is m = of_tree few is.0 is.1 tree is.2 m
 understood bytes tree (Err refused.NoMemory) few is m = tt

@@ -34,20 +34,27 @@ use Rattle.capdl_text.proofs.Below.{IsBelow}
 
 -- ---- parameters
 
-pub rights_fit : (kind : Kind) (ps : List Param) → flat_map (param_off kind) ps ≡ [] → within (rights_said ps) (kind_rights kind) ≡ true
+pub rights_fit : (kind : Kind) (ps : List Param) → flat_map (param_off kind) ps ≡ []
+    → within (rights_said ps) (kind_rights kind) ≡ true
 rights_fit kind [] e = refl
-rights_fit kind (params.Rights r place ∷ ps) e = cond_nil (within r (kind_rights kind)) _ (nil_append (param_off kind (params.Rights r place)) (flat_map (param_off kind) ps) e).0
-rights_fit kind (params.Badge place n ∷ ps) e = rights_fit kind ps (nil_append (param_off kind (params.Badge place n)) (flat_map (param_off kind) ps) e).1
+rights_fit kind (params.Rights r place ∷ ps) e =
+    cond_nil (within r (kind_rights kind)) _ (nil_append (param_off kind (params.Rights r place))
+    (flat_map (param_off kind) ps) e).0
+rights_fit kind (params.Badge place n ∷ ps) e =
+    rights_fit kind ps (nil_append (param_off kind (params.Badge place n)) (flat_map (param_off kind) ps) e).1
 
-pub badge_fits : (kind : Kind) (ps : List Param) → flat_map (param_off kind) ps ≡ [] → (has_badge kind || badge_said ps == 0) ≡ true
+pub badge_fits : (kind : Kind) (ps : List Param) → flat_map (param_off kind) ps ≡ []
+    → (has_badge kind || badge_said ps == 0) ≡ true
 badge_fits kind [] e = either (has_badge kind)
   where
     either : (b : Bool) → (b || true) ≡ true
     either true = refl
     either false = refl
-badge_fits kind (params.Rights r place ∷ ps) e = badge_fits kind ps (nil_append (param_off kind (params.Rights r place)) (flat_map (param_off kind) ps) e).1
+badge_fits kind (params.Rights r place ∷ ps) e =
+    badge_fits kind ps (nil_append (param_off kind (params.Rights r place)) (flat_map (param_off kind) ps) e).1
 badge_fits kind (params.Badge place n ∷ ps) e =
-    let h : has_badge kind ≡ true = cond_nil (has_badge kind) _ (nil_append (param_off kind (params.Badge place n)) (flat_map (param_off kind) ps) e).0 in
+    let h : has_badge kind ≡ true =
+    cond_nil (has_badge kind) _ (nil_append (param_off kind (params.Badge place n)) (flat_map (param_off kind) ps) e).0 in
     rw h refl
 
 -- ---- lines
@@ -80,30 +87,43 @@ module _ (arch : Arch) (known : Knows) where
   below_none [] = tt
   below_none (s ∷ ss) = (tt, below_none ss)
 
-  below_some : (id : Id) (size : ℕ) (ss : List SlotLine) → flat_map (λ s. key_past id size s.key s) ss ≡ [] → AllBelow (Some size) ss
+  below_some : (id : Id) (size : ℕ) (ss : List SlotLine) → flat_map (λ s. key_past id size s.key s) ss ≡ []
+      → AllBelow (Some size) ss
   below_some id size [] e = tt
-  below_some id size (s ∷ ss) e = let p = nil_append (key_past id size s.key s) (flat_map (λ s. key_past id size s.key s) ss) e in (below_one id size s.key s p.0, below_some id size ss p.1)
+  below_some id size (s ∷ ss) e = let p = nil_append (key_past id size s.key s) (flat_map (λ s. key_past id size s.key s) ss) e in
+      (below_one id size s.key s p.0, below_some id size ss p.1)
 
   all_below : (id : Id) (size : Option ℕ) (ss : List SlotLine) → slots_past id size ss ≡ [] → AllBelow size ss
   all_below id None ss e = below_none ss
   all_below id (Some size) ss e = below_some id size ss e
 
-  good_one : (id : Id) (h : Known) (s : SlotLine) (o : Option Known) → known s.object.name ≡ o → unknown known s.object ≡ [] → slot_off arch known id (Some h) s ≡ [] → IsBelow h.size s.key → IsGood h s
-  good_one id h s None k u e b = absurd (let p : false ≡ true = rw k at (cond_nil (is_some (known s.object.name)) (at_id CapdlUnknown s.object) u) in cc)
+  good_one : (id : Id) (h : Known) (s : SlotLine) (o : Option Known) → known s.object.name ≡ o → unknown known s.object ≡ []
+      → slot_off arch known id (Some h) s ≡ [] → IsBelow h.size s.key → IsGood h s
+  good_one id h s None k u e b =
+      absurd (let p : false ≡ true = rw k at (cond_nil (is_some (known s.object.name)) (at_id CapdlUnknown s.object) u) in cc)
   good_one id h s (Some o) k u e b =
       let all : (key_off id (Some h) s ++ cap_off arch (Some h) s (Some o)) ++ params_off s (Some o) ≡ [] = rw k at e in
       let p = nil_append (key_off id (Some h) s ++ cap_off arch (Some h) s (Some o)) (params_off s (Some o)) all in
       let q = nil_append (key_off id (Some h) s) (cap_off arch (Some h) s (Some o)) p.0 in
-      record { object = o; is = k; key = cond_nil (has_key h.kind s.key) _ q.0; takes = cond_nil (takes arch (Some h) s.key o.kind s.params) _ q.1; params = p.1; below = b }
+      record {
+        object = o;
+        is = k;
+        key = cond_nil (has_key h.kind s.key) _ q.0;
+        takes = cond_nil (takes arch (Some h) s.key o.kind s.params) _ q.1;
+        params = p.1;
+        below = b;
+      }
 
-  good_from : (id : Id) (h : Known) (ss : List SlotLine) → flat_map (λ s. unknown known s.object) ss ≡ [] → flat_map (slot_off arch known id (Some h)) ss ≡ [] → AllBelow h.size ss → AllGood h ss
+  good_from : (id : Id) (h : Known) (ss : List SlotLine) → flat_map (λ s. unknown known s.object) ss ≡ []
+      → flat_map (slot_off arch known id (Some h)) ss ≡ [] → AllBelow h.size ss → AllGood h ss
   good_from id h [] u e b = tt
   good_from id h (s ∷ ss) u e b =
       let p = nil_append (unknown known s.object) (flat_map (λ s. unknown known s.object) ss) u in
       let q = nil_append (slot_off arch known id (Some h) s) (flat_map (slot_off arch known id (Some h)) ss) e in
       (good_one id h s (known s.object.name) refl p.0 q.0 b.0, good_from id h ss p.1 q.1 b.1)
 
-  pub all_good : (id : Id) (h : Known) (ss : List SlotLine) → flat_map (λ s. unknown known s.object) ss ≡ [] → flat_map (slot_off arch known id (Some h)) ss ≡ [] → slots_past id h.size ss ≡ [] → AllGood h ss
+  pub all_good : (id : Id) (h : Known) (ss : List SlotLine) → flat_map (λ s. unknown known s.object) ss ≡ []
+      → flat_map (slot_off arch known id (Some h)) ss ≡ [] → slots_past id h.size ss ≡ [] → AllGood h ss
   all_good id h ss u e b = good_from id h ss u e (all_below id h.size ss b)
 
   -- ---- numbered slots
@@ -120,15 +140,18 @@ module _ (arch : Arch) (known : Knows) where
     AllFit [] = Unit {0}
     AllFit (s ∷ ss) = IsFit s.key (cap_said known s) × AllFit ss
 
-    put_kept : (key : SlotKey) (cap : Cap) (done : List (ℕ × Cap)) → IsFit key cap → rise done ≡ true → list_all test done ≡ true → (rise (put_slot key cap done) ≡ true) × (list_all test (put_slot key cap done) ≡ true)
+    put_kept : (key : SlotKey) (cap : Cap) (done : List (ℕ × Cap)) → IsFit key cap → rise done ≡ true → list_all test done ≡ true
+        → (rise (put_slot key cap done) ≡ true) × (list_all test (put_slot key cap done) ≡ true)
     put_kept (keys.Number n) cap done f r a = (rise_insert done n cap r, all_insert test done n cap a f)
     put_kept keys.Cspace cap done f r a = (r, a)
     put_kept keys.Vspace cap done f r a = (r, a)
     put_kept keys.Buffer cap done f r a = (r, a)
 
-    slots_kept : (done : List (ℕ × Cap)) (ss : List SlotLine) → AllFit ss → rise done ≡ true → list_all test done ≡ true → keeps_slots fit size (slots_from known done ss) ≡ true
+    slots_kept : (done : List (ℕ × Cap)) (ss : List SlotLine) → AllFit ss → rise done ≡ true → list_all test done ≡ true
+        → keeps_slots fit size (slots_from known done ss) ≡ true
     slots_kept done [] f r a = rw (r, a) refl
-    slots_kept done (s ∷ ss) f r a = let p = put_kept s.key (cap_said known s) done f.0 r a in slots_kept (put_slot s.key (cap_said known s) done) ss f.1 p.0 p.1
+    slots_kept done (s ∷ ss) f r a = let p = put_kept s.key (cap_said known s) done f.0 r a in
+        slots_kept (put_slot s.key (cap_said known s) done) ss f.1 p.0 p.1
 
     pub said_kept : (ss : List SlotLine) → AllFit ss → keeps_slots fit size (slots_from known [] ss) ≡ true
     said_kept ss f = slots_kept [] ss f refl refl
@@ -157,7 +180,8 @@ module _ (arch : Arch) (known : Knows) where
 
     pub named_fit : (tcb : Tcb) (ss : List SlotLine) → AllNamed ss → Fits tcb → Fits (named_from known tcb ss)
     named_fit tcb [] f g = g
-    named_fit tcb (s ∷ ss) f g = named_fit (put_named s.key (cap_said known s) tcb) ss f.1 (put_fits s.key (cap_said known s) tcb f.0 g)
+    named_fit tcb (s ∷ ss) f g = named_fit (put_named s.key (cap_said known s) tcb) ss f.1
+        (put_fits s.key (cap_said known s) tcb f.0 g)
 
   -- the priority stays
   put_prio : (key : SlotKey) (cap : Cap) (tcb : Tcb) → (put_named key cap tcb).prio ≡ tcb.prio
@@ -185,7 +209,8 @@ module _ (arch : Arch) (known : Knows) where
     held_fits [] f = refl
     held_fits (s ∷ ss) f = go s.key f.0 (held_fits ss f.1)
       where
-        go : (key : SlotKey) → IsHeld key (place_said known s) → if_any test (notification_said known ss) ≡ true → if_any test (numbered_or key (place_said known s) (notification_said known ss)) ≡ true
+        go : (key : SlotKey) → IsHeld key (place_said known s) → if_any test (notification_said known ss) ≡ true
+            → if_any test (numbered_or key (place_said known s) (notification_said known ss)) ≡ true
         go (keys.Number n) f g = f
         go keys.Cspace f g = g
         go keys.Vspace f g = g

@@ -21,7 +21,8 @@ pub gap_byte : (b : ℕ) (bs cs : List ℕ) → one_gap (b ∷ bs) ≡ Some cs �
 unfolding one_gap is_gap_byte
 gap_byte b bs cs e = go (is_blank b) (b == 47) (b == 45) e
   where
-    go : (x y z : Bool) → cond x (Some bs) (cond y (after_slash bs) (cond z (after_dash bs) None)) ≡ Some cs → (x || (y || z)) ≡ true
+    go : (x y z : Bool) → cond x (Some bs) (cond y (after_slash bs) (cond z (after_dash bs) None)) ≡ Some cs
+        → (x || (y || z)) ≡ true
     go true y z p = refl
     go false true z p = refl
     go false false true p = refl
@@ -46,7 +47,13 @@ not_mark b h = grind (arith, nat_tests)
 -- a token begins with no byte of a gap
 pub token_no_gap_byte : (b : ℕ) (text : List ℕ) (k : Kind) → kind_of (b ∷ text) ≡ Some k → is_gap_byte b ≡ true → ⊥
 unfolding kind_of
-token_no_gap_byte b text k e h = go (is_end text) (let p : kind_of (b ∷ text) ≡ cond (is_end text) None None = rw (not_letter b h, not_digit b h, not_quote b h, not_mark b h) refl in sym p ∙ e)
+token_no_gap_byte b text k e h =
+    go (is_end text) (let p : kind_of (b ∷ text) ≡ cond (is_end text) None None = rw (
+      not_letter b h,
+      not_digit b h,
+      not_quote b h,
+      not_mark b h,
+    ) refl in sym p ∙ e)
   where
     go : (t : Bool) → cond t None None ≡ Some k → ⊥
     go true p = none_is_not k p
@@ -54,14 +61,19 @@ token_no_gap_byte b text k e h = go (is_end text) (let p : kind_of (b ∷ text) 
 
 after_line_le : (bs : List ℕ) → length (after_line bs) ≤ length bs
 after_line_le [] = omega arith
-after_line_le (b ∷ bs) = elim (cases_Bool (b == 10)) [ inl h ↦ rw h (omega arith) | inr h ↦ let le = after_line_le bs in rw h (omega arith) ]
+after_line_le (b ∷ bs) = elim (cases_Bool (b == 10)) [
+  | inl h ↦ rw h (omega arith)
+  | inr h ↦ let le = after_line_le bs in
+      rw h (omega arith)
+]
 
 after_close_le : (bs cs : List ℕ) → after_close bs ≡ Some cs → length cs ≤ length bs
 after_close_le [] cs e = none_is_not cs e
 after_close_le (a ∷ []) cs e = none_is_not cs e
 after_close_le (a ∷ b ∷ bs) cs e = go (a == 42 && b == 47) (λ p. after_close_le (b ∷ bs) cs p) e
   where
-    go : (t : Bool) → (after_close (b ∷ bs) ≡ Some cs → length cs ≤ length (b ∷ bs)) → cond t (Some bs) (after_close (b ∷ bs)) ≡ Some cs → length cs ≤ length (a ∷ b ∷ bs)
+    go : (t : Bool) → (after_close (b ∷ bs) ≡ Some cs → length cs ≤ length (b ∷ bs))
+        → cond t (Some bs) (after_close (b ∷ bs)) ≡ Some cs → length cs ≤ length (a ∷ b ∷ bs)
     go true ih p = let same = same_Some bs cs p in rw (← same) (omega arith)
     go false ih p = let le = ih p in omega arith
 
@@ -88,7 +100,8 @@ unfolding one_gap
 gap_eats [] cs e = none_is_not cs e
 gap_eats (b ∷ bs) cs e = go (is_blank b) (b == 47) (b == 45) e
   where
-    go : (x y z : Bool) → cond x (Some bs) (cond y (after_slash bs) (cond z (after_dash bs) None)) ≡ Some cs → length cs < length (b ∷ bs)
+    go : (x y z : Bool) → cond x (Some bs) (cond y (after_slash bs) (cond z (after_dash bs) None)) ≡ Some cs
+        → length cs < length (b ∷ bs)
     go true y z p = let same = same_Some bs cs p in rw (← same) (omega arith)
     go false true z p = let le = after_slash_le bs cs p in omega arith
     go false false true p = let le = after_dash_le bs cs p in omega arith
@@ -100,10 +113,16 @@ unfolding fault_at one_gap
 fault_no_gap [] cs f h e = none_is_not cs e
 fault_no_gap (b ∷ bs) cs f h e =
     let g = gap_byte b bs cs e in
-    let p : fault_at (b ∷ bs) ≡ cond (is_blank b) None (cond (b == 47) (unless (after_slash bs) (cond (is_star bs) (b ∷ bs) (b ∷ []))) (cond (b == 45) (unless (after_dash bs) (b ∷ [])) (mark_fault b))) = rw (not_letter b g, not_digit b g, not_quote b g) refl in
-    go (is_blank b) (b == 47) (b == 45) (after_slash bs) (after_dash bs) (cond (is_star bs) (b ∷ bs) (b ∷ [])) (mark_fault b) (sym p ∙ h) e
+    let p : fault_at (b ∷ bs) ≡ cond (is_blank b) None
+    (cond (b == 47) (unless (after_slash bs) (cond (is_star bs) (b ∷ bs) (b ∷ [])))
+    (cond (b == 45) (unless (after_dash bs) (b ∷ [])) (mark_fault b))) =
+    rw (not_letter b g, not_digit b g, not_quote b g) refl in
+    go (is_blank b) (b == 47) (b == 45) (after_slash bs) (after_dash bs) (cond (is_star bs) (b ∷ bs) (b ∷ [])) (mark_fault b)
+    (sym p ∙ h) e
   where
-    go : (x y z : Bool) (s d : Option (List ℕ)) (t : List ℕ) (m : Found) → cond x None (cond y (unless s t) (cond z (unless d (b ∷ [])) m)) ≡ Some f → cond x (Some bs) (cond y s (cond z d None)) ≡ Some cs → ⊥
+    go : (x y z : Bool) (s d : Option (List ℕ)) (t : List ℕ) (m : Found)
+        → cond x None (cond y (unless s t) (cond z (unless d (b ∷ [])) m)) ≡ Some f
+        → cond x (Some bs) (cond y s (cond z d None)) ≡ Some cs → ⊥
     go true y z s d t m p q = none_is_not f p
     go false true z None d t m p q = none_is_not cs q
     go false true z (Some r) d t m p q = none_is_not f p

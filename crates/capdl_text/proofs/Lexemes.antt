@@ -46,13 +46,16 @@ pub sees_tokens : (bytes : List ℕ) (ls : List Lexeme) → sees bytes ls ≡ se
 sees_tokens bytes [] = refl
 sees_tokens bytes (l ∷ ls) = rw (sees_tokens bytes ls) refl
 
-pub tokens_more : (bytes : List ℕ) (ls : List Lexeme) (l : Lexeme) (ts : List Token) → tokens_of bytes (ls ++ l ∷ []) ++ ts ≡ tokens_of bytes ls ++ token_of bytes l ∷ ts
+pub tokens_more : (bytes : List ℕ) (ls : List Lexeme) (l : Lexeme) (ts : List Token) → tokens_of bytes (ls ++ l ∷ [])
+    ++ ts ≡ tokens_of bytes ls ++ token_of bytes l ∷ ts
 tokens_more bytes [] l ts = refl
 tokens_more bytes (x ∷ ls) l ts = ap (λ (v : List Token). token_of bytes x ∷ v) (tokens_more bytes ls l ts)
 
 -- those of which so many are left
-pub tokens_left : (bytes : List ℕ) (ls : List Lexeme) (left : ℕ) → drop (length (tokens_of bytes ls) - left) (tokens_of bytes ls) ≡ tokens_of bytes (drop (length ls - left) ls)
-tokens_left bytes ls left = ap (λ (n : ℕ). drop (n - left) (tokens_of bytes ls)) (length-map ls (token_of bytes)) ∙ drop-map (token_of bytes) (length ls - left) ls
+pub tokens_left : (bytes : List ℕ) (ls : List Lexeme) (left : ℕ)
+    → drop (length (tokens_of bytes ls) - left) (tokens_of bytes ls) ≡ tokens_of bytes (drop (length ls - left) ls)
+tokens_left bytes ls left = ap (λ (n : ℕ). drop (n - left) (tokens_of bytes ls)) (length-map ls (token_of bytes))
+    ∙ drop-map (token_of bytes) (length ls - left) ls
 
 -- ---- a gap is the front of the bytes
 
@@ -76,12 +79,14 @@ close_tail [] rest e = none_is_not rest e
 close_tail (a ∷ []) rest e = none_is_not rest e
 close_tail (a ∷ b ∷ bs) rest e = go (a == 42 && b == 47) (λ p. close_tail (b ∷ bs) rest p) e
   where
-    go : (t : Bool) → (after_close (b ∷ bs) ≡ Some rest → IsTail (b ∷ bs) rest) → cond t (Some bs) (after_close (b ∷ bs)) ≡ Some rest → IsTail (a ∷ b ∷ bs) rest
+    go : (t : Bool) → (after_close (b ∷ bs) ≡ Some rest → IsTail (b ∷ bs) rest)
+        → cond t (Some bs) (after_close (b ∷ bs)) ≡ Some rest → IsTail (a ∷ b ∷ bs) rest
     go true r p = (a ∷ b ∷ [], ap (λ (w : List ℕ). a ∷ b ∷ w) (same_Some bs rest p))
     go false r p = tail_of a (b ∷ bs) rest (r p)
 
 line_tail_of : (b : ℕ) (bs rest : List ℕ) → Some (after_line bs) ≡ Some rest → IsTail (b ∷ bs) rest
-line_tail_of b bs rest p = tail_of b bs rest (subst (λ (w : List ℕ). IsTail bs w) (same_Some (after_line bs) rest p) (line_tail bs))
+line_tail_of b bs rest p = tail_of b bs rest (subst (λ (w : List ℕ). IsTail bs w) (same_Some (after_line bs) rest p)
+    (line_tail bs))
 
 slash_tail : (bs rest : List ℕ) → after_slash bs ≡ Some rest → IsTail bs rest
 slash_tail [] rest e = none_is_not rest e
@@ -105,7 +110,8 @@ unfolding one_gap
 gap_tail [] rest e = none_is_not rest e
 gap_tail (b ∷ bs) rest e = go (is_blank b) (b == 47) (b == 45) e
   where
-    go : (x y z : Bool) → cond x (Some bs) (cond y (after_slash bs) (cond z (after_dash bs) None)) ≡ Some rest → IsTail (b ∷ bs) rest
+    go : (x y z : Bool) → cond x (Some bs) (cond y (after_slash bs) (cond z (after_dash bs) None)) ≡ Some rest
+        → IsTail (b ∷ bs) rest
     go true y z p = (b ∷ [], ap (λ (w : List ℕ). b ∷ w) (same_Some bs rest p))
     go false true z p = tail_of b bs rest (slash_tail bs rest p)
     go false false true p = tail_of b bs rest (dash_tail bs rest p)
@@ -130,9 +136,13 @@ digits_number w n e = go (bytes_eq w (codes "4k")) (number_value w) e
 number_text : (text : List ℕ) (n : ℕ) → kind_of text ≡ Some (kinds.Number n) → number_value text ≡ Some n
 unfolding kind_of
 number_text [] n e = none_is_not (kinds.Number n) e
-number_text (b ∷ bs) n e = go (is_letter b) (list_all is_word_byte bs) (is_digit b) (b == 34) (ends_text bs) (is_end bs) (word_of (b ∷ bs)) (mark_of b) e
+number_text (b ∷ bs) n e = go (is_letter b) (list_all is_word_byte bs) (is_digit b) (b == 34) (ends_text bs) (is_end bs)
+    (word_of (b ∷ bs)) (mark_of b) e
   where
-    go : (x a y z t u : Bool) (w : Word) (m : Option Mark) → cond x (cond a (Some (kinds.Word w)) None) (cond y (digits_kind (b ∷ bs)) (cond z (cond t (Some kinds.Text) None) (cond u (option_map kinds.Mark m) None))) ≡ Some (kinds.Number n) → number_value (b ∷ bs) ≡ Some n
+    go : (x a y z t u : Bool) (w : Word) (m : Option Mark)
+        → cond x (cond a (Some (kinds.Word w)) None)
+        (cond y (digits_kind (b ∷ bs)) (cond z (cond t (Some kinds.Text) None) (cond u (option_map kinds.Mark m) None))) ≡ Some
+        (kinds.Number n) → number_value (b ∷ bs) ≡ Some n
     go true true y z t u w m p = absurd cc
     go true false y z t u w m p = none_is_not (kinds.Number n) p
     go false a true z t u w m p = digits_number (b ∷ bs) n p
@@ -150,11 +160,15 @@ value_kept kinds.Text text e = refl
 value_kept (kinds.Mark mark) text e = refl
 
 -- the bytes between two places
-pub text_there : (front text rest : List ℕ) (total : ℕ) → total ≡ length (front ++ (text ++ rest)) → text_at (front ++ (text ++ rest)) (record { first = total - length (text ++ rest); end = total - length rest }) ≡ text
+pub text_there : (front text rest : List ℕ) (total : ℕ) → total ≡ length (front ++ (text ++ rest))
+    → text_at (front ++ (text ++ rest)) (record { first = total - length (text ++ rest); end = total - length rest }) ≡ text
 text_there front text rest total e =
     let a : length front ≡ total - length (text ++ rest) = omega (arith, e, length-append front (text ++ rest)) in
-    let b : length text ≡ (total - length rest) - (total - length (text ++ rest)) = omega (arith, e, length-append front (text ++ rest), length-append text rest) in
-    ap (take ((total - length rest) - (total - length (text ++ rest)))) (drop_at front (text ++ rest) (total - length (text ++ rest)) a) ∙ take_at text rest ((total - length rest) - (total - length (text ++ rest))) b
+    let b : length text ≡ (total - length rest) - (total - length (text ++ rest)) =
+    omega (arith, e, length-append front (text ++ rest), length-append text rest) in
+    ap (take ((total - length rest) - (total - length (text ++ rest))))
+    (drop_at front (text ++ rest) (total - length (text ++ rest)) a)
+    ∙ take_at text rest ((total - length rest) - (total - length (text ++ rest))) b
 
 module _ (bytes bs rest : List ℕ) (k : Kind) (token : IsTokenAt bs k rest) (tail : IsTail bytes bs) where
   pub tail_past_token : IsTail bytes rest
@@ -164,13 +178,17 @@ module _ (bytes bs rest : List ℕ) (k : Kind) (token : IsTokenAt bs k rest) (ta
   text_kept =
       let whole : bytes ≡ tail.0 ++ (token.text ++ rest) = tail.1 ∙ ap (λ (w : List ℕ). tail.0 ++ w) token.parts in
       subst (λ (w : List ℕ). text_at w (place_of (length bytes) bs rest) ≡ token.text) (sym whole)
-      (subst (λ (w : List ℕ). text_at (tail.0 ++ (token.text ++ rest)) (place_of (length bytes) w rest) ≡ token.text) (sym token.parts) (text_there tail.0 token.text rest (length bytes) (ap length whole)))
+      (subst (λ (w : List ℕ). text_at (tail.0 ++ (token.text ++ rest)) (place_of (length bytes) w rest) ≡ token.text)
+      (sym token.parts) (text_there tail.0 token.text rest (length bytes) (ap length whole)))
 
   -- the token is that of the lexeme at its place
   pub kind_kept : kind_with (sort_of k) (value_at bytes (place_of (length bytes) bs rest)) ≡ k
-  kind_kept = ap (λ (w : List ℕ). kind_with (sort_of k) (unwrap_or (number_value w) 0)) text_kept ∙ value_kept k token.text token.kind
+  kind_kept = ap (λ (w : List ℕ). kind_with (sort_of k) (unwrap_or (number_value w) 0)) text_kept
+      ∙ value_kept k token.text token.kind
 
 -- the first of them is a word, which may be a name
-pub name_starts : (bytes : List ℕ) (ls : List Lexeme) (d : Lexeme) (b : Bool) → 1 ≤ length ls → ((n : ℕ) → b ≡ among name_codes (kind_code (kind_with (get_or ls 0 d).sort n))) → b ≡ starts token_code name_codes (sees bytes ls)
+pub name_starts : (bytes : List ℕ) (ls : List Lexeme) (d : Lexeme) (b : Bool) → 1 ≤ length ls
+    → ((n : ℕ) → b ≡ among name_codes (kind_code (kind_with (get_or ls 0 d).sort n)))
+    → b ≡ starts token_code name_codes (sees bytes ls)
 name_starts bytes [] d b e h = absurd (omega arith)
 name_starts bytes (l ∷ ls) d b e h = h (value_at bytes l.place)

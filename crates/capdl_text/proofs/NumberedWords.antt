@@ -29,37 +29,74 @@ no_turned word text e f = elim (cases_Bool (bytes_eq word text)) [
 
 -- ---- words that it isn't
 
-part_of : (text : List ℕ) → ends_in_digit text ≡ true → part_word text ≡ cond (bytes_eq text (codes "arm11")) (Some words.Arm11) (cond (bytes_eq text (codes "aarch64")) (Some words.Aarch64) None)
-part_of text e = rw (no text (codes "arch") e refl, no text (codes "objects") e refl, no text (codes "caps") e refl, no text (codes "irq") e refl, no text (codes "maps") e refl) refl
+part_of : (text : List ℕ) → ends_in_digit text ≡ true → part_word text ≡ cond (bytes_eq text (codes "arm11")) (Some words.Arm11)
+    (cond (bytes_eq text (codes "aarch64")) (Some words.Aarch64) None)
+part_of text e = rw (
+  no text (codes "arch") e refl,
+  no text (codes "objects") e refl,
+  no text (codes "caps") e refl,
+  no text (codes "irq") e refl,
+  no text (codes "maps") e refl,
+) refl
 
 no_kind : (text : List ℕ) → ends_in_digit text ≡ true → kind_word text ≡ None
 no_kind text e =
-    rw
-    (no text (codes "ep") e refl, no text (codes "notification") e refl, no text (codes "cnode") e refl, no text (codes "bits") e refl, no text (codes "tcb") e refl, no text (codes "frame") e refl, no text (codes "CDL_FrameFill_FileData") e refl)
+    rw (
+      no text (codes "ep") e refl,
+      no text (codes "notification") e refl,
+      no text (codes "cnode") e refl,
+      no text (codes "bits") e
+          refl,
+      no text (codes "tcb") e refl,
+      no text (codes "frame") e refl,
+      no text (codes "CDL_FrameFill_FileData") e refl,
+    )
     refl
 
 no_table : (text : List ℕ) → ends_in_digit text ≡ true → table_word text ≡ None
-no_table text e = rw (no text (codes "pgd") e refl, no text (codes "pud") e refl, no text (codes "pd") e refl, no text (codes "pt") e refl) refl
+no_table text e = rw (
+  no text (codes "pgd") e refl,
+  no text (codes "pud") e refl,
+  no text (codes "pd") e refl,
+  no text (codes "pt") e refl,
+) refl
 
 no_field : (text : List ℕ) → ends_in_digit text ≡ true → field_of text ≡ None
 unfolding field_of
 no_field text e =
-    rw
-    (no_turned (codes "addr") text e refl, no_turned (codes "ip") text e refl, no_turned (codes "sp") text e refl, no_turned (codes "prio") text e refl, no_turned (codes "elf") text e refl, no_turned (codes "paddr") text e refl, no_turned (codes "fill") text e refl)
+    rw (
+      no_turned (codes "addr") text e refl,
+      no_turned (codes "ip") text e refl,
+      no_turned (codes "sp") text e refl,
+      no_turned (codes "prio") text e refl,
+      no_turned (codes "elf") text e refl,
+      no_turned (codes "paddr") text e refl,
+      no_turned (codes "fill") text e refl,
+    )
     refl
 
 no_slot : (text : List ℕ) → ends_in_digit text ≡ true → slot_word text ≡ None
-no_slot text e = rw (no text (codes "cspace") e refl, no text (codes "vspace") e refl, no text (codes "ipc_buffer_slot") e refl, no text (codes "badge") e refl) refl
+no_slot text e = rw (
+  no text (codes "cspace") e refl,
+  no text (codes "vspace") e refl,
+  no text (codes "ipc_buffer_slot") e refl,
+  no text (codes "badge") e refl,
+) refl
 
 -- ---- it is no rights
 
 passes_at : (p : ℕ → Bool) (text : List ℕ) (i b : ℕ) → list_all p text ≡ true → slice_get text i ≡ Some b → p b ≡ true
 passes_at p [] i b h e = absurd cc
-passes_at p (c ∷ cs) zero b h e = let first = (and_parts (p c) (list_all p cs) h).0 in let same : c ≡ b = cc in ap p (sym same) ∙ first
+passes_at p (c ∷ cs) zero b h e = let first = (and_parts (p c) (list_all p cs) h).0 in let same : c ≡ b = cc in
+    ap p (sym same) ∙ first
 passes_at p (c ∷ cs) (suc i) b h e = passes_at p cs i b (and_parts (p c) (list_all p cs) h).1 e
 
-not_all : (p : ℕ → Bool) → ((b : ℕ) → is_digit b ≡ true → p b ≡ false) → (text : List ℕ) → ends_in_digit text ≡ true → list_all p text ≡ false
-not_all p apart text e = elim (cases_Bool (list_all p text)) [ inl h ↦ by_last (slice_get text (length text - 1)) refl h | inr h ↦ h ]
+not_all : (p : ℕ → Bool) → ((b : ℕ) → is_digit b ≡ true → p b ≡ false) → (text : List ℕ) → ends_in_digit text ≡ true
+    → list_all p text ≡ false
+not_all p apart text e = elim (cases_Bool (list_all p text)) [
+  | inl h ↦ by_last (slice_get text (length text - 1)) refl h
+  | inr h ↦ h
+]
   where
     by_last : (o : Option ℕ) → slice_get text (length text - 1) ≡ o → list_all p text ≡ true → list_all p text ≡ false
     by_last None is h = absurd (true≢false (sym e ∙ ap (λ z. option_map_or is_digit z false) is))
@@ -75,13 +112,18 @@ no_right_or_x b d = grind (arith, nat_tests)
 
 no_rights : (text : List ℕ) → ends_in_digit text ≡ true → rights_word text ≡ None
 no_rights text e =
-    rw
-    (not_all is_right no_right text e, not_all (λ b. is_right b || b == 88) no_right_or_x text e, and-false (not (length text == 0)), and-false (has_letter 88 text))
+    rw (
+      not_all is_right no_right text e,
+      not_all (λ b. is_right b || b == 88) no_right_or_x text e,
+      and-false (not (length text == 0)),
+      and-false (has_letter 88 text),
+    )
     refl
 
 -- ---- what it is
 
-by_two : (b c : Bool) → unwrap_or (option_or (cond b (Some words.Arm11) (cond c (Some words.Aarch64) None)) None) words.Plain ≡ cond b words.Arm11 (cond c words.Aarch64 words.Plain)
+by_two : (b c : Bool) → unwrap_or (option_or (cond b (Some words.Arm11) (cond c (Some words.Aarch64) None)) None)
+    words.Plain ≡ cond b words.Arm11 (cond c words.Aarch64 words.Plain)
 by_two true c = refl
 by_two false true = refl
 by_two false false = refl

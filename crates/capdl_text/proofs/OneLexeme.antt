@@ -21,7 +21,8 @@ unfolding Stops
 one_stop bs x y none none p q = refl
 one_stop bs x y none (more e h) p q = absurd (p _ e)
 one_stop bs x y (more e g) none p q = absurd (q _ e)
-one_stop bs x y (more {cs = cs} e g) (more {cs = ds} f h) p q = one_stop cs x y g (subst (λ (w : List ℕ). IsGap w y) (same_Some ds cs (sym f ∙ e)) h) p q
+one_stop bs x y (more {cs = cs} e g) (more {cs = ds} f h) p q =
+    one_stop cs x y g (subst (λ (w : List ℕ). IsGap w y) (same_Some ds cs (sym f ∙ e)) h) p q
 
 nil_stops : Stops []
 unfolding Stops one_gap
@@ -40,7 +41,8 @@ unfolding fault_at
 no_fault_of_none f e = absurd cc
 
 -- a token at fault is none
-clean_token : {C : Type 0} (bs : List ℕ) (k : Kind) (rest : List ℕ) (f : TextCode × List ℕ) → IsTokenAt bs k rest → fault_at bs ≡ Some f → C
+clean_token : {C : Type 0} (bs : List ℕ) (k : Kind) (rest : List ℕ) (f : TextCode × List ℕ) → IsTokenAt bs k rest
+    → fault_at bs ≡ Some f → C
 clean_token bs k rest f t h = absurd (let e : None ≡ Some f = sym t.clean ∙ h in cc)
 
 pub one_list : (total : ℕ) (bs : List ℕ) (ts us : List Token) → LexesFrom total bs ts → LexesFrom total bs us → ts ≡ us
@@ -54,7 +56,8 @@ one_list total bs (t ∷ ts) [] l m =
 one_list total bs (t ∷ ts) (u ∷ us) l m =
     let same = one_stop bs l.0 m.0 l.2 m.2 (token_stops l.0 t.kind l.1 l.3) (token_stops m.0 u.kind m.1 m.3) in
     let both = one_token_of l.0 t.kind u.kind l.1 m.1 l.3 (subst (λ (w : List ℕ). IsTokenAt w u.kind m.1) (sym same) m.3) in
-    let places : t.place ≡ u.place = l.4 ∙ ap (λ (w : List ℕ). place_of total w l.1) same ∙ ap (λ (w : List ℕ). place_of total m.0 w) both.1 ∙ sym m.4 in
+    let places : t.place ≡ u.place = l.4 ∙ ap (λ (w : List ℕ). place_of total w l.1) same
+    ∙ ap (λ (w : List ℕ). place_of total m.0 w) both.1 ∙ sym m.4 in
     let others = one_list total l.1 ts us l.5 (subst (λ (w : List ℕ). LexesFrom total w us) (sym both.1) m.5) in
     ap (λ (x : Token). x ∷ ts) (same_token t u both.0 places) ∙ ap (λ (xs : List Token). u ∷ xs) others
   where
@@ -62,7 +65,8 @@ one_list total bs (t ∷ ts) (u ∷ us) l m =
     same_token t u p q = λ i. record { kind = p i; place = q i }
 
 -- one place is reached at which a fault stands
-one_place : (bs x y : List ℕ) (f g : TextCode × List ℕ) → Reached bs x → Reached bs y → fault_at x ≡ Some f → fault_at y ≡ Some g → x ≡ y
+one_place : (bs x y : List ℕ) (f g : TextCode × List ℕ) → Reached bs x → Reached bs y → fault_at x ≡ Some f
+    → fault_at y ≡ Some g → x ≡ y
 one_place bs x y f g (here p) (here q) h k = one_stop bs x y p q (fault_stops x f h) (fault_stops y g k)
 one_place bs x y f g (here p) (past {at = at} {after = after} {k = l} q t r) h k =
     let same = one_stop bs x at p q (fault_stops x f h) (token_stops at l after t) in
@@ -76,7 +80,8 @@ one_place bs x y f g (past {at = at} {after = after} {k = l} p t r) (past {at = 
     one_place after x y f g r (subst (λ (w : List ℕ). Reached w y) (sym both.1) s) h k
 
 -- where there is a list of tokens no fault is reached
-pub no_fault_reached : (total : ℕ) (bs x : List ℕ) (ts : List Token) (f : TextCode × List ℕ) → LexesFrom total bs ts → Reached bs x → fault_at x ≡ Some f → ⊥
+pub no_fault_reached : (total : ℕ) (bs x : List ℕ) (ts : List Token) (f : TextCode × List ℕ) → LexesFrom total bs ts
+    → Reached bs x → fault_at x ≡ Some f → ⊥
 no_fault_reached total bs x [] f l (here p) h =
     let same = one_stop bs [] x l p nil_stops (fault_stops x f h) in
     no_fault_of_none f (subst (λ (w : List ℕ). fault_at w ≡ Some f) (sym same) h)
@@ -93,11 +98,13 @@ no_fault_reached total bs x (t ∷ ts) f l (past {at = at} {after = after} {k = 
 pub one_fault : (bytes : List ℕ) (f g : TextFault) → IsTokenFault bytes f → IsTokenFault bytes g → f ≡ g
 one_fault bytes f g p q =
     let same = one_place bytes p.rest q.rest (f.code, p.text) (g.code, q.text) p.reached q.reached p.stands q.stands in
-    let both : (f.code, p.text) ≡ (g.code, q.text) = same_Some (f.code, p.text) (g.code, q.text) (sym p.stands ∙ ap fault_at same ∙ q.stands) in
+    let both : (f.code, p.text) ≡ (g.code, q.text) = same_Some (f.code, p.text) (g.code, q.text) (sym p.stands ∙ ap fault_at same
+    ∙ q.stands) in
     let code : f.code ≡ g.code = ap (λ (w : TextCode × List ℕ). w.0) both in
     let text : p.text ≡ q.text = ap (λ (w : TextCode × List ℕ). w.1) both in
     let first : f.first ≡ g.first = p.first ∙ ap (λ (w : List ℕ). length bytes - length w) same ∙ sym q.first in
-    let end : f.end ≡ g.end = p.end ∙ ap (λ (w : List ℕ). (length bytes - length w) + length p.text) same ∙ ap (λ (w : List ℕ). (length bytes - length q.rest) + length w) text ∙ sym q.end in
+    let end : f.end ≡ g.end = p.end ∙ ap (λ (w : List ℕ). (length bytes - length w) + length p.text) same
+    ∙ ap (λ (w : List ℕ). (length bytes - length q.rest) + length w) text ∙ sym q.end in
     same_fault f g code first end (p.name ∙ sym q.name)
   where
     same_fault : (f g : TextFault) → f.code ≡ g.code → f.first ≡ g.first → f.end ≡ g.end → f.name ≡ g.name → f ≡ g

@@ -21,4 +21,5 @@ after_run_le test bs = let e = ap length (run_after test bs) in omega (arith, le
 
 -- the bytes before what is behind a run are the run
 pub run_taken : (test : ℕ → Bool) (bs : List ℕ) → take (length bs - length (after_run test bs)) bs ≡ run test bs
-run_taken test bs = subst (λ (w : List ℕ). take (length w - length (after_run test bs)) w ≡ run test bs) (run_after test bs) (take-front (run test bs) (after_run test bs))
+run_taken test bs = subst (λ (w : List ℕ). take (length w - length (after_run test bs)) w ≡ run test bs) (run_after test bs)
+    (take-front (run test bs) (after_run test bs))

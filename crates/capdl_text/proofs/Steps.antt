@@ -12,7 +12,8 @@ use Rattle.capdl_text.proofs.Gaps.{gap_byte, token_no_gap_byte}
 use Rattle.capdl_text.proofs.Tokens.{none_is_not}
 
 -- two tokens at one place are one
-one_token : (bs : List ℕ) (k l : Kind) (rest after : List ℕ) → IsTokenAt bs k rest → IsTokenAt bs l after → length rest ≤ length after → (k ≡ l) × (rest ≡ after)
+one_token : (bs : List ℕ) (k l : Kind) (rest after : List ℕ) → IsTokenAt bs k rest → IsTokenAt bs l after
+    → length rest ≤ length after → (k ≡ l) × (rest ≡ after)
 one_token bs k l rest after t u le =
     let r = longer_front t.text u.text rest after (sym t.parts ∙ u.parts) le in
     let kind : kind_of (u.text ++ r.0) ≡ Some k = ap kind_of (sym r.1) ∙ t.kind in
@@ -20,7 +21,8 @@ one_token bs k l rest after t u le =
     let texts : u.text ++ r.0 ≡ u.text = ap (λ (w : List ℕ). u.text ++ w) same ∙ append-nil u.text in
     (same_Some k l (sym kind ∙ ap kind_of texts ∙ u.kind), sym (r.2 ∙ ap (λ (w : List ℕ). w ++ rest) same))
 
-pub one_token_of : (bs : List ℕ) (k l : Kind) (rest after : List ℕ) → IsTokenAt bs k rest → IsTokenAt bs l after → (k ≡ l) × (rest ≡ after)
+pub one_token_of : (bs : List ℕ) (k l : Kind) (rest after : List ℕ) → IsTokenAt bs k rest → IsTokenAt bs l after
+    → (k ≡ l) × (rest ≡ after)
 one_token_of bs k l rest after t u = elim (le_or rest after) [
   | inl le ↦ one_token bs k l rest after t u le
   | inr le ↦ let r = one_token bs l k after rest u t le in (sym r.0, sym r.1)
@@ -70,7 +72,8 @@ module _ (bs after : List ℕ) (step : one_gap bs ≡ Some after) where
 -- ---- one step over a token
 
 module _ (bs : List ℕ) (k : Kind) (after : List ℕ) (token : IsTokenAt bs k after) where
-  pub lexes_token : (total : ℕ) (t : Token) (ts : List Token) → t.kind ≡ k → t.place ≡ place_of total bs after → LexesFrom total after ts → LexesFrom total bs (t ∷ ts)
+  pub lexes_token : (total : ℕ) (t : Token) (ts : List Token) → t.kind ≡ k → t.place ≡ place_of total bs after
+      → LexesFrom total after ts → LexesFrom total bs (t ∷ ts)
   lexes_token total t ts p q l = (bs, after, none, rw p token, q, l)
 
   pub reached_token : (x : List ℕ) → Reached after x → Reached bs x

@@ -17,7 +17,8 @@ pub record IsTokenAt (bs : List ℕ) (k : Kind) (rest : List ℕ) : Type 0 where
   pub text : List ℕ
   pub parts : bs ≡ text ++ rest
   pub kind : kind_of text ≡ Some k
-  pub longest : (longer : List ℕ) (after : List ℕ) → rest ≡ longer ++ after → is_some (kind_of (text ++ longer)) ≡ true → longer ≡ []
+  pub longest : (longer : List ℕ) (after : List ℕ) → rest ≡ longer ++ after → is_some (kind_of (text ++ longer)) ≡ true
+      → longer ≡ []
   pub clean : fault_at bs ≡ None
 
 -- the place from here to the rest, where there are so many bytes in all
@@ -27,7 +28,8 @@ place_of total here rest = record { first = total - length here; end = total - l
 -- The tokens of the last bytes of a text of so many: blanks and whole comments before, between and after them.
 abbrev pub LexesFrom : ℕ → List ℕ → List Token → Type 0
 LexesFrom total bs [] = IsGap bs []
-LexesFrom total bs (t ∷ ts) = (here : List ℕ) × (rest : List ℕ) × IsGap bs here × IsTokenAt here t.kind rest × (t.place ≡ place_of total here rest) × LexesFrom total rest ts
+LexesFrom total bs (t ∷ ts) = (here : List ℕ) × (rest : List ℕ) × IsGap bs here × IsTokenAt here t.kind rest
+    × (t.place ≡ place_of total here rest) × LexesFrom total rest ts
 
 -- The text's bytes are these tokens, with blanks and whole comments before, between and after them.
 abbrev pub Lexes : List ℕ → List Token → Type 0

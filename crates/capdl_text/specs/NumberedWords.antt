@@ -13,7 +13,8 @@ ends_in_digit text = option_map_or is_digit (slice_get text (length text - 1)) f
 
 -- what such a word stands for
 abbrev pub numbered_word : List ℕ → Word
-numbered_word text = if bytes_eq text (codes "arm11") then words.Arm11 else if bytes_eq text (codes "aarch64") then words.Aarch64 else words.Plain
+numbered_word text = if bytes_eq text (codes "arm11") then words.Arm11 else if bytes_eq text (codes "aarch64") then
+    words.Aarch64 else words.Plain
 
 -- such a word is left out
 abbrev pub is_numbered_left_out : List ℕ → Bool

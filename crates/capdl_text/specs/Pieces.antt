@@ -34,7 +34,8 @@ mark_taken b bs = option_map (λ m. (kinds.Mark m, bs)) (mark_of b)
 -- the token at the front, by the first byte
 unfoldable pub one_token : List ℕ → Taken
 one_token [] = None
-one_token (b ∷ bs) = if is_letter b then word_taken (b ∷ bs) else if is_digit b then digits_taken (b ∷ bs) else if b == 34 then text_taken bs else mark_taken b bs
+one_token (b ∷ bs) = if is_letter b then word_taken (b ∷ bs) else if is_digit b then digits_taken (b ∷ bs) else if b == 34 then
+    text_taken bs else mark_taken b bs
 
 -- What was found is what these say.
 abbrev pub Fits : Option (List ℕ) → Taken → Found → Piece → Type 0

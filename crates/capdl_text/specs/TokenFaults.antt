@@ -36,8 +36,10 @@ after_run test (b ∷ bs) = if test b then after_run test bs else b ∷ bs
 -- words of capDL that this profile leaves out
 abbrev pub left_out_words : List (List ℕ)
 left_out_words =
-    codes "untyped" ∷ codes "ut" ∷ codes "asid_pool" ∷ codes "io_ports" ∷ codes "io_device" ∷ codes "io_pt" ∷ codes "arm_iospace" ∷ codes "vcpu" ∷ codes "sc"
-    ∷ codes "rtreply" ∷ codes "cdt" ∷ codes "master_reply" ∷ codes "reply_slot" ∷ codes "caller_slot" ∷ codes "fault_ep_slot" ∷ codes "ia32" ∷ codes "x86_64" ∷ codes "riscv" ∷ []
+    codes "untyped" ∷ codes "ut" ∷ codes "asid_pool" ∷ codes "io_ports" ∷ codes "io_device" ∷ codes "io_pt" ∷ codes "arm_iospace"
+    ∷ codes "vcpu" ∷ codes "sc"
+    ∷ codes "rtreply" ∷ codes "cdt" ∷ codes "master_reply" ∷ codes "reply_slot" ∷ codes "caller_slot" ∷ codes "fault_ep_slot"
+    ∷ codes "ia32" ∷ codes "x86_64" ∷ codes "riscv" ∷ []
 
 -- sizes of frames that this profile leaves out
 abbrev pub left_out_sizes : List (List ℕ)
@@ -50,10 +52,12 @@ unfoldable pub is_left_out_size : List ℕ → Bool
 is_left_out_size run = list_any (bytes_eq run) left_out_sizes
 
 abbrev pub word_fault : List ℕ → Found
-word_fault word = if nat_lt 127 (length word) then Some (CapdlLimit, word) else if is_left_out_word word then Some (CapdlLeftOut, word) else None
+word_fault word = if nat_lt 127 (length word) then Some (CapdlLimit, word) else if is_left_out_word word then Some
+    (CapdlLeftOut, word) else None
 
 abbrev pub digits_fault : List ℕ → Found
-digits_fault run = if is_some (digits_kind run) then None else if is_left_out_size run then Some (CapdlLeftOut, run) else Some (CapdlByte, run)
+digits_fault run = if is_some (digits_kind run) then None else if is_left_out_size run then Some (CapdlLeftOut, run) else Some
+    (CapdlByte, run)
 
 -- the bytes are no token
 abbrev pub unless : Option (List ℕ) → List ℕ → Found

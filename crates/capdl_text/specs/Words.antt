@@ -97,11 +97,15 @@ abbrev pub is_left_out_rights : List ℕ → Bool
 is_left_out_rights text = has_letter 88 text && (list_all (λ b. is_right b || b == 88) text && (each_once text && once 88 text))
 
 abbrev pub rights_word : List ℕ → Option Word
-rights_word text = if is_rights text then Some words.Rights else if is_left_out_rights text then Some words.LeftOutRights else None
+rights_word text = if is_rights text then Some words.Rights else if is_left_out_rights text then Some
+    words.LeftOutRights else None
 
 -- ---- all of them
 
 -- what a word stands for
 unfoldable pub word_of : List ℕ → Word
 word_of text =
-    unwrap_or (option_or (part_word text) (option_or (kind_word text) (option_or (table_word text) (option_or (option_map words.Field (field_of text)) (option_or (slot_word text) (rights_word text)))))) words.Plain
+    unwrap_or
+    (option_or (part_word text)
+    (option_or (kind_word text) (option_or (table_word text) (option_or (option_map words.Field (field_of text))
+    (option_or (slot_word text) (rights_word text)))))) words.Plain

@@ -3,7 +3,7 @@ use Rattle.std.specs.Prelude.{◌≡◌, ◌≢◌, ◌⊎◌, ℕ, List, map, s
 use Rattle.std.specs.List.{Contains}
 use Rattle.std.proofs.Common.{inl, inr, arith, subst}
 use Rattle.cap_model.specs.declared.edge.Edge.{Edge}
-use Rattle.cap_model.specs.declared.authority.Authority.{Authority}
+use Rattle.authorities.specs.declared.authority.Authority.{Authority}
 use Rattle.cap_model.specs.declared.object.Object.{Object}
 use Rattle.cap_model.specs.declared.object.Object.TheVariants.{Endpoint, Notification, CNode, Thread, Frame, Pages, Irq}
 use Rattle.cap_model.specs.declared.spec.Entry.{Entry}
@@ -31,7 +31,8 @@ pub record AskedSome (spec : Spec) (labels : List ℕ) (e : Edge) : Type 0 where
 module _ (spec : Spec) (labels : List ℕ) where
   -- from the boot state to the objects
 
-  held_object : (l : ℕ) (object : Object) (i : ℕ) (x : Cap) (e : Edge) → Contains (boot_node object).slots (i, Capability x) → OfCap spec labels l x e → Asked spec labels l object e
+  held_object : (l : ℕ) (object : Object) (i : ℕ) (x : Cap) (e : Edge) → Contains (boot_node object).slots (i, Capability x)
+      → OfCap spec labels l x e → Asked spec labels l object e
   held_object l (CNode bits slots) i x e there of_cap =
       let k = contains_at (map boot_slot slots) (i, Capability x) there in
       let s = slot_of slots k.0 i (Capability x) k.1 in
@@ -47,47 +48,75 @@ module _ (spec : Spec) (labels : List ℕ) where
           place = c;
           entry = found.0;
           there = found.1;
-          asked = held_object (label_of labels c) found.0.object i x e (subst (λ (n : Node). Contains n.slots (i, Capability x)) found.2 there) (record { confers = conf; from = from; to = to });
+          asked = held_object (label_of labels c) found.0.object i x e (subst (λ (n : Node). Contains n.slots (i, Capability x))
+              found.2 there) (record { confers = conf; from = from; to = to });
         }
-        | inr none ↦ absurd (let c : Contains no_node.slots (i, Capability x) = subst (λ (n : Node). Contains n.slots (i, Capability x)) none there in let w = c.1 in omega arith)
+        | inr none ↦
+            absurd (let c : Contains no_node.slots (i, Capability x) = subst (λ (n : Node). Contains n.slots (i, Capability x))
+            none there in let w = c.1 in omega arith)
       ]
 
-  buffer_object : (l : ℕ) (object : Object) (cap : Cap) (e : Edge) → buffer_of (Some object) ≡ Some cap → OfCap spec labels l cap e → e.from ≢ e.to → Asked spec labels l object e
-  buffer_object l (Thread tcb) cap e there of_cap differ = (inr (inr (record { cap = cap; there = there; of_cap = of_cap })), differ)
+  buffer_object : (l : ℕ) (object : Object) (cap : Cap) (e : Edge) → buffer_of (Some object) ≡ Some cap
+      → OfCap spec labels l cap e → e.from ≢ e.to → Asked spec labels l object e
+  buffer_object l (Thread tcb) cap e there of_cap differ =
+      (inr (inr (record { cap = cap; there = there; of_cap = of_cap })), differ)
   buffer_object l _ cap e there of_cap differ = absurd cc
 
-  table_object : (l : ℕ) (object : Object) (slot : ℕ × Cap) (e : Edge) → Contains (table_of (Some object)) slot → OfCap spec labels l slot.1 e → e.from ≢ e.to → Asked spec labels l object e
+  table_object : (l : ℕ) (object : Object) (slot : ℕ × Cap) (e : Edge) → Contains (table_of (Some object)) slot
+      → OfCap spec labels l slot.1 e → e.from ≢ e.to → Asked spec labels l object e
   table_object l (Pages level slots) slot e c of_cap differ =
-      let k : (k : ℕ) × (slice_get slots k ≡ Some slot) = contains_at slots slot c in (record { place = k.0; slot = slot; there = k.1; of_cap = of_cap }, differ)
+      let k : (k : ℕ) × (slice_get slots k ≡ Some slot) = contains_at slots slot c in
+      (record { place = k.0; slot = slot; there = k.1; of_cap = of_cap }, differ)
   table_object l _ slot e c of_cap differ = let w = c.1 in absurd (omega arith)
 
-  root_object : (l : ℕ) (object : Object) (e : Edge) → OfLink labels l (boot_thread object).root e → e.from ≢ e.to → Asked spec labels l object e
+  root_object : (l : ℕ) (object : Object) (e : Edge) → OfLink labels l (boot_thread object).root e → e.from ≢ e.to
+      → Asked spec labels l object e
   root_object l (Thread tcb) e link differ = (inl link, differ)
   root_object l _ e link differ = absurd (let w = link.there in cc)
 
-  space_object : (l : ℕ) (object : Object) (e : Edge) → OfLink labels l (boot_thread object).space e → e.from ≢ e.to → Asked spec labels l object e
+  space_object : (l : ℕ) (object : Object) (e : Edge) → OfLink labels l (boot_thread object).space e → e.from ≢ e.to
+      → Asked spec labels l object e
   space_object l (Thread tcb) e link differ = (inr (inl link), differ)
   space_object l _ e link differ = absurd (let w = link.there in cc)
 
-  irq_object : (l : ℕ) (object : Object) (e : Edge) → OfBound labels l (boot_irq object) e → e.from ≢ e.to → Asked spec labels l object e
+  irq_object : (l : ℕ) (object : Object) (e : Edge) → OfBound labels l (boot_irq object) e → e.from ≢ e.to
+      → Asked spec labels l object e
   irq_object l (Irq bound) e link differ = (link, differ)
   irq_object l _ e link differ = absurd (let w = link.there in cc)
 
-  buffer_place : (t : ℕ) (o : Option Entry) (cap : Cap) (e : Edge) → slice_get spec.entries t ≡ o → buffer_of (entry_object o) ≡ Some cap → OfCap spec labels (label_of labels t) cap e → e.from ≢ e.to → AskedSome spec labels e
+  buffer_place : (t : ℕ) (o : Option Entry) (cap : Cap) (e : Edge) → slice_get spec.entries t ≡ o
+      → buffer_of (entry_object o) ≡ Some cap → OfCap spec labels (label_of labels t) cap e → e.from ≢ e.to
+      → AskedSome spec labels e
   buffer_place t None cap e here there of_cap differ = absurd cc
   buffer_place t (Some entry) cap e here there of_cap differ =
-      record { place = t; entry = entry; there = here; asked = buffer_object (label_of labels t) entry.object cap e there of_cap differ }
+      record {
+        place = t;
+        entry = entry;
+        there = here;
+        asked = buffer_object (label_of labels t) entry.object cap e there
+            of_cap differ;
+      }
 
-  table_place : (t : ℕ) (o : Option Entry) (slot : ℕ × Cap) (e : Edge) → slice_get spec.entries t ≡ o → Contains (table_of (entry_object o)) slot → OfCap spec labels (label_of labels t) slot.1 e → e.from ≢ e.to → AskedSome spec labels e
+  table_place : (t : ℕ) (o : Option Entry) (slot : ℕ × Cap) (e : Edge) → slice_get spec.entries t ≡ o
+      → Contains (table_of (entry_object o)) slot → OfCap spec labels (label_of labels t) slot.1 e → e.from ≢ e.to
+      → AskedSome spec labels e
   table_place t None slot e here c of_cap differ = let w = c.1 in absurd (omega arith)
   table_place t (Some entry) slot e here c of_cap differ =
-      record { place = t; entry = entry; there = here; asked = table_object (label_of labels t) entry.object slot e c of_cap differ }
+      record {
+        place = t;
+        entry = entry;
+        there = here;
+        asked = table_object (label_of labels t) entry.object slot e c
+            of_cap differ;
+      }
 
-  pub structural_asked : (e : Edge) (l : ℕ) (a : Authority) (m : ℕ) → e ≡ edge l a m → Structural spec labels (boot spec) l a m → e.from ≢ e.to → AskedSome spec labels e
+  pub structural_asked : (e : Edge) (l : ℕ) (a : Authority) (m : ℕ) → e ≡ edge l a m → Structural spec labels (boot spec) l a m
+      → e.from ≢ e.to → AskedSome spec labels e
   structural_asked e l a m is (of_buffer h) differ =
       buffer_place h.0 (slice_get spec.entries h.0) h.1 e refl h.2 (rw is (record { confers = h.3; from = h.4; to = h.5 })) differ
   structural_asked e l a m is (of_table h) differ =
-      table_place h.0 (slice_get spec.entries h.0) (h.1, h.2) e refl h.3 (rw is (record { confers = h.4; from = h.5; to = h.6 })) differ
+      table_place h.0 (slice_get spec.entries h.0) (h.1, h.2) e refl h.3 (rw is (record { confers = h.4; from = h.5; to = h.6 }))
+      differ
   structural_asked e l a m is (of_root h) differ =
       elim (at_entry boot_thread spec.entries h.0 no_thread) [
         | inl found ↦
@@ -96,7 +125,13 @@ module _ (spec : Spec) (labels : List ℕ) where
               entry = found.0;
               there = found.1;
               asked = root_object (label_of labels h.0) found.0.object e
-                  (rw is (record { object = h.1; there = subst (λ (n : ThreadState). n.root ≡ Some h.1) found.2 h.2; control = h.3; from = h.4; to = h.5 })) differ;
+                  (rw is (record {
+                    object = h.1;
+                    there = subst (λ (n : ThreadState). n.root ≡ Some h.1) found.2 h.2;
+                    control = h.3;
+                    from = h.4;
+                    to = h.5;
+                  })) differ;
             }
         | inr none ↦ absurd (let n = subst (λ (n : ThreadState). n.root ≡ Some h.1) none h.2 in cc)
       ]
@@ -108,7 +143,13 @@ module _ (spec : Spec) (labels : List ℕ) where
               entry = found.0;
               there = found.1;
               asked = space_object (label_of labels h.0) found.0.object e
-                  (rw is (record { object = h.1; there = subst (λ (n : ThreadState). n.space ≡ Some h.1) found.2 h.2; control = h.3; from = h.4; to = h.5 })) differ;
+                  (rw is (record {
+                    object = h.1;
+                    there = subst (λ (n : ThreadState). n.space ≡ Some h.1) found.2 h.2;
+                    control = h.3;
+                    from = h.4;
+                    to = h.5;
+                  })) differ;
             }
         | inr none ↦ absurd (let n = subst (λ (n : ThreadState). n.space ≡ Some h.1) none h.2 in cc)
       ]
@@ -123,25 +164,55 @@ module _ (spec : Spec) (labels : List ℕ) where
               entry = found.0;
               there = found.1;
               asked = irq_object (label_of labels h.0) found.0.object e
-                  (rw is (record { object = h.1; there = subst (λ (n : Option ℕ). n ≡ Some h.1) found.2 h.2; sends = h.3; from = h.4; to = h.5 })) differ;
+                  (rw is (record {
+                    object = h.1;
+                    there = subst (λ (n : Option ℕ). n ≡ Some h.1) found.2 h.2;
+                    sends = h.3;
+                    from = h.4;
+                    to = h.5;
+                  })) differ;
             }
         | inr none ↦ absurd (let n = subst (λ (n : Option ℕ). n ≡ Some h.1) none h.2 in cc)
       ]
 
   -- and back
 
-  boot_contains : (slots : List (ℕ × Cap)) (k : ℕ) (slot : ℕ × Cap) → slice_get slots k ≡ Some slot → Contains (map boot_slot slots) (slot.0, Capability slot.1)
-  boot_contains slots k slot h = at_contains (map boot_slot slots) (boot_slot slot) k (let e = slice_get-map boot_slot slots k in rw (e, h) refl)
+  boot_contains : (slots : List (ℕ × Cap)) (k : ℕ) (slot : ℕ × Cap) → slice_get slots k ≡ Some slot
+      → Contains (map boot_slot slots) (slot.0, Capability slot.1)
+  boot_contains slots k slot h = at_contains (map boot_slot slots) (boot_slot slot) k (let e = slice_get-map boot_slot slots k in
+      rw (e, h) refl)
 
   abbrev pub At : Edge → Type 0
-  At e = Held spec labels (boot spec) e.from e.authority e.to ⊎ (Structural spec labels (boot spec) e.from e.authority e.to × (e.from ≢ e.to))
+  At e = Held spec labels (boot spec) e.from e.authority e.to ⊎ (Structural spec labels (boot spec) e.from e.authority e.to
+      × (e.from ≢ e.to))
 
-  pub asked_at : (o : ℕ) (entry : Entry) (object : Object) (e : Edge) → slice_get spec.entries o ≡ Some entry → entry.object ≡ object → Asked spec labels (label_of labels o) object e → At e
+  pub asked_at : (o : ℕ) (entry : Entry) (object : Object) (e : Edge) → slice_get spec.entries o ≡ Some entry
+      → entry.object ≡ object → Asked spec labels (label_of labels o) object e → At e
   asked_at o entry (CNode bits slots) e here is asked =
       let node : node_at (boot spec) o ≡ boot_node entry.object = entry_at boot_node spec.entries o no_node entry here in
-      inl (o, asked.slot.0, asked.slot.1, rw (node, is) (boot_contains slots asked.place asked.slot asked.there), asked.of_cap.confers, asked.of_cap.from, asked.of_cap.to)
+      inl (
+        o,
+        asked.slot.0,
+        asked.slot.1,
+        rw (node, is) (boot_contains slots asked.place asked.slot asked.there),
+        asked.of_cap.confers,
+        asked.of_cap.from,
+        asked.of_cap.to,
+      )
   asked_at o entry (Pages level slots) e here is asked =
-      inr (of_table (o, asked.0.slot.0, asked.0.slot.1, rw (here, is) (at_contains slots asked.0.slot asked.0.place asked.0.there), asked.0.of_cap.confers, asked.0.of_cap.from, asked.0.of_cap.to), asked.1)
+      inr (
+        of_table (
+          o,
+          asked.0.slot.0,
+          asked.0.slot.1,
+          rw (here, is) (at_contains slots asked.0.slot asked.0.place
+              asked.0.there),
+          asked.0.of_cap.confers,
+          asked.0.of_cap.from,
+          asked.0.of_cap.to,
+        ),
+        asked.1,
+      )
   asked_at o entry (Thread tcb) e here is (inl h, differ) =
       let live : thread_at (boot spec) o ≡ boot_thread entry.object = entry_at boot_thread spec.entries o no_thread entry here in
       inr (of_root (o, h.object, rw (live, is) h.there, h.control, h.from, h.to), differ)

@@ -1,10 +1,10 @@
 -- What a walk through the edges finds first is least.
 use Rattle.std.proofs.Common.{◌≡◌, ◌≢◌, ◌<◌, ◌≤◌, ℕ, true, false, List, slice_get, Some, None, length, refl, sym, subst, ap, inl, inr, arith}
 use Rattle.std.proofs.lemmas.Bool.{cases_lt}
-use Rattle.cap_model.specs.Authorities.{number_of}
+use Rattle.authorities.specs.Authorities.{number_of}
 use Rattle.cap_model.specs.Edges.{edge, AtMost, Before}
 use Rattle.cap_model.specs.Tables.{has, IsSorted, Finds}
-use Rattle.cap_model.specs.declared.authority.Authority.TheVariants.{AsyncSend, Reset, Handle}
+use Rattle.authorities.specs.declared.authority.Authority.TheVariants.{AsyncSend, Reset, Handle}
 use Rattle.cap_model.specs.declared.edge.Edge.{Edge}
 use Rattle.cap_model.proofs.TableMembers.{at_has, has_at}
 use Rattle.cert_check.specs.Least.{FindsLeast}
@@ -19,7 +19,8 @@ module _ (cert : List Edge) (P : Violation → Type 0) (named : (v : Violation) 
   pub edge_none : (i : ℕ) → length cert ≤ i → NoneUpTo P first_of cert i → FindsLeast P None
   edge_none i le before = none_end P first_of cert named i le before
 
-  pub edge_found : (i : ℕ) (e : Edge) (v : Violation) → IsSorted cert → slice_get cert i ≡ Some e → NoneUpTo P first_of cert i → FindsLeastAt P e (Some v) → FindsLeast P (Some v)
+  pub edge_found : (i : ℕ) (e : Edge) (v : Violation) → IsSorted cert → slice_get cert i ≡ Some e → NoneUpTo P first_of cert i
+      → FindsLeastAt P e (Some v) → FindsLeast P (Some v)
   edge_found i e v sorted here before found = (
     found.0.0,
     λ w p.
@@ -47,7 +48,8 @@ module _ (cert : List Edge) (e : Edge) where
   number : (v : Violation) → AtFirst (BreaksBind cert) e v → number_of v.second.authority ≡ 2
   number v p = ap number_of p.0.sends
 
-  pub bind_start : (low : ℕ) → IsFirstNotBefore cert (edge e.from AsyncSend 0) low → NoneUpTo (AtFirst (BreaksBind cert) e) second_of cert low
+  pub bind_start : (low : ℕ) → IsFirstNotBefore cert (edge e.from AsyncSend 0) low
+      → NoneUpTo (AtFirst (BreaksBind cert) e) second_of cert low
   bind_start low first = record {
     none = λ k v less there p. (
         let b : Before v.second (edge e.from AsyncSend 0) = first.below k v.second less there in
@@ -57,7 +59,8 @@ module _ (cert : List Edge) (e : Edge) where
         omega arith);
   }
 
-  pub bind_none : (high j : ℕ) → IsFirstNotBefore cert (edge e.from Reset 0) high → high ≤ j → NoneUpTo (AtFirst (BreaksBind cert) e) second_of cert j → FindsLeastAt (BreaksBind cert) e None
+  pub bind_none : (high j : ℕ) → IsFirstNotBefore cert (edge e.from Reset 0) high → high ≤ j
+      → NoneUpTo (AtFirst (BreaksBind cert) e) second_of cert j → FindsLeastAt (BreaksBind cert) e None
   bind_none high j past le before v p =
       let there : (k : ℕ) × (slice_get cert k ≡ Some v.second) = at_has cert v.second (named v p) in
       elim (cases_lt there.0 j) [
@@ -70,19 +73,38 @@ module _ (cert : List Edge) (e : Edge) where
             omega arith
       ]
 
-  pub bind_found : (j : ℕ) (other : Edge) → IsSorted cert → slice_get cert j ≡ Some other → has cert e ≡ true → NoneUpTo (AtFirst (BreaksBind cert) e) second_of cert j
-      → e.authority ≡ Handle → other.authority ≡ AsyncSend → other.from ≡ e.from → other.to ≢ e.to → has cert (edge e.to AsyncSend other.to) ≡ false
+  pub bind_found : (j : ℕ) (other : Edge) → IsSorted cert → slice_get cert j ≡ Some other → has cert e ≡ true
+      → NoneUpTo (AtFirst (BreaksBind cert) e) second_of cert j
+      → e.authority ≡ Handle → other.authority ≡ AsyncSend → other.from ≡ e.from → other.to ≢ e.to
+      → has cert (edge e.to AsyncSend other.to) ≡ false
       → FindsLeastAt (BreaksBind cert) e (Some (record { first = e; lack = edge e.to AsyncSend other.to; second = other }))
   bind_found j other sorted here there before handle sends same differ lacks = (
-    (record { handle = handle; there = there; sends = sends; same = same; there_too = has_at cert j other here; differ = λ w. differ (sym w); redirected = refl; lacks = lacks }, refl),
+    (
+      record {
+        handle = handle;
+        there = there;
+        sends = sends;
+        same = same;
+        there_too = has_at cert j other here;
+        differ = λ w. differ (sym w);
+        redirected = refl;
+        lacks = lacks;
+      },
+      refl,
+    ),
     λ c p.
-        let least : AtMost other c.second = found_first (AtFirst (BreaksBind cert) e) second_of cert named j other sorted before here c p in
+        let least : AtMost other c.second = found_first (AtFirst (BreaksBind cert) e) second_of cert named j other sorted
+        before here c p in
         let to : e.to ≤ c.first.to = rw p.1 (omega arith) in
         let from : other.from ≡ c.second.from = rw (p.0.same, p.1, same) refl in
         let number : number_of other.authority ≡ number_of c.second.authority = rw (p.0.sends, sends) refl in
         record {
           by_first = at_first e c.first (sym p.1);
-          by_lack = λ w. rw p.0.redirected (record { by_from = to; by_authority = λ f. omega arith; by_to = λ f g. least.by_to from number });
+          by_lack = λ w. rw p.0.redirected (record {
+            by_from = to;
+            by_authority = λ f. omega arith;
+            by_to = λ f g. least.by_to from number;
+          });
           by_second = λ w x. least;
         },
   )
@@ -91,10 +113,12 @@ abbrev pub itself : Edge → Edge
 itself e = e
 
 module _ (policy cert : List Edge) where
-  pub outside_none : (i : ℕ) → length cert ≤ i → NoneUpTo (BreaksPolicy policy cert) itself cert i → Finds (BreaksPolicy policy cert) None
+  pub outside_none : (i : ℕ) → length cert ≤ i → NoneUpTo (BreaksPolicy policy cert) itself cert i
+      → Finds (BreaksPolicy policy cert) None
   outside_none i le before = none_end (BreaksPolicy policy cert) itself cert (λ e p. p.there) i le before
 
-  pub outside_found : (i : ℕ) (e : Edge) → IsSorted cert → slice_get cert i ≡ Some e → NoneUpTo (BreaksPolicy policy cert) itself cert i
+  pub outside_found : (i : ℕ) (e : Edge) → IsSorted cert → slice_get cert i ≡ Some e
+      → NoneUpTo (BreaksPolicy policy cert) itself cert i
       → e.from ≢ e.to → has policy e ≡ false → Finds (BreaksPolicy policy cert) (Some e)
   outside_found i e sorted here before differ lacks = (
     record { there = has_at cert i e here; differ = differ; lacks = lacks },

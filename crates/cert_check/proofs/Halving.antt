@@ -16,14 +16,16 @@ module _ (edges : List Edge) (e : Edge) where
     above = λ k d l h. absurd (let w : k < length edges = slice_get_within edges k d h in omega arith);
   }
 
-  pub halved_up : (low high m : ℕ) (d : Edge) → IsSorted edges → Halved edges e low high → m < high → slice_get edges m ≡ Some d → Before d e → Halved edges e (m + 1) high
+  pub halved_up : (low high m : ℕ) (d : Edge) → IsSorted edges → Halved edges e low high → m < high → slice_get edges m ≡ Some d
+      → Before d e → Halved edges e (m + 1) high
   halved_up low high m d sorted h less here before = record {
     bound = h.bound;
     below = λ k c l there. at_most_before c d e (later_at_most edges k m c d sorted (omega arith) there here) before;
     above = h.above;
   }
 
-  pub halved_down : (low high m : ℕ) (d : Edge) → IsSorted edges → Halved edges e low high → low ≤ m → m < high → slice_get edges m ≡ Some d → AtMost e d → Halved edges e low m
+  pub halved_down : (low high m : ℕ) (d : Edge) → IsSorted edges → Halved edges e low high → low ≤ m → m < high
+      → slice_get edges m ≡ Some d → AtMost e d → Halved edges e low m
   halved_down low high m d sorted h le less here most = record {
     bound = (let b = h.bound in omega arith);
     below = h.below;

@@ -3,16 +3,16 @@ use Rattle.std.specs.Prelude.{◌≡◌, ◌≢◌, ◌⊎◌, ◌<◌, ◌≤�
 use Rattle.std.proofs.Common.{inl, inr, arith, subst}
 use Rattle.std.proofs.lemmas.Bool.{cases_lt}
 use Rattle.cap_model.specs.declared.edge.Edge.{Edge}
-use Rattle.cap_model.specs.declared.authority.Authority.{Authority}
+use Rattle.authorities.specs.declared.authority.Authority.{Authority}
 use Rattle.cap_model.specs.Tables.{has, Finds}
 use Rattle.cap_model.specs.Edges.{edge}
-use Rattle.cap_model.specs.Authorities.{number_of}
+use Rattle.authorities.specs.Authorities.{number_of}
 use Rattle.cap_model.proofs.EdgeOrder.{at_most_trans, before_at_most, same_number, edges_same}
 use Rattle.cap_model.specs.declared.cap.Cap.{Cap}
 use Rattle.cap_model.specs.declared.spec.Spec.{Spec}
 use Rattle.cap_model.specs.Confers.{confers}
 use Rattle.cap_model.specs.ObjectLabels.{label_of}
-use Rattle.cap_model.proofs.AuthorityBits.{number_of-lt}
+use Rattle.authorities.proofs.AuthorityBits.{number_of-lt}
 use Rattle.cert_check.specs.Parts.{CapLack, SlotsLack, LesserEdge}
 
 module _ (P Q : Edge → Type 0) where
@@ -27,7 +27,13 @@ module _ (P Q : Edge → Type 0) where
   finds_either None (Some new) kept p q is = rw is (inr q.0, λ e h. elim h [ inl x ↦ absurd (p e x) | inr x ↦ q.1 e x ])
   finds_either (Some old) None kept p q is = rw is (inl p.0, λ e h. elim h [ inl x ↦ p.1 e x | inr x ↦ absurd (q e x) ])
   finds_either (Some old) (Some new) kept p q (inl is) =
-      rw is.1 (inr q.0, λ e h. elim h [ inl x ↦ at_most_trans new old e (before_at_most new old is.0) (p.1 e x) | inr x ↦ q.1 e x ])
+      rw is.1 (
+        inr q.0,
+        λ e h. elim h [
+          | inl x ↦ at_most_trans new old e (before_at_most new old is.0) (p.1 e x)
+          | inr x ↦ q.1 e x
+        ],
+      )
   finds_either (Some old) (Some new) kept p q (inr is) =
       rw is.1 (inl p.0, λ e h. elim h [ inl x ↦ p.1 e x | inr x ↦ at_most_trans old new e is.0 (q.1 e x) ])
 
@@ -36,12 +42,17 @@ module _ (spec : Spec) (cert : List Edge) (within : Bool) (l m : ℕ) (cap : Cap
   pub record NoneBelow (n : ℕ) : Type 0 where
     pub none : (e : Edge) → number_of e.authority < n → CapLack spec cert within l m cap e → ⊥
 
-  pub cap_found : (n : ℕ) (a : Authority) → NoneBelow n → number_of a ≡ n → (within ≡ false → l ≢ m) → confers spec cap a ≡ true → has cert (edge l a m) ≡ false
+  pub cap_found : (n : ℕ) (a : Authority) → NoneBelow n → number_of a ≡ n → (within ≡ false → l ≢ m) → confers spec cap a ≡ true
+      → has cert (edge l a m) ≡ false
       → Finds (CapLack spec cert within l m cap) (Some (edge l a m))
   cap_found n a before is wanted conf lacks = (
     record { confers = conf; from = refl; to = refl; wanted = wanted; lacks = lacks },
     λ e lack.
-        let le : n ≤ number_of e.authority = elim (cases_lt (number_of e.authority) n) [ inl less ↦ absurd (before.none e less lack) | inr ge ↦ ge ] in
+        let le : n ≤ number_of e.authority = elim (cases_lt (number_of e.authority) n) [
+          | inl less ↦
+              absurd (before.none e less lack)
+          | inr ge ↦ ge
+        ] in
         let from : e.from ≡ l = lack.from in
         let to : e.to ≡ m = lack.to in
         record { by_from = omega arith; by_authority = λ f. omega arith; by_to = λ f g. omega arith },
@@ -50,14 +61,16 @@ module _ (spec : Spec) (cert : List Edge) (within : Bool) (l m : ℕ) (cap : Cap
   pub cap_none : (n : ℕ) → 12 ≤ n → NoneBelow n → (e : Edge) → CapLack spec cert within l m cap e → ⊥
   cap_none n le before e lack = let b = number_of-lt e.authority in before.none e (omega arith) lack
 
-  pub cap_more : (n : ℕ) (a : Authority) → NoneBelow n → number_of a ≡ n → (CapLack spec cert within l m cap (edge l a m) → ⊥) → NoneBelow (n + 1)
+  pub cap_more : (n : ℕ) (a : Authority) → NoneBelow n → number_of a ≡ n → (CapLack spec cert within l m cap (edge l a m) → ⊥)
+      → NoneBelow (n + 1)
   cap_more n a before is none = record {
     none = λ e less lack.
         elim (cases_lt (number_of e.authority) n) [
           | inl below ↦ before.none e below lack
           | inr ge ↦
               let same : e.authority ≡ a = same_number e.authority a (omega arith) in
-              none (subst (λ (x : Edge). CapLack spec cert within l m cap x) (edges_same e (edge l a m) lack.from same lack.to) lack)
+              none (subst (λ (x : Edge). CapLack spec cert within l m cap x) (edges_same e (edge l a m) lack.from same
+              lack.to) lack)
         ];
   }
 
@@ -66,12 +79,20 @@ module _ (spec : Spec) (labels : List ℕ) (cert : List Edge) (within : Bool) (l
   slots_start e lack = let b = lack.below in omega arith
 
   pub slots_more : (i : ℕ) (slot : ℕ × Cap) (best found kept : Option Edge) → slice_get slots i ≡ Some slot
-      → Finds (SlotsLack spec labels cert within l slots i) best → Finds (CapLack spec cert within l (label_of labels slot.1.object) slot.1) found → LesserEdge best found kept
+      → Finds (SlotsLack spec labels cert within l slots i) best
+      → Finds (CapLack spec cert within l (label_of labels slot.1.object) slot.1) found → LesserEdge best found kept
       → Finds (SlotsLack spec labels cert within l slots (i + 1)) kept
   slots_more i slot best found kept here before now is =
-      finds_same (λ e. SlotsLack spec labels cert within l slots i e ⊎ CapLack spec cert within l (label_of labels slot.1.object) slot.1 e) (SlotsLack spec labels cert within l slots (i + 1))
+      finds_same (λ e. SlotsLack spec labels cert within l slots i e ⊎ CapLack spec cert within l (label_of labels slot.1.object)
+      slot.1 e) (SlotsLack spec labels cert within l slots (i + 1))
       (λ e h. elim h [
-        | inl x ↦ record { place = x.place; slot = x.slot; below = (let b = x.below in omega arith); there = x.there; lack = x.lack }
+        | inl x ↦ record {
+          place = x.place;
+          slot = x.slot;
+          below = (let b = x.below in omega arith);
+          there = x.there;
+          lack = x.lack;
+        }
         | inr x ↦ record { place = i; slot = slot; below = omega arith; there = here; lack = x }
       ])
       (λ e x.
@@ -85,4 +106,5 @@ module _ (spec : Spec) (labels : List ℕ) (cert : List Edge) (within : Bool) (l
             inr (subst (λ (y : ℕ × Cap). CapLack spec cert within l (label_of labels y.1.object) y.1 e) s x.lack)
       ])
       kept
-      (finds_either (SlotsLack spec labels cert within l slots i) (CapLack spec cert within l (label_of labels slot.1.object) slot.1) best found kept before now is)
+      (finds_either (SlotsLack spec labels cert within l slots i) (CapLack spec cert within l (label_of labels slot.1.object)
+      slot.1) best found kept before now is)

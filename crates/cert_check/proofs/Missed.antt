@@ -3,7 +3,7 @@ use Rattle.std.specs.Prelude.{◌≤◌, ◌≡◌, ◌≢◌, ◌<◌, ℕ, ◌
 use Rattle.std.proofs.Common.{sym, ap, inl, inr, arith}
 use Rattle.std.proofs.lemmas.Bool.{cases_lt}
 use Rattle.cap_model.specs.declared.edge.Edge.{Edge}
-use Rattle.cap_model.specs.declared.authority.Authority.TheVariants.{Reply}
+use Rattle.authorities.specs.declared.authority.Authority.TheVariants.{Reply}
 use Rattle.cap_model.specs.Tables.{has, IsSorted, Finds, IsFirstFrom}
 use Rattle.cap_model.specs.Edges.{AtMost, edge}
 use Rattle.cap_model.proofs.TableMembers.{at_has, has_at, later_at_most}
@@ -21,7 +21,8 @@ module _ (cert : List Edge) (s r : ℕ) where
   pub none_start : (low : ℕ) → IsFirstFrom cert s low → NoneBefore low
   none_start low first = record { none = λ k d l p m. let f : s < s = first.below k (original s d) l p in omega arith }
 
-  pub none_more : (i : ℕ) (e : Edge) → NoneBefore i → slice_get cert i ≡ Some e → ((d : Edge) → original s d ≡ e → Missing cert s r d → ⊥) → NoneBefore (i + 1)
+  pub none_more : (i : ℕ) (e : Edge) → NoneBefore i → slice_get cert i ≡ Some e
+      → ((d : Edge) → original s d ≡ e → Missing cert s r d → ⊥) → NoneBefore (i + 1)
   none_more i e before here none = record {
     none = λ k d l p m.
         elim (cases_lt k i) [
@@ -54,7 +55,8 @@ module _ (cert : List Edge) (s r : ℕ) where
       let no : has cert d ≡ false = m.lacks in
       cc
 
-  pub found : (i : ℕ) (e : Edge) → IsSorted cert → NoneBefore i → slice_get cert i ≡ Some e → e.from ≡ s → e.authority ≢ Reply → has cert (edge r e.authority e.to) ≡ false
+  pub found : (i : ℕ) (e : Edge) → IsSorted cert → NoneBefore i → slice_get cert i ≡ Some e → e.from ≡ s → e.authority ≢ Reply
+      → has cert (edge r e.authority e.to) ≡ false
       → Finds (Missing cert s r) (Some (edge r e.authority e.to))
   found i e sorted before here out other lacks = (
     record { out = refl; other = other; there = rw (← out) (has_at cert i e here); lacks = lacks },

@@ -5,8 +5,8 @@ use Rattle.std.specs.List.{All, Contains}
 use Rattle.std.proofs.lemmas.List.Elements.{All-contains, All-nil, Contains-get_or}
 use Rattle.cap_model.specs.ObjectLabels.{label_of}
 use Rattle.cap_model.specs.Tables.{Has}
-use Rattle.cap_model.specs.declared.authority.Authority.{Authority}
-use Rattle.cap_model.specs.declared.authority.Authority.TheVariants.{Receive, AsyncSend, Control, Call, Reply, GrantBack}
+use Rattle.authorities.specs.declared.authority.Authority.{Authority}
+use Rattle.authorities.specs.declared.authority.Authority.TheVariants.{Receive, AsyncSend, Control, Call, Reply, GrantBack}
 use Rattle.cap_model.specs.declared.edge.Edge.{Edge}
 use Rattle.cap_model.specs.Auth.{Held, Structural, of_buffer, of_table, of_root, of_space, of_reply, of_saved, of_mapped, of_irq, Auth}
 use Rattle.cap_model.specs.Confers.{confers, kind_confers}
@@ -45,7 +45,8 @@ FineContent spec labels cert l (Capability cap) = Fine spec labels cert l cap
 FineContent spec labels cert l (SavedReply reply) = FineReply labels cert l reply
 
 abbrev pub FineNode : Spec → List ℕ → List Edge → ℕ → Node → Type 0
-FineNode spec labels cert c node = All (λ (slot : ℕ × Content). FineContent spec labels cert (label_of labels c) slot.1) node.slots
+FineNode spec labels cert c node =
+    All (λ (slot : ℕ × Content). FineContent spec labels cert (label_of labels c) slot.1) node.slots
 
 pub record FineThread (labels : List ℕ) (cert : List Edge) (t : ℕ) (thread : ThreadState) : Type 0 where
   pub root : (d : ℕ) → thread.root ≡ Some d → Flows cert (label_of labels t) Control (label_of labels d)
@@ -56,7 +57,8 @@ abbrev pub FineIrq : List ℕ → List Edge → ℕ → Option ℕ → Type 0
 FineIrq labels cert d bound = (n : ℕ) → bound ≡ Some n → Flows cert (label_of labels d) AsyncSend (label_of labels n)
 
 abbrev pub FineMapped : List ℕ → List Edge → Mapped → Type 0
-FineMapped labels cert x = (a : Authority) → kind_confers Frame x.rights a ≡ true → Flows cert (label_of labels x.space) a (label_of labels x.frame)
+FineMapped labels cert x = (a : Authority) → kind_confers Frame x.rights a ≡ true
+    → Flows cert (label_of labels x.space) a (label_of labels x.frame)
 
 -- what every state of a run keeps
 pub record Safe (spec : Spec) (labels : List ℕ) (cert : List Edge) (s : State) : Type 0 where
@@ -68,13 +70,16 @@ pub record Safe (spec : Spec) (labels : List ℕ) (cert : List Edge) (s : State)
 has_at : (cert : List Edge) {l l' m m' : ℕ} {a a' : Authority} → l ≡ l' → a ≡ a' → m ≡ m' → Has cert l' a' m' → Has cert l a m
 has_at cert el ea em h = rw (el, ea, em) h
 
-flows_at : (cert : List Edge) {l l' m m' : ℕ} {a a' : Authority} → l ≡ l' → a ≡ a' → m ≡ m' → Flows cert l' a' m' → Flows cert l a m
+flows_at : (cert : List Edge) {l l' m m' : ℕ} {a a' : Authority} → l ≡ l' → a ≡ a' → m ≡ m' → Flows cert l' a' m'
+    → Flows cert l a m
 flows_at cert el ea em h = rw (el, ea, em) h
 
 module _ (spec : Spec) (labels : List ℕ) (policy cert : List Edge) (v : Valid spec labels policy cert) where
   module _ (s : State) (safe : Safe spec labels cert s) where
-    content_fine : (c i : ℕ) (content : Content) → Contains (node_at s c).slots (i, content) → FineContent spec labels cert (label_of labels c) content
-    content_fine c i content there = All-contains (λ (slot : ℕ × Content). FineContent spec labels cert (label_of labels c) slot.1) (node_at s c).slots (i, content) (safe.nodes c) there
+    content_fine : (c i : ℕ) (content : Content) → Contains (node_at s c).slots (i, content)
+        → FineContent spec labels cert (label_of labels c) content
+    content_fine c i content there = All-contains (λ (slot : ℕ × Content). FineContent spec labels cert (label_of labels c)
+        slot.1) (node_at s c).slots (i, content) (safe.nodes c) there
 
     -- a reply edge comes by the call rule
     replies : (l m : ℕ) (grants : Bool) → Through cert l m grants → Flows cert l Reply m
@@ -87,7 +92,8 @@ module _ (spec : Spec) (labels : List ℕ) (policy cert : List Edge) (v : Valid 
     structural_edges l a m (of_space e) = flows_at cert e.4 e.3 e.5 ((safe.threads e.0).space e.1 e.2)
     structural_edges l a m (of_reply e) = flows_at cert e.4 e.3 e.5 (replies _ _ _ ((safe.threads e.0).through e.1 e.2))
     structural_edges l a m (of_saved e) = flows_at cert e.5 e.4 e.6 (replies _ _ _ (content_fine e.0 e.1 (SavedReply e.2) e.3))
-    structural_edges l a m (of_mapped e) = flows_at cert e.3 refl e.4 (All-contains (FineMapped labels cert) s.mapped e.0 safe.mapped e.1 a e.2)
+    structural_edges l a m (of_mapped e) =
+        flows_at cert e.3 refl e.4 (All-contains (FineMapped labels cert) s.mapped e.0 safe.mapped e.1 a e.2)
     structural_edges l a m (of_irq e) = flows_at cert e.4 e.3 e.5 (safe.irqs e.0 e.1 e.2)
 
     held_edges : (l : ℕ) (a : Authority) (m : ℕ) → Held spec labels s l a m → Has cert l a m
@@ -99,8 +105,10 @@ module _ (spec : Spec) (labels : List ℕ) (policy cert : List Edge) (v : Valid 
     safe_edges l a m (inr e) differ = structural_edges l a m e differ
 
   -- what a CNode has at boot are capabilities
-  boot_content : (c i : ℕ) (content : Content) → Contains (node_at (boot spec) c).slots (i, content) → FineContent spec labels cert (label_of labels c) content
-  boot_content c i (Capability x) there = λ a conf. v.boot_held (label_of labels c) a (label_of labels x.object) (c, i, x, there, conf, refl, refl)
+  boot_content : (c i : ℕ) (content : Content) → Contains (node_at (boot spec) c).slots (i, content)
+      → FineContent spec labels cert (label_of labels c) content
+  boot_content c i (Capability x) there = λ a conf. v.boot_held (label_of labels c) a (label_of labels x.object)
+      (c, i, x, there, conf, refl, refl)
   boot_content c i (SavedReply reply) there = absurd (none_saved spec c i reply there)
 
   -- the boot state is safe by the first rule

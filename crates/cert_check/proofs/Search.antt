@@ -1,9 +1,10 @@
--- A search through a table, place by place, for the least thing with a property. Each such thing x names an edge `w x` of the table.
+-- A search through a table, place by place, for the least thing with a property. Each such thing x names an edge `w x` of the
+-- table.
 use Rattle.std.specs.Prelude.{◌≡◌, ◌<◌, ◌≤◌, ℕ, ◌+◌, true, List, slice_get, Some, length}
 use Rattle.std.proofs.Common.{inl, inr, arith}
 use Rattle.std.proofs.lemmas.Bool.{cases_lt}
 use Rattle.std.proofs.lemmas.Option.{slice_get_within}
-use Rattle.cap_model.specs.declared.authority.Authority.{Authority}
+use Rattle.authorities.specs.declared.authority.Authority.{Authority}
 use Rattle.cap_model.specs.declared.edge.Edge.{Edge}
 use Rattle.cap_model.specs.Tables.{has, IsSorted}
 use Rattle.cap_model.specs.Edges.{AtMost}
@@ -18,7 +19,8 @@ module _ {X : Type 0} (P : X → Type 0) (w : X → Edge) (table : List Edge) wh
   pub none_start : NoneUpTo P w table 0
   none_start = record { none = λ k x l p m. omega arith }
 
-  pub none_more : (i : ℕ) (e : Edge) → NoneUpTo P w table i → slice_get table i ≡ Some e → ((x : X) → w x ≡ e → P x → ⊥) → NoneUpTo P w table (i + 1)
+  pub none_more : (i : ℕ) (e : Edge) → NoneUpTo P w table i → slice_get table i ≡ Some e → ((x : X) → w x ≡ e → P x → ⊥)
+      → NoneUpTo P w table (i + 1)
   none_more i e before here none = record {
     none = λ k x l p m.
         elim (cases_lt k i) [
@@ -27,7 +29,8 @@ module _ {X : Type 0} (P : X → Type 0) (w : X → Edge) (table : List Edge) wh
         ];
   }
 
-  pub none_on : (a : Authority) (i j : ℕ) → ((x : X) → P x → (w x).authority ≡ a) → AreOthers table a i j → NoneUpTo P w table i → NoneUpTo P w table j
+  pub none_on : (a : Authority) (i j : ℕ) → ((x : X) → P x → (w x).authority ≡ a) → AreOthers table a i j → NoneUpTo P w table i
+      → NoneUpTo P w table j
   none_on a i j is others before = record {
     none = λ k x l p m. elim (cases_lt k i) [
       | inl less ↦ before.none k x less p m
@@ -42,7 +45,8 @@ module _ {X : Type 0} (P : X → Type 0) (w : X → Edge) (table : List Edge) wh
       before.none there.0 x (omega arith) there.1 m
 
   -- what is found at the first place is least: each other names an edge that is no less
-  pub found_first : ((x : X) → P x → has table (w x) ≡ true) → (i : ℕ) (e : Edge) → IsSorted table → NoneUpTo P w table i → slice_get table i ≡ Some e
+  pub found_first : ((x : X) → P x → has table (w x) ≡ true) → (i : ℕ) (e : Edge) → IsSorted table → NoneUpTo P w table i
+      → slice_get table i ≡ Some e
       → (x : X) → P x → AtMost e (w x)
   found_first named i e sorted before here x m =
       let there : (k : ℕ) × (slice_get table k ≡ Some (w x)) = at_has table (w x) (named x m) in

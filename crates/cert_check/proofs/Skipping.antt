@@ -1,16 +1,17 @@
 -- Edges that a walk passes over, since they have another authority.
 use Rattle.std.proofs.Common.{◌≡◌, ◌<◌, ◌+◌, ℕ, ap, List, slice_get, Some, refl, inl, inr, arith}
 use Rattle.std.proofs.lemmas.Bool.{cases_lt}
-use Rattle.cap_model.specs.Authorities.{number_of}
+use Rattle.authorities.specs.Authorities.{number_of}
 use Rattle.cap_model.specs.Edges.{edge, AtMost, Before}
 use Rattle.cap_model.specs.Tables.{IsFirstFrom, IsSorted}
-use Rattle.cap_model.specs.declared.authority.Authority.{Authority}
+use Rattle.authorities.specs.declared.authority.Authority.{Authority}
 use Rattle.cap_model.specs.declared.edge.Edge.{Edge}
 use Rattle.cap_model.proofs.TableMembers.{later_at_most}
 use Rattle.cert_check.specs.Meetings.{Halved, IsFirstNotBefore}
 use Rattle.cert_check.specs.Parts.{AreOthers}
 
-pub others_on : (cert : List Edge) (a : Authority) (low i j : ℕ) → AreOthers cert a low i → AreOthers cert a i j → AreOthers cert a low j
+pub others_on : (cert : List Edge) (a : Authority) (low i j : ℕ) → AreOthers cert a low i → AreOthers cert a i j
+    → AreOthers cert a low j
 others_on cert a low i j before more k e le less there = elim (cases_lt k i) [
   | inl l ↦ before k e le l there
   | inr ge ↦ more k e ge less there
@@ -29,17 +30,20 @@ module _ (cert : List Edge) (at : ℕ) (e : Edge) (a : Authority) (sorted : IsSo
     by_to = λ f g. absurd (let n = most.by_authority f in omega arith);
   }
 
-  pub skip_start : (past : ℕ) → number_of e.authority < number_of a → IsFirstFrom cert (e.from + 1) past → Halved cert (edge e.from a 0) at past
+  pub skip_start : (past : ℕ) → number_of e.authority < number_of a → IsFirstFrom cert (e.from + 1) past
+      → Halved cert (edge e.from a 0) at past
   skip_start past less first = record {
     bound = first.bound;
     below = λ k d l there. below d less (lesser k d (omega arith) there);
-    above = λ k d l there. let f = first.above k d l there in record { by_from = omega arith; by_authority = λ g. absurd (omega arith); by_to = λ g h. absurd (omega arith) };
+    above = λ k d l there. let f = first.above k d l there in
+        record { by_from = omega arith; by_authority = λ g. absurd (omega arith); by_to = λ g h. absurd (omega arith) };
   }
 
   pub skip_on : (next : ℕ) → number_of e.authority < number_of a → IsFirstNotBefore cert (edge e.from a 0) next → at < next
   skip_on next less first = elim (cases_lt at next) [
     | inl l ↦ l
-    | inr ge ↦ absurd (let most : AtMost (edge e.from a 0) e = first.above at e ge here in let n = most.by_authority refl in omega arith)
+    | inr ge ↦ absurd (let most : AtMost (edge e.from a 0) e = first.above at e ge here in
+        let n = most.by_authority refl in omega arith)
   ]
 
   pub skip_others : (next : ℕ) → IsFirstNotBefore cert (edge e.from a 0) next → AreOthers cert a at next
@@ -60,7 +64,8 @@ module _ (cert : List Edge) (at : ℕ) (e : Edge) (a : Authority) (sorted : IsSo
     | inr ge ↦ absurd (let f = first.above at e ge here in omega arith)
   ]
 
-  pub past_others : (past : ℕ) → number_of a < number_of e.authority → IsFirstFrom cert (e.from + 1) past → AreOthers cert a at past
+  pub past_others : (past : ℕ) → number_of a < number_of e.authority → IsFirstFrom cert (e.from + 1) past
+      → AreOthers cert a at past
   past_others past greater first k d le less there is =
       let m : AtMost e d = later_at_most cert at k e d sorted le here there in
       let low = m.by_from in

@@ -4,7 +4,7 @@ use Rattle.std.proofs.Common.{inl, inr, arith, subst}
 use Rattle.std.proofs.lemmas.Bool.{cases_lt}
 use Rattle.std.proofs.lemmas.Option.{slice_get_within}
 use Rattle.cap_model.specs.declared.edge.Edge.{Edge}
-use Rattle.cap_model.specs.declared.authority.Authority.TheVariants.{AsyncSend}
+use Rattle.authorities.specs.declared.authority.Authority.TheVariants.{AsyncSend}
 use Rattle.cap_model.specs.Tables.{has, Finds}
 use Rattle.cap_model.specs.declared.spec.Entry.{Entry}
 use Rattle.cap_model.specs.declared.cap.Cap.{Cap}
@@ -28,11 +28,18 @@ module _ (spec : Spec) (labels : List ℕ) (cert : List Edge) where
     pub lack : ObjectLack spec labels cert (label_of labels place) entry.object e
 
   pub unheld_more : (i : ℕ) (entry : Entry) (best found kept : Option Edge) → slice_get spec.entries i ≡ Some entry
-      → Finds (LackBelow i) best → Finds (ObjectLack spec labels cert (label_of labels i) entry.object) found → LesserEdge best found kept → Finds (LackBelow (i + 1)) kept
+      → Finds (LackBelow i) best → Finds (ObjectLack spec labels cert (label_of labels i) entry.object) found
+      → LesserEdge best found kept → Finds (LackBelow (i + 1)) kept
   unheld_more i entry best found kept here before now is =
       finds_same (λ e. LackBelow i e ⊎ ObjectLack spec labels cert (label_of labels i) entry.object e) (LackBelow (i + 1))
       (λ e h. elim h [
-        | inl x ↦ record { place = x.place; entry = x.entry; below = (let b = x.below in omega arith); there = x.there; lack = x.lack }
+        | inl x ↦ record {
+          place = x.place;
+          entry = x.entry;
+          below = (let b = x.below in omega arith);
+          there = x.there;
+          lack = x.lack;
+        }
         | inr x ↦ record { place = i; entry = entry; below = omega arith; there = here; lack = x }
       ])
       (λ e x.
@@ -43,13 +50,17 @@ module _ (spec : Spec) (labels : List ℕ) (cert : List Edge) where
             let same : x.place ≡ i = omega arith in
             let t = x.there in
             let s : x.entry ≡ entry = cc in
-            inr (subst (λ (n : ℕ). ObjectLack spec labels cert (label_of labels n) entry.object e) same (subst (λ (y : Entry). ObjectLack spec labels cert (label_of labels x.place) y.object e) s x.lack))
+            inr (subst (λ (n : ℕ). ObjectLack spec labels cert (label_of labels n) entry.object e) same
+            (subst (λ (y : Entry). ObjectLack spec labels cert (label_of labels x.place) y.object e) s x.lack))
       ])
       kept
       (finds_either (LackBelow i) (ObjectLack spec labels cert (label_of labels i) entry.object) best found kept before now is)
 
   unheld_to : (i : ℕ) (e : Edge) → LackBelow i e → BreaksBoot spec labels cert e
-  unheld_to i e x = record { at_boot = asked_at spec labels x.place x.entry x.entry.object e x.there refl x.lack.asked; lacks = x.lack.lacks }
+  unheld_to i e x = record {
+    at_boot = asked_at spec labels x.place x.entry x.entry.object e x.there refl x.lack.asked;
+    lacks = x.lack.lacks;
+  }
 
   unheld_some : (i : ℕ) (e : Edge) → length spec.entries ≤ i → has cert e ≡ false → AskedSome spec labels e → LackBelow i e
   unheld_some i e le lacks x = record {
@@ -67,33 +78,62 @@ module _ (spec : Spec) (labels : List ℕ) (cert : List Edge) where
         | inr h ↦ unheld_some i e le b.lacks (structural_asked spec labels e e.from e.authority e.to refl h.0 h.1)
       ]
 
-  pub unheld_end : (i : ℕ) (best : Option Edge) → length spec.entries ≤ i → Finds (LackBelow i) best → Finds (BreaksBoot spec labels cert) best
-  unheld_end i best le found = finds_same (LackBelow i) (BreaksBoot spec labels cert) (λ e x. unheld_to i e x) (λ e b. unheld_from i e le b) best found
+  pub unheld_end : (i : ℕ) (best : Option Edge) → length spec.entries ≤ i → Finds (LackBelow i) best
+      → Finds (BreaksBoot spec labels cert) best
+  unheld_end i best le found = finds_same (LackBelow i) (BreaksBoot spec labels cert) (λ e x. unheld_to i e x)
+      (λ e b. unheld_from i e le b) best found
 
   pub unheld_start : Finds (LackBelow 0) None
   unheld_start e x = let b = x.below in omega arith
 
   -- the parts of an object
   module _ (l : ℕ) where
-    pub cnode_lack : (bits : ℕ) (slots : List (ℕ × Cap)) (r : Option Edge) → Finds (SlotsLack spec labels cert true l slots (length slots)) r → Finds (ObjectLack spec labels cert l (CNode bits slots)) r
+    pub cnode_lack : (bits : ℕ) (slots : List (ℕ × Cap)) (r : Option Edge)
+        → Finds (SlotsLack spec labels cert true l slots (length slots)) r
+        → Finds (ObjectLack spec labels cert l (CNode bits slots)) r
     cnode_lack bits slots r found =
         finds_same (SlotsLack spec labels cert true l slots (length slots)) (ObjectLack spec labels cert l (CNode bits slots))
-        (λ e x. record { asked = record { place = x.place; slot = x.slot; there = x.there; of_cap = record { confers = x.lack.confers; from = x.lack.from; to = x.lack.to } }; lacks = x.lack.lacks })
+        (λ e x. record {
+          asked = record {
+            place = x.place;
+            slot = x.slot;
+            there = x.there;
+            of_cap = record { confers = x.lack.confers; from = x.lack.from; to = x.lack.to };
+          };
+          lacks = x.lack.lacks;
+        })
         (λ e x. record {
           place = x.asked.place;
           slot = x.asked.slot;
           below = slice_get_within slots x.asked.place x.asked.slot x.asked.there;
           there = x.asked.there;
-          lack = record { confers = x.asked.of_cap.confers; from = x.asked.of_cap.from; to = x.asked.of_cap.to; wanted = λ w. absurd cc; lacks = x.lacks };
+          lack = record {
+            confers = x.asked.of_cap.confers;
+            from = x.asked.of_cap.from;
+            to = x.asked.of_cap.to;
+            wanted = λ w. absurd cc;
+            lacks = x.lacks;
+          };
         })
         r found
 
-    pub pages_lack : (level : Level) (slots : List (ℕ × Cap)) (r : Option Edge) → Finds (SlotsLack spec labels cert false l slots (length slots)) r → Finds (ObjectLack spec labels cert l (Pages level slots)) r
+    pub pages_lack : (level : Level) (slots : List (ℕ × Cap)) (r : Option Edge)
+        → Finds (SlotsLack spec labels cert false l slots (length slots)) r
+        → Finds (ObjectLack spec labels cert l (Pages level slots)) r
     pages_lack level slots r found =
         finds_same (SlotsLack spec labels cert false l slots (length slots)) (ObjectLack spec labels cert l (Pages level slots))
         (λ e x. record {
           asked = (
-            record { place = x.place; slot = x.slot; there = x.there; of_cap = record { confers = x.lack.confers; from = x.lack.from; to = x.lack.to } },
+            record {
+              place = x.place;
+              slot = x.slot;
+              there = x.there;
+              of_cap = record {
+                confers = x.lack.confers;
+                from = x.lack.from;
+                to = x.lack.to;
+              };
+            },
             λ same. x.lack.wanted refl (let f = x.lack.from in let t = x.lack.to in cc),
           );
           lacks = x.lack.lacks;
@@ -114,19 +154,59 @@ module _ (spec : Spec) (labels : List ℕ) (cert : List Edge) where
         r found
 
     thread_to : (tcb : Tcb) (e : Edge) → ThreadLack spec labels cert l tcb e → ObjectLack spec labels cert l (Thread tcb) e
-    thread_to tcb e (inl x) = record { asked = (inl (record { object = x.object; there = x.there; control = x.authority; from = x.from; to = x.to }), x.differ); lacks = x.lacks }
-    thread_to tcb e (inr (inl x)) = record { asked = (inr (inl (record { object = x.object; there = x.there; control = x.authority; from = x.from; to = x.to })), x.differ); lacks = x.lacks }
+    thread_to tcb e (inl x) =
+        record {
+          asked = (
+            inl (record { object = x.object; there = x.there; control = x.authority; from = x.from; to = x.to }),
+            x.differ,
+          );
+          lacks = x.lacks;
+        }
+    thread_to tcb e (inr (inl x)) =
+        record {
+          asked = (
+            inr (inl (record { object = x.object; there = x.there; control = x.authority; from = x.from; to = x.to })),
+            x.differ,
+          );
+          lacks = x.lacks;
+        }
     thread_to tcb e (inr (inr x)) = record {
       asked = (
-        inr (inr (record { cap = x.cap; there = x.there; of_cap = record { confers = x.lack.confers; from = x.lack.from; to = x.lack.to } })),
+        inr (inr (record {
+          cap = x.cap;
+          there = x.there;
+          of_cap = record {
+            confers = x.lack.confers;
+            from = x.lack.from;
+            to = x.lack.to;
+          };
+        })),
         λ same. x.lack.wanted refl (let f = x.lack.from in let t = x.lack.to in cc),
       );
       lacks = x.lack.lacks;
     }
 
-    thread_from : (tcb : Tcb) (e : Edge) → e.from ≢ e.to → has cert e ≡ false → OfTcb spec labels l tcb e → ThreadLack spec labels cert l tcb e
-    thread_from tcb e differ lacks (inl x) = inl (record { object = x.object; there = x.there; authority = x.control; from = x.from; to = x.to; differ = differ; lacks = lacks })
-    thread_from tcb e differ lacks (inr (inl x)) = inr (inl (record { object = x.object; there = x.there; authority = x.control; from = x.from; to = x.to; differ = differ; lacks = lacks }))
+    thread_from : (tcb : Tcb) (e : Edge) → e.from ≢ e.to → has cert e ≡ false → OfTcb spec labels l tcb e
+        → ThreadLack spec labels cert l tcb e
+    thread_from tcb e differ lacks (inl x) = inl (record {
+      object = x.object;
+      there = x.there;
+      authority = x.control;
+      from = x.from;
+      to = x.to;
+      differ = differ;
+      lacks = lacks;
+    })
+    thread_from tcb e differ lacks (inr (inl x)) =
+        inr (inl (record {
+          object = x.object;
+          there = x.there;
+          authority = x.control;
+          from = x.from;
+          to = x.to;
+          differ = differ;
+          lacks = lacks;
+        }))
     thread_from tcb e differ lacks (inr (inr x)) = inr (inr (record {
       cap = x.cap;
       there = x.there;
@@ -139,13 +219,30 @@ module _ (spec : Spec) (labels : List ℕ) (cert : List Edge) where
       };
     }))
 
-    pub tcb_lack : (tcb : Tcb) (r : Option Edge) → Finds (ThreadLack spec labels cert l tcb) r → Finds (ObjectLack spec labels cert l (Thread tcb)) r
+    pub tcb_lack : (tcb : Tcb) (r : Option Edge) → Finds (ThreadLack spec labels cert l tcb) r
+        → Finds (ObjectLack spec labels cert l (Thread tcb)) r
     tcb_lack tcb r found =
-        finds_same (ThreadLack spec labels cert l tcb) (ObjectLack spec labels cert l (Thread tcb)) (λ e x. thread_to tcb e x) (λ e x. thread_from tcb e x.asked.1 x.lacks x.asked.0) r found
+        finds_same (ThreadLack spec labels cert l tcb) (ObjectLack spec labels cert l (Thread tcb)) (λ e x. thread_to tcb e x)
+        (λ e x. thread_from tcb e x.asked.1 x.lacks x.asked.0) r found
 
-    pub irq_lack : (bound : Option ℕ) (r : Option Edge) → Finds (LinkLack labels cert l AsyncSend bound) r → Finds (ObjectLack spec labels cert l (Irq bound)) r
+    pub irq_lack : (bound : Option ℕ) (r : Option Edge) → Finds (LinkLack labels cert l AsyncSend bound) r
+        → Finds (ObjectLack spec labels cert l (Irq bound)) r
     irq_lack bound r found =
         finds_same (LinkLack labels cert l AsyncSend bound) (ObjectLack spec labels cert l (Irq bound))
-        (λ e x. record { asked = (record { object = x.object; there = x.there; sends = x.authority; from = x.from; to = x.to }, x.differ); lacks = x.lacks })
-        (λ e x. record { object = x.asked.0.object; there = x.asked.0.there; authority = x.asked.0.sends; from = x.asked.0.from; to = x.asked.0.to; differ = x.asked.1; lacks = x.lacks })
+        (λ e x. record {
+          asked = (
+            record { object = x.object; there = x.there; sends = x.authority; from = x.from; to = x.to },
+            x.differ,
+          );
+          lacks = x.lacks;
+        })
+        (λ e x. record {
+          object = x.asked.0.object;
+          there = x.asked.0.there;
+          authority = x.asked.0.sends;
+          from = x.asked.0.from;
+          to = x.asked.0.to;
+          differ = x.asked.1;
+          lacks = x.lacks;
+        })
         r found

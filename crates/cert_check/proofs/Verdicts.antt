@@ -2,8 +2,8 @@
 use Rattle.std.specs.Prelude.{◌≡◌, ◌≢◌, ℕ, Bool, true, false, List, Option, refl}
 use Rattle.std.proofs.Common.{inl, inr, sym, subst}
 use Rattle.cap_model.specs.declared.edge.Edge.{Edge}
-use Rattle.cap_model.specs.declared.authority.Authority.{Authority}
-use Rattle.cap_model.specs.declared.authority.Authority.TheVariants.{Receive, AsyncSend, Grant, Control, Call, Reply, GrantBack, Handle}
+use Rattle.authorities.specs.declared.authority.Authority.{Authority}
+use Rattle.authorities.specs.declared.authority.Authority.TheVariants.{Receive, AsyncSend, Grant, Control, Call, Reply, GrantBack, Handle}
 use Rattle.cap_model.specs.Tables.{has, Has}
 use Rattle.cap_model.specs.Edges.{edge}
 use Rattle.cap_model.specs.declared.spec.Spec.{Spec}
@@ -37,43 +37,95 @@ module _ (spec : Spec) (labels : List ℕ) (policy cert : List Edge) where
   held : H rules.BootEdges → (l : ℕ) (a : Authority) (m : ℕ) → Held spec labels (boot spec) l a m → Has cert l a m
   held h l a m e = there cert (edge l a m) (λ lacks. h (edge l a m) (record { at_boot = inl e; lacks = lacks }))
 
-  structural : H rules.BootEdges → (l : ℕ) (a : Authority) (m : ℕ) → Structural spec labels (boot spec) l a m → l ≢ m → Has cert l a m
-  structural h l a m e differ = there cert (edge l a m) (λ lacks. h (edge l a m) (record { at_boot = inr (e, differ); lacks = lacks }))
+  structural : H rules.BootEdges → (l : ℕ) (a : Authority) (m : ℕ) → Structural spec labels (boot spec) l a m → l ≢ m
+      → Has cert l a m
+  structural h l a m e differ =
+      there cert (edge l a m) (λ lacks. h (edge l a m) (record { at_boot = inr (e, differ); lacks = lacks }))
 
   out : H rules.Control → (l m : ℕ) → Has cert l Control m → Passes cert l m
   out h l m control a x other e = there cert (edge m a x) (λ lacks.
       h (record { first = edge l Control m; lack = edge m a x; second = edge l a x })
-      (record { control = refl; there = control; missing = inl (record { out = refl; other = other; there = e; lacks = lacks }, refl) }))
+      (record {
+        control = refl;
+        there = control;
+        missing = inl (record { out = refl; other = other; there = e; lacks = lacks }, refl);
+      }))
 
   home : H rules.Control → (l m : ℕ) → Has cert l Control m → Passes cert m l
   home h l m control a x other e = there cert (edge l a x) (λ lacks.
       h (record { first = edge l Control m; lack = edge l a x; second = edge m a x })
-      (record { control = refl; there = control; missing = inr (record { out = refl; other = other; there = e; lacks = lacks }, refl) }))
+      (record {
+        control = refl;
+        there = control;
+        missing = inr (record { out = refl; other = other; there = e; lacks = lacks }, refl);
+      }))
 
   granted : H rules.Grant → (s e r : ℕ) → Has cert s Grant e → Has cert r Receive e → Passes cert s r
   granted h s e r grant receive a x other has_it = there cert (edge r a x) (λ lacks.
       h (record { first = edge s Grant e; lack = edge r a x; second = edge s a x })
-      (record { grant = refl; there = grant; receive = receive; missing = record { out = refl; other = other; there = has_it; lacks = lacks }; copied = refl }))
+      (record {
+        grant = refl;
+        there = grant;
+        receive = receive;
+        missing = record {
+          out = refl;
+          other = other;
+          there = has_it;
+          lacks = lacks;
+        };
+        copied = refl;
+      }))
 
   replies : H rules.Call → (s e r : ℕ) → Has cert s Call e → Has cert r Receive e → s ≢ r → Has cert r Reply s
   replies h s e r call receive differ = there cert (edge r Reply s) (λ lacks.
       h (record { first = edge s Call e; lack = edge r Reply s; second = edge r Receive e })
-      (record { call = refl; there = call; receive = refl; same = refl; there_too = receive; differ = differ; reply = refl; lacks = lacks }))
+      (record {
+        call = refl;
+        there = call;
+        receive = refl;
+        same = refl;
+        there_too = receive;
+        differ = differ;
+        reply = refl;
+        lacks = lacks;
+      }))
 
   granted_back : H rules.GrantBack → (s e r : ℕ) → Has cert s Call e → Has cert r GrantBack e → Passes cert r s
   granted_back h s e r call back a x other has_it = there cert (edge s a x) (λ lacks.
       h (record { first = edge s Call e; lack = edge s a x; second = edge r a x })
-      (record { call = refl; there = call; grants_back = back; missing = record { out = refl; other = other; there = has_it; lacks = lacks }; copied = refl }))
+      (record {
+        call = refl;
+        there = call;
+        grants_back = back;
+        missing = record {
+          out = refl;
+          other = other;
+          there = has_it;
+          lacks = lacks;
+        };
+        copied = refl;
+      }))
 
   redirected : H rules.Bind → (s d n : ℕ) → Has cert s Handle d → Has cert s AsyncSend n → d ≢ n → Has cert d AsyncSend n
   redirected h s d n handle sends differ = there cert (edge d AsyncSend n) (λ lacks.
       h (record { first = edge s Handle d; lack = edge d AsyncSend n; second = edge s AsyncSend n })
-      (record { handle = refl; there = handle; sends = refl; same = refl; there_too = sends; differ = differ; redirected = refl; lacks = lacks }))
+      (record {
+        handle = refl;
+        there = handle;
+        sends = refl;
+        same = refl;
+        there_too = sends;
+        differ = differ;
+        redirected = refl;
+        lacks = lacks;
+      }))
 
   inside : H rules.Policy → (l : ℕ) (a : Authority) (m : ℕ) → Has cert l a m → l ≢ m → Has policy l a m
-  inside h l a m e differ = there policy (edge l a m) (λ lacks. h (edge l a m) (record { there = e; differ = differ; lacks = lacks }))
+  inside h l a m e differ =
+      there policy (edge l a m) (λ lacks. h (edge l a m) (record { there = e; differ = differ; lacks = lacks }))
 
-  pub valid : H rules.BootEdges → H rules.Control → H rules.Grant → H rules.Call → H rules.GrantBack → H rules.Bind → H rules.Policy → Valid spec labels policy cert
+  pub valid : H rules.BootEdges → H rules.Control → H rules.Grant → H rules.Call → H rules.GrantBack → H rules.Bind
+      → H rules.Policy → Valid spec labels policy cert
   valid h1 h2 h3 h4 h5 h6 h7 = record {
     boot_held = held h1;
     boot_structural = structural h1;
@@ -89,7 +141,8 @@ module _ (spec : Spec) (labels : List ℕ) (policy cert : List Edge) where
   no_missing : (s r : ℕ) (lack : Edge) → Passes cert s r → Missing cert s r lack → ⊥
   no_missing s r lack passes m =
       let h : Has cert r lack.authority lack.to = passes lack.authority lack.to m.other m.there in
-      let g : has cert lack ≡ true = let o : lack.from ≡ r = m.out in subst (λ (n : ℕ). has cert (edge n lack.authority lack.to) ≡ true) (sym o) h in
+      let g : has cert lack ≡ true = let o : lack.from ≡ r = m.out in
+      subst (λ (n : ℕ). has cert (edge n lack.authority lack.to) ≡ true) (sym o) h in
       let lacks = m.lacks in
       cc
 
@@ -131,15 +184,20 @@ module _ (spec : Spec) (labels : List ℕ) (policy cert : List Edge) where
       cc
 
   -- a rule that fails isn't valid
-  not_valid : (rule : Rule) (have : List (Option Edge)) (lack : Edge) → LeastOf spec labels policy cert rule have lack → Valid spec labels policy cert → ⊥
+  not_valid : (rule : Rule) (have : List (Option Edge)) (lack : Edge) → LeastOf spec labels policy cert rule have lack
+      → Valid spec labels policy cert → ⊥
   not_valid rules.BootEdges have lack (f, h) v = first lack f.0 v
   not_valid rules.Control have lack (b, f, h, l) v = second b f.0 v
-  not_valid rules.Grant have lack (b, f, h, l) v = no_missing _ _ b.lack (v.grant b.first.from b.first.to b.lack.from (whole b.first Grant f.0.grant f.0.there) f.0.receive) f.0.missing
+  not_valid rules.Grant have lack (b, f, h, l) v =
+      no_missing _ _ b.lack (v.grant b.first.from b.first.to b.lack.from (whole b.first Grant f.0.grant f.0.there)
+      f.0.receive) f.0.missing
   not_valid rules.Call have lack (b, f, h, l) v = fourth b f.0 v
   not_valid rules.GrantBack have lack (b, f, h, l) v =
-      no_missing _ _ b.lack (v.grant_back b.first.from b.first.to b.second.from (whole b.first Call f.0.call f.0.there) f.0.grants_back) f.0.missing
+      no_missing _ _ b.lack (v.grant_back b.first.from b.first.to b.second.from (whole b.first Call f.0.call f.0.there)
+      f.0.grants_back) f.0.missing
   not_valid rules.Bind have lack (b, f, h, l) v = sixth b f.0 v
-  not_valid rules.Policy have lack (f, h) v = let w : Has policy lack.from lack.authority lack.to = v.in_policy lack.from lack.authority lack.to f.0.there f.0.differ in let n = f.0.lacks in cc
+  not_valid rules.Policy have lack (f, h) v = let w : Has policy lack.from lack.authority lack.to =
+      v.in_policy lack.from lack.authority lack.to f.0.there f.0.differ in let n = f.0.lacks in cc
 
   -- the rules below this number hold
   pub record Earlier (n : ℕ) : Type 0 where
@@ -167,12 +225,15 @@ module _ (spec : Spec) (labels : List ℕ) (policy cert : List Edge) where
     ];
   }
 
-  pub judged_no : (rule : Rule) (have : List (Option Edge)) (lack : Edge) → Earlier (rule_number rule) → LeastOf spec labels policy cert rule have lack
+  pub judged_no : (rule : Rule) (have : List (Option Edge)) (lack : Edge) → Earlier (rule_number rule)
+      → LeastOf spec labels policy cert rule have lack
       → Judged spec labels policy cert (No (rule_number rule) have lack)
-  judged_no rule have lack before least = (rule, refl, record { earlier = before.holds; least = least }, not_valid rule have lack least)
+  judged_no rule have lack before least =
+      (rule, refl, record { earlier = before.holds; least = least }, not_valid rule have lack least)
 
   pub judged_yes : Earlier 8 → Judged spec labels policy cert Yes
-  judged_yes e = valid (e.holds rules.BootEdges (omega arith)) (e.holds rules.Control (omega arith)) (e.holds rules.Grant (omega arith)) (e.holds rules.Call (omega arith)) (e.holds rules.GrantBack (omega arith))
+  judged_yes e = valid (e.holds rules.BootEdges (omega arith)) (e.holds rules.Control (omega arith))
+      (e.holds rules.Grant (omega arith)) (e.holds rules.Call (omega arith)) (e.holds rules.GrantBack (omega arith))
       (e.holds rules.Bind (omega arith)) (e.holds rules.Policy (omega arith))
 
   pub before_control : H rules.BootEdges → Earlier 2
@@ -190,8 +251,10 @@ module _ (spec : Spec) (labels : List ℕ) (policy cert : List Edge) where
   pub before_bind : H rules.BootEdges → H rules.Control → H rules.Grant → H rules.Call → H rules.GrantBack → Earlier 6
   before_bind h1 h2 h3 h4 h5 = one_more rules.GrantBack (before_grant_back h1 h2 h3 h4) h5
 
-  pub before_policy : H rules.BootEdges → H rules.Control → H rules.Grant → H rules.Call → H rules.GrantBack → H rules.Bind → Earlier 7
+  pub before_policy : H rules.BootEdges → H rules.Control → H rules.Grant → H rules.Call → H rules.GrantBack
+      → H rules.Bind → Earlier 7
   before_policy h1 h2 h3 h4 h5 h6 = one_more rules.Bind (before_bind h1 h2 h3 h4 h5) h6
 
-  pub all_hold : H rules.BootEdges → H rules.Control → H rules.Grant → H rules.Call → H rules.GrantBack → H rules.Bind → H rules.Policy → Earlier 8
+  pub all_hold : H rules.BootEdges → H rules.Control → H rules.Grant → H rules.Call → H rules.GrantBack → H rules.Bind
+      → H rules.Policy → Earlier 8
   all_hold h1 h2 h3 h4 h5 h6 h7 = one_more rules.Policy (before_policy h1 h2 h3 h4 h5 h6) h7

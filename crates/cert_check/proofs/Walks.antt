@@ -45,7 +45,8 @@ module _ (ends : List (ℕ × ℕ)) where
       let g : get_or ends (b + j) (0, 0) ≡ q = get_or_from_slice_get ends (b + j) q (0, 0) there in
       cc
 
-  pub alike_more : (a b k : ℕ) → ((j : ℕ) (p q : ℕ × ℕ) → j < k → slice_get ends (a + j) ≡ Some p → slice_get ends (b + j) ≡ Some q → p.1 ≡ q.1)
+  pub alike_more : (a b k : ℕ) → ((j : ℕ) (p q : ℕ × ℕ) → j < k → slice_get ends (a + j) ≡ Some p
+      → slice_get ends (b + j) ≡ Some q → p.1 ≡ q.1)
       → (get_or ends (a + k) (0, 0)).1 ≡ (get_or ends (b + k) (0, 0)).1
       → (j : ℕ) (p q : ℕ × ℕ) → j < k + 1 → slice_get ends (a + j) ≡ Some p → slice_get ends (b + j) ≡ Some q → p.1 ≡ q.1
   alike_more a b k before same j p q less here there = elim (cases_lt j k) [
@@ -53,8 +54,10 @@ module _ (ends : List (ℕ × ℕ)) where
     | inr ge ↦ same_label a b k j p q same (omega arith) here there
   ]
 
-  pub met_too : (last met : Met) (n : ℕ) → IsReach ends last.edge.to last.low last.high → IsReach ends met.edge.to met.low met.high → last.high - last.low ≡ met.high - met.low
-      → met.high - met.low ≤ n → ((j : ℕ) (p q : ℕ × ℕ) → j < n → slice_get ends (last.low + j) ≡ Some p → slice_get ends (met.low + j) ≡ Some q → p.1 ≡ q.1) → MeetToo ends last met
+  pub met_too : (last met : Met) (n : ℕ) → IsReach ends last.edge.to last.low last.high
+      → IsReach ends met.edge.to met.low met.high → last.high - last.low ≡ met.high - met.low
+      → met.high - met.low ≤ n → ((j : ℕ) (p q : ℕ × ℕ) → j < n → slice_get ends (last.low + j) ≡ Some p
+      → slice_get ends (met.low + j) ≡ Some q → p.1 ≡ q.1) → MeetToo ends last met
   met_too last met n was now same le alike r among =
       let at : (k : ℕ) × (slice_get ends k ≡ Some (met.edge.to, r)) = contains_at ends (met.edge.to, r) among in
       let inside : (met.low ≤ at.0) × (at.0 < met.high) = now.all at.0 (met.edge.to, r) at.1 refl in
@@ -67,7 +70,8 @@ module _ (ends : List (ℕ × ℕ)) where
       let below : last.low + j < last.high = omega arith in
       let p : ℕ × ℕ = get_or ends (last.low + j) (0, 0) in
       let here : slice_get ends (last.low + j) ≡ Some p = slice_get-get_or ends (last.low + j) (0, 0) (omega arith) in
-      let there : slice_get ends (met.low + j) ≡ Some (met.edge.to, r) = subst (λ (k : ℕ). slice_get ends k ≡ Some (met.edge.to, r)) (sym back) at.1 in
+      let there : slice_get ends (met.low + j) ≡ Some (met.edge.to, r) =
+      subst (λ (k : ℕ). slice_get ends k ≡ Some (met.edge.to, r)) (sym back) at.1 in
       let label : p.1 ≡ r = alike j p (met.edge.to, r) (omega arith) here there in
       let to : p.0 ≡ last.edge.to = was.inside (last.low + j) p (omega arith) below here in
       let pair : p ≡ (last.edge.to, r) = pair_of p last.edge.to r to label in
@@ -94,37 +98,48 @@ module _ (ends : List (ℕ × ℕ)) where
         let e : get_or ends k p ≡ p = get_or_from_slice_get ends k p p h in
         let there : k < length ends = slice_get_within ends k p h in (
           elim (cases_lt k low) [
-            | inl less ↦ absurd (let l : p.0 < to = ltb-true _ to (subst (λ (q : ℕ × ℕ). nat_lt q.0 to ≡ true) e (lesser.0 k p (omega arith) less)) in omega arith)
+            | inl less ↦
+                absurd (let l : p.0 < to = ltb-true _ to (subst (λ (q : ℕ × ℕ). nat_lt q.0 to ≡ true) e
+                (lesser.0 k p (omega arith) less)) in omega arith)
             | inr ge ↦ ge
           ],
           elim (cases_lt k high) [
             | inl less ↦ less
-            | inr ge ↦ absurd (let g : to < p.0 = leb-false _ to (subst (λ (q : ℕ × ℕ). nat_le q.0 to ≡ false) e (most.1 k p ge there)) in omega arith)
+            | inr ge ↦
+                absurd (let g : to < p.0 = leb-false _ to (subst (λ (q : ℕ × ℕ). nat_le q.0 to ≡ false) e
+                (most.1 k p ge there)) in omega arith)
           ],
         );
   }
 
   pub rising_of : IsInOrder (λ p q. ordering_then (nat_cmp p.0 q.0) (nat_cmp p.1 q.1)) ends → IsNonDecreasingBy (λ p. p.0) ends
   rising_of sorted = IsNonDecreasingBy-from_sort (λ (p : ℕ × ℕ). p.0) ends (λ k d low less.
-      not_less (nat_cmp (get_or ends (k + 1) d).0 (get_or ends k d).0) (nat_cmp (get_or ends (k + 1) d).1 (get_or ends k d).1) (sorted k d low less))
+      not_less (nat_cmp (get_or ends (k + 1) d).0 (get_or ends k d).0) (nat_cmp (get_or ends (k + 1) d).1 (get_or ends k d).1)
+      (sorted k d low less))
 
 module _ (rule : Meeting) (cert : List Edge) where
   -- an edge whose label is led stands behind the same edge of the label that leads it
-  led_before : (i l m x : ℕ) (e : Edge) → IsSorted cert → slice_get cert i ≡ Some e → e.from ≡ l → m < l → has cert (edge m e.authority x) ≡ true
+  led_before : (i l m x : ℕ) (e : Edge) → IsSorted cert → slice_get cert i ≡ Some e → e.from ≡ l → m < l
+      → has cert (edge m e.authority x) ≡ true
       → (k : ℕ) × (k < i) × (slice_get cert k ≡ Some (edge m e.authority x))
   led_before i l m x e sorted here from less there =
       let at : (k : ℕ) × (slice_get cert k ≡ Some (edge m e.authority x)) = at_has cert (edge m e.authority x) there in
       elim (cases_lt at.0 i) [
         | inl before ↦ (at.0, before, at.1)
-        | inr ge ↦ absurd (let most : AtMost e (edge m e.authority x) = later_at_most cert i at.0 e (edge m e.authority x) sorted ge here at.1 in let le : e.from ≤ m = most.by_from in omega arith)
+        | inr ge ↦ absurd (let most : AtMost e (edge m e.authority x) = later_at_most cert i at.0 e (edge m e.authority x) sorted
+            ge here at.1 in let le : e.from ≤ m = most.by_from in omega arith)
       ]
 
   -- ---- partners that are taken in
 
   pub partners_start : (low : ℕ) → HasPartners rule cert low low []
-  partners_start low = record { each = λ k d le less here is. absurd (omega arith); only = λ p c. absurd (let w = c.1 in omega arith) }
+  partners_start low = record {
+    each = λ k d le less here is. absurd (omega arith);
+    only = λ p c. absurd (let w = c.1 in omega arith);
+  }
 
-  pub partners_on : (low i j : ℕ) (ends : List (ℕ × ℕ)) → HasPartners rule cert low i ends → AreOthers cert (partner_authority rule) i j → HasPartners rule cert low j ends
+  pub partners_on : (low i j : ℕ) (ends : List (ℕ × ℕ)) → HasPartners rule cert low i ends
+      → AreOthers cert (partner_authority rule) i j → HasPartners rule cert low j ends
   partners_on low i j ends h others = record {
     each = λ k c le less there is. elim (cases_lt k i) [
       | inl before ↦ h.each k c le before there is
@@ -139,12 +154,14 @@ module _ (rule : Meeting) (cert : List Edge) where
     each = λ j c le less there is.
         elim (cases_lt j k) [
           | inl before ↦ h.each j c le before there is
-          | inr ge ↦ let at : j ≡ k = omega arith in let same : d ≡ c = cc in inr (subst (λ (x : Edge). IsLed rule cert x.from) same (led (ap (λ (x : Edge). x.authority) same ∙ is)))
+          | inr ge ↦ let at : j ≡ k = omega arith in let same : d ≡ c = cc in
+              inr (subst (λ (x : Edge). IsLed rule cert x.from) same (led (ap (λ (x : Edge). x.authority) same ∙ is)))
         ];
     only = h.only;
   }
 
-  pub partners_more : (low k : ℕ) (d : Edge) (ends : List (ℕ × ℕ)) → HasPartners rule cert low k ends → slice_get cert k ≡ Some d → d.authority ≡ partner_authority rule
+  pub partners_more : (low k : ℕ) (d : Edge) (ends : List (ℕ × ℕ)) → HasPartners rule cert low k ends → slice_get cert k ≡ Some d
+      → d.authority ≡ partner_authority rule
       → HasPartners rule cert low (k + 1) (ends ++ end_of d ∷ [])
   partners_more low k d ends h here is = record {
     each = λ j c le less there partner.
@@ -153,16 +170,19 @@ module _ (rule : Meeting) (cert : List Edge) where
             | inl held ↦ inl (Contains-append_left ends (end_of d ∷ []) (end_of c) held)
             | inr led ↦ inr led
           ]
-          | inr ge ↦ let at : j ≡ k = omega arith in let same : d ≡ c = cc in inl (subst (λ (x : Edge). Contains (ends ++ end_of d ∷ []) (end_of x)) same (Contains-push ends (end_of d)))
+          | inr ge ↦ let at : j ≡ k = omega arith in let same : d ≡ c = cc in
+              inl (subst (λ (x : Edge). Contains (ends ++ end_of d ∷ []) (end_of x)) same (Contains-push ends (end_of d)))
         ];
     only = λ p c. elim (Contains-push_cases ends (end_of d) p c) [
       | inl old ↦ h.only p old
       | inr new ↦ subst (λ (q : ℕ × ℕ). has cert (edge q.1 (partner_authority rule) q.0) ≡ true) new
-          (subst (λ (x : Edge). has cert x ≡ true) (parts d d.from (partner_authority rule) d.to refl is refl) (has_at cert k d here))
+          (subst (λ (x : Edge). has cert x ≡ true) (parts d d.from (partner_authority rule) d.to refl is refl)
+          (has_at cert k d here))
     ];
   }
 
-  pub partners_sorted : (low k : ℕ) (ends sorted : List (ℕ × ℕ)) → IsPermutation ends sorted → HasPartners rule cert low k ends → HasPartners rule cert low k sorted
+  pub partners_sorted : (low k : ℕ) (ends sorted : List (ℕ × ℕ)) → IsPermutation ends sorted → HasPartners rule cert low k ends
+      → HasPartners rule cert low k sorted
   partners_sorted low k ends sorted same h = record {
     each = λ j c le less there is. elim (h.each j c le less there is) [
       | inl held ↦ inl (Contains-permutation ends sorted (end_of c) same held)
@@ -175,12 +195,14 @@ module _ (rule : Meeting) (cert : List Edge) where
 
   pub record Covers (next : ℕ) (best : Option Violation) : Type 0 where
     pub sound : (v : Violation) → best ≡ Some v → Breaks rule cert v
-    pub covers : (v : Violation) (k : ℕ) → Breaks rule cert v → k < next → slice_get cert k ≡ Some (partner_of rule v) → Covered best v
+    pub covers : (v : Violation) (k : ℕ) → Breaks rule cert v → k < next → slice_get cert k ≡ Some (partner_of rule v)
+        → Covered best v
 
   pub covers_start : Covers 0 None
   covers_start = record { sound = λ v is. absurd cc; covers = λ v k b less there. absurd (omega arith) }
 
-  pub covers_more : (next past : ℕ) (ends : List (ℕ × ℕ)) (best found kept : Option Violation) → IsSorted cert → Covers next best → HasPartners rule cert next past ends
+  pub covers_more : (next past : ℕ) (ends : List (ℕ × ℕ)) (best found kept : Option Violation) → IsSorted cert → Covers next best
+      → HasPartners rule cert next past ends
       → FindsLeast (OfPartners rule cert ends) found → LesserOf best found kept → Covers past kept
   covers_more next past ends best found kept sorted old h now lesser = record {
     sound = λ v same. elim (kept_is best found kept v lesser same) [
@@ -196,9 +218,12 @@ module _ (rule : Meeting) (cert : List Edge) where
     ];
   } where
     taken : (v : Violation) → Breaks rule cert v → Contains ends (end_of (partner_of rule v)) → Covered kept v
-    taken v b held = kept_covers best found kept v lesser (inr (found_covers (OfPartners rule cert ends) found v now (record { breaks = b; among = held })))
+    taken v b held =
+        kept_covers best found kept v lesser
+        (inr (found_covers (OfPartners rule cert ends) found v now (record { breaks = b; among = held })))
 
-    at_twin : (v : Violation) (k : ℕ) → Breaks rule cert v → k < past → slice_get cert k ≡ Some (partner_of rule v) → (IsLed rule cert (partner_of rule v).from → ⊥) → Covered kept v
+    at_twin : (v : Violation) (k : ℕ) → Breaks rule cert v → k < past → slice_get cert k ≡ Some (partner_of rule v)
+        → (IsLed rule cert (partner_of rule v).from → ⊥) → Covered kept v
     at_twin v k b less there leads = elim (cases_lt k next) [
       | inl before ↦ kept_covers best found kept v lesser (inl (old.covers v k b before there))
       | inr ge ↦ elim (h.each k (partner_of rule v) ge less there (partner_is cert rule v b)) [
@@ -207,32 +232,43 @@ module _ (rule : Meeting) (cert : List Edge) where
       ]
     ]
 
-    by_twin : (v : Violation) (k : ℕ) → Breaks rule cert v → IsLed rule cert (partner_of rule v).from → k < past → slice_get cert k ≡ Some (partner_of rule v) → Covered kept v
+    by_twin : (v : Violation) (k : ℕ) → Breaks rule cert v → IsLed rule cert (partner_of rule v).from → k < past
+        → slice_get cert k ≡ Some (partner_of rule v) → Covered kept v
     by_twin v k b led less there =
         let p : Edge = partner_of rule v in
         let is : p.authority ≡ partner_authority rule = partner_is cert rule v b in
         let to : p.to ≡ v.first.to = partner_to cert rule v b in
-        let same : p ≡ edge p.from (partner_authority rule) v.first.to = parts p p.from (partner_authority rule) v.first.to refl is to in
-        let has_p : has cert (edge p.from (partner_authority rule) v.first.to) ≡ true = subst (λ (x : Edge). has cert x ≡ true) same (partner_has cert rule v b) in
-        let has_q : has cert (edge led.label (partner_authority rule) v.first.to) ≡ true = alike_has cert rule p.from led.label (partner_authority rule) v.first.to led.alike (partner_no_reply rule) has_p in
+        let same : p ≡ edge p.from (partner_authority rule) v.first.to = parts p p.from (partner_authority rule) v.first.to
+        refl is to in
+        let has_p : has cert (edge p.from (partner_authority rule) v.first.to) ≡ true =
+        subst (λ (x : Edge). has cert x ≡ true) same (partner_has cert rule v b) in
+        let has_q : has cert (edge led.label (partner_authority rule) v.first.to) ≡ true =
+        alike_has cert rule p.from led.label (partner_authority rule) v.first.to led.alike (partner_no_reply rule) has_p in
         let has_f : has cert (edge v.first.from (first_authority rule) v.first.to) ≡ true =
-        subst (λ (x : Edge). has cert x ≡ true) (parts v.first v.first.from (first_authority rule) v.first.to refl (first_is cert rule v b) refl) (first_has cert rule v b) in
-        let at = led_before k p.from led.label v.first.to p sorted there refl led.less (subst (λ a. has cert (edge led.label a v.first.to) ≡ true) (sym is) has_q) in
+        subst (λ (x : Edge). has cert x ≡ true) (parts v.first v.first.from (first_authority rule) v.first.to refl
+        (first_is cert rule v b) refl) (first_has cert rule v b) in
+        let at = led_before k p.from led.label v.first.to p sorted there refl led.less
+        (subst (λ a. has cert (edge led.label a v.first.to) ≡ true) (sym is) has_q) in
         let w : Violation = twin rule v v.first.from led.label v.first.to in
         let here : slice_get cert at.0 ≡ Some (partner_of rule w) =
-        at.2 ∙ ap (λ a. Some (edge led.label a v.first.to)) is ∙ ap (λ (x : Edge). Some x) (sym (twin_partner rule v v.first.from led.label v.first.to)) in
-        let breaks : Breaks rule cert w = twin_breaks cert rule v v.first.from led.label v.first.to b (alike_self cert rule v.first.from) led.alike has_f has_q in
+        at.2 ∙ ap (λ a. Some (edge led.label a v.first.to)) is ∙ ap (λ (x : Edge). Some x)
+        (sym (twin_partner rule v v.first.from led.label v.first.to)) in
+        let breaks : Breaks rule cert w = twin_breaks cert rule v v.first.from led.label v.first.to b
+        (alike_self cert rule v.first.from) led.alike has_f has_q in
         covered_later kept w v
         (at_twin w at.0 breaks (let l = at.1 in omega arith) here (λ again. (
-        let q : IsLed rule cert led.label = subst (λ (x : Edge). IsLed rule cert x.from) (twin_partner rule v v.first.from led.label v.first.to) again in
+        let q : IsLed rule cert led.label = subst (λ (x : Edge). IsLed rule cert x.from)
+        (twin_partner rule v v.first.from led.label v.first.to) again in
         let le : led.label ≤ q.label = led.least q.label (alike_chain cert rule p.from led.label q.label led.alike q.alike) in
         let l : q.label < led.label = q.less in
         omega arith)))
         (twin_not_after cert rule v led.label b (let l : led.label < p.from = led.less in omega arith))
 
-  pub covers_end : (next : ℕ) (best : Option Violation) → length cert ≤ next → Covers next best → FindsLeast (Breaks rule cert) best
+  pub covers_end : (next : ℕ) (best : Option Violation) → length cert ≤ next → Covers next best
+      → FindsLeast (Breaks rule cert) best
   covers_end next best le c = finds_least (Breaks rule cert) best c.sound (λ v b. (
-      let there : (k : ℕ) × (slice_get cert k ≡ Some (partner_of rule v)) = at_has cert (partner_of rule v) (partner_has cert rule v b) in
+      let there : (k : ℕ) × (slice_get cert k ≡ Some (partner_of rule v)) =
+      at_has cert (partner_of rule v) (partner_has cert rule v b) in
       let within : there.0 < length cert = slice_get_within cert there.0 (partner_of rule v) there.1 in
       c.covers v there.0 b (omega arith) there.1))
 
@@ -241,7 +277,8 @@ module _ (rule : Meeting) (cert : List Edge) where
 
     pub record Taken (e : Edge) (j : ℕ) (best : Option Violation) : Type 0 where
       pub sound : (v : Violation) → best ≡ Some v → OfPartners rule cert ends v × (v.first ≡ e)
-      pub covers : (v : Violation) (k : ℕ) → OfPartners rule cert ends v → v.first ≡ e → k < j → slice_get ends k ≡ Some (end_of (partner_of rule v)) → Covered best v
+      pub covers : (v : Violation) (k : ℕ) → OfPartners rule cert ends v → v.first ≡ e → k < j
+          → slice_get ends k ≡ Some (end_of (partner_of rule v)) → Covered best v
 
     partner_end : (v : Violation) (e : Edge) → OfPartners rule cert ends v → v.first ≡ e → (partner_of rule v).to ≡ e.to
     partner_end v e of first = partner_to cert rule v of.breaks ∙ ap (λ (x : Edge). x.to) first
@@ -249,11 +286,14 @@ module _ (rule : Meeting) (cert : List Edge) where
     pub taken_start : (e : Edge) (low high : ℕ) → IsReach ends e.to low high → Taken e low None
     taken_start e low high reach = record {
       sound = λ v is. absurd cc;
-      covers = λ v k of first less there. absurd (let w = reach.all k (end_of (partner_of rule v)) there (partner_end v e of first) in let x = w.0 in omega arith);
+      covers = λ v k of first less there. absurd (let w = reach.all k (end_of (partner_of rule v)) there
+          (partner_end v e of first) in let x = w.0 in omega arith);
     }
 
-    pub taken_more : (e other : Edge) (p : ℕ × ℕ) (j : ℕ) (best found kept : Option Violation) → Taken e j best → slice_get ends j ≡ Some p → other ≡ edge p.1 (partner_authority rule) p.0
-        → p.0 ≡ e.to → e.authority ≡ first_authority rule → FindsLeast (With rule cert e.from other) found → LesserOf best found kept → Taken e (j + 1) kept
+    pub taken_more : (e other : Edge) (p : ℕ × ℕ) (j : ℕ) (best found kept : Option Violation) → Taken e j best
+        → slice_get ends j ≡ Some p → other ≡ edge p.1 (partner_authority rule) p.0
+        → p.0 ≡ e.to → e.authority ≡ first_authority rule → FindsLeast (With rule cert e.from other) found
+        → LesserOf best found kept → Taken e (j + 1) kept
     taken_more e other p j best found kept old here is to first now lesser = record {
       sound = λ v same. elim (kept_is best found kept v lesser same) [
         | inl was ↦ old.sound v was
@@ -267,7 +307,8 @@ module _ (rule : Meeting) (cert : List Edge) where
           partner = (
               let same : k ≡ j = omega arith in
               let one : p ≡ end_of (partner_of rule v) = cc in
-              parts (partner_of rule v) p.1 (partner_authority rule) p.0 (ap (λ (q : ℕ × ℕ). q.1) (sym one)) (partner_is cert rule v of.breaks) (ap (λ (q : ℕ × ℕ). q.0) (sym one)) ∙ sym is);
+              parts (partner_of rule v) p.1 (partner_authority rule) p.0 (ap (λ (q : ℕ × ℕ). q.1) (sym one))
+              (partner_is cert rule v of.breaks) (ap (λ (q : ℕ × ℕ). q.0) (sym one)) ∙ sym is);
         })))
       ];
     } where
@@ -275,11 +316,17 @@ module _ (rule : Meeting) (cert : List Edge) where
       found_sound v w =
           let partner : partner_of rule v ≡ edge p.1 (partner_authority rule) p.0 = w.partner ∙ is in
           let goes : v.first.to ≡ e.to = sym (partner_to cert rule v w.breaks) ∙ ap (λ (x : Edge). x.to) partner ∙ to in (
-            record { breaks = w.breaks; among = subst (λ (x : Edge). Contains ends (end_of x)) (sym partner) (at_contains ends p j here) },
-            parts v.first e.from (first_authority rule) e.to w.from (first_is cert rule v w.breaks) goes ∙ sym (parts e e.from (first_authority rule) e.to refl first refl),
+            record {
+              breaks = w.breaks;
+              among = subst (λ (x : Edge). Contains ends (end_of x)) (sym partner)
+                  (at_contains ends p j here);
+            },
+            parts v.first e.from (first_authority rule) e.to w.from (first_is cert rule v w.breaks) goes
+                ∙ sym (parts e e.from (first_authority rule) e.to refl first refl),
           )
 
-    pub taken_end : (e : Edge) (low high j : ℕ) (best : Option Violation) → IsReach ends e.to low high → high ≤ j → Taken e j best → FindsLeastAt (OfPartners rule cert ends) e best
+    pub taken_end : (e : Edge) (low high j : ℕ) (best : Option Violation) → IsReach ends e.to low high → high ≤ j → Taken e j best
+        → FindsLeastAt (OfPartners rule cert ends) e best
     taken_end e low high j best reach le t = finds_least (λ v. OfPartners rule cert ends v × (v.first ≡ e)) best t.sound (λ v p. (
         let at = contains_at ends (end_of (partner_of rule v)) p.0.among in
         let within = reach.all at.0 (end_of (partner_of rule v)) at.1 (partner_end v e p.0 p.1) in
@@ -288,13 +335,16 @@ module _ (rule : Meeting) (cert : List Edge) where
     -- ---- the walk
 
     -- no violation is left where its twin has an earlier first edge
-    twin_gone : (i k : ℕ) (v : Violation) (s e : ℕ) → AreMet rule cert ends → NoneUpTo (OfPartners rule cert ends) first_of cert i → OfPartners rule cert ends v
-        → Alike rule cert v.first.from s → slice_get cert k ≡ Some (edge s (first_authority rule) e) → k < i → Contains ends (e, (partner_of rule v).from) → ⊥
+    twin_gone : (i k : ℕ) (v : Violation) (s e : ℕ) → AreMet rule cert ends → NoneUpTo (OfPartners rule cert ends) first_of cert i
+        → OfPartners rule cert ends v
+        → Alike rule cert v.first.from s → slice_get cert k ≡ Some (edge s (first_authority rule) e) → k < i
+        → Contains ends (e, (partner_of rule v).from) → ⊥
     twin_gone i k v s e met before of alike here less among =
         let r : ℕ = (partner_of rule v).from in
         before.none k (twin rule v s r e) less (here ∙ ap (λ (x : Edge). Some x) (sym (twin_first rule v s r e)))
         (record {
-          breaks = twin_breaks cert rule v s r e of.breaks alike (alike_self cert rule r) (has_at cert k (edge s (first_authority rule) e) here) (met (e, r) among);
+          breaks = twin_breaks cert rule v s r e of.breaks alike (alike_self cert rule r)
+              (has_at cert k (edge s (first_authority rule) e) here) (met (e, r) among);
           among = subst (λ (x : Edge). Contains ends (end_of x)) (sym (twin_partner rule v s r e)) among;
         })
 
@@ -314,28 +364,45 @@ module _ (rule : Meeting) (cert : List Edge) where
     walked_start = record { none = none_start (OfPartners rule cert ends) first_of cert; behind = λ m is. absurd cc }
 
     further : (i : ℕ) (m : Met) → Behind i m → Behind (i + 1) m
-    further i m b = record { place = b.place; below = (let l = b.below in omega arith); there = b.there; first = b.first; reach = b.reach }
+    further i m b = record {
+      place = b.place;
+      below = (let l = b.below in omega arith);
+      there = b.there;
+      first = b.first;
+      reach = b.reach;
+    }
 
-    walked_past : (i : ℕ) (e : Edge) (last : Option Met) → Walked i last → slice_get cert i ≡ Some e → ((v : Violation) → first_of v ≡ e → OfPartners rule cert ends v → ⊥) → Walked (i + 1) last
+    walked_past : (i : ℕ) (e : Edge) (last : Option Met) → Walked i last → slice_get cert i ≡ Some e
+        → ((v : Violation) → first_of v ≡ e → OfPartners rule cert ends v → ⊥) → Walked (i + 1) last
     walked_past i e last w here gone = record {
       none = none_more (OfPartners rule cert ends) first_of cert i e w.none here gone;
       behind = λ m is. further i m (w.behind m is);
     }
 
-    pub walked_on : (i j : ℕ) (last : Option Met) → i ≤ j → AreOthers cert (first_authority rule) i j → Walked i last → Walked j last
+    pub walked_on : (i j : ℕ) (last : Option Met) → i ≤ j → AreOthers cert (first_authority rule) i j → Walked i last
+        → Walked j last
     walked_on i j last le others w = record {
-      none = none_on (OfPartners rule cert ends) first_of cert (first_authority rule) i j (λ v of. first_is cert rule v of.breaks) others w.none;
-      behind = λ m is. let b = w.behind m is in record { place = b.place; below = (let l = b.below in omega arith); there = b.there; first = b.first; reach = b.reach };
+      none = none_on (OfPartners rule cert ends) first_of cert (first_authority rule) i j (λ v of. first_is cert rule v of.breaks)
+          others w.none;
+      behind = λ m is. let b = w.behind m is in record {
+        place = b.place;
+        below = (let l = b.below in omega arith);
+        there = b.there;
+        first = b.first;
+        reach = b.reach;
+      };
     }
 
-    pub led_past : (i : ℕ) (e : Edge) (last : Option Met) → IsSorted cert → AreMet rule cert ends → Walked i last → slice_get cert i ≡ Some e → e.authority ≡ first_authority rule
+    pub led_past : (i : ℕ) (e : Edge) (last : Option Met) → IsSorted cert → AreMet rule cert ends → Walked i last
+        → slice_get cert i ≡ Some e → e.authority ≡ first_authority rule
         → IsLed rule cert e.from → Walked (i + 1) last
     led_past i e last sorted met w here first led = walked_past i e last w here gone where
       at : (k : ℕ) × (k < i) × (slice_get cert k ≡ Some (edge led.label e.authority e.to))
       at = led_before i e.from led.label e.to e sorted here refl led.less
           (subst (λ a. has cert (edge led.label a e.to) ≡ true) (sym first)
           (alike_has cert rule e.from led.label (first_authority rule) e.to led.alike (first_no_reply rule)
-          (subst (λ (x : Edge). has cert x ≡ true) (parts e e.from (first_authority rule) e.to refl first refl) (has_at cert i e here))))
+          (subst (λ (x : Edge). has cert x ≡ true) (parts e e.from (first_authority rule) e.to refl first refl)
+          (has_at cert i e here))))
 
       gone : (v : Violation) → first_of v ≡ e → OfPartners rule cert ends v → ⊥
       gone v is of = twin_gone i at.0 v led.label e.to met w.none of
@@ -343,7 +410,8 @@ module _ (rule : Meeting) (cert : List Edge) where
           (at.2 ∙ ap (λ a. Some (edge led.label a e.to)) first) at.1
           (subst (λ (n : ℕ). Contains ends (n, (partner_of rule v).from)) (partner_end v e of is) of.among)
 
-    alike_past : (i : ℕ) (met last : Met) → AreMet rule cert ends → Walked i (Some last) → slice_get cert i ≡ Some met.edge → last.edge.from ≡ met.edge.from → MeetToo ends last met
+    alike_past : (i : ℕ) (met last : Met) → AreMet rule cert ends → Walked i (Some last) → slice_get cert i ≡ Some met.edge
+        → last.edge.from ≡ met.edge.from → MeetToo ends last met
         → Walked (i + 1) (Some last)
     alike_past i met last are w here from too = walked_past i met.edge (Some last) w here gone where
       b : Behind i last
@@ -351,11 +419,15 @@ module _ (rule : Meeting) (cert : List Edge) where
 
       gone : (v : Violation) → first_of v ≡ met.edge → OfPartners rule cert ends v → ⊥
       gone v is of = twin_gone i b.place v met.edge.from last.edge.to are w.none of
-          (subst (λ (l : ℕ). Alike rule cert l met.edge.from) (ap (λ (x : Edge). x.from) (sym is)) (alike_self cert rule met.edge.from))
-          (b.there ∙ ap (λ (x : Edge). Some x) (parts last.edge met.edge.from (first_authority rule) last.edge.to from b.first refl)) b.below
-          (too (partner_of rule v).from (subst (λ (n : ℕ). Contains ends (n, (partner_of rule v).from)) (partner_end v met.edge of is) of.among))
+          (subst (λ (l : ℕ). Alike rule cert l met.edge.from) (ap (λ (x : Edge). x.from) (sym is))
+          (alike_self cert rule met.edge.from))
+          (b.there ∙ ap (λ (x : Edge). Some x) (parts last.edge met.edge.from (first_authority rule) last.edge.to from b.first
+          refl)) b.below
+          (too (partner_of rule v).from (subst (λ (n : ℕ). Contains ends (n, (partner_of rule v).from))
+          (partner_end v met.edge of is) of.among))
 
-    pub like_past : (i : ℕ) (met : Met) (last : Option Met) → AreMet rule cert ends → Walked i last → slice_get cert i ≡ Some met.edge → GoesLike ends last met → Walked (i + 1) last
+    pub like_past : (i : ℕ) (met : Met) (last : Option Met) → AreMet rule cert ends → Walked i last
+        → slice_get cert i ≡ Some met.edge → GoesLike ends last met → Walked (i + 1) last
     like_past i met None are w here like = absurd like
     like_past i met (Some last) are w here like = alike_past i met last are w here like.0 like.1
 
@@ -363,15 +435,30 @@ module _ (rule : Meeting) (cert : List Edge) where
     last_reach i None w = tt
     last_reach i (Some m) w = (w.behind m refl).reach
 
-    pub looked_past : (i : ℕ) (met : Met) (last : Option Met) → Walked i last → slice_get cert i ≡ Some met.edge → met.edge.authority ≡ first_authority rule → IsReach ends met.edge.to met.low met.high
+    pub looked_past : (i : ℕ) (met : Met) (last : Option Met) → Walked i last → slice_get cert i ≡ Some met.edge
+        → met.edge.authority ≡ first_authority rule → IsReach ends met.edge.to met.low met.high
         → FindsLeastAt (OfPartners rule cert ends) met.edge None → Walked (i + 1) (Some met)
     looked_past i met last w here first reach none = record {
       none = none_more (OfPartners rule cert ends) first_of cert i met.edge w.none here (λ v is of. none v (of, is));
-      behind = λ m is. (let same : met ≡ m = cc in subst (Behind (i + 1)) same (record { place = i; below = omega arith; there = here; first = first; reach = reach }));
+      behind = λ m is. (let same : met ≡ m = cc in
+          subst (Behind (i + 1)) same (record { place = i; below = omega arith; there = here; first = first; reach = reach }));
     }
 
 -- a label for which a lesser one may stand
-pub led_by : (rule : Meeting) (cert : List Edge) (l n : ℕ) → (rule ≡ rules.Grant) ⊎ (rule ≡ rules.GrantBack) → IsLeastAlike cert l n → (n == l) ≡ false → IsLed rule cert l
+pub led_by : (rule : Meeting) (cert : List Edge) (l n : ℕ) → (rule ≡ rules.Grant) ⊎ (rule ≡ rules.GrantBack)
+    → IsLeastAlike cert l n → (n == l) ≡ false → IsLed rule cert l
 led_by rules.Call cert l n is least other = absurd (elim is [ inl e ↦ cc | inr e ↦ cc ])
-led_by rules.Grant cert l n is least other = record { label = n; less = (let le : n ≤ l = least.least l (λ a x w. refl) in let ne = eqb-false n l other in omega arith); alike = least.alike; least = least.least }
-led_by rules.GrantBack cert l n is least other = record { label = n; less = (let le : n ≤ l = least.least l (λ a x w. refl) in let ne = eqb-false n l other in omega arith); alike = least.alike; least = least.least }
+led_by rules.Grant cert l n is least other = record {
+  label = n;
+  less = (let le : n ≤ l = least.least l (λ a x w. refl) in
+      let ne = eqb-false n l other in omega arith);
+  alike = least.alike;
+  least = least.least;
+}
+led_by rules.GrantBack cert l n is least other = record {
+  label = n;
+  less = (let le : n ≤ l = least.least l (λ a x w. refl) in
+      let ne = eqb-false n l other in omega arith);
+  alike = least.alike;
+  least = least.least;
+}

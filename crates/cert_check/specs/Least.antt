@@ -49,6 +49,7 @@ LeastOf spec labels policy cert rules.GrantBack have lack = LeastPair (BreaksGra
 LeastOf spec labels policy cert rules.Bind have lack = LeastPair (BreaksBind cert) have lack
 LeastOf spec labels policy cert rules.Policy have lack = LeastAlone (BreaksPolicy policy cert) have lack
 
-pub record Least (spec : Spec) (labels : List ℕ) (policy : List Edge) (cert : List Edge) (rule : Rule) (have : List (Option Edge)) (lack : Edge) : Type 0 where
+pub record Least (spec : Spec) (labels : List ℕ) (policy : List Edge) (cert : List Edge) (rule : Rule) (have : List (Option Edge))
+    (lack : Edge) : Type 0 where
   pub earlier : (r : Rule) → rule_number r < rule_number rule → Holds spec labels policy cert r
   pub least : LeastOf spec labels policy cert rule have lack

@@ -5,8 +5,8 @@ use Rattle.std.specs.List.{Contains}
 use Rattle.cap_model.specs.Classes.{OutAlike}
 use Rattle.cap_model.specs.Edges.{edge, AtMost, Before}
 use Rattle.cap_model.specs.Tables.{has}
-use Rattle.cap_model.specs.declared.authority.Authority.{Authority}
-use Rattle.cap_model.specs.declared.authority.Authority.TheVariants as authorities
+use Rattle.authorities.specs.declared.authority.Authority.{Authority}
+use Rattle.authorities.specs.declared.authority.Authority.TheVariants as authorities
 use Rattle.cap_model.specs.declared.edge.Edge.{Edge}
 use Rattle.cert_check.specs.Violations.{BreaksGrant, BreaksCall, BreaksGrantBack}
 use Rattle.cert_check.specs.declared.meetings.Meeting.{Meeting}

@@ -3,8 +3,8 @@ use Rattle.std.specs.Prelude.{◌≡◌, ◌≢◌, ◌<◌, ◌≤◌, ◌⊎�
 use Rattle.cap_model.specs.Edges.{AtMost, Before}
 use Rattle.cap_model.specs.ObjectLabels.{label_of}
 use Rattle.cap_model.specs.Tables.{has}
-use Rattle.cap_model.specs.declared.authority.Authority.{Authority}
-use Rattle.cap_model.specs.declared.authority.Authority.TheVariants.{AsyncSend, Control}
+use Rattle.authorities.specs.declared.authority.Authority.{Authority}
+use Rattle.authorities.specs.declared.authority.Authority.TheVariants.{AsyncSend, Control}
 use Rattle.cap_model.specs.declared.edge.Edge.{Edge}
 use Rattle.cap_model.specs.Confers.{confers}
 use Rattle.cap_model.specs.declared.cap.Cap.{Cap}
@@ -72,7 +72,8 @@ pub record CapLack (spec : Spec) (cert : List Edge) (within : Bool) (l : ℕ) (m
   pub lacks : has cert e ≡ false
 
 -- the same of a capability before place i
-pub record SlotsLack (spec : Spec) (labels : List ℕ) (cert : List Edge) (within : Bool) (l : ℕ) (slots : List (ℕ × Cap)) (i : ℕ) (e : Edge) : Type 0 where
+pub record SlotsLack (spec : Spec) (labels : List ℕ) (cert : List Edge) (within : Bool) (l : ℕ) (slots : List (ℕ × Cap)) (i : ℕ)
+    (e : Edge) : Type 0 where
   pub place : ℕ
   pub slot : ℕ × Cap
   pub below : place < i
@@ -95,7 +96,8 @@ pub record BufferLack (spec : Spec) (labels : List ℕ) (cert : List Edge) (l : 
 
 abbrev pub ThreadLack : Spec → List ℕ → List Edge → ℕ → Tcb → Edge → Type 0
 ThreadLack spec labels cert l tcb e =
-    LinkLack labels cert l Control tcb.cspace e ⊎ (LinkLack labels cert l Control tcb.vspace e ⊎ BufferLack spec labels cert l tcb.buffer e)
+    LinkLack labels cert l Control tcb.cspace e ⊎ (LinkLack labels cert l Control tcb.vspace e ⊎ BufferLack spec labels cert l
+    tcb.buffer e)
 
 pub record ObjectLack (spec : Spec) (labels : List ℕ) (cert : List Edge) (l : ℕ) (object : Object) (e : Edge) : Type 0 where
   pub asked : Asked spec labels l object e

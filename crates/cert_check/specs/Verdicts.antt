@@ -12,4 +12,5 @@ use Rattle.cert_check.specs.Valid.{Valid}
 abbrev pub Judged : Spec → List ℕ → List Edge → List Edge → Verdict → Type 0
 Judged spec labels policy cert Yes = Valid spec labels policy cert
 Judged spec labels policy cert (No number have lack) =
-    (rule : Rule) × (number ≡ rule_number rule) × Least spec labels policy cert rule have lack × (Valid spec labels policy cert → ⊥)
+    (rule : Rule) × (number ≡ rule_number rule) × Least spec labels policy cert rule have lack
+    × (Valid spec labels policy cert → ⊥)

@@ -4,7 +4,7 @@
 use Rattle.std.specs.Prelude.{◌≡◌, ◌≢◌, ◌⊎◌, ℕ, List, false, true}
 use Rattle.cap_model.specs.Edges.{edge}
 use Rattle.cap_model.specs.Tables.{Has, has}
-use Rattle.cap_model.specs.declared.authority.Authority.TheVariants.{Receive, AsyncSend, Grant, Control, Call, Reply, GrantBack, Handle}
+use Rattle.authorities.specs.declared.authority.Authority.TheVariants.{Receive, AsyncSend, Grant, Control, Call, Reply, GrantBack, Handle}
 use Rattle.cap_model.specs.declared.edge.Edge.{Edge}
 use Rattle.cap_model.specs.Auth.{Held, Structural}
 use Rattle.cap_model.specs.State.{boot}

@@ -1,8 +1,8 @@
 //! The first rule: the edges of the boot state.
 
-ghost use Rattle.cap_model.specs.AuthoritySets.{set_has};
+ghost use Rattle.authorities.specs.AuthoritySets.{set_has};
 ghost use Rattle.cap_model.specs.Tables.{has, Finds};
-ghost use Rattle.cap_model.specs.declared.authority.Authority.{Authority};
+ghost use Rattle.authorities.specs.declared.authority.Authority.{Authority};
 ghost use Rattle.cap_model.specs.Confers.{confers};
 ghost use Rattle.cert_check.specs.Parts.{CapLack, SlotsLack, LinkLack, ObjectLack, ThreadLack, BufferLack, LesserEdge};
 ghost use Rattle.cert_check.specs.Violations.{BreaksBoot};

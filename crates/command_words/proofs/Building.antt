@@ -20,23 +20,29 @@ texts = map (λ s. s.now)
 abbrev rules_to : List (Bor Text) → List Rule
 rules_to xs = map slot (texts xs)
 
-rules_more : (slots : List (Bor Text)) (i : ℕ) (d : Bor Text) → i < length slots → rules_to (take i slots) ++ slot (get_or slots i d).now ∷ [] ≡ rules_to (take (i + 1) slots)
+rules_more : (slots : List (Bor Text)) (i : ℕ) (d : Bor Text) → i < length slots
+    → rules_to (take i slots) ++ slot (get_or slots i d).now ∷ [] ≡ rules_to (take (i + 1) slots)
 rules_more slots i d lt =
     let more = take_more slots i d lt in
     sym (ap rules_to more ∙ ap (map slot) (map-append (λ (s : Bor Text). s.now) (take i slots) (get_or slots i d ∷ []))
     ∙ map-append slot (texts (take i slots)) ((get_or slots i d).now ∷ []))
 
 -- one more argument
-pub slot_added : (old new : Command) (a : Arg) (name : Text) (slots : List (Bor Text)) (i : ℕ) (d : Bor Text) → AddsArg old a new → a.global ≡ false
-    → rule_of a ≡ slot (get_or slots i d).now → i < length slots → app_of old ≡ record { top = leaf name (texts (take i slots)); subs = [] }
+pub slot_added : (old new : Command) (a : Arg) (name : Text) (slots : List (Bor Text)) (i : ℕ) (d : Bor Text) → AddsArg old a new
+    → a.global ≡ false
+    → rule_of a ≡ slot (get_or slots i d).now → i < length slots
+    → app_of old ≡ record { top = leaf name (texts (take i slots)); subs = [] }
     → app_of new ≡ record { top = leaf name (texts (take (i + 1) slots)); subs = [] }
 slot_added old new a name slots i d adds local rule lt before =
     adds.shape local ∙ ap₂ with_rule before rule
     ∙ ap (λ rs. record { top = record (new_shape name) { rules = rs }; subs = [] }) (rules_more slots i d lt)
 
-pub bare_app : (c₀ c₁ c₂ c₃ c₄ c₅ : Command) → app_of c₀ ≡ new_app (Rattle.std.specs.Prelude.codes "camkes") → fields_of c₁ ≡ record (fields_of c₀) { no_binary_name = true }
-    → fields_of c₂ ≡ record (fields_of c₁) { disable_help_flag = true } → fields_of c₃ ≡ record (fields_of c₂) { disable_help_subcommand = true }
-    → fields_of c₄ ≡ record (fields_of c₃) { disable_version_flag = true } → fields_of c₅ ≡ record (fields_of c₄) { subcommand_required = true }
+pub bare_app : (c₀ c₁ c₂ c₃ c₄ c₅ : Command) → app_of c₀ ≡ new_app (Rattle.std.specs.Prelude.codes "camkes")
+    → fields_of c₁ ≡ record (fields_of c₀) { no_binary_name = true }
+    → fields_of c₂ ≡ record (fields_of c₁) { disable_help_flag = true }
+    → fields_of c₃ ≡ record (fields_of c₂) { disable_help_subcommand = true }
+    → fields_of c₄ ≡ record (fields_of c₃) { disable_version_flag = true }
+    → fields_of c₅ ≡ record (fields_of c₄) { subcommand_required = true }
     → app_of c₅ ≡ bare
 bare_app c₀ c₁ c₂ c₃ c₄ c₅ is e₁ e₂ e₃ e₄ e₅ =
     let e₂₁ = e₂ ∙ ap (λ (f : Command-F Command). record f { disable_help_flag = true }) e₁ in
@@ -53,6 +59,7 @@ bare_app c₀ c₁ c₂ c₃ c₄ c₅ is e₁ e₂ e₃ e₄ e₅ =
       };
     }) is
 
-pub command_added : (old sub new : Command) (s : Shape) → AddsSubcommand old sub new → (fields_of sub).has_globals ≡ false → app_of sub ≡ record { top = s; subs = [] }
+pub command_added : (old sub new : Command) (s : Shape) → AddsSubcommand old sub new → (fields_of sub).has_globals ≡ false
+    → app_of sub ≡ record { top = s; subs = [] }
     → app_of new ≡ with_subcommand (app_of old) s
 command_added old sub new s adds local is = adds.shape local ∙ ap (λ (a : App). with_subcommand (app_of old) a.top) is

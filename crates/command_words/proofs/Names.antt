@@ -41,22 +41,28 @@ module _ (subs : List Shape) (name : Text) where
 
   its_name : (s : Shape) → list_all has_no_alias subs ≡ true → named name subs ≡ Some s → s.name ≡ name
   its_name s plain e =
-      let none : s.aliases ≡ [] = is_nil s.aliases (find_passes (λ s. answers_to name (label_of s)) has_no_alias subs s plain e) in
+      let none : s.aliases ≡ [] = is_nil s.aliases (find_passes (λ s. answers_to name (label_of s)) has_no_alias subs
+      s plain e) in
       let hit : answers_to name (s.name, s.aliases) ≡ true = found_passes (λ s. answers_to name (label_of s)) subs s e in
-      let same : answers_to name (s.name, s.aliases) ≡ (bytes_eq s.name name || false) = ap (λ (xs : List Text). answers_to name (s.name, xs)) none in
+      let same : answers_to name (s.name, s.aliases) ≡ (bytes_eq s.name name || false) =
+      ap (λ (xs : List Text). answers_to name (s.name, xs)) none in
       (bytes_eq-Decides s.name name).0 (sym (or-false (bytes_eq s.name name)) ∙ (sym same ∙ hit))
 
   walk_met : (s : Shape) → named name subs ≡ Some s → (rest : List Text)
-      → ◌≡◌ {A = Walk} (walk [] names nothing_held (name ∷ rest)) (record (walk_from nothing_held) { stopped = Some (s.name, rest) })
+      → ◌≡◌ {A = Walk} (walk [] names nothing_held (name ∷ rest))
+      (record (walk_from nothing_held) { stopped = Some (s.name, rest) })
   unfolding walked
   walk_met s e rest =
-      let first : ◌≡◌ {A = Walk} (walked [] names (walk_from nothing_held) name) (record (walk_from nothing_held) { stopped = Some (s.name, []) }) = rw (met (Some s) e) refl in
+      let first : ◌≡◌ {A = Walk} (walked [] names (walk_from nothing_held) name)
+      (record (walk_from nothing_held) { stopped = Some (s.name, []) }) = rw (met (Some s) e) refl in
       ap (λ (w : Walk). fold (walked [] names) w rest) first ∙ sym (walk_stopped [] names (walk_from nothing_held) s.name [] rest)
 
-  faults_met : (s : Shape) → named name subs ≡ Some s → (rest : List Text) → walk_fault top names (walk_from nothing_held) (name ∷ rest) ≡ []
+  faults_met : (s : Shape) → named name subs ≡ Some s → (rest : List Text)
+      → walk_fault top names (walk_from nothing_held) (name ∷ rest) ≡ []
   unfolding walk_fault walked
   faults_met s e rest =
-      rw (met (Some s) e, and-false (bytes_eq s.name (codes "help"))) (stopped_fault top names (walk_from nothing_held) (s.name, []) rest)
+      rw (met (Some s) e, and-false (bytes_eq s.name (codes "help"))) (stopped_fault top names (walk_from nothing_held)
+      (s.name, []) rest)
 
   pub command_met : (s : Shape) → list_all has_no_alias subs ≡ true → named name subs ≡ Some s → (rest : List Text)
       → (built_fault (program subs) nothing_held (name ∷ rest) ≡ level_fault s [] nothing_held rest false [])
@@ -65,27 +71,36 @@ module _ (subs : List Shape) (name : Text) where
   command_met s plain e rest =
       let again : named s.name subs ≡ Some s = ap (λ t. named t subs) (its_name s plain e) ∙ e in
       let went = walk_met s e rest in
-      let below : entered_fault (program subs) (Some (s.name, rest)) ≡ level_fault s [] nothing_held rest false [] = rw again refl in
+      let below : entered_fault (program subs) (Some (s.name, rest)) ≡ level_fault s [] nothing_held rest false [] =
+      rw again refl in
       let inside : entered (program subs) (Some (s.name, rest)) ≡ Some (rows_at s rest) = rw again refl in
-      let level : Kinds → Walk → Kinds = λ k w. or_else k (or_else (entered_fault (program subs) w.stopped) (or_else (settle_fault [] false w.held)
-      (or_else (defaults_fault (settled [] w.held).rows []) (check_fault top (finished [] w.held) (is_some (entered (program subs) w.stopped)))))) in
-      let all : built_fault (program subs) nothing_held (name ∷ rest) ≡ level [] (record (walk_from nothing_held) { stopped = Some (s.name, rest) }) = ap₂ level (faults_met s e rest) went in
-      let last : level [] (record (walk_from nothing_held) { stopped = Some (s.name, rest) }) ≡ level_fault s [] nothing_held rest false [] =
+      let level : Kinds → Walk → Kinds =
+      λ k w. or_else k (or_else (entered_fault (program subs) w.stopped) (or_else (settle_fault [] false w.held)
+      (or_else (defaults_fault (settled [] w.held).rows [])
+      (check_fault top (finished [] w.held) (is_some (entered (program subs) w.stopped)))))) in
+      let all : built_fault (program subs) nothing_held (name ∷ rest) ≡ level []
+      (record (walk_from nothing_held) { stopped = Some (s.name, rest) }) = ap₂ level (faults_met s e rest) went in
+      let last : level [] (record (walk_from nothing_held) { stopped = Some (s.name, rest) }) ≡ level_fault s [] nothing_held
+      rest false [] =
       ap₂ (λ k (o : Option (Text × List Row)). or_else k (check_fault top [] (is_some o))) below inside ∙ or_else-nil _ in
       (all ∙ last, ap (λ (w : Walk). entered (program subs) w.stopped) went ∙ inside)
 
-  first_turn : named name subs ≡ None → turn_fault top names (walk_from nothing_held) name ≡ turn_fault top [] (walk_from nothing_held) name
+  first_turn : named name subs ≡ None → turn_fault top names (walk_from nothing_held) name ≡ turn_fault top []
+      (walk_from nothing_held) name
   first_turn e = rw (met None e) refl
 
-  only_dashes : bytes_eq name (codes "--") ≡ true → named name subs ≡ None → (rest : List Text) → passes (built_fault (program subs) nothing_held (name ∷ rest)) ≡ false
+  only_dashes : bytes_eq name (codes "--") ≡ true → named name subs ≡ None → (rest : List Text)
+      → passes (built_fault (program subs) nothing_held (name ∷ rest)) ≡ false
   unfolding walk_fault walked defaults_fault
   only_dashes d e [] = rw (met None e, d) refl
   only_dashes d e (r ∷ rs) = rw (met None e, d) refl
 
-  pub no_command : IsUtf8 name → named name subs ≡ None → (rest : List Text) → passes (built_fault (program subs) nothing_held (name ∷ rest)) ≡ false
+  pub no_command : IsUtf8 name → named name subs ≡ None → (rest : List Text)
+      → passes (built_fault (program subs) nothing_held (name ∷ rest)) ≡ false
   unfolding walk_fault
   no_command u e rest = go (bytes_eq name (codes "--")) refl
     where
       go : (b : Bool) → bytes_eq name (codes "--") ≡ b → passes (built_fault (program subs) nothing_held (name ∷ rest)) ≡ false
       go true d = only_dashes d e rest
-      go false d = first_fails _ _ (first_fails _ _ (ap (λ k. passes k) (first_turn e) ∙ first_word_fails top refl name u d refl refl))
+      go false d =
+          first_fails _ _ (first_fails _ _ (ap (λ k. passes k) (first_turn e) ∙ first_word_fails top refl name u d refl refl))

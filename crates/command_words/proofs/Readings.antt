@@ -33,7 +33,8 @@ Made = List Text → Option Command
 -- what a command's matches make, where the words after it are us
 abbrev FitsAt : Shape → List Text → Option Command → Type 0
 FitsAt s us made =
-    (passes (level_fault s [] nothing_held (codes "--" ∷ us) false []) ≡ true → made_of s.name (rows_after s.rules [] (codes "--" ∷ us)) ≡ made)
+    (passes (level_fault s [] nothing_held (codes "--" ∷ us) false []) ≡ true
+    → made_of s.name (rows_after s.rules [] (codes "--" ∷ us)) ≡ made)
     × (passes (level_fault s [] nothing_held (codes "--" ∷ us) false []) ≡ false → made ≡ None)
 
 abbrev FitsMade : Option Shape → Made → Type 0
@@ -123,7 +124,8 @@ plan_fits (a ∷ []) = (λ p. fails p, λ p. refl)
 plan_fits (a ∷ b ∷ []) = (λ p. refl, λ p. works p)
 plan_fits (a ∷ b ∷ c ∷ us) = (λ p. fails p, λ p. refl)
 
-next : (b : Bool) (s : Shape) (o : Option Shape) (m n : Made) → has_slots s ≡ true → ((us : List Text) → FitsAt s us (m us)) → FitsMade o n
+next : (b : Bool) (s : Shape) (o : Option Shape) (m n : Made) → has_slots s ≡ true → ((us : List Text) → FitsAt s us (m us))
+    → FitsMade o n
     → FitsMade (cond (b || false) (Some s) o) (λ us. cond b (m us) (n us))
 next true s o m n slots fits rest = (slots, fits)
 next false s o m n slots fits rest = rest
@@ -155,13 +157,16 @@ made_from (Some p) = made_of p.0 p.1
 abbrev Right : Bool → Option (Text × List Row) → Option Command → Type 0
 Right passed met read = (passed ≡ true → made_from met ≡ read) × (passed ≡ false → read ≡ None)
 
-all_right : (words : List Text) → AreTexts words → Right (passes (fault_of reader words)) (subcommand_of reader words) (read_words words)
+all_right : (words : List Text) → AreTexts words → Right (passes (fault_of reader words)) (subcommand_of reader words)
+    (read_words words)
 unfolding clap_on_literals
 all_right [] u = (λ e. fails e, λ e. refl)
 all_right (name ∷ rest) u = go (named name subs) refl (each_fits name) (taken rest) refl
   where
-    go : (o : Option Shape) → named name subs ≡ o → FitsMade o (command_of name) → (after : Option (List Text)) → taken rest ≡ after
-        → Right (passes (fault_of reader (name ∷ rest))) (subcommand_of reader (name ∷ rest)) (option_and_then (command_of name) after)
+    go : (o : Option Shape) → named name subs ≡ o → FitsMade o (command_of name) → (after : Option (List Text))
+        → taken rest ≡ after
+        → Right (passes (fault_of reader (name ∷ rest))) (subcommand_of reader (name ∷ rest))
+        (option_and_then (command_of name) after)
     go None e fits after is =
         let bad = no_command subs name u.0 e rest in
         (λ p. fails (sym bad ∙ p), λ p. none_then (command_of name) after fits)
@@ -190,30 +195,35 @@ taken_texts (w ∷ ws) us u e = go (bytes_eq w (codes "--")) (is_dashed w) (take
     go false false None rest e = absurd (some≢none us (sym e))
     go false false (Some vs) rest e = subst AreTexts (same_Some (w ∷ vs) us e) (u.0, rest vs refl)
 
-one_texts : (make : Text → Command) → ((a : Text) → IsUtf8 a → AreUtf8 (make a)) → (us : List Text) (c : Command) → AreTexts us → of_one make us ≡ Some c → AreUtf8 c
+one_texts : (make : Text → Command) → ((a : Text) → IsUtf8 a → AreUtf8 (make a)) → (us : List Text) (c : Command) → AreTexts us
+    → of_one make us ≡ Some c → AreUtf8 c
 one_texts make fit [] c u e = absurd (some≢none c (sym e))
 one_texts make fit (a ∷ []) c u e = subst AreUtf8 (same_Some (make a) c e) (fit a u.0)
 one_texts make fit (a ∷ b ∷ us) c u e = absurd (some≢none c (sym e))
 
-two_texts : (make : Text → Text → Command) → ((a b : Text) → IsUtf8 a × IsUtf8 b → AreUtf8 (make a b)) → (us : List Text) (c : Command) → AreTexts us → of_two make us ≡ Some c → AreUtf8 c
+two_texts : (make : Text → Text → Command) → ((a b : Text) → IsUtf8 a × IsUtf8 b → AreUtf8 (make a b))
+    → (us : List Text) (c : Command) → AreTexts us → of_two make us ≡ Some c → AreUtf8 c
 two_texts make fit [] c u e = absurd (some≢none c (sym e))
 two_texts make fit (a ∷ []) c u e = absurd (some≢none c (sym e))
 two_texts make fit (a ∷ b ∷ []) c u e = subst AreUtf8 (same_Some (make a b) c e) (fit a b (u.0, u.1.0))
 two_texts make fit (a ∷ b ∷ d ∷ us) c u e = absurd (some≢none c (sym e))
 
-three_texts : (make : Text → Text → Text → Command) → ((a b d : Text) → IsUtf8 a × (IsUtf8 b × IsUtf8 d) → AreUtf8 (make a b d)) → (us : List Text) (c : Command) → AreTexts us → of_three make us ≡ Some c → AreUtf8 c
+three_texts : (make : Text → Text → Text → Command) → ((a b d : Text) → IsUtf8 a × (IsUtf8 b × IsUtf8 d) → AreUtf8 (make a b d))
+    → (us : List Text) (c : Command) → AreTexts us → of_three make us ≡ Some c → AreUtf8 c
 three_texts make fit [] c u e = absurd (some≢none c (sym e))
 three_texts make fit (a ∷ []) c u e = absurd (some≢none c (sym e))
 three_texts make fit (a ∷ b ∷ []) c u e = absurd (some≢none c (sym e))
 three_texts make fit (a ∷ b ∷ d ∷ []) c u e = subst AreUtf8 (same_Some (make a b d) c e) (fit a b d (u.0, (u.1.0, u.1.1.0)))
 three_texts make fit (a ∷ b ∷ d ∷ f ∷ us) c u e = absurd (some≢none c (sym e))
 
-four_texts : (make : Text → Text → Text → Text → Command) → ((a b d f : Text) → IsUtf8 a × (IsUtf8 b × (IsUtf8 d × IsUtf8 f)) → AreUtf8 (make a b d f)) → (us : List Text) (c : Command) → AreTexts us → of_four make us ≡ Some c → AreUtf8 c
+four_texts : (make : Text → Text → Text → Text → Command) → ((a b d f : Text) → IsUtf8 a × (IsUtf8 b × (IsUtf8 d × IsUtf8 f))
+    → AreUtf8 (make a b d f)) → (us : List Text) (c : Command) → AreTexts us → of_four make us ≡ Some c → AreUtf8 c
 four_texts make fit [] c u e = absurd (some≢none c (sym e))
 four_texts make fit (a ∷ []) c u e = absurd (some≢none c (sym e))
 four_texts make fit (a ∷ b ∷ []) c u e = absurd (some≢none c (sym e))
 four_texts make fit (a ∷ b ∷ d ∷ []) c u e = absurd (some≢none c (sym e))
-four_texts make fit (a ∷ b ∷ d ∷ f ∷ []) c u e = subst AreUtf8 (same_Some (make a b d f) c e) (fit a b d f (u.0, (u.1.0, (u.1.1.0, u.1.1.1.0))))
+four_texts make fit (a ∷ b ∷ d ∷ f ∷ []) c u e = subst AreUtf8 (same_Some (make a b d f) c e)
+    (fit a b d f (u.0, (u.1.0, (u.1.1.0, u.1.1.1.0))))
 four_texts make fit (a ∷ b ∷ d ∷ f ∷ g ∷ us) c u e = absurd (some≢none c (sym e))
 
 counted_texts : (count : Option ℕ) (c : Command) → option_map Generate count ≡ Some c → AreUtf8 c
@@ -225,7 +235,8 @@ count_texts [] c e = absurd (some≢none c (sym e))
 count_texts (a ∷ []) c e = counted_texts (count_of a) c e
 count_texts (a ∷ b ∷ us) c e = absurd (some≢none c (sym e))
 
-either_texts : (b : Bool) (x y : Option Command) (c : Command) → (x ≡ Some c → AreUtf8 c) → (y ≡ Some c → AreUtf8 c) → cond b x y ≡ Some c → AreUtf8 c
+either_texts : (b : Bool) (x y : Option Command) (c : Command) → (x ≡ Some c → AreUtf8 c) → (y ≡ Some c → AreUtf8 c)
+    → cond b x y ≡ Some c → AreUtf8 c
 either_texts true x y c here rest e = here e
 either_texts false x y c here rest e = rest e
 
@@ -247,7 +258,8 @@ read_texts : (words : List Text) (c : Command) → AreTexts words → read_words
 read_texts [] c u e = absurd (some≢none c (sym e))
 read_texts (name ∷ rest) c u e = go (taken rest) (λ us. taken_texts rest us u.1) e
   where
-    go : (o : Option (List Text)) → ((us : List Text) → o ≡ Some us → AreTexts us) → option_and_then (command_of name) o ≡ Some c → AreUtf8 c
+    go : (o : Option (List Text)) → ((us : List Text) → o ≡ Some us → AreTexts us)
+        → option_and_then (command_of name) o ≡ Some c → AreUtf8 c
     go None texts e = absurd (some≢none c (sym e))
     go (Some us) texts e = command_texts name us c (texts us refl) e
 
@@ -276,13 +288,15 @@ differs word name not_same = go (bytes_eq word name) refl
     go false e = e
 
 -- the subcommand's name and rows, as the getters give them
-pub met_is : {Z : Type 0} (o : Option (Box SubCommand Z)) (name : Text) (rows : List Row) → Some name ≡ option_map (λ b. (out-SubCommand (box_value b)).name.now) o
+pub met_is : {Z : Type 0} (o : Option (Box SubCommand Z)) (name : Text) (rows : List Row)
+    → Some name ≡ option_map (λ b. (out-SubCommand (box_value b)).name.now) o
     → Some rows ≡ option_map (λ p. p.1) (subcommand_rows o) → subcommand_rows o ≡ Some (name, rows)
 met_is None name rows n r = absurd (some≢none name n)
 met_is (Some b) name rows n r = ap₂ (λ x y. Some (x, y)) (sym (same_Some _ _ n)) (sym (same_Some _ _ r))
 
 module _ (words : List Text) (u : AreTexts words) where
-  pub read_ok : fault_of reader words ≡ [] → (name : Text) (rows : List Row) → subcommand_of reader words ≡ Some (name, rows) → made_of name rows ≡ read_words words
+  pub read_ok : fault_of reader words ≡ [] → (name : Text) (rows : List Row) → subcommand_of reader words ≡ Some (name, rows)
+      → made_of name rows ≡ read_words words
   read_ok none name rows met = sym (ap made_from met) ∙ (all_right words u).0 (ap (λ k. passes k) none)
 
   pub read_none : fault_of reader words ≡ [] → subcommand_of reader words ≡ None → read_words words ≡ None

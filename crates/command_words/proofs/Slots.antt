@@ -39,7 +39,8 @@ find_passes p q (y ∷ ys) x all e = go (p y) (find_passes p q ys x ((and_parts 
     go true rest e = subst (λ z. q z ≡ true) (same_Some y x e) ((and_parts (q y) (list_all q ys) all).0)
     go false rest e = rest e
 
-find_none : (p : Rule → Bool) (c : List Rule) → ((a : Rule) → is_some a.index ≡ true → p a ≡ false) → list_all takes_one c ≡ true → find p c ≡ None
+find_none : (p : Rule → Bool) (c : List Rule) → ((a : Rule) → is_some a.index ≡ true → p a ≡ false) → list_all takes_one c ≡ true
+    → find p c ≡ None
 find_none p [] h e = refl
 find_none p (a ∷ c) h e =
     let parts = and_parts (takes_one a) (list_all takes_one c) e in
@@ -63,12 +64,18 @@ AreTexts (w ∷ ws) = IsUtf8 w × AreTexts ws
 
 plain_long : (w : Text) → is_dashed w ≡ false → long_of w ≡ None
 plain_long [] e = refl
-plain_long (b ∷ []) e = elim (b == 45) as (λ v. Rattle.std.specs.Prelude.option_and_then Rattle.clap.specs.Lexer.long_of_rest (Rattle.std.specs.Prelude.option_and_then (Rattle.clap.specs.Lexer.strip_byte 45) (cond v (Some []) None)) ≡ None) [ true ↦ refl | false ↦ refl ]
+plain_long (b ∷ []) e = elim (b == 45) as (λ v. Rattle.std.specs.Prelude.option_and_then Rattle.clap.specs.Lexer.long_of_rest
+    (Rattle.std.specs.Prelude.option_and_then (Rattle.clap.specs.Lexer.strip_byte 45) (cond v (Some []) None)) ≡ None) [
+      | true ↦
+          refl
+      | false ↦ refl
+    ]
 plain_long (b ∷ c ∷ rest) e = rw e refl
 
 plain_short : (w : Text) → is_dashed w ≡ false → short_of w ≡ None
 plain_short [] e = refl
-plain_short (b ∷ []) e = elim (b == 45) as (λ v. Rattle.std.specs.Prelude.option_and_then Rattle.clap.specs.Lexer.short_of_rest (cond v (Some []) None) ≡ None) [ true ↦ refl | false ↦ refl ]
+plain_short (b ∷ []) e = elim (b == 45) as (λ v. Rattle.std.specs.Prelude.option_and_then Rattle.clap.specs.Lexer.short_of_rest
+    (cond v (Some []) None) ≡ None) [ true ↦ refl | false ↦ refl ]
 plain_short (b ∷ c ∷ rest) e = rw e refl
 
 first_char : (t : Text) → IsUtf8 t → 0 < length t → (y : ℕ) × (slice_get (chars t) 0 ≡ Some y)
@@ -84,14 +91,16 @@ first_char t u lt = go (chars t) refl
 -- a word that begins with `-`, and is not `--` or `-`, is a long or a short flag
 abbrev DashWord : Text → Type 0
 DashWord w = ((p : Text × Option Text) × (long_of w ≡ Some p))
-    ⊎ ((long_of w ≡ None) × (x : ℕ) × (xs : Text) × (short_of w ≡ Some (x ∷ xs)) × (y : ℕ) × (slice_get (chars (x ∷ xs)) 0 ≡ Some y))
+    ⊎ ((long_of w ≡ None) × (x : ℕ) × (xs : Text) × (short_of w ≡ Some (x ∷ xs)) × (y : ℕ)
+    × (slice_get (chars (x ∷ xs)) 0 ≡ Some y))
 
 dash_word : (w : Text) → IsUtf8 w → bytes_eq w dashes ≡ false → is_dashed w ≡ true → DashWord w
 dash_word [] u d e = absurd (true≢false (sym e))
 dash_word (b ∷ []) u d e = absurd (true≢false (sym e))
 dash_word (b ∷ c ∷ rest) u d e = go (c == 45) rest refl u d
   where
-    go : (v : Bool) (more : Text) → (c == 45) ≡ v → IsUtf8 (b ∷ c ∷ more) → bytes_eq (b ∷ c ∷ more) dashes ≡ false → DashWord (b ∷ c ∷ more)
+    go : (v : Bool) (more : Text) → (c == 45) ≡ v → IsUtf8 (b ∷ c ∷ more) → bytes_eq (b ∷ c ∷ more) dashes ≡ false
+        → DashWord (b ∷ c ∷ more)
     go true [] is u d =
         let first : b ≡ 45 = (Decides-eqb b 45).0 e in
         let second : c ≡ 45 = (Decides-eqb c 45).0 is in
@@ -100,7 +109,8 @@ dash_word (b ∷ c ∷ rest) u d e = go (c == 45) rest refl u d
     go true (x ∷ xs) is u d = inl (name_and_value (x ∷ xs), rw (e, is) refl)
     go false more is u d =
         let ascii : b ≡ 45 = (Decides-eqb b 45).0 e in
-        let rest_is : IsUtf8 (c ∷ more) = IsUtf8-drop (b ∷ c ∷ more) 1 u (IsCharBoundary-after_ascii (b ∷ c ∷ more) 0 u (omega arith) (omega arith)) in
+        let rest_is : IsUtf8 (c ∷ more) =
+        IsUtf8-drop (b ∷ c ∷ more) 1 u (IsCharBoundary-after_ascii (b ∷ c ∷ more) 0 u (omega arith) (omega arith)) in
         let first = first_char (c ∷ more) rest_is (omega arith) in
         inr (rw (e, is) refl, c, more, rw (e, is) refl, first.0, first.1)
 
@@ -126,7 +136,13 @@ abbrev held : List Row → Option (Text × List Text) → Held
 held rows pending = record { rows = rows; pending = pending; skip = 0 }
 
 abbrev at : List Row → Option (Text × List Text) → ℕ → Bool → Walk
-at rows pending position trailing = record { held = held rows pending; waiting = idle; position = position; is_trailing = trailing; stopped = None }
+at rows pending position trailing = record {
+  held = held rows pending;
+  waiting = idle;
+  position = position;
+  is_trailing = trailing;
+  stopped = None;
+}
 
 module _ (s : Shape) (slots : has_slots s ≡ true) where
   abbrev c : List Rule
@@ -135,15 +151,19 @@ module _ (s : Shape) (slots : has_slots s ≡ true) where
   abbrev placed : ℕ → Held → Kinds
   placed p h = option_map_or (λ a. positional_fault c s.args_override_self a h) (arg_by_index c p) (stray_fault s)
 
-  turn_plain : (w : Text) (rows : List Row) (pending : Option (Text × List Text)) (p : ℕ) → bytes_eq w dashes ≡ false → is_dashed w ≡ false
+  turn_plain : (w : Text) (rows : List Row) (pending : Option (Text × List Text)) (p : ℕ) → bytes_eq w dashes ≡ false
+      → is_dashed w ≡ false
       → turn_fault s [] (at rows pending p false) w ≡ placed p (held rows pending)
   turn_plain w rows pending p d e = rw (d, plain_long w e, plain_short w e) refl
 
-  turn_past : (w : Text) (rows : List Row) (pending : Option (Text × List Text)) (p : ℕ) → turn_fault s [] (at rows pending p true) w ≡ placed p (held rows pending)
+  turn_past : (w : Text) (rows : List Row) (pending : Option (Text × List Text)) (p : ℕ)
+      → turn_fault s [] (at rows pending p true) w ≡ placed p (held rows pending)
   turn_past w rows pending p = refl
 
-  walk_plain : (w : Text) (rows : List Row) (pending : Option (Text × List Text)) (p : ℕ) → bytes_eq w dashes ≡ false → is_dashed w ≡ false
-      → walked c [] (at rows pending p false) w ≡ to_positional c (arg_by_index c p) w (at rows pending p false) (held rows pending)
+  walk_plain : (w : Text) (rows : List Row) (pending : Option (Text × List Text)) (p : ℕ) → bytes_eq w dashes ≡ false
+      → is_dashed w ≡ false
+      → walked c [] (at rows pending p false) w ≡ to_positional c (arg_by_index c p) w (at rows pending p false)
+      (held rows pending)
   unfolding walked
   walk_plain w rows pending p d e = rw (d, plain_long w e, plain_short w e) refl
 
@@ -156,64 +176,81 @@ module _ (s : Shape) (slots : has_slots s ≡ true) where
   abbrev after : Rule → Text → List Row → Option (Text × List Text) → ℕ → Bool → Walk
   after a w rows pending p t = at (settled_rows c pending rows) (Some (a.id, [] ++ w ∷ [])) (min (p + 1) usize_max) t
 
-  positional_after : (a : Rule) (w : Text) (rows : List Row) (pending : Option (Text × List Text)) (p : ℕ) (t : Bool) → takes_one a ≡ true
+  positional_after : (a : Rule) (w : Text) (rows : List Row) (pending : Option (Text × List Text)) (p : ℕ) (t : Bool)
+      → takes_one a ≡ true
       → to_positional c (Some a) w (at rows pending p t) (held rows pending) ≡ after a w rows pending p t
   positional_after a w rows pending p t one =
       let parts = and_parts (not (is_multiple a)) (not a.trailing_var_arg) ((and_parts (is_some a.index) _ one).1) in
       let single : is_multiple a ≡ false = not-true (is_multiple a) parts.0 in
       let alone : takes_several a ≡ false = (or_parts (takes_several a) _ single).0 in
       let ends : a.trailing_var_arg ≡ false = not-true a.trailing_var_arg parts.1 in
-      let same : (is_pending a pending && takes_several a) ≡ false = ap (λ b. is_pending a pending && b) alone ∙ and-false (is_pending a pending) in
+      let same : (is_pending a pending && takes_several a) ≡ false = ap (λ b. is_pending a pending && b) alone
+      ∙ and-false (is_pending a pending) in
       let trails : (t || a.trailing_var_arg) ≡ t = ap (λ b. t || b) ends ∙ or-false t in
       rw (single, same, trails) refl
 
   -- the step at a word goes the same way past a `--` and before it
   abbrev SameWalk : Walk → List Text → Walk → List Text → Type 0
-  SameWalk v xs w ys = (walk_fault s [] v xs ≡ walk_fault s [] w ys) × ((fold (walked c []) v xs).held ≡ (fold (walked c []) w ys).held)
+  SameWalk v xs w ys = (walk_fault s [] v xs ≡ walk_fault s [] w ys)
+      × ((fold (walked c []) v xs).held ≡ (fold (walked c []) w ys).held)
 
-  dashes_first : (rows : List Row) (pending : Option (Text × List Text)) (p : ℕ) (us : List Text) → SameWalk (at rows pending p false) (dashes ∷ us) (at rows pending p true) us
+  dashes_first : (rows : List Row) (pending : Option (Text × List Text)) (p : ℕ) (us : List Text)
+      → SameWalk (at rows pending p false) (dashes ∷ us) (at rows pending p true) us
   unfolding walk_fault walked
   dashes_first rows pending p us = (refl, refl)
 
   -- where a plain word leads
   step_same : (w : Text) (rows : List Row) (pending : Option (Text × List Text)) (p : ℕ) (o : Option Rule) → arg_by_index c p ≡ o
-      → (Goal : Walk → Walk → Type 0) → ((rows : List Row) (pending : Option (Text × List Text)) (p : ℕ) → Goal (at rows pending p false) (at rows pending p true))
-      → Goal (to_positional c o w (at rows pending p false) (held rows pending)) (to_positional c o w (at rows pending p true) (held rows pending))
+      → (Goal : Walk → Walk → Type 0) → ((rows : List Row) (pending : Option (Text × List Text)) (p : ℕ)
+      → Goal (at rows pending p false) (at rows pending p true))
+      → Goal (to_positional c o w (at rows pending p false) (held rows pending)) (to_positional c o w (at rows pending p true)
+      (held rows pending))
   step_same w rows pending p None e Goal rest = rest rows pending p
   step_same w rows pending p (Some a) e Goal rest =
       let one = find_passes _ takes_one c a slots e in
-      subst (λ (v : Walk). Goal v (to_positional c (Some a) w (at rows pending p true) (held rows pending))) (sym (positional_after a w rows pending p false one))
+      subst (λ (v : Walk). Goal v (to_positional c (Some a) w (at rows pending p true) (held rows pending)))
+      (sym (positional_after a w rows pending p false one))
       (subst (λ (v : Walk). Goal (after a w rows pending p false) v) (sym (positional_after a w rows pending p true one))
       (rest (settled_rows c pending rows) (Some (a.id, [] ++ w ∷ [])) (min (p + 1) usize_max)))
 
-  turn_then : (w : Text) (v : Walk) (ws : List Text) → walk_fault s [] v (w ∷ ws) ≡ or_else (turn_fault s [] v w) (walk_fault s [] (walked c [] v w) ws)
+  turn_then : (w : Text) (v : Walk) (ws : List Text) → walk_fault s [] v (w ∷ ws) ≡ or_else (turn_fault s [] v w)
+      (walk_fault s [] (walked c [] v w) ws)
   unfolding walk_fault
   turn_then w v ws = refl
 
-  one_step : (w : Text) (rows : List Row) (pending : Option (Text × List Text)) (p : ℕ) (ws vs : List Text) → bytes_eq w dashes ≡ false → is_dashed w ≡ false
-      → ((rows : List Row) (pending : Option (Text × List Text)) (p : ℕ) → SameWalk (at rows pending p false) ws (at rows pending p true) vs)
+  one_step : (w : Text) (rows : List Row) (pending : Option (Text × List Text)) (p : ℕ) (ws vs : List Text)
+      → bytes_eq w dashes ≡ false → is_dashed w ≡ false
+      → ((rows : List Row) (pending : Option (Text × List Text)) (p : ℕ)
+      → SameWalk (at rows pending p false) ws (at rows pending p true) vs)
       → SameWalk (at rows pending p false) (w ∷ ws) (at rows pending p true) (w ∷ vs)
   one_step w rows pending p ws vs d e rest =
-      let left = turn_then w (at rows pending p false) ws ∙ ap₂ (λ t v. or_else t (walk_fault s [] v ws)) (turn_plain w rows pending p d e) (walk_plain w rows pending p d e) in
-      let right = turn_then w (at rows pending p true) vs ∙ ap₂ (λ t v. or_else t (walk_fault s [] v vs)) (turn_past w rows pending p) (walk_past w rows pending p) in
+      let left = turn_then w (at rows pending p false) ws ∙ ap₂ (λ t v. or_else t (walk_fault s [] v ws))
+      (turn_plain w rows pending p d e) (walk_plain w rows pending p d e) in
+      let right = turn_then w (at rows pending p true) vs ∙ ap₂ (λ t v. or_else t (walk_fault s [] v vs))
+      (turn_past w rows pending p) (walk_past w rows pending p) in
       let next = step_same w rows pending p (arg_by_index c p) refl (λ v u. SameWalk v ws u vs) rest in (
         left ∙ ap (or_else (placed p (held rows pending))) next.0 ∙ sym right,
-        ap (λ v. (fold (walked c []) v ws).held) (walk_plain w rows pending p d e) ∙ next.1 ∙ sym (ap (λ v. (fold (walked c []) v vs).held) (walk_past w rows pending p)),
+        ap (λ v. (fold (walked c []) v ws).held) (walk_plain w rows pending p d e) ∙ next.1
+            ∙ sym (ap (λ v. (fold (walked c []) v vs).held) (walk_past w rows pending p)),
       )
 
   walk_same : (words us : List Text) → taken words ≡ Some us → (rows : List Row) (pending : Option (Text × List Text)) (p : ℕ)
       → SameWalk (at rows pending p false) words (at rows pending p true) us
   unfolding walk_fault
-  walk_same [] us e rows pending p = subst (λ vs. SameWalk (at rows pending p false) [] (at rows pending p true) vs) (same_Some [] us e) (refl, refl)
+  walk_same [] us e rows pending p = subst (λ vs. SameWalk (at rows pending p false) [] (at rows pending p true) vs)
+      (same_Some [] us e) (refl, refl)
   walk_same (w ∷ ws) us e rows pending p = go (bytes_eq w dashes) (is_dashed w) (taken ws) refl refl (walk_same ws) e
     where
       go : (a b : Bool) (o : Option (List Text)) → bytes_eq w dashes ≡ a → is_dashed w ≡ b
-          → ((us : List Text) → o ≡ Some us → (rows : List Row) (pending : Option (Text × List Text)) (p : ℕ) → SameWalk (at rows pending p false) ws (at rows pending p true) us)
+          → ((us : List Text) → o ≡ Some us → (rows : List Row) (pending : Option (Text × List Text)) (p : ℕ)
+          → SameWalk (at rows pending p false) ws (at rows pending p true) us)
           → cond a (Some ws) (cond b None (option_map (λ more. w ∷ more) o)) ≡ Some us
           → SameWalk (at rows pending p false) (w ∷ ws) (at rows pending p true) us
       go true b o is_d is_b rest e =
-          subst (λ x. SameWalk (at rows pending p false) (x ∷ ws) (at rows pending p true) us) (sym ((bytes_eq-Decides w dashes).0 is_d))
-          (subst (λ vs. SameWalk (at rows pending p false) (dashes ∷ ws) (at rows pending p true) vs) (same_Some ws us e) (dashes_first rows pending p ws))
+          subst (λ x. SameWalk (at rows pending p false) (x ∷ ws) (at rows pending p true) us)
+          (sym ((bytes_eq-Decides w dashes).0 is_d))
+          (subst (λ vs. SameWalk (at rows pending p false) (dashes ∷ ws) (at rows pending p true) vs) (same_Some ws us e)
+          (dashes_first rows pending p ws))
       go false true o is_d is_b rest e = absurd (some≢none us (sym e))
       go false false None is_d is_b rest e = absurd (some≢none us (sym e))
       go false false (Some vs) is_d is_b rest e =
@@ -222,7 +259,8 @@ module _ (s : Shape) (slots : has_slots s ≡ true) where
 
   -- ---- words that no command takes
 
-  flag_fails : (w : Text) (rows : List Row) (pending : Option (Text × List Text)) (p : ℕ) → IsUtf8 w → bytes_eq w dashes ≡ false → is_dashed w ≡ true
+  flag_fails : (w : Text) (rows : List Row) (pending : Option (Text × List Text)) (p : ℕ) → IsUtf8 w → bytes_eq w dashes ≡ false
+      → is_dashed w ≡ true
       → turn_fault s [] (at rows pending p false) w ≡ UnknownArgument ∷ []
   unfolding flags_fault
   flag_fails w rows pending p u d e = elim (dash_word w u d e) [
@@ -230,26 +268,33 @@ module _ (s : Shape) (slots : has_slots s ≡ true) where
     | inr h ↦ rw (d, h.0, h.3, h.5, no_short c h.4 slots) refl
   ]
 
-  step_fails : (w : Text) (rows : List Row) (pending : Option (Text × List Text)) (p : ℕ) (ws : List Text) → bytes_eq w dashes ≡ false → is_dashed w ≡ false
-      → ((rows : List Row) (pending : Option (Text × List Text)) (p : ℕ) → passes (walk_fault s [] (at rows pending p false) ws) ≡ false)
+  step_fails : (w : Text) (rows : List Row) (pending : Option (Text × List Text)) (p : ℕ) (ws : List Text)
+      → bytes_eq w dashes ≡ false → is_dashed w ≡ false
+      → ((rows : List Row) (pending : Option (Text × List Text)) (p : ℕ)
+      → passes (walk_fault s [] (at rows pending p false) ws) ≡ false)
       → passes (walk_fault s [] (at rows pending p false) (w ∷ ws)) ≡ false
   step_fails w rows pending p ws d e rest =
-      let left = turn_then w (at rows pending p false) ws ∙ ap₂ (λ t v. or_else t (walk_fault s [] v ws)) (turn_plain w rows pending p d e) (walk_plain w rows pending p d e) in
+      let left = turn_then w (at rows pending p false) ws ∙ ap₂ (λ t v. or_else t (walk_fault s [] v ws))
+      (turn_plain w rows pending p d e) (walk_plain w rows pending p d e) in
       let next = step_same w rows pending p (arg_by_index c p) refl (λ v u. passes (walk_fault s [] v ws) ≡ false) rest in
       ap (λ k. passes k) left ∙ second_fails (placed p (held rows pending)) _ next
 
-  walk_fails : (words : List Text) → AreTexts words → taken words ≡ None → (rows : List Row) (pending : Option (Text × List Text)) (p : ℕ)
+  walk_fails : (words : List Text) → AreTexts words → taken words ≡ None
+      → (rows : List Row) (pending : Option (Text × List Text)) (p : ℕ)
       → passes (walk_fault s [] (at rows pending p false) words) ≡ false
   walk_fails [] u e rows pending p = absurd (some≢none _ e)
   walk_fails (w ∷ ws) u e rows pending p = go (bytes_eq w dashes) (is_dashed w) (taken ws) refl refl (walk_fails ws u.1) e
     where
       go : (a b : Bool) (o : Option (List Text)) → bytes_eq w dashes ≡ a → is_dashed w ≡ b
-          → (o ≡ None → (rows : List Row) (pending : Option (Text × List Text)) (p : ℕ) → passes (walk_fault s [] (at rows pending p false) ws) ≡ false)
+          → (o ≡ None → (rows : List Row) (pending : Option (Text × List Text)) (p : ℕ)
+          → passes (walk_fault s [] (at rows pending p false) ws) ≡ false)
           → cond a (Some ws) (cond b None (option_map (λ more. w ∷ more) o)) ≡ None
           → passes (walk_fault s [] (at rows pending p false) (w ∷ ws)) ≡ false
       go true b o is_d is_b rest e = absurd (some≢none ws e)
       go false true o is_d is_b rest e =
-          ap (λ k. passes k) (turn_then w (at rows pending p false) ws ∙ ap (λ t. or_else t (walk_fault s [] (walked c [] (at rows pending p false) w) ws)) (flag_fails w rows pending p u.0 is_d is_b))
+          ap (λ k. passes k) (turn_then w (at rows pending p false) ws
+          ∙ ap (λ t. or_else t (walk_fault s [] (walked c [] (at rows pending p false) w) ws))
+          (flag_fails w rows pending p u.0 is_d is_b))
       go false false None is_d is_b rest e = step_fails w rows pending p ws is_d is_b (rest refl)
       go false false (Some vs) is_d is_b rest e = absurd (some≢none _ e)
 
@@ -262,14 +307,16 @@ module _ (s : Shape) (slots : has_slots s ≡ true) where
   level_same words us e =
       let here = walk_same words us e [] None 1 in
       let there = dashes_first [] None 1 us in
-      let fault : walk_fault s [] (walk_from nothing_held) words ≡ walk_fault s [] (walk_from nothing_held) (dashes ∷ us) = here.0 ∙ sym there.0 in
+      let fault : walk_fault s [] (walk_from nothing_held) words ≡ walk_fault s [] (walk_from nothing_held) (dashes ∷ us) =
+      here.0 ∙ sym there.0 in
       let ends : (walk c [] nothing_held words).held ≡ (walk c [] nothing_held (dashes ∷ us)).held = here.1 ∙ sym there.1 in (
         ap₂ (λ f h. or_else f (or_else [] (or_else (settle_fault c s.args_override_self h)
             (or_else (defaults_fault (settled c h).rows c) (check_fault s (finished c h) false))))) fault ends,
         ap (finished c) ends,
       )
 
-  pub level_fails : (words : List Text) → AreTexts words → taken words ≡ None → passes (level_fault s [] nothing_held words false []) ≡ false
+  pub level_fails : (words : List Text) → AreTexts words → taken words ≡ None
+      → passes (level_fault s [] nothing_held words false []) ≡ false
   level_fails words u e = first_fails _ _ (walk_fails words u e [] None 1)
 
   -- a first word that no argument takes
@@ -279,5 +326,7 @@ module _ (s : Shape) (slots : has_slots s ≡ true) where
     where
       go : (b : Bool) → is_dashed w ≡ b → passes (turn_fault s [] (walk_from nothing_held) w) ≡ false
       go true e = ap (λ k. passes k) (flag_fails w [] None 1 u d e)
-      go false e = ap (λ k. passes k) (turn_plain w [] None 1 d e) ∙ ap (λ o. passes (option_map_or (λ a. positional_fault c s.args_override_self a (held [] None)) o (stray_fault s))) none
+      go false e = ap (λ k. passes k) (turn_plain w [] None 1 d e)
+          ∙ ap (λ o. passes (option_map_or (λ a. positional_fault c s.args_override_self a (held [] None)) o (stray_fault s)))
+          none
           ∙ not-true _ stray

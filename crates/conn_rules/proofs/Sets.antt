@@ -3,10 +3,10 @@ use Rattle.std.proofs.Common.{◌≡◌, ◌∙◌, ◌<◌, ◌^◌, ◌*◌, �
 use Rattle.std.specs.Int.{bit_at}
 use Rattle.std.proofs.lemmas.Nat.{one_shl, or_lt, pow_below}
 use Rattle.std.proofs.lemmas.Nat.Bits.{bit_at-zero}
-use Rattle.cap_model.proofs.AuthorityBits.{bit_at-added, number_of-lt}
-use Rattle.cap_model.specs.Authorities.{number_of}
-use Rattle.cap_model.specs.AuthoritySets.{IsSetOf, set_has}
-use Rattle.cap_model.specs.declared.authority.Authority.{Authority}
+use Rattle.authorities.proofs.AuthorityBits.{bit_at-added, number_of-lt}
+use Rattle.authorities.specs.Authorities.{number_of}
+use Rattle.authorities.specs.AuthoritySets.{IsSetOf, set_has}
+use Rattle.authorities.specs.declared.authority.Authority.{Authority}
 use Rattle.conn_rules.specs.Row.{among, bits_of}
 
 or_comm : (a b : Bool) → (a || b) ≡ (b || a)
@@ -22,7 +22,8 @@ set_has-bits_of (b ∷ rest) a =
     let one : 1 * 2 ^ number_of b % 65536 ≡ 2 ^ number_of b = one_shl (number_of b) 16 (omega arith) in
     ap (λ n. bit_at (bit_or (bits_of rest) n) (number_of a) == 1) (sym one)
     ∙ (bit_at-added (bits_of rest) (number_of b) (number_of a) (omega arith)
-    ∙ (or_comm (set_has (bits_of rest) a) (number_of a == number_of b) ∙ ap (λ r. number_of a == number_of b || r) (set_has-bits_of rest a)))
+    ∙ (or_comm (set_has (bits_of rest) a) (number_of a == number_of b) ∙ ap (λ r. number_of a == number_of b || r)
+    (set_has-bits_of rest a)))
 
 bits_of-lt : (list : List Authority) → bits_of list < 2 ^ 12
 bits_of-lt [] = omega arith

@@ -2,9 +2,9 @@
 use Rattle.std.specs.Prelude.{Bool, ◌&&◌, ◌==◌, not, cond, Option, Some, None}
 use Rattle.adl_meaning.specs.Prelude.{From}
 use Rattle.adl_meaning.specs.declared.connector.Connector.TheVariants.{Interrupt}
-use Rattle.cap_model.specs.Authorities.{number_of}
-use Rattle.cap_model.specs.declared.authority.Authority.{Authority}
-use Rattle.cap_model.specs.declared.authority.Authority.TheVariants.{Reset}
+use Rattle.authorities.specs.Authorities.{number_of}
+use Rattle.authorities.specs.declared.authority.Authority.{Authority}
+use Rattle.authorities.specs.declared.authority.Authority.TheVariants.{Reset}
 use Rattle.cap_model.specs.Confers.{kind_confers, option_confers}
 use Rattle.cap_model.specs.Lessened.{both_rights}
 use Rattle.cap_model.specs.declared.kind.Kind.{Kind}

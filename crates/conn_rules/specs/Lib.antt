@@ -1,4 +1,4 @@
 pub mod Confer
 pub mod Ends
 pub mod Row
-pub use Rattle.cap_model.specs.AuthoritySets
+pub use Rattle.authorities.specs.AuthoritySets

@@ -23,9 +23,9 @@ use Rattle.adl_meaning.specs.Prelude.{From, Role, To, filter, list_any}
 use Rattle.adl_meaning.specs.declared.connector.Connector.{Connector}
 use Rattle.adl_meaning.specs.declared.connector.Connector.TheVariants.{Direct, Interrupt, Mmio, Notification, Rpc, SharedMemory}
 use Rattle.std.specs.Int.Bits.{bit_or}
-use Rattle.cap_model.specs.Authorities.{number_of}
-use Rattle.cap_model.specs.declared.authority.Authority.{Authority}
-use Rattle.cap_model.specs.declared.authority.Authority.TheVariants.{Receive, SyncSend, AsyncSend, Reset, Read, Write, Call, Handle}
+use Rattle.authorities.specs.Authorities.{number_of}
+use Rattle.authorities.specs.declared.authority.Authority.{Authority}
+use Rattle.authorities.specs.declared.authority.Authority.TheVariants.{Receive, SyncSend, AsyncSend, Reset, Read, Write, Call, Handle}
 use Rattle.cap_model.specs.declared.rights.Rights.{Rights}
 use Rattle.conn_rules.specs.declared.rule.ObjectKind.{ObjectKind}
 use Rattle.conn_rules.specs.declared.rule.ObjectKind.TheVariants.{NoObject, OfEndpoint, OfNotification, OfFrames, OfDevice, OfIrq}

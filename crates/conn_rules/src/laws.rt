@@ -1,7 +1,7 @@
 //! Laws of the table. These functions do nothing: what they ensure is the law.
 
-ghost use Rattle.cap_model.specs.AuthoritySets.{IsSetOf};
-ghost use Rattle.cap_model.specs.declared.authority.Authority.{Authority};
+ghost use Rattle.authorities.specs.AuthoritySets.{IsSetOf};
+ghost use Rattle.authorities.specs.declared.authority.Authority.{Authority};
 ghost use Rattle.conn_rules.specs.Confer.{row_confers};
 ghost use Rattle.conn_rules.specs.Row.{among, bits_of, table};
 ghost use Rattle.adl_meaning.specs.Prelude.{All};

@@ -37,7 +37,7 @@ use Rattle.cspace_layout.specs.Lookups.{end_of}
 use Rattle.system_spec.specs.MapText.{Named, connection_path, leaf_path, member_name}
 use Rattle.system_spec.specs.Names.{name_of, root_series}
 use Rattle.system_spec.specs.declared.map_line.MapLine.{MapLine}
-use Rattle.system_spec.specs.declared.map_line.MapLine.TheVariants.{DomainLine, ThreadLine, SlotLine, OwnLine, WindowLine}
+use Rattle.system_spec.specs.declared.map_line.MapLine.TheVariants.{ThreadLine, SlotLine, OwnLine, WindowLine}
 use Rattle.system_spec.specs.declared.series.Series.TheVariants as series
 use Rattle.domain_table.specs.Pages.{rows_of_space}
 use Rattle.domain_table.specs.Rows.{Row, row_line}
@@ -124,9 +124,7 @@ slot_line n d (SlotLine k e slot object) =
     if has_end n.flat d k e then slot_row n.spec d slot object (end_text n k e) ∷ [] else []
 slot_line n d (OwnLine leaf m slot object) =
     if has_leaf n.flat d leaf then slot_row n.spec d slot object (lock_text n leaf m) ∷ [] else []
-slot_line n d (DomainLine x) = []
-slot_line n d (ThreadLine tcb leaf end) = []
-slot_line n d (WindowLine k e vaddr bytes) = []
+slot_line n d _ = []
 
 -- ---- threads
 
@@ -146,10 +144,7 @@ thread_row n tcb text = registers_row text (name_at n.spec tcb) (object_at n.spe
 
 abbrev pub thread_line : Named → ℕ → MapLine → List Row
 thread_line n d (ThreadLine tcb leaf end) = if has_leaf n.flat d leaf then thread_row n tcb (thread_text n leaf end) else []
-thread_line n d (DomainLine x) = []
-thread_line n d (SlotLine k e slot object) = []
-thread_line n d (OwnLine leaf m slot object) = []
-thread_line n d (WindowLine k e vaddr bytes) = []
+thread_line n d _ = []
 
 -- ---- windows
 
@@ -157,10 +152,7 @@ thread_line n d (WindowLine k e vaddr bytes) = []
 abbrev pub window_line : Named → ℕ → MapLine → List Row
 window_line n d (WindowLine k e vaddr bytes) =
     if has_end n.flat d k e then (end_text n k e ∷ hex_text vaddr ∷ decimal bytes ∷ []) ∷ [] else []
-window_line n d (DomainLine x) = []
-window_line n d (ThreadLine tcb leaf end) = []
-window_line n d (SlotLine k e slot object) = []
-window_line n d (OwnLine leaf m slot object) = []
+window_line n d _ = []
 
 -- ---- pages
 

@@ -1,9 +1,6 @@
 -- A word is at most one authority's.
-use Rattle.std.proofs.Common.{◌≡◌, ℕ, List, Option, Some, Err, subst}
-use Rattle.arch_policy.specs.Tables.{Tables}
-use Rattle.cap_model.specs.Authorities.{authority_of}
-use Rattle.cap_model.specs.declared.authority.Authority.{Authority}
-use Rattle.explain.specs.Explained.{Explains}
+use Rattle.explain.proofs.Common.{Authority, Err, Explains, List, Option, Some, Tables, subst, ℕ, ◌≡◌}
+use Rattle.authorities.specs.Authorities.{authority_of}
 use Rattle.explain.specs.declared.reason.ExplainError.{ExplainError}
 use Rattle.explain.specs.declared.reason.ExplainError.TheVariants as error
 

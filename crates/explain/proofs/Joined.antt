@@ -1,6 +1,5 @@
 -- Texts in parts.
-use Rattle.std.proofs.Common.{◌≡◌, ◌∙◌, ℕ, List, [], ◌++◌, map, sym}
-use Rattle.std.specs.List.{flat_map}
+use Rattle.explain.proofs.Common.{List, [], flat_map, map, sym, ℕ, ◌++◌, ◌∙◌, ◌≡◌}
 use Rattle.cam_base.specs.Texts.{together}
 use Rattle.cam_base.proofs.Joined.{together_map}
 

@@ -1,3 +1,4 @@
+pub mod Common
 pub mod Searching
 pub mod Stages
 pub mod Asking

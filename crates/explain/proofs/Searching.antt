@@ -1,19 +1,10 @@
 -- The first that passes a test, found by a walk.
-use Rattle.std.proofs.Common.{◌≡◌, ◌<◌, ◌≤◌, ◌+◌, ℕ, Bool, true, false, List, length, Option, Some, None, refl, sym, ◌∙◌, ap, subst, inl, inr, arith, true≢false}
-use Rattle.std.specs.List.{slice_get}
-use Rattle.std.proofs.lemmas.Bool.{cases_lt}
+use Rattle.explain.proofs.Common.{Bool, Edge, EndAt, FlatConnection, Found, IsFirstAt, IsFirstEnd, IsFirstOfLeaf, IsLeastEnd, IsLeastLock, IsSought, List, LockAt, None, Option, Some, Tables, ap, arith, cases_lt, domain_label, false, fits, inl, inr}
+use Rattle.explain.proofs.Common.{length, lock_of_member, members_at, opens, refl, slice_get, subst, sym, true, true≢false, ℕ, ◌+◌, ◌<◌, ◌∙◌, ◌≡◌, ◌≤◌}
 use Rattle.std.proofs.lemmas.Option.{slice_get_within}
 use Rattle.adl_ast.specs.declared.component.Member.TheVariants as members
-use Rattle.adl_meaning.specs.declared.flat.FlatConnection.{FlatConnection}
 use Rattle.adl_meaning.specs.declared.flat.Leaf.{Leaf}
-use Rattle.arch_policy.specs.Ends.{EndAt, LockAt}
-use Rattle.arch_policy.specs.Tables.{Tables, domain_label}
-use Rattle.arch_policy.proofs.Listed.{lock_of_member}
-use Rattle.cap_model.specs.declared.edge.Edge.{Edge}
-use Rattle.cspace_layout.specs.Members.{members_at}
-use Rattle.explain.specs.declared.search.Found.{Found}
 use Rattle.explain.specs.declared.search.Sought.{Sought}
-use Rattle.explain.specs.Sought.{IsFirstAt, IsFirstEnd, IsFirstOfLeaf, IsLeastEnd, IsLeastLock, IsSought, fits, opens}
 
 some_one : {X : Type 0} (o : Option X) (x y : X) → o ≡ Some x → o ≡ Some y → y ≡ x
 some_one o x y p q = cc

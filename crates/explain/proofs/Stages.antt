@@ -1,34 +1,22 @@
 -- The first end, or lock, of each kind tells the first reason of its kind.
-use Rattle.std.proofs.Common.{◌≡◌, ◌<◌, ◌==◌, ◌&&◌, ℕ, true, Option, Some, None, refl, sym, ◌∙◌, ap, subst, arith, true≢false}
-use Rattle.std.specs.List.{slice_get}
-use Rattle.std.proofs.lemmas.Bool.{and_from, and_parts, eq-eqb, eqb-true}
+use Rattle.explain.proofs.Common.{AtMost, Authority, BindReason, CallReason, Caller, ComesFirst, DirectReason, Edge, EndAt, FlatConnection, FlatEnd, Found, Given, Handler, Handles, IsEnd, IsFirstEnd, IsFirstLock, IsFirstOf, IsFirstReason, IsLeastEnd}
+use Rattle.explain.proofs.Common.{IsLeastLock, IsSought, LockAt, LockHandler, LockReason, None, Option, Reason, Server, Signaller, Some, Tables, and_from, and_parts, ap, arith, by_bind, by_call, by_direct, by_lock, connection_label, domain_label}
+use Rattle.explain.proofs.Common.{eq-eqb, eqb-true, from_any, from_end, from_end_at, from_signal, has_side, in_end, in_signal, is_async, is_reply, is_same_connector, is_same_role, is_side, leaf_label, numbers, refl, same_place, slice_get, stage}
+use Rattle.explain.proofs.Common.{subst, sym, tell, told_of, true, true≢false, ℕ, ◌&&◌, ◌<◌, ◌==◌, ◌∙◌, ◌≡◌}
 use Rattle.adl_ast.specs.declared.composition.Role.{Role}
 use Rattle.adl_ast.specs.declared.composition.Role.TheVariants.{From, To}
 use Rattle.adl_meaning.specs.declared.connector.Connector.TheVariants.{Rpc, Notification, Interrupt}
-use Rattle.adl_meaning.specs.declared.flat.FlatConnection.{FlatConnection}
-use Rattle.adl_meaning.specs.declared.flat.FlatEnd.{FlatEnd}
-use Rattle.arch_policy.specs.Ends.{EndAt, IsEnd, LockAt}
-use Rattle.arch_policy.specs.Reasons.{BindReason, CallReason, DirectReason, Handles, LockReason, Reason, by_bind, by_call, by_direct, by_lock}
-use Rattle.arch_policy.specs.Tables.{Tables, connection_label, domain_label, leaf_label}
 use Rattle.arch_policy.specs.Triples.{end_edges, signal_edges}
-use Rattle.arch_policy.proofs.Listed.{from_end, from_end_at, from_signal, in_end, in_signal, is_same_connector, is_same_role, same_place}
 use Rattle.arch_policy.proofs.Lists.{has_in, in_any, in_has}
 use Rattle.arch_policy.proofs.Same.{is_connector}
 use Rattle.cap_model.specs.Edges.{edge}
 use Rattle.cap_model.specs.Tables.{has}
-use Rattle.cap_model.specs.declared.authority.Authority.{Authority}
-use Rattle.cap_model.specs.declared.authority.Authority.TheVariants.{AsyncSend, Reply}
-use Rattle.cap_model.specs.declared.edge.Edge.{Edge}
+use Rattle.authorities.specs.declared.authority.Authority.TheVariants.{AsyncSend, Reply}
 use Rattle.conn_rules.specs.Row.{same_connector, same_role}
 use Rattle.cam_base.specs.Gather.{IsIn}
 use Rattle.cam_base.proofs.Gathered.{in_place, place_of}
 use Rattle.explain.specs.declared.reason.Reason.{Reason as Told}
 use Rattle.explain.specs.declared.reason.Rule.TheVariants.{Direct, ByCall, ByBind}
-use Rattle.explain.specs.declared.search.Found.{Found}
-use Rattle.explain.specs.declared.search.Sought.TheVariants.{Given, Caller, Server, Handler, Signaller, LockHandler}
-use Rattle.explain.specs.Explained.{AtMost, ComesFirst, IsFirstOf, IsFirstReason, numbers, stage, tell, told_of}
-use Rattle.explain.specs.Sought.{IsFirstEnd, IsFirstLock, IsLeastEnd, IsLeastLock, IsSought, has_side, is_async, is_reply, is_side}
-use Rattle.cam_base.proofs.NumberedLists.{from_any}
 use Rattle.conn_rules.proofs.Roles.{is_role}
 
 reply_is : (a : Authority) → is_reply a ≡ true → a ≡ Reply

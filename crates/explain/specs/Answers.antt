@@ -3,8 +3,8 @@ use Rattle.std.specs.Prelude.{◌≡◌, ℕ, Bool, true, false, List, [], ◌�
 use Rattle.adl_ast.specs.declared.source.Source.{Source}
 use Rattle.adl_meaning.specs.declared.flat.Flat.{Flat}
 use Rattle.arch_policy.specs.Tables.{Tables}
-use Rattle.cap_model.specs.Authorities.{authority_of}
-use Rattle.cap_model.specs.declared.authority.Authority.{Authority}
+use Rattle.authorities.specs.Authorities.{authority_of}
+use Rattle.authorities.specs.declared.authority.Authority.{Authority}
 use Rattle.cam_base.specs.Texts.{together}
 use Rattle.explain.specs.Explained.{Explains}
 use Rattle.explain.specs.declared.reason.ExplainError.TheVariants as error

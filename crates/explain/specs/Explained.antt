@@ -9,7 +9,7 @@ use Rattle.arch_policy.specs.Ends.{EndAt}
 use Rattle.arch_policy.specs.Labels.{label_texts}
 use Rattle.arch_policy.specs.Reasons.{IsReasoned, Reason, by_bind, by_call, by_direct, by_lock}
 use Rattle.arch_policy.specs.Tables.{Tables}
-use Rattle.cap_model.specs.declared.authority.Authority.{Authority}
+use Rattle.authorities.specs.declared.authority.Authority.{Authority}
 use Rattle.cap_model.specs.declared.edge.Edge.{Edge}
 use Rattle.explain.specs.declared.reason.ExplainError.{ExplainError}
 use Rattle.explain.specs.declared.reason.ExplainError.TheVariants as error

@@ -46,12 +46,7 @@ leaf_path flat leaf = option_map_or (λ x. joined x.path) (slice_get flat.leaves
 abbrev pub id_of : Member → Option Id
 id_of (members.Interface i) = Some i.id
 id_of (members.Lock l) = Some l.id
-id_of (members.Control p) = None
-id_of (members.Hardware p) = None
-id_of (members.Include i) = None
-id_of (members.Attribute a) = None
-id_of (members.Composition k) = None
-id_of (members.Configuration f) = None
+id_of _ = None
 
 -- the word of a leaf's member, by the numbers of both
 abbrev pub word_of : Source → Flat → ℕ → ℕ → Option Id

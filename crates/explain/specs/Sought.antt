@@ -13,8 +13,8 @@ use Rattle.arch_policy.specs.Tables.{Tables, connection_label, domain_label, lea
 use Rattle.arch_policy.specs.Triples.{end_edges, signal_edges}
 use Rattle.cap_model.specs.Edges.{edge}
 use Rattle.cap_model.specs.Tables.{has}
-use Rattle.cap_model.specs.declared.authority.Authority.{Authority}
-use Rattle.cap_model.specs.declared.authority.Authority.TheVariants.{AsyncSend, Reply}
+use Rattle.authorities.specs.declared.authority.Authority.{Authority}
+use Rattle.authorities.specs.declared.authority.Authority.TheVariants.{AsyncSend, Reply}
 use Rattle.cap_model.specs.declared.edge.Edge.{Edge}
 use Rattle.conn_rules.specs.Row.{same_connector, same_role}
 use Rattle.cspace_layout.specs.Members.{is_lock, members_at}

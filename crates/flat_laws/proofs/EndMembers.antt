@@ -1,8 +1,17 @@
 -- The interface that an end joins is the one that stands at its place among the members of the leaf's component.
-use Rattle.std.proofs.Common.{◌≡◌, zero, suc, Bool, true, false, cond, List, [], ◌∷◌, Option, Some, option_map, ap}
+use Rattle.std.proofs.Common.{◌≡◌, zero, suc, Bool, true, false, cond, List, [], ◌∷◌, Option, Some, option_map, refl, sym, ◌∙◌, ap}
 use Rattle.adl_meaning.specs.Prelude.{Component, Id, Interface, Member, Name, bytes_eq, declared_by, find, flat_map, interface_of, is_interface, option_and_then, place_by, slice_get}
 use Rattle.adl_ast.specs.declared.component.Member.TheVariants as members
 use Rattle.adl_meaning.specs.Members.{Declared, an_interface, an_attribute, a_lock, as_interface}
+
+-- what stands at the place of the first that passes the test passes it
+pub place_by-passes : {X : Type 0} (p : X → Bool) (xs : List X) (x : X) → slice_get xs (place_by p xs) ≡ Some x → p x ≡ true
+place_by-passes p [] x e = absurd cc
+place_by-passes {X} p (y ∷ ys) x e = go (p y) refl (place_by-passes p ys x) e where
+  go : (b : Bool) → p y ≡ b → (slice_get ys (place_by p ys) ≡ Some x → p x ≡ true)
+      → slice_get (y ∷ ys) (cond b zero (suc (place_by p ys))) ≡ Some x → p x ≡ true
+  go true h rest e = let same : y ≡ x = cc in ap p (sym same) ∙ h
+  go false h rest e = rest e
 
 -- what the first of the name is as an interface
 abbrev first_declared : List (Id × Declared) → Name → Option Interface

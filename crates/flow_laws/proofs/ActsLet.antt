@@ -1,20 +1,10 @@
 -- An act changes only what the policy lets the label of its actor change.
-use Rattle.std.proofs.Common.{ℕ, List, [], ◌∷◌, refl, inl, inr}
-use Rattle.cap_model.specs.ObjectLabels.{label_of}
-use Rattle.cap_model.specs.declared.authority.Authority.TheVariants.{Receive, SyncSend, AsyncSend, Write}
-use Rattle.cap_model.specs.declared.edge.Edge.{Edge}
-use Rattle.cap_model.specs.Auth.{of_irq}
+use Rattle.flow_laws.proofs.Common.{Act, ActTo, AsyncSend, Attempt, AttemptTo, Edge, IsLet, List, MayTell, Reached, Receive, Sight, Spec, Stays, SyncSend, World, Write, [], actor, allowed, answer, await, content, denied, device, done, fire, inl, inr}
+use Rattle.flow_laws.proofs.Common.{label_of, load, maker, message, more, of_irq, put, refl, refused, send, signal, signals, step, store, tell, tell_saved, thread_of, ℕ, ◌∷◌}
 use Rattle.cap_model.specs.declared.kind.Kind.TheVariants as kinds
-use Rattle.cap_model.specs.declared.spec.Spec.{Spec}
-use Rattle.cert_check.specs.Valid.{Stays}
-use Rattle.flow_model.proofs.Reached.{Reached}
-use Rattle.flow_model.specs.Act.{Act, Attempt, actor, maker, thread_of, step, store, load, send, tell, tell_saved, signal, await, allowed, refused, fire, device}
-use Rattle.flow_model.specs.ActTable.{ActTo, AttemptTo}
-use Rattle.flow_model.specs.World.{World, Sight, done, denied, content, message, answer, signals, put, more}
 use Rattle.flow_laws.proofs.Commanding.{itself, its_own, by_own, lets, peer_meets, owes_lets, saved_lets, access_lets}
 use Rattle.flow_laws.proofs.StepsLet.{step_let}
 use Rattle.flow_laws.proofs.Writes.{unchanged, write_content, write_pending, write_seen}
-use Rattle.flow_laws.specs.Touched.{IsLet, MayTell}
 
 module _ (spec : Spec) (labels : List ℕ) (policy : List Edge) (stays : Stays spec labels policy) (w new : World) where
   abbrev here : ℕ → ℕ

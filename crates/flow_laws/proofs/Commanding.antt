@@ -1,27 +1,9 @@
 -- What edges of a reached state let a label do.
-use Rattle.std.proofs.Common.{◌≡◌, ◌⊎◌, ℕ, true, List, [], ◌∷◌, ◌++◌, Some, refl, sym, ap, subst, inl, inr}
-use Rattle.std.proofs.lemmas.Bool.{cases_eq}
-use Rattle.cap_model.specs.ObjectLabels.{label_of}
+use Rattle.flow_laws.proofs.Common.{Access, Auth, Authority, Cap, Commands, Control, Edge, HasSlot, Kind, Leads, LeadsDown, Lets, List, Meets, Owes, Own, Peer, Pending, Reached, Receive, Reply, SavedReply, Some, Spec, State, Stays, [], added_edge}
+use Rattle.flow_laws.proofs.Common.{ap, buffer_edge, cases_eq, contained, content_in, inl, inr, is_at, is_space_root, kind_confers, label_of, leads_slot, of_reply, of_root, of_saved, of_space, of_table, own_edge, own_space_edge, refl, subst, sym}
+use Rattle.flow_laws.proofs.Common.{table_controls, table_edge, thread_at, true, ℕ, ◌++◌, ◌∷◌, ◌≡◌, ◌⊎◌}
 use Rattle.cap_model.specs.Tables.{Has}
-use Rattle.cap_model.specs.declared.authority.Authority.{Authority}
-use Rattle.cap_model.specs.declared.authority.Authority.TheVariants.{Receive, Control, Reply}
-use Rattle.cap_model.specs.declared.edge.Edge.{Edge}
-use Rattle.cap_machine.specs.StepTable.{Own, Owes, Peer}
-use Rattle.cap_model.specs.Auth.{Auth, of_table, of_root, of_space, of_reply, of_saved}
-use Rattle.cap_model.specs.Confers.{kind_confers}
-use Rattle.cap_model.specs.Kinds.{is_at, is_space_root}
-use Rattle.cap_model.specs.State.{State, thread_at, content_in}
-use Rattle.cap_model.specs.declared.cap.Cap.{Cap}
-use Rattle.cap_model.specs.declared.kind.Kind.{Kind}
 use Rattle.cap_model.specs.declared.kind.Kind.TheVariants as kinds
-use Rattle.cap_model.specs.declared.spec.Spec.{Spec}
-use Rattle.cap_model.specs.declared.state.Content.TheVariants.{SavedReply}
-use Rattle.cap_model.specs.declared.state.Pending.{Pending}
-use Rattle.cert_check.specs.Valid.{Stays}
-use Rattle.flow_model.proofs.Reached.{Reached}
-use Rattle.flow_model.proofs.StateEdges.{HasSlot, contained, table_controls, leads_slot, own_edge, own_space_edge, table_edge, added_edge, buffer_edge}
-use Rattle.flow_model.specs.Access.{Access, LeadsDown}
-use Rattle.flow_laws.specs.Lets.{Commands, Leads, Lets, Meets}
 
 pub itself : (policy : List Edge) (l m : ℕ) → l ≡ m → Commands policy l m
 itself policy l m same = ([], same)

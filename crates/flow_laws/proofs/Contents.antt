@@ -1,9 +1,5 @@
 -- Two worlds that are alike at the objects of a set, and what writes leave so.
-use Rattle.std.proofs.Common.{◌≡◌, ℕ, ◌==◌, Bool, true, false, List, cond, refl, sym, ◌∙◌, ap, subst, arith}
-use Rattle.cap_model.specs.State.{State}
-use Rattle.cap_model.specs.declared.spec.Spec.{Spec}
-use Rattle.flow_model.specs.Agree.{Agree, in_set}
-use Rattle.flow_model.specs.World.{World, put, more}
+use Rattle.flow_laws.proofs.Common.{Agree, Bool, List, Spec, State, World, ap, cond, eqb-true, false, in_set, more, put, refl, subst, sym, true, ℕ, ◌==◌, ◌∙◌, ◌≡◌}
 use Rattle.flow_laws.proofs.Alike.{Alike}
 use Rattle.flow_laws.proofs.Replying.{Joined}
 
@@ -86,15 +82,12 @@ agree_meet labels inside w v x a b = record {
   seen = λ t here. a.seen t here ∙ sym (b.seen t here);
 }
 
-is_place : (k place : ℕ) → (k == place) ≡ true → k ≡ place
-is_place k place h = grind arith
-
 -- a write at an object that is not of the set
 pub put_other : {A : Type 0} (side : ℕ → Bool) (f : ℕ → A) (place : ℕ) (x : A) (k : ℕ) → side place ≡ false → side k ≡ true
     → put f place x k ≡ f k
 put_other {A} side f place x k out here = go (k == place) refl where
   go : (b : Bool) → (k == place) ≡ b → put f place x k ≡ f k
-  go true h = absurd (let w : side place ≡ true = subst (λ (n : ℕ). side n ≡ true) (is_place k place h) here in cc)
+  go true h = absurd (let w : side place ≡ true = subst (λ (n : ℕ). side n ≡ true) (eqb-true k place h) here in cc)
   go false h = rw h refl
 
 -- the same write in both
@@ -104,5 +97,5 @@ put_both f g place x k e = ap (λ z. cond (k == place) x z) e
 pub more_both : {A : Type 0} (f g : ℕ → List A) (place : ℕ) (x : A) (k : ℕ) → f k ≡ g k → more f place x k ≡ more g place x k
 more_both {A} f g place x k e = go (k == place) refl where
   go : (b : Bool) → (k == place) ≡ b → more f place x k ≡ more g place x k
-  go true h = (let here : f place ≡ g place = subst (λ (n : ℕ). f n ≡ g n) (is_place k place h) e in rw (h, here) refl)
+  go true h = (let here : f place ≡ g place = subst (λ (n : ℕ). f n ≡ g n) (eqb-true k place h) e in rw (h, here) refl)
   go false h = rw h e

@@ -1,19 +1,8 @@
 -- The boot edges of a spec that gives less are boot edges of the other one.
-use Rattle.std.proofs.Common.{◌≡◌, ◌∙◌, ℕ, true, List, Option, ap, subst, arith}
-use Rattle.cap_model.specs.ObjectLabels.{label_of}
-use Rattle.cap_model.specs.declared.authority.Authority.{Authority}
-use Rattle.cap_model.specs.declared.edge.Edge.{Edge}
-use Rattle.cap_model.proofs.BootPlaces.{none_saved, nothing_pending}
+use Rattle.flow_laws.proofs.Common.{Authority, Cap, Edge, Held, Kind, List, Option, Spec, Structural, Valid, ap, arith, boot, confers, kind_at, label_of, none_saved, nothing_pending, of_buffer, of_irq, of_mapped, of_reply, of_root, of_saved}
+use Rattle.flow_laws.proofs.Common.{of_space, of_table, option_confers, subst, true, ℕ, ◌∙◌, ◌≡◌}
 use Rattle.cap_model.proofs.Conferring.{lessened_option}
-use Rattle.cap_model.specs.Auth.{Held, Structural, of_buffer, of_table, of_root, of_space, of_reply, of_saved, of_mapped, of_irq}
-use Rattle.cap_model.specs.Confers.{confers, option_confers}
-use Rattle.cap_model.specs.Kinds.{kind_at}
-use Rattle.cap_model.specs.State.{boot}
-use Rattle.cap_model.specs.declared.cap.Cap.{Cap}
-use Rattle.cap_model.specs.declared.kind.Kind.{Kind}
 use Rattle.cap_model.specs.declared.rights.Rights.{Rights}
-use Rattle.cap_model.specs.declared.spec.Spec.{Spec}
-use Rattle.cert_check.specs.Valid.{Valid}
 use Rattle.flow_laws.specs.Less.{IsLess, IsPart}
 
 module _ (less spec : Spec) (labels : List ℕ) (is : IsLess less spec) where

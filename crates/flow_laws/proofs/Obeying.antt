@@ -1,21 +1,11 @@
 -- Runs in which the threads of the set run programs: with the same turns they do the same.
-use Rattle.std.proofs.Common.{◌≡◌, ◌⊎◌, ℕ, Bool, true, false, List, [], ◌∷◌, map, Option, Some, None, refl, sym, ◌∙◌, ap, subst, inl, inr}
-use Rattle.cap_model.specs.declared.edge.Edge.{Edge}
-use Rattle.cap_model.specs.declared.spec.Spec.{Spec}
-use Rattle.cert_check.specs.Valid.{Stays}
-use Rattle.flow_model.proofs.OneWorld.{one_act}
-use Rattle.flow_model.specs.Act.{Act, Attempt, actor, allowed, refused, fire, device}
-use Rattle.flow_model.specs.ActRuns.{IsReached, acts_in}
-use Rattle.flow_model.specs.ActTable.{ActTo}
-use Rattle.flow_model.specs.Agree.{Agree, in_set}
-use Rattle.flow_model.specs.Flow.{IsClosed}
+use Rattle.flow_laws.proofs.Common.{Act, ActTo, Agree, Attempt, Bool, Edge, IsClosed, IsReached, List, None, Option, Reached, Sight, Some, Spec, Stays, World, [], act_reached, actor, acts_in, allowed, ap, device, false, fire, in_set, inl, inr, map}
+use Rattle.flow_laws.proofs.Common.{one_act, refl, refused, subst, sym, true, world_reached, ℕ, ◌∙◌, ◌∷◌, ◌≡◌, ◌⊎◌}
 use Rattle.flow_model.specs.Programs.{Programs, input_of, turn_of, says, Obeys, ProgramRun}
-use Rattle.flow_model.specs.World.{World, Sight}
 use Rattle.flow_laws.proofs.Contents.{Near, agree_of, agree_self, agree_meet}
 use Rattle.flow_laws.proofs.OtherActs.{other_act}
 use Rattle.flow_laws.proofs.OwnActs.{own_act}
 use Rattle.flow_laws.proofs.Separated.{near_reached}
-use Rattle.flow_model.proofs.Reached.{Reached, act_reached, world_reached}
 
 -- each act is as the programs say
 abbrev ObeyRun : Spec → Programs → World → List Act → World → Type 0

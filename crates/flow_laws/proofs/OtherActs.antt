@@ -1,19 +1,8 @@
 -- An act by an object that is not of the set changes no object of the set.
-use Rattle.std.proofs.Common.{◌≡◌, ◌∷◌, ℕ, Bool, false, List, [], refl, sym, ◌∙◌, inr}
-use Rattle.cap_model.specs.declared.authority.Authority.TheVariants.{Receive, SyncSend, AsyncSend}
-use Rattle.cap_model.specs.declared.edge.Edge.{Edge}
-use Rattle.cap_model.specs.Auth.{of_irq}
+use Rattle.flow_laws.proofs.Common.{Act, ActTo, AsyncSend, Attempt, AttemptTo, Bool, Edge, IsClosed, List, Reached, Receive, Sight, Spec, Stays, SyncSend, World, [], actor, allowed, answer, await, denied, device, done, false, fire, in_set, inr, load}
+use Rattle.flow_laws.proofs.Common.{maker, message, more, of_irq, own_edge, put, refl, refused, send, signal, step, store, sym, tell, tell_saved, thread_of, ℕ, ◌∙◌, ◌∷◌, ◌≡◌}
 use Rattle.cap_model.specs.declared.kind.Kind.TheVariants as kinds
-use Rattle.cap_model.specs.declared.spec.Spec.{Spec}
-use Rattle.cert_check.specs.Valid.{Stays}
-use Rattle.flow_model.specs.Act.{Act, Attempt, actor, maker, thread_of, step, store, load, send, tell, tell_saved, signal, await, allowed, refused, fire, device}
-use Rattle.flow_model.specs.ActTable.{ActTo, AttemptTo}
-use Rattle.flow_model.specs.Agree.{in_set}
-use Rattle.flow_model.specs.Flow.{IsClosed}
-use Rattle.flow_model.specs.World.{World, Sight, done, denied, message, answer, put, more}
 use Rattle.flow_laws.proofs.Contents.{Near, put_other}
-use Rattle.flow_model.proofs.Reached.{Reached}
-use Rattle.flow_model.proofs.StateEdges.{own_edge}
 use Rattle.flow_laws.proofs.Replying.{side_owes, side_saved}
 use Rattle.flow_laws.proofs.Sides.{from_set, side_root, side_own, side_peer, writes_from}
 use Rattle.flow_laws.proofs.OtherSteps.{not_from, other_step}

@@ -1,25 +1,9 @@
 -- A step of a thread that is not of the set changes no object of the set.
-use Rattle.std.proofs.Common.{◌≡◌, ℕ, Bool, true, false, List, Option, Some, None, refl, sym, ◌∙◌}
-use Rattle.cap_model.specs.declared.authority.Authority.TheVariants.{Control, Handle}
-use Rattle.cap_model.specs.declared.edge.Edge.{Edge}
-use Rattle.cap_machine.specs.Effects.{grown, without, grown_at, waiting, with_pending, added, dropped, replied, released}
-use Rattle.cap_machine.specs.StepTable.{StepTo}
-use Rattle.cap_machine.specs.declared.step.Step.{Step}
+use Rattle.flow_laws.proofs.Common.{Bool, Capability, Content, Control, Edge, Handle, IsClosed, List, None, Option, Pending, Reached, SavedReply, Some, Spec, State, Stays, Step, StepTo, added, dropped, false, grown, grown_at, in_set, lessened}
+use Rattle.flow_laws.proofs.Common.{node_at, own_edge, refl, released, replied, sym, thread_at, thread_of, true, waiting, with_pending, without, ℕ, ◌∙◌, ◌≡◌}
 use Rattle.cap_machine.specs.declared.step.Step.TheVariants as steps
-use Rattle.cap_model.specs.Lessened.{lessened}
-use Rattle.cap_model.specs.State.{State, node_at, thread_at}
 use Rattle.cap_model.specs.declared.kind.Kind.TheVariants as kinds
-use Rattle.cap_model.specs.declared.spec.Spec.{Spec}
-use Rattle.cap_model.specs.declared.state.Content.{Content}
-use Rattle.cap_model.specs.declared.state.Content.TheVariants.{Capability, SavedReply}
-use Rattle.cap_model.specs.declared.state.Pending.{Pending}
-use Rattle.cert_check.specs.Valid.{Stays}
-use Rattle.flow_model.specs.Act.{thread_of}
-use Rattle.flow_model.specs.Agree.{in_set}
-use Rattle.flow_model.specs.Flow.{IsClosed}
 use Rattle.flow_laws.proofs.Alike.{Alike, others_node, others_thread, others_irq, others_mapped}
-use Rattle.flow_model.proofs.Reached.{Reached}
-use Rattle.flow_model.proofs.StateEdges.{own_edge}
 use Rattle.flow_laws.proofs.Replying.{side_owes, side_saved}
 use Rattle.flow_laws.proofs.Sides.{from_set, side_root, side_sender, side_own, side_own_space, side_listener, side_peer}
 

@@ -1,21 +1,10 @@
 -- An act by an object of the set looks only at objects of the set, so it can be done in a world that is alike there, and
 -- leads to worlds that are alike there.
-use Rattle.std.proofs.Common.{◌≡◌, ℕ, Bool, true, false, List, [], refl, sym, ◌∙◌, ap, subst, inl, inr}
-use Rattle.cap_model.specs.declared.authority.Authority.TheVariants.{Receive, SyncSend, Read, Write}
-use Rattle.cap_model.specs.declared.authority.Authority.{Authority}
-use Rattle.cap_model.specs.declared.edge.Edge.{Edge}
+use Rattle.flow_laws.proofs.Common.{Access, Act, ActTo, Attempt, AttemptTo, Authority, Bool, Edge, IsClosed, List, Reached, Read, Receive, Sight, Spec, Stays, SyncSend, World, Write, [], actor, allowed, answer, ap, await, content, denied, device}
+use Rattle.flow_laws.proofs.Common.{done, false, fire, in_set, inl, inr, load, maker, message, more, put, refl, refused, send, signal, signals, step, store, subst, sym, tell, tell_saved, thread_of, true, ℕ, ◌∙◌, ◌≡◌}
 use Rattle.cap_model.specs.declared.kind.Kind.TheVariants as kinds
-use Rattle.cap_model.specs.declared.spec.Spec.{Spec}
-use Rattle.cert_check.specs.Valid.{Stays}
-use Rattle.flow_model.specs.Access.{Access}
-use Rattle.flow_model.specs.Act.{Act, Attempt, actor, maker, thread_of, step, store, load, send, tell, tell_saved, signal, await, allowed, refused, fire, device}
-use Rattle.flow_model.specs.ActTable.{ActTo, AttemptTo}
-use Rattle.flow_model.specs.Agree.{in_set}
-use Rattle.flow_model.specs.Flow.{IsClosed}
-use Rattle.flow_model.specs.World.{World, Sight, done, denied, content, message, answer, signals, put, more}
 use Rattle.flow_laws.proofs.Alike.{waits_too, space_too, owes_too, acts_too, content_too, own_too, irq_too, mapped_too}
 use Rattle.flow_laws.proofs.Contents.{Near, near_back, put_both, more_both}
-use Rattle.flow_model.proofs.Reached.{Reached}
 use Rattle.flow_laws.proofs.Sides.{side_root, side_space, side_own, reads_of}
 use Rattle.flow_laws.proofs.OwnSteps.{own_step, peer_too}
 

@@ -1,26 +1,10 @@
 -- A step of a thread of the set looks only at objects of the set, so it can be done in a state that is alike there, and
 -- leads to states that are alike there.
-use Rattle.std.proofs.Common.{◌≡◌, ℕ, Bool, true, false, List, [], ◌∷◌, ◌++◌, Some, None, refl, sym, ◌∙◌, set}
-use Rattle.cap_model.specs.declared.authority.Authority.TheVariants.{Control}
-use Rattle.cap_model.specs.declared.edge.Edge.{Edge}
-use Rattle.cap_machine.specs.Effects.{grown_at, with_pending, with_root, with_space, read_write, added, dropped, called, replied, saved, released}
-use Rattle.cap_machine.specs.StepTable.{Peer, StepTo}
-use Rattle.cap_machine.specs.declared.step.Step.{Step}
+use Rattle.flow_laws.proofs.Common.{Bool, Cap, Capability, Control, Edge, IsClosed, List, Mapped, None, Peer, Reached, SavedReply, Some, Spec, State, Stays, Step, StepTo, [], added, both_rights, called, dropped, false, grown_at, in_set, is_at}
+use Rattle.flow_laws.proofs.Common.{lessened, read_write, refl, released, replied, saved, set, sym, thread_of, true, with_pending, with_root, with_space, ℕ, ◌++◌, ◌∙◌, ◌∷◌, ◌≡◌}
 use Rattle.cap_machine.specs.declared.step.Step.TheVariants as steps
-use Rattle.cap_model.specs.Kinds.{is_at}
-use Rattle.cap_model.specs.Lessened.{lessened, both_rights}
-use Rattle.cap_model.specs.State.{State}
-use Rattle.cap_model.specs.declared.cap.Cap.{Cap}
 use Rattle.cap_model.specs.declared.kind.Kind.TheVariants as kinds
-use Rattle.cap_model.specs.declared.spec.Spec.{Spec}
-use Rattle.cap_model.specs.declared.state.Content.TheVariants.{Capability, SavedReply}
-use Rattle.cap_model.specs.declared.state.Mapped.{Mapped}
-use Rattle.cert_check.specs.Valid.{Stays}
-use Rattle.flow_model.specs.Act.{thread_of}
-use Rattle.flow_model.specs.Agree.{in_set}
-use Rattle.flow_model.specs.Flow.{IsClosed}
 use Rattle.flow_laws.proofs.Alike.{Alike, both_irqs, both_mapped, both_grown, both_without, both_waiting, both_pending, both_root, both_space, root_too, owes_too, acts_too, content_too, own_too}
-use Rattle.flow_model.proofs.Reached.{Reached}
 use Rattle.flow_laws.proofs.Replying.{side_owes, side_saved}
 use Rattle.flow_laws.proofs.Sides.{side_root, side_sender, side_own, side_listener, side_peer}
 

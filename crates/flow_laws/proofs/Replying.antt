@@ -1,31 +1,10 @@
 -- Who may reply lies on the side of the caller: a call comes by an endpoint, whose senders and receivers lie on one side. And
 -- steps keep the lengths of the lists of a state.
-use Rattle.std.proofs.Common.{◌≡◌, ℕ, ◌==◌, Bool, true, false, not, List, [], ◌∷◌, length, Some, None, refl, sym, ◌∙◌, subst, inl, inr, get_or, set}
-use Rattle.std.proofs.lemmas.List.{length-map, length-set}
-use Rattle.std.proofs.lemmas.List.Elements.{All-contains, All-filter, All-push, Contains-get_or}
-use Rattle.std.specs.List.{All, Contains}
-use Rattle.cap_model.specs.declared.edge.Edge.{Edge}
-use Rattle.cap_machine.proofs.Applied.{read_written}
-use Rattle.cap_machine.specs.Effects.{grown, without, grown_at, waiting, with_pending, added, dropped, called, replied, released}
-use Rattle.cap_machine.specs.Runs.{Run}
-use Rattle.cap_machine.specs.StepTable.{Owes, StepTo}
-use Rattle.cap_machine.specs.declared.step.Step.{Step}
+use Rattle.flow_laws.proofs.Common.{All, All-contains, All-filter, All-push, Bool, Cap, Capability, Contains, Contains-get_or, Content, Edge, IsClosed, List, Node, None, Owes, Pending, Reached, Run, SavedReply, Some, Spec, State, Stays, Step, StepTo}
+use Rattle.flow_laws.proofs.Common.{ThreadState, [], added, boot, boot_irq, boot_node, boot_thread, called, contained, content_in, dropped, false, get_or, grown, grown_at, in_set, inl, inr, length, length-map, length-set, lessened, no_node}
+use Rattle.flow_laws.proofs.Common.{no_thread, node_at, none_saved, not, nothing_pending, reached_next, read_written, refl, released, replied, set, subst, sym, thread_at, true, waiting, with_pending, without, ℕ, ◌==◌, ◌∙◌, ◌∷◌, ◌≡◌}
 use Rattle.cap_machine.specs.declared.step.Step.TheVariants as steps
-use Rattle.cap_model.proofs.BootPlaces.{none_saved, nothing_pending}
-use Rattle.cap_model.specs.Lessened.{lessened}
-use Rattle.cap_model.specs.State.{Node, State, boot, boot_irq, boot_node, boot_thread, no_node, no_thread, node_at, thread_at, content_in}
-use Rattle.cap_model.specs.declared.cap.Cap.{Cap}
 use Rattle.cap_model.specs.declared.spec.Entry.{Entry}
-use Rattle.cap_model.specs.declared.spec.Spec.{Spec}
-use Rattle.cap_model.specs.declared.state.Content.{Content}
-use Rattle.cap_model.specs.declared.state.Content.TheVariants.{Capability, SavedReply}
-use Rattle.cap_model.specs.declared.state.Pending.{Pending}
-use Rattle.cap_model.specs.declared.state.ThreadState.{ThreadState}
-use Rattle.cert_check.specs.Valid.{Stays}
-use Rattle.flow_model.proofs.Reached.{Reached, reached_next}
-use Rattle.flow_model.proofs.StateEdges.{contained}
-use Rattle.flow_model.specs.Agree.{in_set}
-use Rattle.flow_model.specs.Flow.{IsClosed}
 use Rattle.flow_laws.proofs.Sides.{side_root, side_sender, side_peer}
 
 -- a saved reply in c goes to the side of c

@@ -1,19 +1,9 @@
 -- Acts one after the other: those of the set can be done alone, and lead to a world that agrees on the set.
-use Rattle.std.proofs.Common.{◌≡◌, ℕ, Bool, true, false, List, [], ◌∷◌, refl, sym, subst}
-use Rattle.cap_model.specs.declared.edge.Edge.{Edge}
-use Rattle.cap_model.specs.declared.spec.Spec.{Spec}
-use Rattle.cert_check.specs.Valid.{Stays}
-use Rattle.flow_model.proofs.OneWorld.{one_world}
-use Rattle.flow_model.specs.Act.{Act, actor}
-use Rattle.flow_model.specs.ActRuns.{ActRun, IsReached, acts_in}
-use Rattle.flow_model.specs.Agree.{Agree, in_set}
-use Rattle.flow_model.specs.Flow.{IsClosed}
-use Rattle.flow_model.specs.World.{World}
+use Rattle.flow_laws.proofs.Common.{Act, ActRun, Agree, Bool, Edge, IsClosed, IsReached, List, Reached, Spec, Stays, World, [], act_reached, actor, acts_in, false, in_set, one_world, refl, subst, sym, true, world_reached, ℕ, ◌∷◌, ◌≡◌}
 use Rattle.flow_laws.proofs.Contents.{Near, near_agree, agree_of, agree_self, agree_meet}
 use Rattle.flow_laws.proofs.OtherActs.{other_act}
 use Rattle.flow_laws.proofs.OwnActs.{own_act}
 use Rattle.flow_laws.proofs.Replying.{is_joined}
-use Rattle.flow_model.proofs.Reached.{Reached, act_reached, world_reached}
 
 -- the acts of the set alone lead from v to a world that is alike
 record Alone (spec : Spec) (side : ℕ → Bool) (v : World) (acts : List Act) (new : World) : Type 0 where

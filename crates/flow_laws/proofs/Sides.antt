@@ -1,25 +1,8 @@
 -- On which side of a closed set the objects lie that an edge of a reached state joins.
-use Rattle.std.proofs.Common.{◌≡◌, ℕ, Bool, true, false, ◌&&◌, List, [], ◌∷◌, Some, refl, sym, ◌∙◌, ap, inl, inr}
-use Rattle.std.proofs.lemmas.Bool.{and_parts, cases_eq}
-use Rattle.cap_model.specs.ObjectLabels.{label_of}
-use Rattle.cap_model.specs.declared.authority.Authority.{Authority}
-use Rattle.cap_model.specs.declared.authority.Authority.TheVariants.{Receive, SyncSend, Read, Write, Control}
-use Rattle.cap_model.specs.declared.edge.Edge.{Edge}
-use Rattle.cap_machine.specs.StepTable.{Own, Peer}
-use Rattle.cap_model.specs.Auth.{Auth, of_table, of_root, of_space}
-use Rattle.cap_model.specs.Confers.{kind_confers}
-use Rattle.cap_model.specs.Kinds.{is_at, is_space_root}
-use Rattle.cap_model.specs.State.{State, thread_at}
-use Rattle.cap_model.specs.declared.cap.Cap.{Cap}
-use Rattle.cap_model.specs.declared.kind.Kind.{Kind}
+use Rattle.flow_laws.proofs.Common.{Access, Auth, Authority, Bool, BySlot, Cap, Control, Edge, HasSlot, IsClosed, Kind, LeadsDown, List, Own, Peer, Reached, Read, Receive, Some, Spec, State, Stays, SyncSend, Write, [], added_edge, against, along}
+use Rattle.flow_laws.proofs.Common.{and_parts, ap, buffer_edge, cases_eq, false, goes_against, goes_along, in_set, inl, inr, is_at, is_space_root, kind_confers, label_of, leads_slot, of_root, of_space, of_table, own_edge, own_space_edge, refl, sym}
+use Rattle.flow_laws.proofs.Common.{table_controls, table_edge, thread_at, true, ℕ, ◌&&◌, ◌∙◌, ◌∷◌, ◌≡◌}
 use Rattle.cap_model.specs.declared.kind.Kind.TheVariants as kinds
-use Rattle.cap_model.specs.declared.spec.Spec.{Spec}
-use Rattle.cert_check.specs.Valid.{Stays}
-use Rattle.flow_model.proofs.Reached.{Reached}
-use Rattle.flow_model.proofs.StateEdges.{HasSlot, table_controls, leads_slot, own_edge, own_space_edge, table_edge, added_edge, buffer_edge}
-use Rattle.flow_model.specs.Access.{Access, BySlot, LeadsDown}
-use Rattle.flow_model.specs.Agree.{in_set}
-use Rattle.flow_model.specs.Flow.{goes_along, goes_against, along, against, IsClosed}
 
 both_ways : (a b : Bool) → (a ≡ true → b ≡ true) → (b ≡ true → a ≡ true) → a ≡ b
 both_ways true b there back = sym (there refl)

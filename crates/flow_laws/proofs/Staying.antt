@@ -1,21 +1,7 @@
 -- Each plain step leaves memory as it was at boot.
-use Rattle.std.proofs.Common.{◌≡◌, ℕ, ◌==◌, Bool, true, false, not, List, [], ◌∷◌, ◌++◌, Option, Some, None, refl, sym, ◌∙◌, ap, subst, inl, inr, set}
-use Rattle.std.proofs.lemmas.List.Elements.{Contains-push_cases}
-use Rattle.std.specs.List.{Contains}
-use Rattle.cap_machine.proofs.Applied.{read_written}
-use Rattle.cap_machine.proofs.Fitting.{from_filter}
-use Rattle.cap_machine.specs.Effects.{grown, without, grown_at, waiting, with_pending, called, dropped, replied}
-use Rattle.cap_machine.specs.Runs.{Run}
-use Rattle.cap_machine.specs.StepTable.{StepTo}
-use Rattle.cap_machine.specs.declared.step.Step.{Step}
+use Rattle.flow_laws.proofs.Common.{Bool, Cap, Capability, Contains, Contains-push_cases, Content, List, Node, None, Option, Reached, Run, SavedReply, Some, Spec, State, Step, StepTo, ThreadState, [], ap, boot, called, dropped, false, from_filter}
+use Rattle.flow_laws.proofs.Common.{grown, grown_at, inl, inr, no_node, no_thread, node_at, not, reached_next, read_written, refl, replied, set, subst, sym, thread_at, true, waiting, with_pending, without, ℕ, ◌++◌, ◌==◌, ◌∙◌, ◌∷◌, ◌≡◌}
 use Rattle.cap_machine.specs.declared.step.Step.TheVariants as steps
-use Rattle.cap_model.specs.State.{Node, State, boot, no_node, no_thread, node_at, thread_at}
-use Rattle.cap_model.specs.declared.cap.Cap.{Cap}
-use Rattle.cap_model.specs.declared.spec.Spec.{Spec}
-use Rattle.cap_model.specs.declared.state.Content.{Content}
-use Rattle.cap_model.specs.declared.state.Content.TheVariants.{Capability, SavedReply}
-use Rattle.cap_model.specs.declared.state.ThreadState.{ThreadState}
-use Rattle.flow_model.proofs.Reached.{Reached, reached_next}
 use Rattle.reach_laws.proofs.PlainSteps.{steps_plain}
 use Rattle.reach_laws.specs.Plain.{HoldsPlain, IsPlainStep}
 use Rattle.flow_laws.specs.Static.{IsStatic}

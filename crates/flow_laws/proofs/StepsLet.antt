@@ -1,26 +1,10 @@
 -- A step changes only what the policy lets the label of its thread change.
-use Rattle.std.proofs.Common.{ℕ, true, false, List, Some, None, refl, inl, inr}
-use Rattle.cap_model.specs.ObjectLabels.{label_of}
-use Rattle.cap_model.specs.declared.authority.Authority.TheVariants.{Grant, Control, Call, Handle}
-use Rattle.cap_model.specs.declared.edge.Edge.{Edge}
-use Rattle.cap_machine.specs.Effects.{grown, without, added, dropped, replied, with_pending, grown_at}
-use Rattle.cap_machine.specs.StepTable.{StepTo}
-use Rattle.cap_machine.specs.declared.step.Step.{Step}
+use Rattle.flow_laws.proofs.Common.{Call, Cap, Capability, Commands, Control, Edge, Grant, Handle, IsLet, List, MayFill, MayTurn, None, Reached, SavedReply, Some, Spec, State, Stays, Step, StepTo, World, added, dropped, false, grown, grown_at, inl}
+use Rattle.flow_laws.proofs.Common.{inr, label_of, lessened, node_at, refl, replied, thread_at, thread_of, true, with_pending, without, ℕ}
 use Rattle.cap_machine.specs.declared.step.Step.TheVariants as steps
-use Rattle.cap_model.specs.Lessened.{lessened}
-use Rattle.cap_model.specs.State.{State, node_at, thread_at}
-use Rattle.cap_model.specs.declared.cap.Cap.{Cap}
 use Rattle.cap_model.specs.declared.kind.Kind.TheVariants as kinds
-use Rattle.cap_model.specs.declared.spec.Spec.{Spec}
-use Rattle.cap_model.specs.declared.state.Content.TheVariants.{Capability, SavedReply}
-use Rattle.cert_check.specs.Valid.{Stays}
-use Rattle.flow_model.proofs.Reached.{Reached}
-use Rattle.flow_model.specs.Act.{thread_of}
-use Rattle.flow_model.specs.World.{World}
 use Rattle.flow_laws.proofs.Commanding.{controls, its_own, of_its_root, by_own, by_own_space, root_meets, peer_meets, owes_lets, saved_lets}
 use Rattle.flow_laws.proofs.Writes.{unchanged, write_node, write_thread, write_irq, write_added}
-use Rattle.flow_laws.specs.Lets.{Commands}
-use Rattle.flow_laws.specs.Touched.{IsLet, MayFill, MayTurn}
 
 module _ (spec : Spec) (labels : List ℕ) (policy : List Edge) (stays : Stays spec labels policy) (w : World)
     (reached : Reached spec w.state) where

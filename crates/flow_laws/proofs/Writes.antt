@@ -1,17 +1,6 @@
 -- What is written behind what the policy lets a label change: it lets it change both, where it lets it change what is written.
-use Rattle.std.proofs.Common.{◌≡◌, ◌⊎◌, ℕ, ◌==◌, Bool, true, false, List, [], ◌∷◌, ◌++◌, Option, None, refl, sym, ◌∙◌, ap, subst, inl, inr, get_or, set, arith}
-use Rattle.std.proofs.lemmas.List.{append-nil}
-use Rattle.std.proofs.lemmas.List.Elements.{filter-append}
-use Rattle.cap_model.specs.ObjectLabels.{label_of}
-use Rattle.cap_model.specs.declared.authority.Authority.TheVariants.{Receive, AsyncSend, Write, Control, Handle}
-use Rattle.cap_model.specs.declared.edge.Edge.{Edge}
-use Rattle.cap_machine.proofs.Applied.{read_written}
-use Rattle.cap_model.specs.State.{Node, no_node, no_thread}
-use Rattle.cap_model.specs.declared.state.Mapped.{Mapped}
-use Rattle.cap_model.specs.declared.state.ThreadState.{ThreadState}
-use Rattle.flow_model.specs.World.{World, Sight, put}
-use Rattle.flow_laws.specs.Lets.{Lets}
-use Rattle.flow_laws.specs.Touched.{added_to, IsLet, MayFill, MayTell, MayTurn}
+use Rattle.flow_laws.proofs.Common.{AsyncSend, Bool, Control, Edge, Handle, IsLet, Lets, List, Mapped, MayFill, MayTell, MayTurn, Node, None, Option, Receive, Sight, ThreadState, World, Write, [], added_to, ap, append-nil, arith, false}
+use Rattle.flow_laws.proofs.Common.{filter-append, get_or, inl, inr, label_of, no_node, no_thread, put, read_written, refl, set, subst, sym, true, ℕ, ◌++◌, ◌==◌, ◌∙◌, ◌∷◌, ◌≡◌, ◌⊎◌}
 
 -- what stands at k behind a write at i
 behind : {A : Type 0} (May : ℕ → Type 0) (xs : List A) (i k : ℕ) (v d old : A) → (get_or xs k d ≡ old) ⊎ May k → May i

@@ -10,7 +10,7 @@
 use Rattle.std.specs.Prelude.{◌≡◌, ◌⊎◌, ℕ, ◌==◌, List}
 use Rattle.std.specs.List.{filter}
 use Rattle.cap_model.specs.ObjectLabels.{label_of}
-use Rattle.cap_model.specs.declared.authority.Authority.TheVariants.{Receive, SyncSend, AsyncSend, Grant, Write, Control, Call, Reply, Handle}
+use Rattle.authorities.specs.declared.authority.Authority.TheVariants.{Receive, SyncSend, AsyncSend, Grant, Write, Control, Call, Reply, Handle}
 use Rattle.cap_model.specs.declared.edge.Edge.{Edge}
 use Rattle.cap_model.specs.State.{node_at, thread_at, irq_at}
 use Rattle.cap_model.specs.declared.state.Mapped.{Mapped}

@@ -2,7 +2,7 @@
 
 ghost use Rattle.cap_model.specs.ObjectLabels.{label_of};
 ghost use Rattle.cap_model.specs.Tables.{Has};
-ghost use Rattle.cap_model.specs.declared.authority.Authority.{Authority};
+ghost use Rattle.authorities.specs.declared.authority.Authority.{Authority};
 ghost use Rattle.cap_model.specs.declared.edge.Edge.{Edge};
 ghost use Rattle.cap_machine.specs.Runs.{Run};
 ghost use Rattle.cap_machine.specs.declared.step.Step.{Step};

@@ -16,41 +16,69 @@ use Rattle.flow_model.specs.World.{World, done, message, answer, signals, put, m
 one_some : {A : Type 0} (o : Option A) (x y : A) → o ≡ Some x → o ≡ Some y → x ≡ y
 one_some o x y e f = cc
 
-one_content : (s : State) (t c d i : ℕ) (x y : Content) → Acts s t c → Acts s t d → content_in s c i ≡ Some x → content_in s d i ≡ Some y → x ≡ y
+one_content : (s : State) (t c d i : ℕ) (x y : Content) → Acts s t c → Acts s t d → content_in s c i ≡ Some x
+    → content_in s d i ≡ Some y → x ≡ y
 one_content s t c d i x y acts other there here =
     let same : c ≡ d = one_some _ c d acts.root other.root in
     one_some _ x y there (subst (λ (n : ℕ). content_in s n i ≡ Some y) (sym same) here)
 
-one_cap : (kind : ℕ → Bool) (s : State) (t c d i : ℕ) (x y : Cap) → Acts s t c → Acts s t d → Own kind s c i x → Own kind s d i y → x ≡ y
-one_cap kind s t c d i x y acts other own also = let same : Capability x ≡ Capability y = one_content s t c d i (Capability x) (Capability y) acts other own.there also.there in cc
+one_cap : (kind : ℕ → Bool) (s : State) (t c d i : ℕ) (x y : Cap) → Acts s t c → Acts s t d → Own kind s c i x
+    → Own kind s d i y → x ≡ y
+one_cap kind s t c d i x y acts other own also = let same : Capability x ≡ Capability y =
+    one_content s t c d i (Capability x) (Capability y) acts other own.there also.there in cc
 
-one_reply : (s : State) (t c d i : ℕ) (x y : Pending) → Acts s t c → Acts s t d → content_in s c i ≡ Some (SavedReply x) → content_in s d i ≡ Some (SavedReply y) → x ≡ y
-one_reply s t c d i x y acts other there here = let same : SavedReply x ≡ SavedReply y = one_content s t c d i (SavedReply x) (SavedReply y) acts other there here in cc
+one_reply : (s : State) (t c d i : ℕ) (x y : Pending) → Acts s t c → Acts s t d → content_in s c i ≡ Some (SavedReply x)
+    → content_in s d i ≡ Some (SavedReply y) → x ≡ y
+one_reply s t c d i x y acts other there here = let same : SavedReply x ≡ SavedReply y =
+    one_content s t c d i (SavedReply x) (SavedReply y) acts other there here in cc
 
-one_attempt : (spec : Spec) (w new other : World) (attempt : Attempt) → AttemptTo spec w attempt new → AttemptTo spec w attempt other → new ≡ other
-one_attempt spec w new other (step move) (s, a, e) (r, b, f) = e ∙ ap (λ (x : State). record w { state = x; seen = more w.seen (thread_of move) done }) (one_next spec w.state move s r a b) ∙ sym f
+one_attempt : (spec : Spec) (w new other : World) (attempt : Attempt) → AttemptTo spec w attempt new
+    → AttemptTo spec w attempt other → new ≡ other
+one_attempt spec w new other (step move) (s, a, e) (r, b, f) =
+    e ∙ ap (λ (x : State). record w { state = x; seen = more w.seen (thread_of move) done }) (one_next spec w.state move s r a b)
+    ∙ sym f
 one_attempt spec w new other (store t f x) (runs, may, e) (also, might, g) = e ∙ sym g
 one_attempt spec w new other (load t f) (runs, may, e) (also, might, g) = e ∙ sym g
-one_attempt spec w new other (send t i u j x) (c, to, d, from, acts, own, may, peer, e) (k, at, l, by, does, has, might, fellow, g) =
-    e ∙ ap (λ (cap : Cap). record w { seen = more (more w.seen u (message cap.badge x)) t done }) (one_cap _ w.state t c k i to at acts does own has) ∙ sym g
+one_attempt spec w new other (send t i u j x) (c, to, d, from, acts, own, may, peer, e) (
+  k,
+  at,
+  l,
+  by,
+  does,
+  has,
+  might,
+  fellow,
+  g,
+) =
+    e ∙ ap (λ (cap : Cap). record w { seen = more (more w.seen u (message cap.badge x)) t done })
+    (one_cap _ w.state t c k i to at acts does own has) ∙ sym g
 one_attempt spec w new other (tell t x) (c, reply, acts, owes, e) (k, given, does, owed, g) =
-    e ∙ ap (λ (p : Pending). record w { seen = more (more w.seen p.caller (answer x)) t done }) (one_some _ reply given owes owed) ∙ sym g
+    e ∙ ap (λ (p : Pending). record w { seen = more (more w.seen p.caller (answer x)) t done }) (one_some _ reply given owes owed)
+    ∙ sym g
 one_attempt spec w new other (tell_saved t i x) (c, reply, acts, there, e) (k, given, does, here, g) =
-    e ∙ ap (λ (p : Pending). record w { seen = more (more w.seen p.caller (answer x)) t done }) (one_reply w.state t c k i reply given acts does there here) ∙ sym g
+    e ∙ ap (λ (p : Pending). record w { seen = more (more w.seen p.caller (answer x)) t done })
+    (one_reply w.state t c k i reply given acts does there here) ∙ sym g
 one_attempt spec w new other (signal t i x) (c, to, acts, own, may, e) (k, at, does, has, might, g) =
-    e ∙ ap (λ (cap : Cap). record w { pending = more w.pending cap.object x; seen = more w.seen t done }) (one_cap _ w.state t c k i to at acts does own has) ∙ sym g
+    e ∙ ap (λ (cap : Cap). record w { pending = more w.pending cap.object x; seen = more w.seen t done })
+    (one_cap _ w.state t c k i to at acts does own has) ∙ sym g
 one_attempt spec w new other (await t i) (c, from, acts, own, may, e) (k, by, does, has, might, g) =
     e
-    ∙ ap (λ (cap : Cap). record w { pending = put w.pending cap.object []; seen = more w.seen t (signals (w.pending cap.object)) }) (one_cap _ w.state t c k i from by acts does own has)
+    ∙ ap (λ (cap : Cap). record w {
+      pending = put w.pending cap.object [];
+      seen = more w.seen t (signals (w.pending cap.object));
+    }) (one_cap _ w.state t c k i from by acts does own has)
     ∙ sym g
 
 pub one_act : (spec : Spec) (w new other : World) (act : Act) → ActTo spec w act new → ActTo spec w act other → new ≡ other
 one_act spec w new other (allowed attempt) a b = one_attempt spec w new other attempt a b
 one_act spec w new other (refused attempt) (runs, never, e) (also, neither, g) = e ∙ sym g
-one_act spec w new other (fire d x) (n, bound, e) (m, also, g) = e ∙ ap (λ (o : ℕ). record w { pending = more w.pending o x }) (one_some _ n m bound also) ∙ sym g
+one_act spec w new other (fire d x) (n, bound, e) (m, also, g) = e ∙ ap (λ (o : ℕ). record w { pending = more w.pending o x })
+    (one_some _ n m bound also) ∙ sym g
 one_act spec w new other (device f x) (is, e) (also, g) = e ∙ sym g
 
-pub one_world : (spec : Spec) (w new other : World) (acts : List Act) → ActRun spec w acts new → ActRun spec w acts other → new ≡ other
+pub one_world : (spec : Spec) (w new other : World) (acts : List Act) → ActRun spec w acts new → ActRun spec w acts other
+    → new ≡ other
 one_world spec w new other [] e g = e ∙ sym g
 one_world spec w new other (act ∷ acts) (mid, a, rest) (also, b, more) =
-    one_world spec mid new other acts rest (subst (λ (m : World). ActRun spec m acts other) (one_act spec w also mid act b a) more)
+    one_world spec mid new other acts rest (subst (λ (m : World). ActRun spec m acts other)
+    (one_act spec w also mid act b a) more)

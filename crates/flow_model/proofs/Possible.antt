@@ -1,7 +1,7 @@
 -- The acts of the example, one by one.
 use Rattle.std.proofs.Common.{◌≡◌, ℕ, Bool, true, false, List, [], ◌∷◌, Option, Some, None, refl, sym, subst, inl, inr, arith}
 use Rattle.std.proofs.lemmas.List.Elements.{Contains-push}
-use Rattle.cap_model.specs.declared.authority.Authority.TheVariants.{Read, Write}
+use Rattle.authorities.specs.declared.authority.Authority.TheVariants.{Read, Write}
 use Rattle.cap_machine.specs.Effects.{with_space, read_write, added, called, dropped}
 use Rattle.cap_machine.specs.Sample.{sample, all}
 use Rattle.cap_machine.specs.StepTable.{Acts, Peer}
@@ -44,45 +44,116 @@ acts_3 = record { runs = refl; root = refl }
 
 -- then it has one, with frame 8
 writes_8 : Access sample mapped 3 Write 8
-writes_8 = inr (inl (record { root = 7; rights = writes_and_reads.rights; space = refl; there = Contains-push [] writes_and_reads; gives = refl }))
+writes_8 = inr (inl (record {
+  root = 7;
+  rights = writes_and_reads.rights;
+  space = refl;
+  there = Contains-push [] writes_and_reads;
+  gives = refl;
+}))
 
 reads_8 : Access sample mapped 3 Read 8
-reads_8 = inr (inl (record { root = 7; rights = writes_and_reads.rights; space = refl; there = Contains-push [] writes_and_reads; gives = refl }))
+reads_8 = inr (inl (record {
+  root = 7;
+  rights = writes_and_reads.rights;
+  space = refl;
+  there = Contains-push [] writes_and_reads;
+  gives = refl;
+}))
 
 -- thread 3 receives at endpoint 5 while it doesn't wait
 peer_3 : Peer sample (boot sample) 2 3 1 5 1 (cap 5 (rights true false true false) 0)
-peer_3 = record { other = λ e. absurd (omega arith); acts = acts_3; own = record { there = refl; is = refl }; reads = refl; same = refl }
+peer_3 = record {
+  other = λ e. absurd (omega arith);
+  acts = acts_3;
+  own = record { there = refl; is = refl };
+  reads = refl;
+  same = refl;
+}
 
 peer_2 : Peer sample (boot sample) 3 2 8 5 0 (cap 5 (rights true false false false) 0)
-peer_2 = record { other = λ e. absurd (omega arith); acts = acts_2; own = record { there = refl; is = refl }; reads = refl; same = refl }
+peer_2 = record {
+  other = λ e. absurd (omega arith);
+  acts = acts_2;
+  own = record { there = refl; is = refl };
+  reads = refl;
+  same = refl;
+}
 
 -- acts from any world with the boot state
 module _ (w : World) (boots : w.state ≡ boot sample) where
   sends : ActTo sample w (allowed (send 2 2 3 1 42)) (record w { seen = more (more w.seen 3 (message 7 42)) 2 done })
   sends =
-      rw boots
-      (0, cap 5 (rights false true true true) 7, 1, cap 5 (rights true false true false) 0, acts_2, record { there = refl; is = refl }, refl, peer_3, refl)
+      rw boots (
+        0,
+        cap 5 (rights false true true true) 7,
+        1,
+        cap 5 (rights true false true false) 0,
+        acts_2,
+        record {
+          there = refl;
+          is = refl;
+        },
+        refl,
+        peer_3,
+        refl,
+      )
 
-  signals_6 : (x : ℕ) → ActTo sample w (allowed (signal 2 3 x)) (record w { pending = more w.pending 6 x; seen = more w.seen 2 done })
+  signals_6 : (x : ℕ)
+      → ActTo sample w (allowed (signal 2 3 x)) (record w { pending = more w.pending 6 x; seen = more w.seen 2 done })
   signals_6 x = rw boots (0, cap 6 (rights false true false false) 0, acts_2, record { there = refl; is = refl }, refl, refl)
 
-  awaits_6 : ActTo sample w (allowed (await 3 2)) (record w { pending = put w.pending 6 []; seen = more w.seen 3 (signals (w.pending 6)) })
+  awaits_6 : ActTo sample w (allowed (await 3 2)) (record w {
+    pending = put w.pending 6 [];
+    seen = more w.seen 3 (signals (w.pending 6));
+  })
   awaits_6 = rw boots (1, cap 6 (rights true false false false) 0, acts_3, record { there = refl; is = refl }, refl, refl)
 
   refuses_8 : ActTo sample w (refused (load 3 8)) (record w { seen = more w.seen 3 denied })
   refuses_8 = rw boots (refl, λ end may. unreached may.1, refl)
 
   spaces : ActTo sample w spacing (record w { state = spaced; seen = more w.seen 2 done })
-  spaces = rw boots (spaced, (0, plain 3, plain 7, acts_2, record { there = refl; is = refl }, record { there = refl; is = refl }, refl), refl)
+  spaces =
+      rw boots (
+        spaced,
+        (
+          0,
+          plain 3,
+          plain 7,
+          acts_2,
+          record { there = refl; is = refl },
+          record {
+            there = refl;
+            is = refl;
+          },
+          refl,
+        ),
+        refl,
+      )
 
 module _ (w : World) (at : w.state ≡ spaced) where
   maps : ActTo sample w mapping (record w { state = mapped; seen = more w.seen 2 done })
   maps =
-      rw at
-      (mapped, (0, cap 8 (rights true true false false) 0, plain 7, record { runs = refl; root = refl }, record { there = refl; is = refl }, record { there = refl; is = refl }, refl), refl)
+      rw at (
+        mapped,
+        (
+          0,
+          cap 8 (rights true true false false) 0,
+          plain 7,
+          record { runs = refl; root = refl },
+          record {
+            there = refl;
+            is = refl;
+          },
+          record { there = refl; is = refl },
+          refl,
+        ),
+        refl,
+      )
 
 module _ (w : World) (at : w.state ≡ mapped) where
-  stores : (x : ℕ) → ActTo sample w (allowed (store 3 8 x)) (record w { contents = put w.contents 8 x; seen = more w.seen 3 done })
+  stores : (x : ℕ)
+      → ActTo sample w (allowed (store 3 8 x)) (record w { contents = put w.contents 8 x; seen = more w.seen 3 done })
   stores x = rw at (refl, writes_8, refl)
 
   loads : ActTo sample w (allowed (load 3 8)) (record w { seen = more w.seen 3 (content (w.contents 8)) })
@@ -103,7 +174,23 @@ possible =
       (
         w1,
         sends first_world refl,
-        (w2, signals_6 w1 refl 5, (w3, signals_6 w2 refl 6, (w4, awaits_6 w3 refl, (w5, refuses_8 w4 refl, (w6, spaces w5 refl, (w7, maps w6 refl, (w8, stores w7 refl 99, (w9, loads w8 refl, refl)))))))),
+        (
+          w2,
+          signals_6 w1 refl 5,
+          (
+            w3,
+            signals_6 w2 refl 6,
+            (
+              w4,
+              awaits_6 w3 refl,
+              (
+                w5,
+                refuses_8 w4 refl,
+                (w6, spaces w5 refl, (w7, maps w6 refl, (w8, stores w7 refl 99, (w9, loads w8 refl, refl)))),
+              ),
+            ),
+          ),
+        ),
       ),
       refl,
     )
@@ -111,10 +198,18 @@ possible =
 -- ---- each way of each authority
 
 pub sent : Leaves first_world (allowed (send 2 2 3 1 42) ∷ []) (λ w. w.seen 3) (message 7 42 ∷ [])
-sent = (record first_world { seen = more (more first_world.seen 3 (message 7 42)) 2 done }, (_, sends first_world refl, refl), refl)
+sent = (
+  record first_world { seen = more (more first_world.seen 3 (message 7 42)) 2 done },
+  (_, sends first_world refl, refl),
+  refl,
+)
 
 pub sent_done : Leaves first_world (allowed (send 2 2 3 1 42) ∷ []) (λ w. w.seen 2) (done ∷ [])
-sent_done = (record first_world { seen = more (more first_world.seen 3 (message 7 42)) 2 done }, (_, sends first_world refl, refl), refl)
+sent_done = (
+  record first_world { seen = more (more first_world.seen 3 (message 7 42)) 2 done },
+  (_, sends first_world refl, refl),
+  refl,
+)
 
 -- thread 3 waits behind its call
 abbrev waited : World
@@ -125,9 +220,23 @@ never_sent end (c, to, d, from, acts, own, may, peer, e) = absurd (let w : true 
 
 pub unsent : Leaves first_world (calling ∷ refused (send 2 2 3 1 42) ∷ []) (λ w. w.seen 2) (denied ∷ [])
 unsent =
-    let call : ActTo sample first_world calling waited =
-    (called (boot sample) 3 2 false, (1, cap 5 (rights false true false true) 0, 0, cap 5 (rights true false false false) 0, acts_3, record { there = refl; is = refl }, refl, peer_2, refl), refl) in
-    let refuse : ActTo sample waited (refused (send 2 2 3 1 42)) (record waited { seen = more waited.seen 2 denied }) = (refl, never_sent, refl) in
+    let call : ActTo sample first_world calling waited = (
+      called (boot sample) 3 2 false,
+      (
+        1,
+        cap 5 (rights false true false true) 0,
+        0,
+        cap 5 (rights true false false false) 0,
+        acts_3,
+        record { there = refl; is = refl },
+        refl,
+        peer_2,
+        refl,
+      ),
+      refl,
+    ) in
+    let refuse : ActTo sample waited (refused (send 2 2 3 1 42)) (record waited { seen = more waited.seen 2 denied }) =
+    (refl, never_sent, refl) in
     (record waited { seen = more waited.seen 2 denied }, (waited, call, (_, refuse, refl)), refl)
 
 abbrev signalled : World
@@ -150,7 +259,10 @@ told = (awaited, both_acts, refl)
 
 pub untold : Leaves first_world (allowed (await 3 2) ∷ []) (λ w. w.seen 3) (signals [] ∷ [])
 untold =
-    let end : World = record first_world { pending = put first_world.pending 6 []; seen = more first_world.seen 3 (signals []) } in
+    let end : World = record first_world {
+      pending = put first_world.pending 6 [];
+      seen = more first_world.seen 3 (signals []);
+    } in
     (end, (end, awaits_6 first_world refl, refl), refl)
 
 -- a frame that contains x, in the space of thread 3
@@ -175,36 +287,59 @@ module _ (x : ℕ) where
 
 pub bound : Leaves first_world (binding ∷ []) (λ w. irq_at w.state 9) (Some 6)
 bound =
-    let s : State = record (boot sample) { irqs = None ∷ None ∷ None ∷ None ∷ None ∷ None ∷ None ∷ None ∷ None ∷ Some 6 ∷ None ∷ [] } in
+    let s : State = record (boot sample) {
+      irqs = None ∷ None ∷ None ∷ None ∷ None ∷ None ∷ None ∷ None ∷ None ∷ Some 6
+          ∷ None ∷ [];
+    } in
     let end : World = record first_world { state = s; seen = more first_world.seen 2 done } in
-    let binds : ActTo sample first_world binding end = (s, (0, plain 9, cap 6 (rights false true false false) 0, acts_2, record { there = refl; is = refl }, record { there = refl; is = refl }, refl, refl), refl) in
+    let binds : ActTo sample first_world binding end = (
+      s,
+      (
+        0,
+        plain 9,
+        cap 6 (rights false true false false) 0,
+        acts_2,
+        record { there = refl; is = refl },
+        record { there = refl; is = refl },
+        refl,
+        refl,
+      ),
+      refl,
+    ) in
     (end, (end, binds, refl), refl)
 
 pub controlled : Leaves first_world (spacing ∷ []) (λ w. (thread_at w.state 3).space) (Some 7)
-controlled = let end : World = record first_world { state = spaced; seen = more first_world.seen 2 done } in (end, (end, spaces first_world refl, refl), refl)
+controlled = let end : World = record first_world { state = spaced; seen = more first_world.seen 2 done } in
+    (end, (end, spaces first_world refl, refl), refl)
 
 pub taken : Leaves first_world (allowed taking ∷ []) (λ w. w.seen 2) (done ∷ [])
 taken =
     let x : Cap = cap 5 (rights true false true false) 0 in
     let s : State = added (boot sample) 0 (lessened x all) in
     let end : World = record first_world { state = s; seen = more first_world.seen 2 done } in
-    let takes : ActTo sample first_world (allowed taking) end = (s, (0, plain 1, x, acts_2, record { there = refl; is = refl }, refl, refl), refl) in
+    let takes : ActTo sample first_world (allowed taking) end =
+    (s, (0, plain 1, x, acts_2, record { there = refl; is = refl }, refl, refl), refl) in
     (end, (end, takes, refl), refl)
 
 abbrev lost : World
 lost = record first_world { state = dropped (boot sample) 1 1; seen = more first_world.seen 3 done }
 
-no_take : (c : ℕ) (to x : Cap) → Some 0 ≡ Some c → content_in lost.state c 1 ≡ Some (Capability to) → content_in lost.state to.object 1 ≡ Some (Capability x) → ⊥
+no_take : (c : ℕ) (to x : Cap) → Some 0 ≡ Some c → content_in lost.state c 1 ≡ Some (Capability to)
+    → content_in lost.state to.object 1 ≡ Some (Capability x) → ⊥
 no_take c to x root own there =
     let same : 0 ≡ c = cc in
-    let first : Some (Capability (plain 1)) ≡ Some (Capability to) = subst (λ (n : ℕ). content_in lost.state n 1 ≡ Some (Capability to)) (sym same) own in
+    let first : Some (Capability (plain 1)) ≡ Some (Capability to) =
+    subst (λ (n : ℕ). content_in lost.state n 1 ≡ Some (Capability to)) (sym same) own in
     let is : plain 1 ≡ to = cc in
-    let gone : None ≡ Some (Capability x) = subst (λ (y : Cap). content_in lost.state y.object 1 ≡ Some (Capability x)) (sym is) there in
+    let gone : None ≡ Some (Capability x) = subst (λ (y : Cap). content_in lost.state y.object 1 ≡ Some (Capability x))
+    (sym is) there in
     absurd cc
 
 pub untaken : Leaves first_world (dropping ∷ refused taking ∷ []) (λ w. w.seen 2) (denied ∷ [])
 untaken =
-    let drops : ActTo sample first_world dropping lost = (dropped (boot sample) 1 1, (1, Capability (cap 5 (rights true false true false) 0), acts_3, refl, refl), refl) in
+    let drops : ActTo sample first_world dropping lost =
+    (dropped (boot sample) 1 1, (1, Capability (cap 5 (rights true false true false) 0), acts_3, refl, refl), refl) in
     let end : World = record lost { seen = more lost.seen 2 denied } in
-    let refuse : ActTo sample lost (refused taking) end = (refl, λ end may. no_take may.1.0 may.1.1 may.1.2 may.1.3.root may.1.4.there may.1.5, refl) in
+    let refuse : ActTo sample lost (refused taking) end =
+    (refl, λ end may. no_take may.1.0 may.1.1 may.1.2 may.1.3.root may.1.4.there may.1.5, refl) in
     (end, (lost, drops, (end, refuse, refl)), refl)

@@ -3,8 +3,8 @@ use Rattle.std.proofs.Common.{◌≡◌, ℕ, ◌==◌, Bool, true, List, [], �
 use Rattle.std.proofs.lemmas.Map.Views.{Contains-from_lookup}
 use Rattle.std.specs.List.{Contains}
 use Rattle.cap_model.specs.ObjectLabels.{label_of}
-use Rattle.cap_model.specs.declared.authority.Authority.{Authority}
-use Rattle.cap_model.specs.declared.authority.Authority.TheVariants.{Control}
+use Rattle.authorities.specs.declared.authority.Authority.{Authority}
+use Rattle.authorities.specs.declared.authority.Authority.TheVariants.{Control}
 use Rattle.cap_machine.specs.StepTable.{Own}
 use Rattle.cap_model.proofs.Kept.{kind_is}
 use Rattle.cap_model.specs.Auth.{Auth, table_of, of_buffer, of_table, of_mapped}
@@ -54,25 +54,36 @@ leads_slot spec p q (i ∷ path) (cap, there, rest) slot = (i, cap, there)
 
 module _ (spec : Spec) (labels : List ℕ) (s : State) where
   pub contained : (c i : ℕ) (content : Content) → content_in s c i ≡ Some content → Contains (node_at s c).slots (i, content)
-  contained c i content there = Contains-from_lookup {eq = λ q n. n == q} (λ x y h. grind arith) i content (node_at s c).slots there
+  contained c i content there = Contains-from_lookup {eq = λ q n. n == q} (λ x y h. grind arith) i content
+      (node_at s c).slots there
 
   -- what a capability of a CNode confers
-  held : (c i : ℕ) (cap : Cap) (a : Authority) → content_in s c i ≡ Some (Capability cap) → confers spec cap a ≡ true → Auth spec labels s (label_of labels c) a (label_of labels cap.object)
+  held : (c i : ℕ) (cap : Cap) (a : Authority) → content_in s c i ≡ Some (Capability cap) → confers spec cap a ≡ true
+      → Auth spec labels s (label_of labels c) a (label_of labels cap.object)
   held c i cap a there gives = inl (c, i, cap, contained c i (Capability cap) there, gives, refl, refl)
 
-  pub own_edge : (c i : ℕ) (kind : Kind) (cap : Cap) (a : Authority) → Own (is_at spec kind) s c i cap → kind_confers kind cap.rights a ≡ true
+  pub own_edge : (c i : ℕ) (kind : Kind) (cap : Cap) (a : Authority) → Own (is_at spec kind) s c i cap
+      → kind_confers kind cap.rights a ≡ true
       → Auth spec labels s (label_of labels c) a (label_of labels cap.object)
-  own_edge c i kind cap a own gives = held c i cap a own.there (let k : kind_at spec cap.object ≡ Some kind = kind_is spec kind cap.object own.is in rw k gives)
+  own_edge c i kind cap a own gives = held c i cap a own.there (let k : kind_at spec cap.object ≡ Some kind = kind_is spec kind
+      cap.object own.is in rw k gives)
 
-  pub own_space_edge : (c i : ℕ) (cap : Cap) → Own (is_space_root spec) s c i cap → Auth spec labels s (label_of labels c) Control (label_of labels cap.object)
+  pub own_space_edge : (c i : ℕ) (cap : Cap) → Own (is_space_root spec) s c i cap
+      → Auth spec labels s (label_of labels c) Control (label_of labels cap.object)
   own_space_edge c i cap own = held c i cap Control own.there (root_controls spec cap own.is)
 
   -- what gives access to frames
-  pub table_edge : (t f : ℕ) (a : Authority) (by : BySlot spec s t a f) → Auth spec labels s (label_of labels by.table) a (label_of labels f)
-  table_edge t f a by = subst (λ (n : ℕ). Auth spec labels s (label_of labels by.table) a (label_of labels n)) by.frame (inr (of_table (by.table, by.number, by.cap, by.there, by.gives, refl, refl)))
+  pub table_edge : (t f : ℕ) (a : Authority) (by : BySlot spec s t a f)
+      → Auth spec labels s (label_of labels by.table) a (label_of labels f)
+  table_edge t f a by = subst (λ (n : ℕ). Auth spec labels s (label_of labels by.table) a (label_of labels n)) by.frame
+      (inr (of_table (by.table, by.number, by.cap, by.there, by.gives, refl, refl)))
 
-  pub added_edge : (t f : ℕ) (a : Authority) (by : ByAdded s t a f) → Auth spec labels s (label_of labels by.root) a (label_of labels f)
-  added_edge t f a by = inr (of_mapped (record { space = by.root; frame = f; rights = by.rights }, by.there, by.gives, refl, refl))
+  pub added_edge : (t f : ℕ) (a : Authority) (by : ByAdded s t a f)
+      → Auth spec labels s (label_of labels by.root) a (label_of labels f)
+  added_edge t f a by =
+      inr (of_mapped (record { space = by.root; frame = f; rights = by.rights }, by.there, by.gives, refl, refl))
 
-  pub buffer_edge : (t f : ℕ) (a : Authority) (by : ByBuffer spec t a f) → Auth spec labels s (label_of labels t) a (label_of labels f)
-  buffer_edge t f a by = subst (λ (n : ℕ). Auth spec labels s (label_of labels t) a (label_of labels n)) by.frame (inr (of_buffer (t, by.cap, by.buffer, by.gives, refl, refl)))
+  pub buffer_edge : (t f : ℕ) (a : Authority) (by : ByBuffer spec t a f)
+      → Auth spec labels s (label_of labels t) a (label_of labels f)
+  buffer_edge t f a by = subst (λ (n : ℕ). Auth spec labels s (label_of labels t) a (label_of labels n)) by.frame
+      (inr (of_buffer (t, by.cap, by.buffer, by.gives, refl, refl)))

@@ -5,7 +5,7 @@
 -- isn't possible is refused. In each case a thread sees what became of its attempt. An interrupt may fire at any time
 -- while it is bound, and a device may change its frame at any time.
 use Rattle.std.specs.Prelude.{◌≡◌, ℕ, Bool, true, false, [], Option, Some}
-use Rattle.cap_model.specs.declared.authority.Authority.TheVariants.{Read, Write}
+use Rattle.authorities.specs.declared.authority.Authority.TheVariants.{Read, Write}
 use Rattle.cap_machine.specs.StepTable.{Acts, Own, Owes, Peer, StepTo}
 use Rattle.cap_model.specs.Kinds.{is_at}
 use Rattle.cap_model.specs.Lookup.{object_at}

@@ -10,8 +10,8 @@
 -- and a reply goes to whom a call came from: so those four pass nothing that SyncSend and Receive don't.
 use Rattle.std.specs.Prelude.{◌≡◌, ℕ, Bool, true, false, List}
 use Rattle.cap_model.specs.Tables.{Has}
-use Rattle.cap_model.specs.declared.authority.Authority.{Authority}
-use Rattle.cap_model.specs.declared.authority.Authority.TheVariants.{Receive, SyncSend, AsyncSend, Read, Write, Control, Handle}
+use Rattle.authorities.specs.declared.authority.Authority.{Authority}
+use Rattle.authorities.specs.declared.authority.Authority.TheVariants.{Receive, SyncSend, AsyncSend, Read, Write, Control, Handle}
 use Rattle.cap_model.specs.declared.edge.Edge.{Edge}
 
 -- whether something passes from the label that has the authority

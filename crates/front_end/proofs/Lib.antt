@@ -1,3 +1,4 @@
+pub mod Common
 mod LoadedFew
 pub mod LoadedShort
 pub mod LoadedWhole

@@ -1,18 +1,10 @@
 -- A source that is loaded has few files, and few items in each: no more items than tokens, no more tokens than bytes.
-use Rattle.std.proofs.Common.{◌≡◌, ◌∙◌, refl, sym, subst, ◌≤◌, ℕ, List, [], ◌∷◌, ◌++◌, length, Option, None, Some, Ok, append_assoc, arith}
-use Rattle.adl_meaning.specs.Prelude.{All, AreFew, File, Seen, Source, SourceFile}
+use Rattle.front_end.proofs.Common.{All, AreFew, Contents, File, IsFileOf, IsLoaded, IsLoadedBy, List, None, Ok, Option, Seen, Some, Source, SourceFile, [], append_assoc, arith, clean_each, clean_few, each_token, ended_token, length, length-map}
+use Rattle.front_end.proofs.Common.{refl, root_name, see, seen_at, subst, sym, ℕ, ◌++◌, ◌∙◌, ◌∷◌, ◌≡◌, ◌≤◌}
 use Rattle.std.proofs.lemmas.List.Elements.{All-cons, All-nil}
-use Rattle.std.proofs.lemmas.List.{length-map}
 use Rattle.cam_base.specs.declared.token.Token.{Token}
 use Rattle.adl_ast.specs.Forms.{ended_form, file_line}
-use Rattle.adl_ast.specs.Seeing.{see, seen_at}
 use Rattle.adl_ast.specs.Spelling.{IsFileSpelled}
-use Rattle.adl_import.proofs.Whole.{clean_few, clean_each}
-use Rattle.adl_import.specs.Folding.{root_name}
-use Rattle.adl_import.specs.Loaded.{IsLoaded, IsLoadedBy}
-use Rattle.adl_import.specs.Sources.{IsFileOf}
-use Rattle.cam_io.specs.Contents.{Contents}
-use Rattle.flat_laws.proofs.ShortTrees.{each_token, ended_token}
 use Rattle.adl_lexer.specs.Lexes.{Lexes, LexesFrom}
 use Rattle.adl_lexer.proofs.Gaps.{gap_le}
 use Rattle.adl_lexer.proofs.Steps.{token_eats}

@@ -1,15 +1,7 @@
 -- The trees of a source that is loaded are spelled by few tokens.
-use Rattle.std.proofs.Common.{ℕ, List, length, Option, None, Some, Ok, arith}
-use Rattle.std.proofs.lemmas.List.{length-map}
-use Rattle.adl_ast.specs.Seeing.{see, seen_at}
-use Rattle.adl_meaning.specs.Prelude.{Source}
+use Rattle.front_end.proofs.Common.{AreFilesOf, Contents, IsLoaded, IsLoadedBy, List, None, Ok, Option, Some, Source, arith, clean_each, length, length-map, root_name, see, seen_at, ℕ}
 use Rattle.adl_hierarchy.specs.Spelled.{AreSpelled}
-use Rattle.adl_import.proofs.Whole.{clean_each}
-use Rattle.adl_import.specs.Folding.{root_name}
-use Rattle.adl_import.specs.Loaded.{IsLoaded, IsLoadedBy}
-use Rattle.adl_import.specs.Sources.{AreFilesOf}
 use Rattle.front_end.proofs.LoadedFew.{tokens_within}
-use Rattle.cam_io.specs.Contents.{Contents}
 use Rattle.flat_laws.specs.ShortFiles.{AreFilesShort}
 use Rattle.cam_base.proofs.NumberedLists.{split_in}
 

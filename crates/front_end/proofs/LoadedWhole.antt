@@ -1,19 +1,10 @@
 -- A source that is loaded is whole.
-use Rattle.std.proofs.Common.{◌≡◌, refl, sym, subst, ℕ, List, [], ◌∷◌, Option, None, Some, Ok}
+use Rattle.front_end.proofs.Common.{Contents, IsLoaded, IsLoadedBy, IsSource, IsWhole, List, None, Ok, Option, Some, Source, SourceFile, [], name_of_file, refl, root_name, subst, sym, ℕ, ◌∷◌, ◌≡◌}
 use Rattle.std.specs.Str.{IsUtf8}
-use Rattle.adl_meaning.specs.Prelude.{Source, SourceFile}
 use Rattle.adl_import.proofs.Utf8Names.{root_name_utf8}
-use Rattle.adl_import.specs.Folding.{root_name}
-use Rattle.adl_import.specs.Loaded.{IsLoaded, IsLoadedBy}
-use Rattle.adl_import.specs.Sources.{IsSource}
-use Rattle.cam_io.specs.Contents.{Contents}
+use Rattle.cam_base.proofs.GrammarFronts.{head_is}
 use Rattle.front_end.proofs.LoadedFew.{loaded_few}
 use Rattle.front_end.proofs.LoadedShort.{loaded_short}
-use Rattle.front_end.specs.First.{name_of_file}
-use Rattle.front_end.specs.Steps.{IsWhole}
-
-heads : {X : Type 0} (x y : X) (xs ys : List X) → x ∷ xs ≡ y ∷ ys → x ≡ y
-heads x y xs ys e = cc
 
 no_head : {X : Type 0} (y : X) (ys : List X) → [] ≡ y ∷ ys → ⊥
 no_head y ys e = cc
@@ -22,7 +13,7 @@ no_head y ys e = cc
 root_first : (root : List ℕ) (files : List SourceFile) → IsSource root files → (let s : Source = record { files = files } in
     name_of_file s 0 ≡ root)
 root_first root [] is = absurd (no_head root _ is.equation)
-root_first root (f ∷ fs) is = heads f.name root _ _ is.equation
+root_first root (f ∷ fs) is = head_is f.name root _ _ is.equation
 
 root_is : (contents : Contents) (root : List ℕ) (s : Source) → IsLoaded contents root (Ok s) → IsUtf8 (name_of_file s 0)
 root_is contents root s loaded = go (root_name root) refl loaded

@@ -1,24 +1,10 @@
 -- In given contents there is one answer, aside from failed reads and want of memory.
-use Rattle.std.proofs.Common.{◌≡◌, ◌∙◌, ℕ, Bool, true, false, List, Option, Some, None, Result, Ok, Err, refl, sym, ap, subst, inl, inr, true≢false}
-use Rattle.std.specs.Prelude.{◌↔◌}
-use Rattle.adl_meaning.specs.Prelude.{Fault, Source, flat_of}
-use Rattle.cam_io.specs.Contents.{Contents}
-use Rattle.adl_import.specs.Loaded.{IsLoaded}
-use Rattle.adl_import.specs.declared.error.LoadError.{LoadError}
+use Rattle.front_end.proofs.Common.{Bool, BuildError, Contents, Err, Fault, FrontEnd, IsAssigned, IsFaulted, IsFront, IsFrontOf, IsLoaded, IsMeaning, IsMeaningOf, IsMeant, List, LoadError, Meaning, None, Ok, Option, Policy, Result, Some, Source, ap}
+use Rattle.front_end.proofs.Common.{false, first_front_fault, first_list_fault, flat_of, has, inl, inr, label_numbers, name_of_file, refl, settled_of, subst, sym, true, true≢false, yields, ℕ, ◌↔◌, ◌∙◌, ◌≡◌}
 use Rattle.adl_import.specs.declared.error.LoadError.TheVariants as load
 use Rattle.adl_import.proofs.Unique.{loaded_one}
-use Rattle.adl_settings.specs.Settled.{settled_of}
-use Rattle.arch_policy.specs.Labels.{label_numbers}
-use Rattle.cap_model.specs.Tables.{has}
-use Rattle.cap_model.specs.declared.policy.Policy.{Policy}
 use Rattle.cap_model.proofs.TableMembers.{one_table}
-use Rattle.front_end.specs.First.{first_front_fault, first_list_fault, name_of_file}
-use Rattle.front_end.specs.Fronts.{IsAssigned, IsFront, IsFrontOf, IsMeaning, IsMeaningOf, IsMeant}
-use Rattle.front_end.specs.Refusals.{IsFaulted, yields}
-use Rattle.front_end.specs.declared.error.BuildError.{BuildError}
 use Rattle.front_end.specs.declared.error.BuildError.TheVariants as error
-use Rattle.front_end.specs.declared.phases.FrontEnd.{FrontEnd}
-use Rattle.front_end.specs.declared.phases.Meaning.{Meaning}
 
 -- ---- sources and faults
 

@@ -1,7 +1,6 @@
 -- A phase that refuses tells the first fault, where those before it found none.
-use Rattle.std.proofs.Common.{◌≡◌, Option, Some, None, Result, Ok, Err, sym, subst}
-use Rattle.adl_meaning.specs.Prelude.{Fault, Refused, Refuses, option_or}
-use Rattle.std.specs.Prelude.{IsErr, IsErrAnd}
+use Rattle.front_end.proofs.Common.{Err, Fault, IsErr, IsErrAnd, None, Ok, Option, Refused, Result, Some, option_or, subst, sym, ◌≡◌}
+use Rattle.adl_meaning.specs.Prelude.{Refuses}
 use Rattle.cam_base.specs.declared.error.Refused.TheVariants as refused
 
 third : (X Y : Type 0) (e : Refused Fault) (a b c d : Option Fault) → a ≡ None → b ≡ None → Refuses {T = Y} (Err e) c

@@ -1,31 +1,15 @@
 -- What the parts answer is what the whole answers.
-use Rattle.std.proofs.Common.{◌≡◌, ◌∙◌, ℕ, List, [], Option, Some, None, refl, sym, ap, subst, inl, inr, Ok, Err, Result}
-use Rattle.adl_meaning.specs.Prelude.{Fault, Refused, Source, flat_of, option_or}
-use Rattle.adl_meaning.specs.declared.flat.Flat.{Flat}
-use Rattle.adl_meaning.specs.declared.settled.Settled.{Settled}
+use Rattle.front_end.proofs.Common.{Assigns, BuildError, Contents, Err, Fault, Flat, FrontEnd, HasMeaning, IsAssigned, IsFaulted, IsFront, IsFrontOf, IsLoaded, IsMeaning, IsMeaningOf, IsMeant, IsRefused, IsSorted, List, LoadError, Meaning, Means}
+use Rattle.front_end.proofs.Common.{None, Ok, Option, Policy, Refused, Refuses, Result, Settled, Some, Source, Tells, [], ap, first_front_fault, first_list_fault, flat_of, inl, inr, label_lines, label_numbers, name_of_file, no_first, not_loaded}
+use Rattle.front_end.proofs.Common.{option_or, refl, settled_of, source_tables, subst, sym, ℕ, ◌∙◌, ◌≡◌}
 use Rattle.cam_base.specs.declared.error.Refused.TheVariants as refused
 use Rattle.cam_io.specs.Causes.{Rose}
-use Rattle.cam_io.specs.Contents.{Contents}
-use Rattle.adl_import.specs.Loaded.{IsLoaded}
-use Rattle.adl_import.specs.declared.error.LoadError.{LoadError}
 use Rattle.adl_import.specs.declared.error.LoadError.TheVariants as load
 use Rattle.adl_meaning.specs.Faults.{Refuses as RefusesAs}
-use Rattle.adl_settings.specs.Settled.{settled_of}
-use Rattle.arch_policy.specs.Labels.{label_lines, label_numbers}
 use Rattle.arch_policy.specs.Policies.{IsPolicyOf, first_edge_fault}
 use Rattle.arch_policy.specs.Tables.{Tables, tables_of}
 use Rattle.arch_policy.specs.declared.policy.Assigned.{Assigned}
-use Rattle.cap_model.specs.declared.policy.Policy.{Policy}
-use Rattle.cap_model.specs.Tables.{IsSorted}
-use Rattle.front_end.specs.First.{first_front_fault, first_list_fault, name_of_file, source_tables}
-use Rattle.flat_laws.proofs.FewEnds.{no_first}
-use Rattle.front_end.specs.Fronts.{IsAssigned, IsFront, IsFrontOf, IsMeaning, IsMeaningOf, IsMeant}
-use Rattle.front_end.specs.Refusals.{IsFaulted, IsRefused, Refuses, not_loaded}
-use Rattle.front_end.specs.Steps.{Assigns, IsSound, Means, Tells}
-use Rattle.front_end.specs.declared.error.BuildError.{BuildError}
 use Rattle.front_end.specs.declared.error.BuildError.TheVariants as error
-use Rattle.front_end.specs.declared.phases.FrontEnd.{FrontEnd}
-use Rattle.front_end.specs.declared.phases.Meaning.{Meaning}
 use Rattle.front_end.proofs.LoadedWhole.{loaded_whole}
 
 pub second_is : {X : Type 0} (a b o : Option X) → a ≡ None → b ≡ o → option_or a b ≡ o
@@ -85,7 +69,7 @@ meant_meaning root contents before now s (Ok m) loaded h = record {
 meant_meaning root contents before now s (Err e) loaded h = told_refuses first_front_fault root contents before now s e loaded h
 
 pub meaning_sound : (root : List ℕ) (contents : Contents) (m : Meaning) → IsMeaningOf root contents m
-    → IsSound m.source m.flat m.settled
+    → HasMeaning m.source m.flat m.settled
 meaning_sound root contents m is = record {
   whole = loaded_whole contents root m.source is.loaded;
   none = is.none;
@@ -147,7 +131,7 @@ assigned_front root contents before now m (Err e) is a = told_refuses first_list
     is.loaded (list_tells m.source e is.none a)
 
 pub front_sound : (root : List ℕ) (contents : Contents) (f : FrontEnd) → IsFrontOf root contents f
-    → IsSound f.source f.flat f.settled
+    → HasMeaning f.source f.flat f.settled
 front_sound root contents f is = record {
   whole = loaded_whole contents root f.source is.loaded;
   none = no_first (first_front_fault f.source) (first_edge_fault (source_tables f.source)) is.none;

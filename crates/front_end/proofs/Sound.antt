@@ -1,11 +1,5 @@
 -- What is known of a source in which no fault stands up to the settings.
-use Rattle.std.proofs.Common.{◌≡◌, Option, Some, None}
-use Rattle.adl_meaning.specs.Prelude.{AreNamesSound, Source, first_flat_fault, first_name_fault, option_or}
-use Rattle.adl_meaning.proofs.SoundNames.{names_sound}
-use Rattle.adl_settings.specs.SettingFaults.{first_setting_fault}
-use Rattle.adl_types.specs.TypeFaults.{first_type_fault}
-use Rattle.front_end.specs.First.{first_front_fault}
-use Rattle.flat_laws.proofs.FewEnds.{no_first}
+use Rattle.front_end.proofs.Common.{AreNamesSound, None, Option, Some, Source, first_flat_fault, first_front_fault, first_name_fault, first_setting_fault, first_type_fault, names_sound, no_first, option_or, ◌≡◌}
 
 pub no_second : {X : Type 0} (a b : Option X) → option_or a b ≡ None → b ≡ None
 no_second None b e = e

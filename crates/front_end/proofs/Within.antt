@@ -1,18 +1,12 @@
 -- What a source means, where no fault stands, is within limits.
-use Rattle.std.proofs.Common.{◌<◌, ◌+◌, ◌^◌, length, sym, subst, arith}
-use Rattle.adl_meaning.specs.Prelude.{Source, first_join_fault, first_size_fault}
-use Rattle.adl_meaning.specs.declared.flat.Flat.{Flat}
-use Rattle.adl_meaning.specs.declared.settled.Settled.{Settled}
+use Rattle.front_end.proofs.Common.{Flat, HasMeaning, Settled, Source, arith, first_join_fault, first_size_fault, length, no_first, short_few, subst, sym, ◌+◌, ◌<◌, ◌^◌}
 use Rattle.flat_laws.proofs.AreWithin.{flat_is_within}
-use Rattle.flat_laws.proofs.FewEnds.{no_first}
-use Rattle.flat_laws.proofs.ShortTrees.{short_few}
 use Rattle.flat_laws.proofs.Small.{small}
 use Rattle.flat_laws.specs.Small.{IsSmall}
 use Rattle.front_end.proofs.Sound.{faultless}
-use Rattle.front_end.specs.Steps.{IsSound}
 use Rattle.cspace_layout.specs.Within.{IsWithin}
 
-module _ (s : Source) (flat : Flat) (settled : Settled) (sound : IsSound s flat settled) where
+module _ (s : Source) (flat : Flat) (settled : Settled) (sound : HasMeaning s flat settled) where
   pub sound_within : IsWithin s flat
   sound_within =
       let is = faultless s sound.none in

@@ -22,7 +22,7 @@ pub record IsWhole (source : Source) : Type 0 where
   pub root : IsUtf8 (name_of_file source 0)
 
 -- such a source, without faults up to the settings, with what it means
-pub record IsSound (source : Source) (flat : Flat) (settled : Settled) : Type 0 where
+pub record HasMeaning (source : Source) (flat : Flat) (settled : Settled) : Type 0 where
   pub whole : IsWhole source
   pub none : first_front_fault source ≡ None
   pub meant : IsMeant source flat settled

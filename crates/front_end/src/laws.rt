@@ -7,7 +7,7 @@ ghost use Rattle.adl_meaning.specs.declared.settled.Settled.{Settled};
 ghost use Rattle.cam_io.specs.Contents.{Contents};
 ghost use Rattle.front_end.specs.Fronts.{IsFront, IsMeaning};
 ghost use Rattle.front_end.specs.Refusals.{yields};
-ghost use Rattle.front_end.specs.Steps.{IsSound, IsWhole};
+ghost use Rattle.front_end.specs.Steps.{HasMeaning, IsWhole};
 ghost use Rattle.front_end.specs.declared.error.BuildError.{BuildError as Refusal};
 ghost use Rattle.front_end.specs.declared.phases.FrontEnd.{FrontEnd as Assigned};
 ghost use Rattle.front_end.specs.declared.phases.Meaning.{Meaning as Meant};
@@ -32,7 +32,7 @@ pub fn loaded_sources_are_whole()
 
 /// What such a source means, where no fault stands, is within the limits of layouts and has few labels.
 pub fn meanings_are_within()
-    ensures within { (s : Tree) (flat : Flat) (settled : Settled) → IsSound s flat settled → IsWithin s flat }
-    ensures labels { (s : Tree) (flat : Flat) (settled : Settled) → IsSound s flat settled
+    ensures within { (s : Tree) (flat : Flat) (settled : Settled) → HasMeaning s flat settled → IsWithin s flat }
+    ensures labels { (s : Tree) (flat : Flat) (settled : Settled) → HasMeaning s flat settled
         → length flat.domains + length flat.connections + length flat.leaves < 2 ^ 32 }
 {}

@@ -8,7 +8,7 @@ ghost use Rattle.cam_io.specs.Reading.{InAll, KeepsFiles, LearnsOnly};
 ghost use Rattle.front_end.specs.First.{first_front_fault, name_of_file};
 ghost use Rattle.front_end.specs.Fronts.{IsFront, IsMeaning};
 ghost use Rattle.front_end.specs.Refusals.{IsRefused};
-ghost use Rattle.front_end.specs.Steps.{Assigns, IsSound, Means};
+ghost use Rattle.front_end.specs.Steps.{Assigns, HasMeaning, Means};
 ghost use Rattle.std.specs.Prelude.{◌≡◌, IfOk};
 
 use crate::BuildError;
@@ -93,7 +93,7 @@ pub fn front<F: Files>(alloc: Global, files: &mut F, root: &str) -> Result<Front
 ///
 /// The limit on edges, where it is passed, with the name of its file; want of memory.
 pub fn with_policy(alloc: Global, meaning: Meaning) -> Result<FrontEnd, BuildError>
-    requires { IsSound meaning.source meaning.flat meaning.settled }
+    requires { HasMeaning meaning.source meaning.flat meaning.settled }
     ensures { Assigns meaning result }
 {
     let Meaning {

@@ -1,32 +1,21 @@
 -- The flat system of a source is as the relations of its hierarchy have it.
-use Rattle.std.proofs.Common.{◌≡◌, ◌<◌, ◌↔◌, ℕ, zero, suc, Bool, true, false, not, cond, List, [], ◌∷◌, ◌++◌, map, Option, Some, None, unwrap_or, refl, sym, ◌∙◌, ap, subst, arith, inl, inr, true≢false}
-use Rattle.std.proofs.lemmas.Bool.{not-true, not_from_false}
-use Rattle.std.proofs.lemmas.Slice.Eq.{bytes_eq-Decides}
+use Rattle.front_laws.proofs.Common.{AreConnections, AreDomains, AreLeaves, AreNamesSound, Body, Bool, Component, Domain, End, FlatConnection, FlatEnd, Hierarchy, InOrder, IsByHierarchy, IsConnectionBefore, IsDomainBefore, IsDomainOf, IsEndOf, IsIn}
+use Rattle.front_laws.proofs.Common.{IsInside, IsLeafOf, IsOnce, IsPathBefore, IsWireOf, Leaf, List, None, Option, Path, Placed, Reached, Some, Source, Strung, [], all_joined, ap, arith, at_place, below, body, bytes_eq-Decides, cond, connections}
+use Rattle.front_laws.proofs.Common.{connections_once, connections_stand, domain_found, domain_number, domain_of, domains, domains_are, domains_once, end_numbers_kept, ends_kept, false, flat_connection, flat_domain, flat_end, flat_ends, flat_of}
+use Rattle.front_laws.proofs.Common.{from_get_map, from_map, get_map, group_above, hierarchy_of, in_map, in_place, inl, inr, interface_of, is_hardware, is_interface, is_there, joined, joined_by, leaf_number, leaf_number_is, leaves, leaves_of_domain}
+use Rattle.front_laws.proofs.Common.{map, member_number, not, not-true, not_from_false, option_map_or, place_by, place_of, refl, subst, suc, sym, top_number, true, true≢false, unwrap_or, zero, ℕ, ◌++◌, ◌<◌, ◌↔◌, ◌∙◌, ◌∷◌, ◌≡◌}
 use Rattle.adl_ast.specs.declared.component.Member.TheVariants as members
-use Rattle.adl_meaning.specs.declared.flat.Domain.{Domain}
-use Rattle.adl_meaning.specs.declared.flat.FlatConnection.{FlatConnection}
-use Rattle.adl_meaning.specs.declared.flat.FlatEnd.{FlatEnd}
-use Rattle.adl_meaning.specs.declared.flat.Leaf.{Leaf}
-use Rattle.adl_meaning.specs.Prelude.{AreNamesSound, Body, Component, End, Hierarchy, IsIn, Path, Placed, Reached, Source, Strung, body, connections, domain_number, domain_of, domains, flat_connection, flat_domain, flat_end, flat_ends, flat_of, group_above, hierarchy_of, interface_of, is_hardware, is_interface, joined_by, leaf_number, leaf_of, leaves, member_number, option_map_or, place_by, slice_get, top_number}
+use Rattle.adl_meaning.specs.Prelude.{leaf_of, slice_get}
 use Rattle.adl_hierarchy.specs.Leads.{AreDotted}
-use Rattle.adl_hierarchy.specs.Once.{IsOnce}
 use Rattle.adl_hierarchy.proofs.Bodies.{body_number}
-use Rattle.adl_hierarchy.proofs.Connections.{connections_once, connections_stand}
-use Rattle.adl_hierarchy.proofs.DomainNames.{domain_found, domains_are, domains_once, leaf_number_is, leaves_of_domain}
 use Rattle.adl_hierarchy.proofs.Grouping.{group_is_outermost}
-use Rattle.adl_hierarchy.proofs.Joining.{all_joined, end_numbers_kept, ends_kept, joined}
-use Rattle.adl_hierarchy.proofs.Leading.{is_there}
 use Rattle.adl_hierarchy.proofs.Leaves.{leaves_stand, paths_are_leaves}
 use Rattle.adl_hierarchy.proofs.Once.{leaf_paths_once}
-use Rattle.cam_base.proofs.Gathered.{in_place, place_of}
-use Rattle.cam_base.proofs.NumberedLists.{at_place, below, from_get_map, from_map, get_map, in_map}
-use Rattle.front_laws.specs.ByHierarchy.{AreConnections, AreDomains, AreLeaves, IsByHierarchy, IsConnectionBefore, IsDomainBefore, IsDomainOf, IsEndOf, IsInside, IsLeafOf, IsPathBefore, IsWireOf}
-use Rattle.front_laws.specs.InOrder.{InOrder}
 use Rattle.front_laws.proofs.DomainOrder.{IsKeyBefore, domain_leaves_rise, domains_in_order}
 use Rattle.front_laws.proofs.LeafOrder.{leaves_in_order, wires_in_order}
 use Rattle.front_laws.proofs.Ordered.{order_map, order_weaken}
 use Rattle.flat_laws.proofs.Declared.{end_declared}
-use Rattle.flat_laws.proofs.EndMembers.{interface_placed}
+use Rattle.flat_laws.proofs.EndMembers.{interface_placed, place_by-passes}
 use Rattle.flat_laws.proofs.FlatLeaves.{leaf_component}
 
 -- ---- the domain of a path
@@ -178,16 +167,6 @@ are_domains s sound =
 
 -- ---- ends
 
--- what stands at the place of the first that passes, passes
-place_passes : {X : Type 0} (p : X → Bool) (xs : List X) (x : X) → slice_get xs (place_by p xs) ≡ Some x → p x ≡ true
-place_passes p [] x e = cc
-place_passes {X} p (y ∷ xs) x e = by_test (p y) refl (place_passes p xs x) e
-  where
-    by_test : (b : Bool) → p y ≡ b → (slice_get xs (place_by p xs) ≡ Some x → p x ≡ true)
-        → slice_get (y ∷ xs) (cond b zero (suc (place_by p xs))) ≡ Some x → p x ≡ true
-    by_test true t more e = let same : y ≡ x = cc in ap p (sym same) ∙ t
-    by_test false t more e = more e
-
 -- what stands in front of that place doesn't
 earlier_fails : {X : Type 0} (p : X → Bool) (xs : List X) (k : ℕ) (x : X) → k < place_by p xs → slice_get xs k ≡ Some x
     → p x ≡ false
@@ -235,7 +214,7 @@ an_end s sound dotted x i n end g r j =
       of_leaf = ap (λ (b : Body). b.component) own;
       member = m.0;
       named =
-          sym ((bytes_eq-Decides r.interface m.0.id.name).0 (place_passes (is_interface r.interface) d.component.1.members
+          sym ((bytes_eq-Decides r.interface m.0.id.name).0 (place_by-passes (is_interface r.interface) d.component.1.members
           (members.Interface m.0) placed_there));
       placed = ap (slice_get d.component.1.members) member ∙ placed_there;
       first = λ k i l e n.

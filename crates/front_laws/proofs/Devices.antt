@@ -1,21 +1,13 @@
 -- The first object that needs a page of no device, or one that is taken; and where placed objects lie.
-use Rattle.std.proofs.Common.{◌≡◌, ◌+◌, ℕ, suc, Bool, true, false, ◌==◌, ◌&&◌, not, leb, List, length, [], ◌∷◌, ◌++◌, Option, Some, None, refl, sym, ◌∙◌, ap, subst, arith, inl, inr, cond, true≢false, append_assoc, append-nil, length-append}
+use Rattle.front_laws.proofs.Common.{AreServed, Block, Bool, DevicePage, HasDevice, IsDeviceRefusal, IsTaken, List, Need, NeedsPage, None, Nothing, Option, Some, Untyped, [], and_parts, ap, append-nil, append_assoc, arith, below, cases_Bool, cond}
+use Rattle.front_laws.proofs.Common.{eq-eqb, eqb-true, false, filter_map, from_any, from_filter_map, get_behind, get_front, in_filter_map, in_place, inl, inr, le-leb, leb, leb-true, length, length-append, list_any, no_device, not, option_or}
+use Rattle.front_laws.proofs.Common.{place_of, refl, region_end, shared_frame, slice_get, subst, suc, sym, true, true≢false, ℕ, ◌&&◌, ◌++◌, ◌+◌, ◌==◌, ◌∙◌, ◌∷◌, ◌≡◌}
 use Rattle.std.proofs.lemmas.List.Elements.{filter_map-append}
-use Rattle.std.proofs.lemmas.Bool.{and_parts, cases_Bool, eq-eqb, eqb-true, le-leb, leb-true}
-use Rattle.std.specs.List.{filter_map, list_any, slice_get}
-use Rattle.std.specs.Option.{option_or}
 use Rattle.std.specs.Prelude.{◌||◌}
 use Rattle.boot_plan.specs.Devices.{device_refusal, has_page, is_needed}
-use Rattle.boot_plan.specs.Regions.{region_end}
-use Rattle.boot_plan.specs.declared.need.Need.{Need}
-use Rattle.boot_plan.specs.declared.need.Need.TheVariants.{Block, DevicePage, Nothing}
 use Rattle.boot_plan.specs.declared.plan_refusal.PlanRefusal.{PlanRefusal}
 use Rattle.boot_plan.specs.declared.plan_refusal.PlanRefusal.TheVariants.{NoDevice, SharedFrame}
-use Rattle.boot_plan.specs.declared.untyped.Untyped.{Untyped}
 use Rattle.cam_base.specs.Gather.{IsIn}
-use Rattle.cam_base.proofs.Gathered.{get_behind, get_front, in_place, place_of}
-use Rattle.cam_base.proofs.NumberedLists.{below, from_any, from_filter_map, in_filter_map}
-use Rattle.front_laws.specs.PlannedMemory.{AreServed, HasDevice, IsDeviceRefusal, IsTaken, NeedsPage, no_device, shared_frame}
 use Rattle.front_laws.proofs.First.{IsClean, first_of, from_first, from_none, in_first, in_none}
 use Rattle.front_laws.proofs.Places.{at_split, front_get}
 

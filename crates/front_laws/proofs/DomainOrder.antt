@@ -1,13 +1,8 @@
 -- Domains stand in the order of their first leaves, and the leaves of each in theirs.
-use Rattle.std.proofs.Common.{◌≡◌, ◌<◌, ◌+◌, ◌⊎◌, ℕ, zero, suc, Bool, true, false, ◌||◌, not, cond, List, length, [], ◌∷◌, ◌++◌, map, Some, refl, sym, ◌∙◌, ap, subst, append_assoc, arith, inl, inr, true≢false}
-use Rattle.std.proofs.lemmas.Bool.{or_left, or_parts, or_right}
+use Rattle.front_laws.proofs.Common.{Bool, Hierarchy, InOrder, IsIn, List, Path, Some, [], ap, append_assoc, arith, cond, domain_of, domains, enumerate_from, false, flat_domain, from_enumerate, from_filter, get_behind, inl, inr, is_hardware}
+use Rattle.front_laws.proofs.Common.{is_inside, leaves, length, map, not, or_left, or_parts, or_right, refl, same_path, same_path-Decides, split_get, subst, suc, sym, true, true≢false, zero, ℕ, ◌++◌, ◌+◌, ◌<◌, ◌||◌, ◌∙◌, ◌∷◌, ◌≡◌, ◌⊎◌}
 use Rattle.adl_meaning.specs.Lists.{firsts_after}
-use Rattle.adl_meaning.specs.Prelude.{Hierarchy, IsIn, Path, domain_of, domains, enumerate_from, filter, flat_domain, is_hardware, is_inside, leaves, same_path, slice_get}
-use Rattle.adl_hierarchy.proofs.DomainNames.{same_path-Decides}
-use Rattle.adl_hierarchy.proofs.Places.{from_filter}
-use Rattle.cam_base.proofs.Gathered.{get_behind, split_get}
-use Rattle.cam_base.proofs.NumberedLists.{from_enumerate}
-use Rattle.front_laws.specs.InOrder.{InOrder}
+use Rattle.adl_meaning.specs.Prelude.{filter, slice_get}
 use Rattle.front_laws.proofs.Ordered.{order_map}
 
 -- ---- the leaves of one domain

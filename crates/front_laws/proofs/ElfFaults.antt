@@ -1,8 +1,7 @@
 -- The first fault of an ELF file.
-use Rattle.std.proofs.Common.{◌≡◌, ◌≢◌, ◌<◌, ◌≤◌, ◌+◌, ◌*◌, ℕ, zero, suc, Bool, true, false, ◌==◌, ◌&&◌, not, nat_lt, nat_eq, List, [], ◌∷◌, ◌++◌, length, Option, Some, None, Result, Err, refl, sym, ◌∙◌, ap, subst, arith, cond, true≢false, append-nil, append_assoc, length-append}
-use Rattle.std.proofs.lemmas.Bool.{and_from, and_parts, eq-eqb, eqb-false, eqb-true, le-ltb, lt-ltb, ltb-false, ltb-true, ne_eqb, not-false, not-true, not_from_false}
-use Rattle.std.specs.List.{slice_get, slice_index, starts_with}
-use Rattle.std.specs.Option.{ok_or, option_or}
+use Rattle.front_laws.proofs.Common.{Bool, Err, List, None, Option, Result, Some, [], and_from, and_parts, ap, append-nil, append_assoc, arith, at_place, below, cond, eq-eqb, eqb-false, eqb-true, false, get_behind, get_front, le-ltb, length}
+use Rattle.front_laws.proofs.Common.{length-append, lt-ltb, ltb-false, ltb-true, nat_eq, nat_lt, ne_eqb, not, not-false, not-true, not_from_false, ok_or, option_or, refl, slice_get, slice_index, starts_with, subst, suc, sym, true, true≢false, zero}
+use Rattle.front_laws.proofs.Common.{ℕ, ◌&&◌, ◌*◌, ◌++◌, ◌+◌, ◌<◌, ◌==◌, ◌∙◌, ◌∷◌, ◌≡◌, ◌≢◌, ◌≤◌}
 use Rattle.sect_table.specs.Classes.{class_of, fields_end, header_length, length_at}
 use Rattle.sect_table.specs.Faults.{fault, fault_behind, fault_if, fault_within, first_fault, header_fault, headers_fault, is_aligned, is_of_another_length, is_past, is_sized, is_whole, limit_fault, magic, short}
 use Rattle.sect_table.specs.ElfHeaders.{file_header, headers, headers_from, program_header}
@@ -13,8 +12,6 @@ use Rattle.sect_table.specs.declared.fault.ElfCode.TheVariants as code
 use Rattle.sect_table.specs.declared.fault.ElfFault.{ElfFault}
 use Rattle.sect_table.specs.declared.program_header.ProgramHeader.{ProgramHeader}
 use Rattle.sect_table.specs.Tables.{sections_limit}
-use Rattle.cam_base.proofs.Gathered.{get_behind, get_front}
-use Rattle.cam_base.proofs.NumberedLists.{at_place, below}
 use Rattle.front_laws.specs.ElfFaults.{AreSoundTo, HasTable, IsElfFault, IsHeaderFault, IsOfClass, IsSoundElf, IsSoundHeader, another_length, header_at, in_header, many_sections, no_class, no_class_bytes, no_fields, no_magic, no_table, not_aligned, not_sized, not_whole}
 use Rattle.front_laws.proofs.First.{IsClean, first_of, from_first, from_none, in_first, in_none}
 use Rattle.front_laws.proofs.Places.{at_split}

@@ -1,6 +1,5 @@
 -- The first thing that is said of the elements of a list, each by those in front of it.
-use Rattle.std.proofs.Common.{◌≡◌, List, [], ◌∷◌, ◌++◌, Option, Some, None, refl, sym, ◌∙◌, ap, append_assoc, append-nil}
-use Rattle.std.specs.Option.{option_or}
+use Rattle.front_laws.proofs.Common.{List, None, Option, Some, [], ap, append-nil, append_assoc, option_or, refl, sym, ◌++◌, ◌∙◌, ◌∷◌, ◌≡◌}
 
 abbrev pub first_of : {X F : Type 0} → (List X → X → Option F) → List X → List X → Option F
 first_of g before [] = None

@@ -1,19 +1,10 @@
 -- The files of a source are those that imports reach, in the order in which they are met.
-use Rattle.std.proofs.Common.{◌≡◌, ◌≤◌, ◌+◌, ◌⊎◌, ℕ, zero, suc, Bool, true, false, not, cond, List, [], ◌∷◌, ◌++◌, length, map, filter, Option, Some, None, refl, sym, ◌∙◌, ap, subst, arith, inl, inr, append_assoc, length-append, true≢false}
-use Rattle.std.proofs.lemmas.Slice.Eq.{bytes_eq-Decides}
+use Rattle.front_laws.proofs.Common.{Bool, Import, InOrder, IsOnce, IsSource, List, Meeting, None, Option, Some, SourceFile, [], ap, append_assoc, arith, bytes_eq, bytes_eq-Decides, cond, false, filter, firsts, from_any, from_filter, from_flat_map}
+use Rattle.front_laws.proofs.Common.{from_map, imports_of, in_filter, in_flat_map, in_map, in_right, inl, inr, is_built_in, length, length-append, map, meeting_at, meeting_of, meetings_of, met, name_given, not, once_filter, refl, root_place}
+use Rattle.front_laws.proofs.Common.{split_in, subst, suc, sym, true, true≢false, zero, ℕ, ◌++◌, ◌+◌, ◌∙◌, ◌∷◌, ◌≡◌, ◌≤◌, ◌⊎◌}
 use Rattle.std.specs.List.{flat_map}
-use Rattle.std.specs.Str.{bytes_eq}
-use Rattle.adl_ast.specs.declared.file.Import.{Import}
-use Rattle.adl_ast.specs.declared.source.SourceFile.{SourceFile}
-use Rattle.adl_hierarchy.specs.Once.{IsOnce}
-use Rattle.adl_hierarchy.proofs.Places.{from_filter, in_filter, once_filter}
-use Rattle.adl_import.specs.Imports.{imports_of, is_built_in, name_given}
-use Rattle.adl_import.specs.Sources.{IsSource, Meeting, firsts, meeting_at, meeting_of, meetings_of, met, root_place}
 use Rattle.cam_base.specs.Gather.{IsIn}
-use Rattle.cam_base.proofs.Gathered.{in_right}
-use Rattle.cam_base.proofs.NumberedLists.{from_any, from_flat_map, from_map, in_flat_map, in_map, split_in}
 use Rattle.front_laws.specs.Importing.{AreReached, ImportsName, IsMetBefore, IsReached, by_import, names_met, the_root}
-use Rattle.front_laws.specs.InOrder.{InOrder}
 use Rattle.front_laws.proofs.Ordered.{order_map, order_weaken}
 
 -- ---- the first of each name

@@ -1,13 +1,9 @@
 -- The walk to the leaves meets them in the order of their paths, and the walk to the connections these in theirs.
-use Rattle.std.proofs.Common.{◌≡◌, ℕ, zero, suc, Bool, true, false, cond, List, length, [], ◌∷◌, map, Some, ap, subst, inl, inr}
+use Rattle.front_laws.proofs.Common.{AreNamesSound, Bool, Hierarchy, InOrder, IsBefore, IsIn, IsOnce, IsPathBefore, IsWireBefore, List, Part, Path, Placed, Some, Source, Strung, Wire, [], ap, at_names, body, by_instances, cond, connections, deeper}
+use Rattle.front_laws.proofs.Common.{false, flat_map, from_flat_map, from_map, further, hierarchy_of, in_one, inl, inr, is_composite, leaves, leaves_within, length, map, name_of, names_once, outer_first, outside, part_named, placed_by, strung}
+use Rattle.front_laws.proofs.Common.{strung_by, subst, suc, top_number, true, wires_of, within_one, zero, ℕ, ◌∷◌, ◌≡◌}
 use Rattle.adl_meaning.specs.Joins.{connections_within}
-use Rattle.adl_meaning.specs.Prelude.{AreNamesSound, Hierarchy, IsIn, Part, Path, Placed, Source, Strung, Wire, body, connections, flat_map, further, hierarchy_of, is_composite, leaves, leaves_within, name_of, outside, part_named, placed_by, strung, strung_by, top_number, wires_of}
-use Rattle.adl_hierarchy.specs.Once.{IsOnce}
-use Rattle.adl_hierarchy.proofs.PartNames.{names_once}
 use Rattle.adl_hierarchy.proofs.Repeats.{find_once}
-use Rattle.cam_base.proofs.NumberedLists.{from_flat_map, from_map}
-use Rattle.front_laws.specs.ByHierarchy.{IsPathBefore, IsWireBefore, at_names, by_instances, deeper, in_one, outer_first, within_one}
-use Rattle.front_laws.specs.InOrder.{InOrder, IsBefore}
 use Rattle.front_laws.proofs.Ordered.{all_before, before_map, order_append, order_flat_map, order_map, order_weaken}
 
 -- the instances of each body differ in name

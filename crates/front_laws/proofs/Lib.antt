@@ -1,3 +1,4 @@
+pub mod Common
 pub mod ByHierarchy
 pub mod DomainOrder
 pub mod Importing

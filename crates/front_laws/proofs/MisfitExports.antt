@@ -1,18 +1,12 @@
 -- Exports that are at fault, by the exports in front of them.
-use Rattle.std.proofs.Common.{◌≡◌, ◌==◌, ◌⊎◌, Bool, true, false, ◌||◌, ◌&&◌, not, cond, List, [], ◌∷◌, ◌++◌, Option, Some, None, is_some, refl, sym, ◌∙◌, ap, subst, inl, inr}
-use Rattle.std.proofs.lemmas.Bool.{and_from, and_parts, eq-eqb, eqb-true, not-true, not_from_false, or_cases, or_left, or_right}
-use Rattle.std.proofs.lemmas.Slice.Eq.{bytes_eq-Decides}
-use Rattle.adl_ast.specs.declared.component.Interface.{Interface}
+use Rattle.front_laws.proofs.Common.{Bool, Composition, End, Export, Fault, HasComposition, HasItem, Holding, Interface, IsIn, Item, ItemAt, Known, List, Name, None, Option, Port, Some, Source, Types, [], and_from, and_parts, ap, bytes_eq-Decides}
+use Rattle.front_laws.proofs.Common.{compositions, cond, connections_in, differs, eq-eqb, eqb-true, export_fault, exports_in, false, flat_map, from_flat_map, held_as, in_append, in_flat_map, in_left, in_right, inl, inr, interface_at, is_port}
+use Rattle.front_laws.proofs.Common.{is_some, is_there, is_unled, items_of, known_in, known_of, misfit_exports, misfits_after, misfits_in_composition, misfits_in_item, not, not-true, not_from_false, of_assembly, of_component, option_and_then}
+use Rattle.front_laws.proofs.Common.{option_map_or, or_cases, or_left, or_right, port_of, refl, subst, sym, true, where_true, ◌&&◌, ◌++◌, ◌==◌, ◌||◌, ◌∙◌, ◌∷◌, ◌≡◌, ◌⊎◌}
 use Rattle.adl_ast.specs.declared.file.Item.TheVariants as items
-use Rattle.adl_meaning.specs.declared.item_at.ItemAt.{ItemAt}
 use Rattle.adl_meaning.specs.Export.{ends_in, inner_of, is_misfit, same_interface, same_port, unled_end, unled_ends}
-use Rattle.adl_meaning.specs.Prelude.{Composition, End, Export, Fault, IsIn, Item, Known, Name, Port, Source, bytes_eq, compositions, connections_in, differs, export_fault, exports_in, flat_map, held_as, interface_at, is_none, is_port, is_unled, items_of, known_in, known_of, misfit_exports, misfits_after, misfits_in_composition, misfits_in_item, option_and_then, option_map_or, port_of, where_true}
-use Rattle.adl_hierarchy.proofs.Leading.{is_there}
-use Rattle.cam_base.proofs.Gathered.{in_append, in_left, in_right}
-use Rattle.cam_base.proofs.NumberedLists.{from_flat_map, in_flat_map}
+use Rattle.adl_meaning.specs.Prelude.{bytes_eq, is_none}
 use Rattle.front_laws.specs.MisfitExports.{IsMisfit, IsMisfitIn, IsSamePort, IsUnled, an_end, an_export, in_an_assembly, port_again, target_again, unled, unlike_target}
-use Rattle.front_laws.specs.Standing.{HasComposition, HasItem, of_assembly, of_component}
-use Rattle.front_laws.specs.UnknownWords.{Holding, Types}
 use Rattle.front_laws.proofs.Tested.{from_true, in_true}
 
 -- ---- tests

@@ -1,24 +1,13 @@
 -- Only one flat system is as the relations of a hierarchy have it.
-use Rattle.std.proofs.Common.{◌≡◌, ◌<◌, ◌⊎◌, ℕ, suc, Bool, true, false, List, [], ◌∷◌, ◌++◌, length, map, Option, Some, refl, sym, ◌∙◌, ap, subst, arith, inl, inr}
-use Rattle.std.proofs.lemmas.Bool.{cases_Bool, cases_lt}
-use Rattle.adl_ast.specs.declared.component.Member.{Member}
+use Rattle.front_laws.proofs.Common.{AreConnections, AreDomains, AreLeaves, AreNamesSound, Bool, Component, Domain, End, FlatConnection, FlatEnd, Hierarchy, IsByHierarchy, IsConnectionBefore, IsDomainBefore, IsDomainOf, IsEndOf, IsIn, IsInside}
+use Rattle.front_laws.proofs.Common.{IsLeafOf, IsPathBefore, IsWireBefore, IsWireOf, ItemAt, Leaf, List, Member, Name, Option, Part, Path, Place, Reached, Role, Some, Source, Strung, Wire, [], ap, arith, body, cases_Bool, cases_lt, connections}
+use Rattle.front_laws.proofs.Common.{connections_stand, domain_of, false, from_get_map, from_map, get_map, hierarchy_of, in_map, in_place, inl, inr, is_hardware, joined_by, joins_joined, length, map, names_once, part_at, refl, subst, suc, sym}
+use Rattle.front_laws.proofs.Common.{top_number, true, wires_once, ℕ, ◌++◌, ◌<◌, ◌∙◌, ◌∷◌, ◌≡◌, ◌⊎◌}
 use Rattle.adl_ast.specs.declared.component.Member.TheVariants as members
 use Rattle.cam_base.proofs.Lists.{snoc_same}
 use Rattle.adl_meaning.specs.declared.connector.Connector.{Connector}
-use Rattle.adl_meaning.specs.declared.flat.Domain.{Domain}
 use Rattle.adl_meaning.specs.declared.flat.Flat.{Flat}
-use Rattle.adl_meaning.specs.declared.flat.FlatConnection.{FlatConnection}
-use Rattle.adl_meaning.specs.declared.flat.FlatEnd.{FlatEnd}
-use Rattle.adl_meaning.specs.declared.flat.Leaf.{Leaf}
-use Rattle.adl_meaning.specs.declared.item_at.ItemAt.{ItemAt}
-use Rattle.adl_meaning.specs.Prelude.{AreNamesSound, Component, End, Hierarchy, Interface, IsIn, Name, Part, Path, Place, Reached, Role, Source, Strung, Wire, body, connections, domain_of, hierarchy_of, is_hardware, joined_by, slice_get, top_number}
-use Rattle.adl_hierarchy.specs.PartAt.{part_at}
-use Rattle.adl_hierarchy.proofs.Connections.{connections_stand}
-use Rattle.adl_hierarchy.proofs.Joining.{joins_joined}
-use Rattle.adl_hierarchy.proofs.PartNames.{names_once, wires_once}
-use Rattle.cam_base.proofs.Gathered.{in_place}
-use Rattle.cam_base.proofs.NumberedLists.{from_get_map, from_map, get_map, in_map}
-use Rattle.front_laws.specs.ByHierarchy.{AreConnections, AreDomains, AreLeaves, IsByHierarchy, IsConnectionBefore, IsDomainBefore, IsDomainOf, IsEndOf, IsInside, IsLeafOf, IsPathBefore, IsWireBefore, IsWireOf}
+use Rattle.adl_meaning.specs.Prelude.{Interface, slice_get}
 use Rattle.front_laws.proofs.ByHierarchy.{domain_of_is}
 use Rattle.front_laws.proofs.OneOrder.{once_place, paths_one_way, same_order, wires_one_way}
 use Rattle.front_laws.proofs.Ordered.{order_map}

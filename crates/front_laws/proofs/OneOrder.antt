@@ -1,10 +1,7 @@
 -- The orders of paths and of connections go one way, and lists in such an order are told by what is in them.
-use Rattle.std.proofs.Common.{◌≡◌, ◌≤◌, ◌+◌, ◌⊎◌, ℕ, zero, suc, List, [], ◌∷◌, ◌++◌, length, map, Some, refl, sym, ◌∙◌, ap, subst, arith, inl, inr}
-use Rattle.adl_meaning.specs.Prelude.{Hierarchy, IsIn, Name, Part, Path, body, name_of, part_named, slice_get, wires_of}
-use Rattle.adl_hierarchy.specs.Once.{IsOnce}
-use Rattle.cam_base.proofs.Gathered.{get_behind, in_place}
-use Rattle.front_laws.specs.ByHierarchy.{IsPathBefore, IsWireBefore, at_names, by_instances, deeper, in_one, outer_first, within_one}
-use Rattle.front_laws.specs.InOrder.{InOrder, IsBefore}
+use Rattle.front_laws.proofs.Common.{Hierarchy, InOrder, IsBefore, IsIn, IsOnce, IsPathBefore, IsWireBefore, List, Name, Part, Path, Some, [], ap, arith, at_names, body, by_instances, deeper, get_behind, in_one, in_place, inl, inr, length, map}
+use Rattle.front_laws.proofs.Common.{name_of, outer_first, part_named, refl, subst, suc, sym, wires_of, within_one, zero, ℕ, ◌++◌, ◌+◌, ◌∙◌, ◌∷◌, ◌≡◌, ◌≤◌, ◌⊎◌}
+use Rattle.adl_meaning.specs.Prelude.{slice_get}
 
 -- ---- lists
 

@@ -1,11 +1,8 @@
 -- Lists in order, made of others.
-use Rattle.std.proofs.Common.{◌≡◌, List, [], ◌∷◌, ◌++◌, map, refl, sym, ◌∙◌, ap, subst, append_assoc, inl, inr}
+use Rattle.front_laws.proofs.Common.{InOrder, IsBefore, List, [], ap, append_assoc, from_flat_map, from_map, in_append, inl, inr, map, refl, split_in, subst, sym, ◌++◌, ◌∙◌, ◌∷◌, ◌≡◌}
 use Rattle.std.proofs.lemmas.List.{map-append}
 use Rattle.std.specs.List.{flat_map}
 use Rattle.cam_base.specs.Gather.{IsIn}
-use Rattle.cam_base.proofs.Gathered.{in_append}
-use Rattle.cam_base.proofs.NumberedLists.{from_flat_map, from_map, split_in}
-use Rattle.front_laws.specs.InOrder.{InOrder, IsBefore}
 
 pub order_append : {X : Type 0} (R : X → X → Type 0) (xs ys : List X) → InOrder R xs → InOrder R ys
     → ((x y : X) → IsIn x xs → IsIn y ys → R x y) → InOrder R (xs ++ ys)

@@ -1,17 +1,9 @@
 -- The first two regions that have an address in common.
-use Rattle.std.proofs.Common.{◌≡◌, ◌<◌, ◌≤◌, ◌+◌, ◌^◌, ◌⊎◌, ℕ, true, false, ◌&&◌, nat_lt, List, length, [], ◌∷◌, ◌++◌, get_or, Option, Some, None, option_map, refl, sym, ◌∙◌, ap, subst, arith, inl, inr, true≢false}
-use Rattle.std.proofs.lemmas.Bool.{and_parts, cases_eq, cases_lt, lt-ltb, ltb-true}
+use Rattle.front_laws.proofs.Common.{IsFirstOverlap, List, None, Option, Overlap, ShareAddress, Some, Untyped, [], and_parts, ap, arith, cases_eq, cases_lt, false, get_behind, get_front, get_or, get_or_from_slice_get, inl, inr, length, lt-ltb}
+use Rattle.front_laws.proofs.Common.{ltb-true, map_some, nat_lt, option_map, option_or, position, refl, region_end, shares, slice_get, slice_get-get_or, subst, sym, true, true≢false, ℕ, ◌&&◌, ◌++◌, ◌+◌, ◌<◌, ◌^◌, ◌∙◌, ◌∷◌, ◌≡◌, ◌≤◌, ◌⊎◌}
 use Rattle.std.proofs.lemmas.List.Quantifiers.{position-Some}
-use Rattle.std.proofs.lemmas.Option.{get_or_from_slice_get, slice_get-get_or}
-use Rattle.std.specs.List.{position, slice_get}
-use Rattle.std.specs.Option.{option_or}
 use Rattle.boot_plan.specs.Overlaps.{first_overlap, overlap_at, overlap_behind}
-use Rattle.boot_plan.specs.Regions.{region_end, shares}
-use Rattle.boot_plan.specs.declared.untyped.Untyped.{Untyped}
 use Rattle.boot_plan.proofs.Multiples.{power_pos}
-use Rattle.cam_base.proofs.Gathered.{get_behind, get_front}
-use Rattle.cam_base.proofs.NumberedLists.{map_some}
-use Rattle.front_laws.specs.PlannedMemory.{IsFirstOverlap, Overlap, ShareAddress}
 use Rattle.front_laws.proofs.First.{First, IsClean, first_of, from_first, from_none}
 use Rattle.front_laws.proofs.Places.{at_split, front_get, none_passes}
 

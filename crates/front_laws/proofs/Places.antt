@@ -1,9 +1,5 @@
 -- Lists by place.
-use Rattle.std.proofs.Common.{◌≡◌, ◌<◌, ◌≤◌, ◌+◌, ℕ, zero, suc, Bool, true, false, not, cond, List, length, [], ◌∷◌, ◌++◌, Some, None, refl, ◌∙◌, ap, arith, inl, inr}
-use Rattle.std.proofs.lemmas.Bool.{lt-ltb}
-use Rattle.std.specs.List.{position, position_or_len, slice_get}
-use Rattle.cam_base.proofs.Gathered.{split_get}
-use Rattle.cam_base.proofs.NumberedLists.{below}
+use Rattle.front_laws.proofs.Common.{Bool, List, None, Some, [], ap, arith, below, cond, false, inl, inr, length, lt-ltb, not, position, position_or_len, refl, slice_get, split_get, suc, true, zero, ℕ, ◌++◌, ◌+◌, ◌<◌, ◌∙◌, ◌∷◌, ◌≡◌, ◌≤◌}
 
 -- a list parted at a place
 pub at_split : {X : Type 0} (xs : List X) (n : ℕ) (x : X) → slice_get xs n ≡ Some x → (p q : List X) × (xs ≡ p ++ x ∷ q)

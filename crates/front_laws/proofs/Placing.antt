@@ -1,14 +1,9 @@
 -- Where placed objects lie.
-use Rattle.std.proofs.Common.{◌≡◌, ◌<◌, ◌≤◌, ◌+◌, ◌^◌, ℕ, zero, suc, Bool, true, false, List, [], ◌∷◌, Option, Some, None, refl, ◌∙◌, ap, subst, arith, inl, inr}
-use Rattle.std.proofs.lemmas.Bool.{cases_lt}
-use Rattle.std.specs.List.{AllByRecursion, slice_get}
+use Rattle.front_laws.proofs.Common.{AllByRecursion, AreApart, AreBlocksPlaced, AreDevicesPlaced, Block, Bool, DevicePage, List, Need, None, Option, Some, Untyped, [], ap, arith, cases_lt, false, inl, inr, refl, slice_get, subst, suc, true, zero, ℕ}
+use Rattle.front_laws.proofs.Common.{◌+◌, ◌<◌, ◌^◌, ◌∙◌, ◌∷◌, ◌≡◌, ◌≤◌}
 use Rattle.boot_plan.specs.Needs.{bits_of}
 use Rattle.boot_plan.specs.Placed.{AllApart, AllSuit, Apart, Bytes, LieIn, LieInOne, Placed, Suits, all_bytes}
-use Rattle.boot_plan.specs.declared.need.Need.{Need}
-use Rattle.boot_plan.specs.declared.need.Need.TheVariants.{Block, DevicePage}
-use Rattle.boot_plan.specs.declared.untyped.Untyped.{Untyped}
 use Rattle.cam_base.specs.Gather.{IsIn}
-use Rattle.front_laws.specs.PlannedMemory.{AreApart, AreBlocksPlaced, AreDevicesPlaced}
 
 abbrev bytes_of : Need → ℕ → Bytes
 bytes_of n first = record { first = first; bits = bits_of n }

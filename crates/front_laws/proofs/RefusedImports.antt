@@ -1,14 +1,8 @@
 -- The import that is refused is the first that names no file, or that gives one name more than there may be.
-use Rattle.std.proofs.Common.{◌≡◌, ◌≤◌, ◌⊎◌, ℕ, Bool, true, false, cond, nat_lt, List, [], ◌∷◌, ◌++◌, codes, length, map, Option, Some, None, Result, Ok, Err, refl, sym, ◌∙◌, ap, subst, arith, inl, inr, append_assoc, append-nil, true≢false}
-use Rattle.std.proofs.lemmas.Bool.{ltb-true, lt-ltb, or_left, or_right}
-use Rattle.std.proofs.lemmas.Bool.Decides.{nat_tests}
-use Rattle.std.proofs.lemmas.Slice.Eq.{bytes_eq-Decides}
+use Rattle.front_laws.proofs.Common.{Bool, Err, Import, List, Meeting, None, Ok, Option, Result, Some, SourceFile, [], ap, append-nil, append_assoc, arith, bytes_eq, bytes_eq-Decides, codes, cond, false, files_limit, firsts, from_any, imports_of}
+use Rattle.front_laws.proofs.Common.{in_map, inl, inr, is_built_in, is_known, length, lt-ltb, ltb-true, map, meeting_at, meeting_of, meetings_of, met, name_given, nat_lt, nat_tests, or_left, or_right, refl, root_place, subst, sym, true, true≢false}
+use Rattle.front_laws.proofs.Common.{ℕ, ◌++◌, ◌∙◌, ◌∷◌, ◌≡◌, ◌≤◌, ◌⊎◌}
 use Rattle.std.specs.List.{flat_map}
-use Rattle.std.specs.Str.{bytes_eq}
-use Rattle.adl_ast.specs.declared.file.Import.{Import}
-use Rattle.adl_ast.specs.declared.source.SourceFile.{SourceFile}
-use Rattle.adl_import.specs.Imports.{imports_of, is_built_in, name_given}
-use Rattle.adl_import.specs.Sources.{Meeting, files_limit, firsts, is_known, meeting_at, meeting_of, meetings_of, met, root_place}
 use Rattle.adl_import.specs.Turns.{Turns, and_then, fault_at, meet, meet_given, take_import, take_imports}
 use Rattle.adl_import.proofs.Firsts.{firsts_more, turns_meet}
 use Rattle.cam_base.specs.declared.code.Code.TheVariants.{BadPath, Limit}
@@ -16,7 +10,6 @@ use Rattle.cam_base.specs.declared.place.Fault.{Fault}
 use Rattle.cam_base.specs.declared.place.Place.{Place}
 use Rattle.cam_io.specs.Contents.{Contents}
 use Rattle.cam_base.specs.Gather.{IsIn}
-use Rattle.cam_base.proofs.NumberedLists.{from_any, in_map}
 use Rattle.front_laws.specs.RefusedImports.{IsOneMore, IsRefusedImport, IsTaken, met_before, of_built_in_name, of_met_name, of_new_name}
 use Rattle.front_laws.proofs.Importing.{from_firsts, in_firsts}
 

@@ -1,19 +1,10 @@
 -- The first line of a text of regions that is refused.
-use Rattle.std.proofs.Common.{◌≡◌, ◌<◌, ◌≤◌, ◌+◌, ℕ, suc, Bool, true, false, nat_lt, List, [], ◌∷◌, ◌++◌, codes, length, Option, Some, None, Result, Ok, Err, refl, sym, ◌∙◌, ap, subst, arith, inl, inr, cond, length-append, true≢false, ◌⊎◌}
-use Rattle.std.proofs.lemmas.Bool.{cases_Bool, lt-ltb, ltb-true}
-use Rattle.std.proofs.lemmas.Bool.Decides.{nat_tests}
-use Rattle.std.proofs.lemmas.Slice.Eq.{bytes_eq-Decides}
-use Rattle.std.specs.Option.{option_or}
-use Rattle.std.specs.Str.{bytes_eq}
+use Rattle.front_laws.proofs.Common.{Bool, Err, Line, List, None, Ok, Option, Result, Some, Untyped, [], ap, arith, bytes_eq, bytes_eq-Decides, cases_Bool, codes, cond, false, fields, in_right, inl, inr, length, length-append, lines, lt-ltb}
+use Rattle.front_laws.proofs.Common.{ltb-true, nat_lt, nat_tests, option_or, refl, split_in, subst, suc, sym, true, true≢false, ℕ, ◌++◌, ◌+◌, ◌<◌, ◌∙◌, ◌∷◌, ◌≡◌, ◌≤◌, ◌⊎◌}
 use Rattle.boot_plan.specs.UntypedTexts.{fault, fault_at, fault_in, first_bad, first_fault, judged, line_given, region_of, regions_limit, unless_bad}
-use Rattle.boot_plan.specs.declared.untyped.Untyped.{Untyped}
 use Rattle.boot_plan.specs.declared.untyped.UntypedCode.TheVariants as untyped
 use Rattle.boot_plan.specs.declared.untyped.UntypedFault.{UntypedFault}
 use Rattle.cam_base.specs.Gather.{IsIn}
-use Rattle.cam_base.proofs.Gathered.{in_right}
-use Rattle.cam_base.proofs.NumberedLists.{split_in}
-use Rattle.cam_base.specs.Fields.{fields}
-use Rattle.cam_base.specs.Lines.{Line, lines}
 use Rattle.front_laws.specs.ReadTexts.{AreRegionsRead, HasHead, IsRegionFault, IsRegionLine, SpellsRegion, no_head, no_region, one_region_more}
 use Rattle.front_laws.proofs.First.{First, IsClean, first_of, from_first, from_none, in_first, in_none}
 

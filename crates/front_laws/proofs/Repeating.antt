@@ -1,18 +1,14 @@
 -- Words whose name a word in front of them has, and where they stand in a source.
-use Rattle.std.proofs.Common.{◌≡◌, ◌⊎◌, Bool, true, false, ◌||◌, List, [], ◌∷◌, ◌++◌, map, drop, refl, sym, ◌∙◌, ap, subst, inl, inr, None, Option, Some}
-use Rattle.std.proofs.lemmas.Bool.{or_cases, or_left, or_right}
-use Rattle.std.proofs.lemmas.Slice.Eq.{bytes_eq-Decides}
-use Rattle.adl_ast.specs.declared.configuration.Configuration.{Configuration}
+use Rattle.front_laws.proofs.Common.{Bool, Component, Composition, Configuration, Fault, HasComposition, HasItem, Id, IsIn, IsLater, Item, ItemAt, Known, List, Name, None, Option, Place, Some, Source, [], again, ap, at_keyword, at_word}
+use Rattle.front_laws.proofs.Common.{bytes_eq-Decides, components, compositions, configurations, declared_in, drop, duplicates, duplicates_in_component, duplicates_in_composition, duplicates_in_item, duplicates_in_procedure, false, flat_map}
+use Rattle.front_laws.proofs.Common.{from_flat_map, from_map, held_in, in_append, in_flat_map, in_left, in_map, in_right, inl, inr, items_of, known_of, map, of_assembly, of_component, or_cases, or_left, or_right, procedures, refl, repeats}
+use Rattle.front_laws.proofs.Common.{repeats_after, subst, sym, true, where_true, ◌++◌, ◌||◌, ◌∙◌, ◌∷◌, ◌≡◌, ◌⊎◌}
 use Rattle.adl_ast.specs.declared.file.Item.TheVariants as items
 use Rattle.adl_ast.specs.declared.procedure.Procedure.{Procedure}
 use Rattle.cam_base.specs.declared.code.Code.TheVariants as code
-use Rattle.adl_meaning.specs.declared.item_at.ItemAt.{ItemAt}
 use Rattle.adl_meaning.specs.Duplicate.{methods, repeated_params}
-use Rattle.adl_meaning.specs.Prelude.{Component, Composition, Fault, Id, IsIn, Item, Known, Name, Place, Source, again, at_keyword, at_word, bytes_eq, components, compositions, configurations, declared_in, duplicates, duplicates_in_component, duplicates_in_composition, duplicates_in_item, duplicates_in_procedure, flat_map, held_in, items_of, known_of, procedures, repeats, repeats_after, where_true}
-use Rattle.cam_base.proofs.Gathered.{in_append, in_left, in_right}
-use Rattle.cam_base.proofs.NumberedLists.{from_flat_map, from_map, in_flat_map, in_map}
+use Rattle.adl_meaning.specs.Prelude.{bytes_eq}
 use Rattle.front_laws.specs.Repeated.{IsAgain, IsDuplicate, MustDiffer, a_composition, a_configuration, a_name, of_components, of_composition, of_members, of_methods, of_params, of_procedures}
-use Rattle.front_laws.specs.Standing.{HasComposition, HasItem, IsLater, of_assembly, of_component}
 use Rattle.front_laws.proofs.Tested.{from_true, in_true}
 
 -- ---- words

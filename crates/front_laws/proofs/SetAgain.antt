@@ -1,11 +1,8 @@
 -- Settings with one in front of them that sets the same.
-use Rattle.std.proofs.Common.{◌≡◌, ◌≤◌, ◌⊎◌, ℕ, zero, suc, ◌+◌, true, false, ◌||◌, ◌&&◌, List, [], ◌∷◌, ◌++◌, length, get_or, Some, refl, sym, ◌∙◌, ap, subst, arith, inl, inr}
-use Rattle.std.proofs.lemmas.Bool.{and_from, and_parts, or_cases, or_left, or_right}
-use Rattle.std.proofs.lemmas.Slice.Eq.{bytes_eq-Decides}
-use Rattle.adl_meaning.specs.Prelude.{Body, Fault, Hierarchy, IsIn, Setting, body, bytes_eq, enumerate_from, last_name, path_of, same_path, settings_of, slice_get, where_true}
-use Rattle.adl_hierarchy.proofs.DomainNames.{same_path-Decides}
-use Rattle.cam_base.proofs.Gathered.{in_append, in_left, in_right}
-use Rattle.cam_base.proofs.NumberedLists.{from_enumerate, from_flat_map, in_enumerate, in_flat_map}
+use Rattle.front_laws.proofs.Common.{Body, Fault, Hierarchy, IsIn, List, Setting, Some, [], and_from, and_parts, ap, arith, body, bytes_eq-Decides, enumerate_from, false, from_enumerate, from_flat_map, get_or, in_append, in_enumerate, in_flat_map}
+use Rattle.front_laws.proofs.Common.{in_left, in_right, inl, inr, last_name, length, or_cases, or_left, or_right, path_of, refl, same_path, same_path-Decides, settings_of, subst, suc, sym, true, where_true, zero, ℕ, ◌&&◌, ◌++◌, ◌+◌, ◌||◌, ◌∙◌, ◌∷◌}
+use Rattle.front_laws.proofs.Common.{◌≡◌, ◌≤◌, ◌⊎◌}
+use Rattle.adl_meaning.specs.Prelude.{bytes_eq, slice_get}
 use Rattle.front_laws.specs.SetAgain.{IsSetAgain, IsSettingTwice}
 use Rattle.adl_settings.specs.SettingTwice.{Met, repeated_after, repeated_in, setting_twice, settings_twice}
 use Rattle.front_laws.proofs.Tested.{from_true, in_true}

@@ -1,21 +1,15 @@
 -- The first line of a text of steps that is refused.
-use Rattle.std.proofs.Common.{◌≡◌, ◌<◌, ◌≤◌, ◌+◌, ℕ, suc, Bool, true, false, nat_lt, List, [], ◌∷◌, ◌++◌, length, Option, Some, None, is_some, option_map, refl, sym, ◌∙◌, ap, subst, arith, inl, cond, length-append}
-use Rattle.std.proofs.lemmas.Bool.{lt-ltb, ltb-true}
-use Rattle.std.proofs.lemmas.Bool.Decides.{nat_tests}
-use Rattle.std.specs.Option.{option_or}
+use Rattle.front_laws.proofs.Common.{Bool, Line, List, None, Option, Some, [], ap, arith, cond, false, fields, in_right, inl, is_some, length, length-append, lines, lt-ltb, ltb-true, nat_lt, nat_tests, option_map, option_or, refl, split_in, subst}
+use Rattle.front_laws.proofs.Common.{suc, sym, true, ℕ, ◌++◌, ◌+◌, ◌<◌, ◌∙◌, ◌∷◌, ◌≡◌, ◌≤◌}
 use Rattle.cam_base.specs.declared.text_fault.TextCode.TheVariants.{StepLimit, StepSyntax, StepUnknown}
 use Rattle.cam_base.specs.declared.text_fault.TextFault.{TextFault}
 use Rattle.cap_machine.specs.declared.step.Step.{Step}
 use Rattle.cap_model.specs.declared.spec.Spec.{Spec}
 use Rattle.cam_base.specs.Gather.{IsIn}
-use Rattle.cam_base.proofs.Gathered.{in_right}
-use Rattle.cam_base.proofs.NumberedLists.{split_in}
 use Rattle.step_text.specs.Spelling.{any_word, names, spelled}
 use Rattle.step_text.specs.StepTexts.{bytes_limit, fault_of, first_fault, first_fault_of, first_unknown, misspelled, past_limit, step_of, steps_limit}
 use Rattle.step_text.specs.Threads.{thread_named}
-use Rattle.cam_base.specs.Fields.{fields}
 use Rattle.cam_base.specs.LineFaults.{Wrong, at_line}
-use Rattle.cam_base.specs.Lines.{Line, lines}
 use Rattle.front_laws.specs.StepFaults.{AreStepsRead, IsFormOfStep, IsStepFault, IsStepLine, SpellsStep, no_step, no_thread, one_step_more, too_long}
 use Rattle.front_laws.proofs.First.{First, IsClean, first_of, from_first, from_none, in_first, in_none}
 use Rattle.front_laws.proofs.RegionTexts.{last_of}

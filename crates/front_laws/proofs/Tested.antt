@@ -1,6 +1,5 @@
 -- Faults that stand where a test holds, or doesn't.
-use Rattle.std.proofs.Common.{◌≡◌, Bool, true, false, refl, inl, inr}
-use Rattle.adl_meaning.specs.Prelude.{Fault, IsIn, where_false, where_true}
+use Rattle.front_laws.proofs.Common.{Bool, Fault, IsIn, false, inl, inr, refl, true, where_false, where_true, ◌≡◌}
 
 pub from_true : (b : Bool) (g f : Fault) → IsIn f (where_true b g) → (b ≡ true) × (g ≡ f)
 from_true true g f (inl e) = (refl, e)

@@ -1,15 +1,12 @@
 -- The first fault of a list, in the words of what stands in the list.
-use Rattle.std.proofs.Common.{◌≡◌, List, ◌++◌, Some, None, inl, inr}
+use Rattle.front_laws.proofs.Common.{AreNamesSound, Fault, IsIn, IsTypeFault, List, None, Some, Source, duplicates, first_type_fault, hierarchy_of, in_append, in_left, in_right, inl, inr, misfit_exports, recursive_types, type_faults, unknown_names}
+use Rattle.front_laws.proofs.Common.{◌++◌, ◌≡◌}
 use Rattle.adl_meaning.specs.CompositeBody.{composite_bodies}
 use Rattle.adl_meaning.specs.NameFaults.{first_name_fault, name_faults}
 use Rattle.adl_meaning.specs.NoAssembly.{no_assembly}
 use Rattle.adl_meaning.specs.SecondAssembly.{second_assemblies}
-use Rattle.adl_meaning.specs.Prelude.{AreNamesSound, Fault, IsIn, Source, duplicates, hierarchy_of, misfit_exports, recursive_types, unknown_names}
 use Rattle.adl_meaning.proofs.Least.{first_of, none_stands}
-use Rattle.adl_types.specs.TypeFaults.{first_type_fault, type_faults}
-use Rattle.cam_base.proofs.Gathered.{in_append, in_left, in_right}
 use Rattle.front_laws.specs.ToldFaults.{IsNameFault, IsTold, composite_body, holds_itself, misfit_export, name_again, second_assembly, unknown_name, without_assembly}
-use Rattle.front_laws.specs.TypesByHierarchy.{IsTypeFault}
 use Rattle.front_laws.proofs.MisfitExports.{from_misfits, in_misfits}
 use Rattle.front_laws.proofs.Repeating.{from_duplicates, in_duplicates}
 use Rattle.front_laws.proofs.TypesByHierarchy.{from_type_faults, in_type_faults}

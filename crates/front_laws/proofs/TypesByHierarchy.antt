@@ -1,21 +1,14 @@
 -- Faults of types by the relations of a hierarchy.
-use Rattle.std.proofs.Common.{◌≡◌, ◌<◌, ◌≤◌, ◌+◌, ℕ, zero, suc, true, ◌&&◌, not, List, [], ◌∷◌, length, Option, Some, None, refl, sym, ◌∙◌, ap, subst, arith, inl, inr}
-use Rattle.std.proofs.lemmas.Bool.{and_parts, cases_lt, not-true}
-use Rattle.std.proofs.lemmas.Option.{option_and_then_some}
-use Rattle.adl_ast.specs.declared.component.Interface.{Interface}
-use Rattle.adl_ast.specs.declared.component.Member.{Member}
+use Rattle.front_laws.proofs.Common.{AreNamesSound, Component, End, Fault, HasWire, Hierarchy, Id, Interface, IsIn, IsTypeFault, List, Means, Member, None, Option, Part, Path, Reached, Some, Source, Wire, [], agree, and_parts, another_count}
+use Rattle.front_laws.proofs.Common.{another_kind, another_type, ap, arith, at_end, at_word, body, body_faults, cases_lt, end_faults, faults_below, first_leaf, flat_map, from_flat_map, has_one_type, hierarchy_of, in_append, in_flat_map, in_left}
+use Rattle.front_laws.proofs.Common.{in_right, inl, inr, is_kind_of, is_size, length, may_have, no_size, not, not-true, option_and_then, option_and_then_some, option_map_or, part_at, port_in, reached, refl, same_type, size_faults, subst, suc, sym}
+use Rattle.front_laws.proofs.Common.{top_number, true, type_faults, where_true, wire_faults, wires_of, zero, ℕ, ◌&&◌, ◌+◌, ◌<◌, ◌∙◌, ◌∷◌, ◌≡◌, ◌≤◌}
 use Rattle.adl_ast.specs.declared.component.Member.TheVariants as members
 use Rattle.cam_base.specs.declared.code.Code.TheVariants as code
-use Rattle.adl_meaning.specs.Prelude.{AreNamesSound, Component, End, Fault, Hierarchy, Id, IsIn, Part, Path, Reached, Source, Wire, at_word, body, flat_map, hierarchy_of, option_and_then, option_map_or, port_in, reached, top_number, where_true, wires_of}
-use Rattle.adl_hierarchy.specs.PartAt.{part_at}
 use Rattle.adl_hierarchy.proofs.Climbing.{climbs_reached, found_climbs}
 use Rattle.adl_hierarchy.proofs.PartsAt.{at_part}
 use Rattle.adl_program.specs.LeafInterfaces.{LeafInterface, leaf_at, leaf_by, leaf_in, leaf_of}
-use Rattle.adl_types.specs.TypeFaults.{agree, at_end, body_faults, end_faults, faults_below, first_leaf, has_one_type, is_kind_of, is_size, may_have, same_type, size_faults, type_faults, wire_faults}
 use Rattle.conn_rules.specs.Ends.{end_rule}
-use Rattle.cam_base.proofs.Gathered.{in_append, in_left, in_right}
-use Rattle.cam_base.proofs.NumberedLists.{from_flat_map, in_flat_map}
-use Rattle.front_laws.specs.TypesByHierarchy.{HasWire, IsTypeFault, Means, another_count, another_kind, another_type, no_size}
 use Rattle.front_laws.proofs.Tested.{from_true, in_true}
 
 -- ---- what a dotted name means

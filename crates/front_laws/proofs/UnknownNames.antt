@@ -1,22 +1,18 @@
 -- Words of a source that are unknown, and where they stand.
-use Rattle.std.proofs.Common.{◌≡◌, ◌≤◌, Bool, true, false, ◌||◌, not, List, [], ◌∷◌, ◌++◌, length, Option, Some, None, is_some, refl, sym, ◌∙◌, ap, subst, arith, inl, inr}
-use Rattle.adl_ast.specs.declared.component.Member.{Member}
+use Rattle.front_laws.proofs.Common.{Assembly, Bool, Component, Composition, Configuration, Connection, End, Export, Fault, HasComposition, HasItem, Held, Holding, Id, Instance, IsIn, Item, ItemAt, Known, List, Member, Name, NamesInstance, None}
+use Rattle.front_laws.proofs.Common.{Option, Setting, Some, Source, Types, [], a_connection, a_group, alone, an_instance, ap, arith, as_composition, as_connection, as_export, compositions, configurations, connections_in, connector_of, exports_in}
+use Rattle.front_laws.proofs.Common.{false, flat_map, from_filter_map, from_flat_map, held_as, in_a_group, in_append, in_filter_map, in_flat_map, in_left, in_right, inl, inr, instances_by, instances_in, is_none, is_procedure, is_some, items_of}
+use Rattle.front_laws.proofs.Common.{known_in, known_of, length, names_procedure, not, of_assembly, of_component, option_and_then, procedure_named, refl, scope_of_held, subst, sym, true, unknown, unknown_attribute, unknown_connector}
+use Rattle.front_laws.proofs.Common.{unknown_if_configured, unknown_in_composition, unknown_in_configuration, unknown_in_dotted, unknown_in_group, unknown_in_item, unknown_in_line, unknown_in_member, unknown_in_one_setting, unknown_in_three}
+use Rattle.front_laws.proofs.Common.{unknown_in_two, unknown_interface, unknown_names, unknown_target, unknown_type, within, ◌++◌, ◌||◌, ◌∙◌, ◌∷◌, ◌≡◌, ◌≤◌}
 use Rattle.adl_ast.specs.declared.component.Member.TheVariants as members
 use Rattle.adl_ast.specs.declared.composition.Line.TheVariants as lines
-use Rattle.adl_ast.specs.declared.configuration.Configuration.{Configuration}
 use Rattle.adl_ast.specs.declared.configuration.Setter.{Setter}
 use Rattle.adl_ast.specs.declared.configuration.Setter.TheVariants as setters
 use Rattle.adl_ast.specs.declared.file.Item.TheVariants as items
-use Rattle.adl_meaning.specs.declared.item_at.ItemAt.{ItemAt}
 use Rattle.adl_meaning.specs.Members.{as_configuration}
-use Rattle.adl_meaning.specs.Unknown.{names_procedure, scope_of_held, unknown, unknown_connector, unknown_if_configured, unknown_in_group, unknown_in_one_setting, unknown_in_three, unknown_in_two, unknown_target, unknown_type, within}
-use Rattle.adl_meaning.specs.Prelude.{Assembly, Component, Composition, Connection, End, Export, Fault, Held, Id, Instance, IsIn, Item, Known, Line, Name, Setting, Source, a_connection, a_group, an_instance, as_composition, as_connection, as_export, compositions, configurations, connections_in, connector_of, exports_in, flat_map, held_as, instances_by, instances_in, is_procedure, items_of, known_in, known_of, option_and_then, procedure_named, unknown_attribute, unknown_in_composition, unknown_in_configuration, unknown_in_dotted, unknown_in_item, unknown_in_line, unknown_in_member, unknown_in_setting, unknown_interface, unknown_names}
-use Rattle.cam_base.proofs.Gathered.{in_append, in_left, in_right}
-use Rattle.cam_base.proofs.NumberedLists.{from_filter_map, from_flat_map, in_filter_map, in_flat_map}
-use Rattle.cam_base.proofs.Options.{is_none}
-use Rattle.front_laws.specs.Standing.{HasComposition, HasItem, of_assembly, of_component}
+use Rattle.adl_meaning.specs.Prelude.{Line, unknown_in_setting}
 use Rattle.front_laws.specs.UnknownNames.{HasSetting, IsUnknown, IsUnknownPart, LacksAttribute, LacksInterface, a_connector, a_procedure, a_target, a_type, an_attribute_referred, connection_named, group_named, in_a_setting, in_an_end, in_an_export, instance_in_front, no_interface, no_such_member, not_held, of_a_body, of_the_top}
-use Rattle.front_laws.specs.UnknownWords.{Holding, NamesInstance, Types, alone, in_a_group}
 use Rattle.front_laws.proofs.Tested.{from_false, in_false}
 use Rattle.front_laws.proofs.UnknownWords.{from_setting, in_setting}
 

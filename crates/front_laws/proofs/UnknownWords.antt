@@ -1,10 +1,8 @@
 -- The words of a setting that are unknown, by what the words in front of them lead to.
-use Rattle.std.proofs.Common.{◌≡◌, ◌<◌, List, [], ◌∷◌, ◌++◌, length, Option, Some, None, is_some, refl, sym, ◌∙◌, ap, subst, append_assoc, arith, inl, inr}
-use Rattle.adl_meaning.specs.Unknown.{Scope, behind, inside, scope_behind, scope_in_composition, scope_in_group, scope_of_held, scope_of_known, unknown, unknown_group, unknown_in_setting, unknown_inner, unknown_last, unknown_word, untold, within}
-use Rattle.adl_meaning.specs.Prelude.{Fault, Held, Id, Instance, IsIn, Known, Name, a_connection, a_group, an_instance}
-use Rattle.cam_base.proofs.Gathered.{in_append, in_left, in_right}
-use Rattle.cam_base.proofs.Options.{is_none}
-use Rattle.front_laws.specs.UnknownWords.{Ends, Holding, IsInFront, IsUnknownIn, IsUnknownWord, Leads, NamesInstance, Types, a_group_alone, alone, at_connection, at_leaf, behind_an_end, here, in_a_group, inwards, unheld, unheld_in_group}
+use Rattle.front_laws.proofs.Common.{Ends, Fault, Held, Holding, Id, Instance, IsIn, IsInFront, IsUnknownIn, IsUnknownWord, Known, Leads, List, Name, NamesInstance, None, Option, Scope, Some, Types, [], a_connection, a_group, a_group_alone, alone}
+use Rattle.front_laws.proofs.Common.{an_instance, ap, append_assoc, arith, at_connection, at_leaf, behind, behind_an_end, here, in_a_group, in_append, in_left, in_right, inl, inr, inside, inwards, is_none, is_some, length, refl, scope_behind}
+use Rattle.front_laws.proofs.Common.{scope_in_composition, scope_in_group, scope_of_held, scope_of_known, subst, sym, unheld, unheld_in_group, unknown, unknown_group, unknown_in_setting, unknown_inner, unknown_last, unknown_word, untold, within}
+use Rattle.front_laws.proofs.Common.{◌++◌, ◌<◌, ◌∙◌, ◌∷◌, ◌≡◌}
 use Rattle.front_laws.proofs.Tested.{from_false, in_false}
 
 -- ---- what is found unknown, by the scope of the first word

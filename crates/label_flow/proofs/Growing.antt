@@ -1,11 +1,7 @@
 -- One line more.
-use Rattle.std.proofs.Common.{◌≡◌, ◌<◌, ◌+◌, ℕ, List, [], ◌∷◌, ◌++◌, refl, sym, ◌∙◌, ap, subst, length, take, get_or}
-use Rattle.std.proofs.lemmas.List.{append-nil, append_assoc, take_more}
-use Rattle.cap_model.specs.declared.edge.Edge.{Edge}
-use Rattle.policy_text.specs.EdgeLines.{Labels}
-use Rattle.label_flow.specs.Told.{AreLines, IsLine}
+use Rattle.label_flow.proofs.Common.{AreLines, Edge, IsLine, LabelNames, List, [], ap, append-nil, append_assoc, get_or, length, refl, subst, sym, take, take_more, ℕ, ◌++◌, ◌+◌, ◌<◌, ◌∙◌, ◌∷◌, ◌≡◌}
 
-pub one_more : (edges : List Edge) (labels ms : Labels) (m : ℕ × List ℕ) (text line : List ℕ) → AreLines edges labels ms text
+pub one_more : (edges : List Edge) (labels ms : LabelNames) (m : ℕ × List ℕ) (text line : List ℕ) → AreLines edges labels ms text
     → IsLine edges labels m line → AreLines edges labels (ms ++ m ∷ []) (text ++ line)
 one_more edges labels [] m text line none is = (line, [], is, refl, ap (λ (t : List ℕ). t ++ line) none ∙ sym (append-nil line))
 one_more edges labels (x ∷ ms) m text line (first, rest, one, others, e) is = (
@@ -18,15 +14,15 @@ one_more edges labels (x ∷ ms) m text line (first, rest, one, others, e) is = 
 )
 
 -- the next one of all labels
-pub line_more : (edges : List Edge) (all labels : Labels) (i : ℕ) (m : ℕ × List ℕ) (text new line : List ℕ) → labels ≡ all
+pub line_more : (edges : List Edge) (all labels : LabelNames) (i : ℕ) (m : ℕ × List ℕ) (text new line : List ℕ) → labels ≡ all
     → i < length labels → m ≡ get_or labels i m
     → AreLines edges all (take i all) text → IsLine edges all m line → new ≡ text ++ line
     → AreLines edges all (take (i + 1) all) new
 line_more edges all labels i m text new line same within at are is more =
-    let inside : i < length all = subst (λ (ls : Labels). i < length ls) same within in
-    let here : m ≡ get_or all i m = subst (λ (ls : Labels). m ≡ get_or ls i m) same at in
+    let inside : i < length all = subst (λ (ls : LabelNames). i < length ls) same within in
+    let here : m ≡ get_or all i m = subst (λ (ls : LabelNames). m ≡ get_or ls i m) same at in
     let next : take (i + 1) all ≡ take i all ++ m ∷ [] = take_more all i m inside ∙ ap (λ (x : ℕ × List ℕ). take i all ++ x ∷ [])
     (sym here) in
-    subst (λ (ls : Labels). AreLines edges all ls new) (sym next)
+    subst (λ (ls : LabelNames). AreLines edges all ls new) (sym next)
     (subst (λ (t : List ℕ). AreLines edges all (take i all ++ m ∷ []) t) (sym more)
     (one_more edges all (take i all) m text line are is))

@@ -1,3 +1,4 @@
+pub mod Common
 pub mod Backwards
 pub mod Crossing
 pub mod Leaving

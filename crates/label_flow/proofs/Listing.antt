@@ -1,11 +1,6 @@
 -- Lists of edges, one edge more at a time.
-use Rattle.std.proofs.Common.{◌≡◌, ◌<◌, ◌≤◌, ℕ, ◌+◌, List, [], ◌∷◌, ◌++◌, length, map, take, slice_get, get_or, Some, refl, sym, ◌∙◌, ap, subst, inl, inr, arith}
-use Rattle.std.proofs.lemmas.List.{map-append, take_more}
-use Rattle.std.proofs.lemmas.List.Elements.{Contains-push_cases}
-use Rattle.std.proofs.lemmas.Option.{get_or_from_slice_get, slice_get_within}
-use Rattle.std.specs.List.{Contains}
-use Rattle.cap_model.specs.declared.edge.Edge.{Edge}
-use Rattle.label_flow.specs.Edges.{AreBelow, turned}
+use Rattle.label_flow.proofs.Common.{AreBelow, Contains, Contains-push_cases, Edge, List, Some, [], ap, arith, get_or, get_or_from_slice_get, inl, inr, length, map, map-append, slice_get, slice_get_within, subst, sym, take, take_more, turned, ℕ}
+use Rattle.label_flow.proofs.Common.{◌++◌, ◌+◌, ◌<◌, ◌∙◌, ◌∷◌, ◌≡◌, ◌≤◌}
 
 taken : (table : List Edge) (at : ℕ) (e : Edge) → slice_get table at ≡ Some e → take (at + 1) table ≡ take at table ++ e ∷ []
 taken table at e got = take_more table at e (slice_get_within table at e got) ∙ ap (λ (x : Edge). take at table ++ x ∷ [])

@@ -1,21 +1,9 @@
 -- The search as a whole: where it begins, each edge that is looked at, and where it ends.
-use Rattle.std.proofs.Common.{◌≡◌, ◌<◌, ◌≤◌, ℕ, zero, suc, ◌+◌, Bool, true, false, cond, List, [], ◌∷◌, ◌++◌, length, slice_get, get_or, set, Option, Some, None, refl, sym, ◌∙◌, ap, subst, inl, inr, arith}
-use Rattle.std.proofs.lemmas.Bool.{cases_lt}
-use Rattle.std.proofs.lemmas.List.{get_or-set_same, length-set}
-use Rattle.std.proofs.lemmas.List.Sums.{sum_by-cons}
-use Rattle.std.proofs.lemmas.Option.{slice_get_within, slice_get_read, get_or_from_slice_get}
-use Rattle.std.specs.List.{Contains, count_by}
-use Rattle.std.specs.Option.{is_some, is_none}
-use Rattle.cap_model.specs.declared.edge.Edge.{Edge}
-use Rattle.flow_model.specs.Flow.{Flows}
-use Rattle.label_flow.proofs.Meeting.{got_left, one_at, placed_set, stays_placed, count_less, met_more}
+use Rattle.label_flow.proofs.Common.{AreBelow, AreExits, Bool, Chain, Contains, Edge, Flows, Found, IsApart, IsLooking, IsPlaced, IsSearch, IsShortest, List, Looks, None, Option, Passes, Search, Searches, Some, [], ap, arith, blank, cases_lt, cond}
+use Rattle.label_flow.proofs.Common.{contains_at, count_by, exits_of, false, from_holder, get_front, get_or, get_or-set_same, get_or_from_slice_get, inl, inr, is_none, is_some, length, length-set, met_found, met_places, passed_to, place_of, refl}
+use Rattle.label_flow.proofs.Common.{set, slice_get, slice_get_read, slice_get_within, subst, suc, sum_by-cons, sym, to_holder, true, zero, ℕ, ◌++◌, ◌+◌, ◌<◌, ◌∙◌, ◌∷◌, ◌≡◌, ◌≤◌}
+use Rattle.label_flow.proofs.Meeting.{one_at, placed_set, stays_placed, count_less, met_more}
 use Rattle.label_flow.proofs.Passed.{at_contains, passed_is, passes_only, flows_pass}
-use Rattle.label_flow.specs.Chain.{Chain, Passes, IsApart, IsShortest, from_holder, to_holder}
-use Rattle.label_flow.specs.Edges.{AreBelow}
-use Rattle.label_flow.specs.Exits.{exits_of, AreExits}
-use Rattle.label_flow.specs.Search.{blank, place_of, IsPlaced, passed_to, met_found, met_places, IsSearch, IsLooking, Searches, Looks}
-use Rattle.label_flow.specs.declared.search.Found.{Found}
-use Rattle.label_flow.specs.declared.search.Search.{Search}
 
 -- ---- the beginning
 
@@ -95,18 +83,18 @@ met_wide places found f = go (is_some (place_of places f.label)) refl where
   go true h = rw h refl
   go false h = rw h (length-set places f.label (Some (length found)))
 
-module _ (edges : List Edge) (from count : ℕ) (s : Search) (at : ℕ) (h : Found) (row : List ℕ) (i p : ℕ)
-    (looks : Looks edges from count s at h row i) (here : slice_get row i ≡ Some p) (e : Edge)
+module _ (edges : List Edge) (from count : ℕ) (s : Search) (at : ℕ) (h : Found) (leaving : List ℕ) (i p : ℕ)
+    (looks : Looks edges from count s at h leaving i) (here : slice_get leaving i ≡ Some p) (e : Edge)
     (by : slice_get edges p ≡ Some e) where
-  same_edge : (j q : ℕ) (d : Edge) → j ≡ i → slice_get row j ≡ Some q → slice_get edges q ≡ Some d → e ≡ d
+  same_edge : (j q : ℕ) (d : Edge) → j ≡ i → slice_get leaving j ≡ Some q → slice_get edges q ≡ Some d → e ≡ d
   same_edge j q d same got is =
-      let also : slice_get row i ≡ Some q = subst (λ (n : ℕ). slice_get row n ≡ Some q) same got in
+      let also : slice_get leaving i ≡ Some q = subst (λ (n : ℕ). slice_get leaving n ≡ Some q) same got in
       let place : p ≡ q = cc in
       let there : slice_get edges p ≡ Some d = subst (λ (n : ℕ). slice_get edges n ≡ Some d) (sym place) is in
       cc
 
   -- by which nothing passes from the label looked at
-  pub looks_past : passed_to e h.label ≡ None → Looks edges from count s at h row (i + 1)
+  pub looks_past : passed_to e h.label ≡ None → Looks edges from count s at h leaving (i + 1)
   looks_past none = record {
     start = looks.start;
     wide = looks.wide;
@@ -126,7 +114,7 @@ module _ (edges : List Edge) (from count : ℕ) (s : Search) (at : ℕ) (h : Fou
   module _ (label : ℕ) (passed : passed_to e h.label ≡ Some label) (found : List Found) (places : List (Option ℕ)) where
     -- the edge is done with once its label is placed
     part_more : IsSearch edges from found places at → slice_get found at ≡ Some h → IsPlaced places label
-        → ((m : ℕ) → IsPlaced s.places.items m → IsPlaced places m) → IsLooking edges from found places at h row (i + 1)
+        → ((m : ℕ) → IsPlaced s.places.items m → IsPlaced places m) → IsLooking edges from found places at h leaving (i + 1)
     part_more search there placed stays = record {
       search = search;
       there = there;
@@ -143,9 +131,9 @@ module _ (edges : List Edge) (from count : ℕ) (s : Search) (at : ℕ) (h : Fou
     looking_more : label < length s.places.items
         → found ≡ met_found s.places.items s.found.items (record { label = label; by = p; previous = at; depth = h.depth + 1 })
         → places ≡ met_places s.places.items s.found.items (record { label = label; by = p; previous = at; depth = h.depth + 1 })
-        → IsLooking edges from found places at h row (i + 1)
+        → IsLooking edges from found places at h leaving (i + 1)
     looking_more within sames alsos = go (place_of s.places.items label) refl where
-      go : (o : Option ℕ) → place_of s.places.items label ≡ o → IsLooking edges from found places at h row (i + 1)
+      go : (o : Option ℕ) → place_of s.places.items label ≡ o → IsLooking edges from found places at h leaving (i + 1)
       go (Some n) is =
           let f : found ≡ s.found.items = sames ∙ (rw is refl) in
           let g : places ≡ s.places.items = alsos ∙ (rw is refl) in
@@ -174,7 +162,7 @@ module _ (edges : List Edge) (from count : ℕ) (s : Search) (at : ℕ) (h : Fou
             depth = h.depth + 1;
           } ∷ []) y at) (sym g) search))
           (subst (λ (x : List Found). slice_get x at ≡ Some h) (sym f)
-          (got_left s.found.items (record { label = label; by = p; previous = at; depth = h.depth + 1 } ∷ []) at h
+          (get_front s.found.items (record { label = label; by = p; previous = at; depth = h.depth + 1 } ∷ []) at h
           looks.is.there)) (
             length s.found.items,
             subst (λ (y : List (Option ℕ)). place_of y label ≡ Some (length s.found.items)) (sym g)
@@ -205,7 +193,7 @@ module _ (edges : List Edge) (from count : ℕ) (s : Search) (at : ℕ) (h : Fou
         by = p;
         previous = at;
         depth = h.depth + 1;
-      }) → new.from ≡ s.from → Looks edges from count new at h row (i + 1)
+      }) → new.from ≡ s.from → Looks edges from count new at h leaving (i + 1)
   looks_met label new passed within found places start = record {
     start = start ∙ looks.start;
     wide = ap (λ (y : List (Option ℕ)). length y) places ∙ met_wide s.places.items s.found.items (record {
@@ -219,16 +207,13 @@ module _ (edges : List Edge) (from count : ℕ) (s : Search) (at : ℕ) (h : Fou
 
 -- ---- one label, and all
 
-pub looks_first : (edges : List Edge) (from count : ℕ) (s : Search) (at : ℕ) (h : Found) (row : List ℕ)
-    → Searches edges from count s at → slice_get s.found.items at ≡ Some h → Looks edges from count s at h row 0
-looks_first edges from count s at h row searches there = record {
+pub looks_first : (edges : List Edge) (from count : ℕ) (s : Search) (at : ℕ) (h : Found) (leaving : List ℕ)
+    → Searches edges from count s at → slice_get s.found.items at ≡ Some h → Looks edges from count s at h leaving 0
+looks_first edges from count s at h leaving searches there = record {
   start = searches.start;
   wide = searches.wide;
   is = record { search = searches.is; there = there; part = λ j q e none. absurd (omega arith) };
 }
-
-pub contains_at : {A : Type 0} (xs : List A) (x : A) → Contains xs x → (j : ℕ) × (slice_get xs j ≡ Some x)
-contains_at xs x c = (c.0, slice_get_read xs _ c.0 x refl c.1 (sym c.2))
 
 -- an edge by which something passes from a label stands in the label's row
 in_row : (edges : List Edge) (count : ℕ) (exits : List (List ℕ)) (k : ℕ) (e : Edge) (l m : ℕ)
@@ -238,10 +223,10 @@ in_row edges count exits k e l m are is (from_holder goes same also) =
 in_row edges count exits k e l m are is (to_holder goes same also) =
     subst (λ (n : ℕ). Contains (exits_of exits n) k) (sym same) (are.all k e (slice_get_within edges k e is) is).1
 
-pub looks_last : (edges : List Edge) (from count : ℕ) (s : Search) (at i : ℕ) (h : Found) (exits : List (List ℕ)) (row : List ℕ)
-    → AreExits edges count (length edges) exits → row ≡ exits_of exits h.label → length row ≤ i
-    → Looks edges from count s at h row i → Searches edges from count s (at + 1)
-looks_last edges from count s at i h exits row are whole all looks = record {
+pub looks_last : (edges : List Edge) (from count : ℕ) (s : Search) (at i : ℕ) (h : Found) (exits : List (List ℕ)) (leaving : List ℕ)
+    → AreExits edges count (length edges) exits → leaving ≡ exits_of exits h.label → length leaving ≤ i
+    → Looks edges from count s at h leaving i → Searches edges from count s (at + 1)
+looks_last edges from count s at i h exits leaving are whole all looks = record {
   start = looks.start;
   wide = looks.wide;
   is = (let b = looks.is.search in record {
@@ -261,10 +246,10 @@ looks_last edges from count s at i h exits row are whole all looks = record {
           let one : h ≡ f = cc in
           let by : Passes e h.label m = subst (λ (x : Found). Passes e x.label m) (sym one) passes in
           let place = contains_at edges e has in
-          let stands : Contains row place.0 = subst (λ (ks : List ℕ). Contains ks place.0) (sym whole)
+          let stands : Contains leaving place.0 = subst (λ (ks : List ℕ). Contains ks place.0) (sym whole)
           (in_row edges count exits place.0 e h.label m are place.1 by) in
-          let index = contains_at row place.0 stands in
-          let within = slice_get_within row index.0 place.0 index.1 in
+          let index = contains_at leaving place.0 stands in
+          let within = slice_get_within leaving index.0 place.0 index.1 in
           looks.is.part index.0 place.0 e (omega arith) index.1 place.1 m by
     ];
     near = λ f got j g also.
@@ -364,7 +349,7 @@ ends_shortest edges from to count s place f chain searches placed there leads lo
           omega arith;
     }
 
--- the label looked at, and the row of its edges
+-- the label looked at, and the places of the edges that leave it
 pub head_below : (edges : List Edge) (from count : ℕ) (s : Search) (at : ℕ) (h : Found) → Searches edges from count s at
     → at < length s.found.items → h ≡ get_or s.found.items at h → h.label < count
 head_below edges from count s at h searches within is =
@@ -373,14 +358,14 @@ head_below edges from count s at h searches within is =
     let wide = searches.wide in
     omega arith
 
-pub row_is : (edges : List Edge) (count done : ℕ) (exits : List (List ℕ)) (l : ℕ) (row r : List ℕ)
-    → AreExits edges count done exits → l < count → row ≡ r → r ≡ get_or exits l r → row ≡ exits_of exits l
-row_is edges count done exits l row r are below same is =
+pub row_is : (edges : List Edge) (count done : ℕ) (exits : List (List ℕ)) (l : ℕ) (leaving r : List ℕ)
+    → AreExits edges count done exits → l < count → leaving ≡ r → r ≡ get_or exits l r → leaving ≡ exits_of exits l
+row_is edges count done exits l leaving r are below same is =
     let wide = are.wide in
     let within : l < length exits = omega arith in
     same ∙ sym (get_or_from_slice_get exits l r [] (slice_get_read exits _ l r refl within is))
 
-pub row_inside : (edges : List Edge) (count done : ℕ) (exits : List (List ℕ)) (l i p : ℕ) (row : List ℕ)
-    → AreExits edges count done exits → row ≡ exits_of exits l → slice_get row i ≡ Some p → p < length edges
-row_inside edges count done exits l i p row are whole here =
-    are.inside l p (subst (λ (ks : List ℕ). Contains ks p) whole (at_contains row i p here))
+pub row_inside : (edges : List Edge) (count done : ℕ) (exits : List (List ℕ)) (l i p : ℕ) (leaving : List ℕ)
+    → AreExits edges count done exits → leaving ≡ exits_of exits l → slice_get leaving i ≡ Some p → p < length edges
+row_inside edges count done exits l i p leaving are whole here =
+    are.inside l p (subst (λ (ks : List ℕ). Contains ks p) whole (at_contains leaving i p here))

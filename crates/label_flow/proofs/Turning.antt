@@ -1,17 +1,8 @@
 -- Edges turned round: chains over them lead back.
-use Rattle.std.proofs.Common.{◌≡◌, ◌<◌, ◌≤◌, ◌⊎◌, ◌↔◌, ℕ, ◌+◌, ◌==◌, zero, suc, Bool, true, false, ◌||◌, List, [], ◌∷◌, ◌++◌, length, map, slice_get, Option, Some, None, refl, sym, ◌∙◌, ap, subst, inl, inr, arith}
-use Rattle.std.proofs.lemmas.Option.{slice_get-map}
-use Rattle.std.specs.List.{Contains}
-use Rattle.std.specs.Option.{is_some, option_map}
-use Rattle.cap_model.specs.declared.edge.Edge.{Edge}
-use Rattle.flow_model.specs.Flow.{Flows, IsClosed}
+use Rattle.label_flow.proofs.Common.{AreBelow, AreSources, Bool, Chain, Contains, Edge, Found, IsClosed, IsSearch, List, None, Option, Passes, Search, Searches, Some, [], ap, arith, contains_at, eqb-true, false, from_holder, inl, inr, is_some}
+use Rattle.label_flow.proofs.Common.{length, map, option_map, place_of, refl, slice_get, slice_get-map, subst, suc, sym, to_holder, true, turned, zero, ℕ, ◌++◌, ◌+◌, ◌<◌, ◌==◌, ◌||◌, ◌∙◌, ◌∷◌, ◌≡◌, ◌≤◌, ◌⊎◌}
 use Rattle.label_flow.proofs.Passed.{at_contains, chain_more, flows_pass, none_apart}
-use Rattle.label_flow.proofs.Searching.{contains_at, ends_apart}
-use Rattle.label_flow.specs.Chain.{Chain, Passes, from_holder, to_holder, AreSources}
-use Rattle.label_flow.specs.Edges.{AreBelow, turned}
-use Rattle.label_flow.specs.Search.{place_of, IsMet, IsSearch, IsStep, Searches}
-use Rattle.label_flow.specs.declared.search.Found.{Found}
-use Rattle.label_flow.specs.declared.search.Search.{Search}
+use Rattle.label_flow.proofs.Searching.{ends_apart}
 
 passes_back : (e : Edge) (l m : ℕ) → Passes e l m → Passes (turned e) m l
 passes_back e l m (from_holder goes same also) = from_holder goes also same
@@ -69,9 +60,6 @@ chain_below edges count below l m (e ∷ chain) (mid, there, passes, rest) = inr
 abbrev pub is_placed : ℕ → List (Option ℕ) → ℕ → Bool
 is_placed to places l = l == to || is_some (place_of places l)
 
-is_itself : (l m : ℕ) → (l == m) ≡ true → l ≡ m
-is_itself l m h = grind arith
-
 module _ (edges : List Edge) (to count : ℕ) (s : Search) (searches : Searches edges to count s (length s.found.items)) where
   from_found : (l : ℕ) → is_placed to s.places.items l ≡ true → Leads edges to l
   from_found l h = go (l == to) refl where
@@ -83,7 +71,7 @@ module _ (edges : List Edge) (to count : ℕ) (s : Search) (searches : Searches 
         searches.is p.0.depth i p.0 p.1 refl)
 
     go : (b : Bool) → (l == to) ≡ b → Leads edges to l
-    go true e = ([], sym (is_itself l to e))
+    go true e = ([], sym (eqb-true l to e))
     go false e =
         placed (place_of s.places.items l) refl (let w : false || is_some (place_of s.places.items l) ≡ true = rw e at h in w)
 
@@ -119,7 +107,7 @@ far_sources edges to count below far l = (
       ]),
 ) where
   go : (b : Bool) → (l == to) ≡ b → is_placed to [] l ≡ true → l ≡ to
-  go true e h = is_itself l to e
+  go true e h = eqb-true l to e
   go false e h = absurd (let w : false ≡ true = rw e at h in cc)
 
 pub sources_closed : (edges : List Edge) (to : ℕ) (has : ℕ → Bool) → AreSources edges to has → IsClosed edges has

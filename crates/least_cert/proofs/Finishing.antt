@@ -4,8 +4,8 @@ use Rattle.std.proofs.lemmas.Bool.{eqb-true, or_cases, or_left, or_right}
 use Rattle.std.proofs.lemmas.List.{take-append-le, take_all}
 use Rattle.cap_model.specs.Edges.{edge, same_edge}
 use Rattle.cap_model.specs.Tables.{Has, has}
-use Rattle.cap_model.specs.declared.authority.Authority.{Authority}
-use Rattle.cap_model.specs.declared.authority.Authority.TheVariants.{Receive, AsyncSend, Grant, Control, Call, Reply, GrantBack, Handle}
+use Rattle.authorities.specs.declared.authority.Authority.{Authority}
+use Rattle.authorities.specs.declared.authority.Authority.TheVariants.{Receive, AsyncSend, Grant, Control, Call, Reply, GrantBack, Handle}
 use Rattle.cap_model.specs.declared.edge.Edge.{Edge}
 use Rattle.cap_model.proofs.TableMembers.{has_at}
 use Rattle.cap_model.specs.declared.spec.Spec.{Spec}
@@ -24,7 +24,8 @@ closed_none c = record {
   bind = λ s d n h. absurd cc;
 }
 
-module _ (first : List Edge) (f : Edge) (c new : Closure) (closed : IsClosedFor first c) (looks : Looks c f new) (inside : (e : Edge) → has first e ≡ true → has c.queue e ≡ true) (known : has c.queue f ≡ true) where
+module _ (first : List Edge) (f : Edge) (c new : Closure) (closed : IsClosedFor first c) (looks : Looks c f new)
+    (inside : (e : Edge) → has first e ≡ true → has c.queue e ≡ true) (known : has c.queue f ≡ true) where
   one_of : (e : Edge) → has (first ++ f ∷ []) e ≡ true → (has first e ≡ true) ⊎ (f ≡ e)
   one_of e h = has_last first f e h
 
@@ -41,34 +42,42 @@ module _ (first : List Edge) (f : Edge) (c new : Closure) (closed : IsClosedFor 
   closed_more = record {
     control = λ l m h. elim (one_of (edge l Control m) h) [
       | inl old ↦ one_grows c new looks.grows l m (closed.control l m old)
-      | inr same ↦ subst (λ (x : Edge). x.authority ≡ Control → leader_at new.leaders x.from ≡ leader_at new.leaders x.to) same looks.of_control refl
+      | inr same ↦ subst (λ (x : Edge). x.authority ≡ Control → leader_at new.leaders x.from ≡ leader_at new.leaders x.to) same
+          looks.of_control refl
     ];
     passed = λ s r g a x other h. elim (looks.grows.copied s r g) [
       | inl gave ↦ elim (one_of (edge s a x) h) [
         | inl old ↦ grown (edge r a x) (closed.passed s r gave a x other old)
-        | inr same ↦ subst (λ (y : Edge). y.authority ≢ Reply → Has c.gives y.from Grant r → Knows new (edge r y.authority y.to)) same (looks.passed r) other gave
+        | inr same ↦ subst (λ (y : Edge). y.authority ≢ Reply → Has c.gives y.from Grant r → Knows new (edge r y.authority y.to))
+            same (looks.passed r) other gave
       ]
       | inr copied ↦ copied a x other (was_known (edge s a x) h)
     ];
     grant = λ s e r p q other. elim (one_of (edge s Grant e) p) [
-      | inr same ↦ subst (λ (y : Edge). y.authority ≡ Grant → (l : ℕ) → Has c.queue l Receive y.to → y.from ≢ l → Gifted new y.from l) same looks.of_grant refl r (was_known (edge r Receive e) q) other
+      | inr same ↦ subst (λ (y : Edge). y.authority ≡ Grant → (l : ℕ) → Has c.queue l Receive y.to → y.from ≢ l
+          → Gifted new y.from l) same looks.of_grant refl r (was_known (edge r Receive e) q) other
       | inl old ↦ elim (one_of (edge r Receive e) q) [
         | inl olds ↦ kept s r (closed.grant s e r old olds other)
-        | inr same ↦ subst (λ (y : Edge). y.authority ≡ Receive → (l : ℕ) → Has c.queue l Grant y.to → l ≢ y.from → Gifted new l y.from) same looks.of_receive refl s (inside (edge s Grant e) old) other
+        | inr same ↦ subst (λ (y : Edge). y.authority ≡ Receive → (l : ℕ) → Has c.queue l Grant y.to → l ≢ y.from
+            → Gifted new l y.from) same looks.of_receive refl s (inside (edge s Grant e) old) other
       ]
     ];
     grant_back = λ s e r p q other. elim (one_of (edge s Call e) p) [
-      | inr same ↦ subst (λ (y : Edge). y.authority ≡ Call → (l : ℕ) → Has c.queue l GrantBack y.to → y.from ≢ l → Gifted new l y.from) same looks.of_call refl r (was_known (edge r GrantBack e) q) other
+      | inr same ↦ subst (λ (y : Edge). y.authority ≡ Call → (l : ℕ) → Has c.queue l GrantBack y.to → y.from ≢ l
+          → Gifted new l y.from) same looks.of_call refl r (was_known (edge r GrantBack e) q) other
       | inl old ↦ elim (one_of (edge r GrantBack e) q) [
         | inl olds ↦ kept r s (closed.grant_back s e r old olds other)
-        | inr same ↦ subst (λ (y : Edge). y.authority ≡ GrantBack → (l : ℕ) → Has c.queue l Call y.to → l ≢ y.from → Gifted new y.from l) same looks.of_grant_back refl s (inside (edge s Call e) old) other
+        | inr same ↦ subst (λ (y : Edge). y.authority ≡ GrantBack → (l : ℕ) → Has c.queue l Call y.to → l ≢ y.from
+            → Gifted new y.from l) same looks.of_grant_back refl s (inside (edge s Call e) old) other
       ]
     ];
     bind = λ s d n p q other. elim (one_of (edge s Handle d) p) [
-      | inr same ↦ subst (λ (y : Edge). y.authority ≡ Handle → (l : ℕ) → Has c.queue y.from AsyncSend l → y.to ≢ l → Knows new (edge y.to AsyncSend l)) same looks.of_handle refl n (was_known (edge s AsyncSend n) q) other
+      | inr same ↦ subst (λ (y : Edge). y.authority ≡ Handle → (l : ℕ) → Has c.queue y.from AsyncSend l → y.to ≢ l
+          → Knows new (edge y.to AsyncSend l)) same looks.of_handle refl n (was_known (edge s AsyncSend n) q) other
       | inl old ↦ elim (one_of (edge s AsyncSend n) q) [
         | inl olds ↦ grown (edge d AsyncSend n) (closed.bind s d n old olds other)
-        | inr same ↦ subst (λ (y : Edge). y.authority ≡ AsyncSend → (l : ℕ) → Has c.queue y.from Handle l → l ≢ y.to → Knows new (edge l AsyncSend y.to)) same looks.of_send refl d (inside (edge s Handle d) old) other
+        | inr same ↦ subst (λ (y : Edge). y.authority ≡ AsyncSend → (l : ℕ) → Has c.queue y.from Handle l → l ≢ y.to
+            → Knows new (edge l AsyncSend y.to)) same looks.of_send refl d (inside (edge s Handle d) old) other
       ]
     ];
   }
@@ -103,39 +112,47 @@ same_or_not m n = by (m == n) refl where
     self : (k : ℕ) → k == k ≡ true
     self k = grind arith
 
-module _ (c : Closure) (boots : HasBoot c) (sound : IsSound c) (closed : IsClosedFor c.queue c) (cert : List Edge) (is : IsCertificate c cert) where
+module _ (c : Closure) (boots : HasBoot c) (sound : IsSound c) (closed : IsClosedFor c.queue c) (cert : List Edge)
+    (is : IsCertificate c cert) where
   put : (e : Edge) → Knows c e → has cert e ≡ true
   put e h = is.same e ∙ or_left (has is.edges e) (has is.replies e) (is.spread.every e h)
 
   listed : (l : ℕ) (a : Authority) (x : ℕ) → a ≢ Reply → Has cert l a x → Has is.edges l a x
-  listed l a x other h = elim (or_cases (has is.edges (edge l a x)) (has is.replies (edge l a x)) (sym (is.same (edge l a x)) ∙ h)) [
-    | inl there ↦ there
-    | inr reply ↦ absurd (other (is.answers.only (edge l a x) reply).0)
-  ]
+  listed l a x other h =
+      elim (or_cases (has is.edges (edge l a x)) (has is.replies (edge l a x)) (sym (is.same (edge l a x)) ∙ h)) [
+        | inl there ↦ there
+        | inr reply ↦ absurd (other (is.answers.only (edge l a x) reply).0)
+      ]
 
   known : (l : ℕ) (a : Authority) (x : ℕ) → a ≢ Reply → Has cert l a x → Has c.queue (leader_at c.leaders l) a x
   known l a x other h = knows_led c sound l a x other (is.spread.only (edge l a x) (listed l a x other h))
 
   -- what one leader has, those that it leads have
-  shared : (l m : ℕ) → leader_at c.leaders l ≡ leader_at c.leaders m → (a : Authority) (x : ℕ) → a ≢ Reply → Has cert l a x → Has cert m a x
-  shared l m same a x other h = put (edge m a x) (led_knows c sound m a x other (subst (λ (k : ℕ). Has c.queue k a x) same (known l a x other h)))
+  shared : (l m : ℕ) → leader_at c.leaders l ≡ leader_at c.leaders m → (a : Authority) (x : ℕ) → a ≢ Reply → Has cert l a x
+      → Has cert m a x
+  shared l m same a x other h =
+      put (edge m a x) (led_knows c sound m a x other (subst (λ (k : ℕ). Has c.queue k a x) same (known l a x other h)))
 
-  brought : (s r : ℕ) → Gifted c (leader_at c.leaders s) (leader_at c.leaders r) → (a : Authority) (x : ℕ) → a ≢ Reply → Has cert s a x → Has cert r a x
+  brought : (s r : ℕ) → Gifted c (leader_at c.leaders s) (leader_at c.leaders r) → (a : Authority) (x : ℕ) → a ≢ Reply
+      → Has cert s a x → Has cert r a x
   brought s r gifted a x other h = elim (gifted (sound.flat s) (sound.flat r)) [
     | inl same ↦ shared s r same a x other h
     | inr given ↦ put (edge r a x) (led_knows c sound r a x other (subst (λ (k : ℕ). Has c.queue k a x) given.2
-        (knows_led c sound given.0 a x other (closed.passed (leader_at c.leaders s) given.0 given.1 a x other (known s a x other h)))))
+        (knows_led c sound given.0 a x other (closed.passed (leader_at c.leaders s) given.0 given.1 a x other
+        (known s a x other h)))))
   ]
 
   -- of labels with one leader, or with leaders of which one gives to the other
-  flowed : (s r : ℕ) → (leader_at c.leaders s ≢ leader_at c.leaders r → Gifted c (leader_at c.leaders s) (leader_at c.leaders r)) → (a : Authority) (x : ℕ) → a ≢ Reply → Has cert s a x → Has cert r a x
+  flowed : (s r : ℕ) → (leader_at c.leaders s ≢ leader_at c.leaders r → Gifted c (leader_at c.leaders s) (leader_at c.leaders r))
+      → (a : Authority) (x : ℕ) → a ≢ Reply → Has cert s a x → Has cert r a x
   flowed s r gifted a x other h = elim (same_or_not (leader_at c.leaders s) (leader_at c.leaders r)) [
     | inl same ↦ shared s r same a x other h
     | inr differ ↦ brought s r (gifted differ) a x other h
   ]
 
   one_control : (l m : ℕ) → Has cert l Control m → leader_at c.leaders l ≡ leader_at c.leaders m
-  one_control l m h = sym (sound.flat l) ∙ closed.control (leader_at c.leaders l) m (known l Control m (number_other Control refl) h)
+  one_control l m h = sym (sound.flat l) ∙ closed.control (leader_at c.leaders l) m
+      (known l Control m (number_other Control refl) h)
 
   keeps : KeepsRules c.spec c.labels (Has cert)
   keeps = record {
@@ -144,14 +161,19 @@ module _ (c : Closure) (boots : HasBoot c) (sound : IsSound c) (closed : IsClose
     control_out = λ l m a x h other there. shared l m (one_control l m h) a x other there;
     control_back = λ l m a x h other there. shared m l (sym (one_control l m h)) a x other there;
     grant = λ s e r a x g q other there.
-        flowed s r (closed.grant (leader_at c.leaders s) e (leader_at c.leaders r) (known s Grant e (number_other Grant refl) g) (known r Receive e (number_other Receive refl) q)) a x other there;
+        flowed s r (closed.grant (leader_at c.leaders s) e (leader_at c.leaders r) (known s Grant e (number_other Grant refl) g)
+        (known r Receive e (number_other Receive refl) q)) a x other there;
     call = λ s e r h q differ.
         is.same (edge r Reply s) ∙ or_right (has is.edges (edge r Reply s)) (has is.replies (edge r Reply s))
-        (is.answers.every s e r (listed s Call e (number_other Call refl) h) (listed r Receive e (number_other Receive refl) q) differ);
+        (is.answers.every s e r (listed s Call e (number_other Call refl) h)
+        (listed r Receive e (number_other Receive refl) q) differ);
     grant_back = λ s e r a x h g other there.
-        flowed r s (λ differ. closed.grant_back (leader_at c.leaders s) e (leader_at c.leaders r) (known s Call e (number_other Call refl) h) (known r GrantBack e (number_other GrantBack refl) g) (λ same. differ (sym same))) a x other there;
+        flowed r s (λ differ. closed.grant_back (leader_at c.leaders s) e (leader_at c.leaders r)
+        (known s Call e (number_other Call refl) h) (known r GrantBack e (number_other GrantBack refl) g)
+        (λ same. differ (sym same))) a x other there;
     bind = λ s d n h q differ.
-        put (edge d AsyncSend n) (closed.bind (leader_at c.leaders s) d n (known s Handle d (number_other Handle refl) h) (known s AsyncSend n (number_other AsyncSend refl) q) differ);
+        put (edge d AsyncSend n) (closed.bind (leader_at c.leaders s) d n (known s Handle d (number_other Handle refl) h)
+        (known s AsyncSend n (number_other AsyncSend refl) q) differ);
   }
 
   pub is_least : IsLeast c.spec c.labels cert
@@ -169,21 +191,27 @@ boot_grows c new g b = record {
   structural = rw (g.spec_is, g.labels_is) (λ l a m h differ. knows_grows c new g (edge l a m) (b.structural l a m h differ));
 }
 
-pub least_closed : (spec : Spec) (labels : List ℕ) (c new : Closure) (cert : List Edge) → Begins spec labels c → Closes c new → IsCertificate new cert → IsLeast spec labels cert
+pub least_closed : (spec : Spec) (labels : List ℕ) (c new : Closure) (cert : List Edge) → Begins spec labels c → Closes c new
+    → IsCertificate new cert → IsLeast spec labels cert
 least_closed spec labels c new cert b done is =
-    let least : IsLeast new.spec new.labels cert = is_least new (boot_grows c new done.grows b.has_boot) done.grows.sound done.closed cert is in
-    subst (λ (ls : List ℕ). IsLeast spec ls cert) (done.grows.labels_is ∙ b.labels_is) (subst (λ (s : Spec). IsLeast s new.labels cert) (done.grows.spec_is ∙ b.spec_is) least)
+    let least : IsLeast new.spec new.labels cert = is_least new (boot_grows c new done.grows b.has_boot) done.grows.sound
+    done.closed cert is in
+    subst (λ (ls : List ℕ). IsLeast spec ls cert) (done.grows.labels_is ∙ b.labels_is)
+    (subst (λ (s : Spec). IsLeast s new.labels cert) (done.grows.spec_is ∙ b.spec_is) least)
 
 -- ---- places of the queue, one after the other
 
 pub looks_none : (c : Closure) → IsSound c → LooksAt 0 c c
 looks_none c sound = record { grows = grows_none c sound; within = omega arith; closed = closed_none c }
 
-pub looks_more : (n : ℕ) (f : Edge) (c mid new : Closure) → LooksAt n c mid → n < length mid.queue → slice_get mid.queue n ≡ Some f → Looks mid f new → LooksAt (n + 1) c new
+pub looks_more : (n : ℕ) (f : Edge) (c mid new : Closure) → LooksAt n c mid → n < length mid.queue
+    → slice_get mid.queue n ≡ Some f → Looks mid f new → LooksAt (n + 1) c new
 looks_more n f c mid new before less here looks =
     let front : take (n + 1) new.queue ≡ take n mid.queue ++ f ∷ [] =
-    ap (λ (xs : List Edge). take (n + 1) xs) looks.grows.longer ∙ (take_front mid.queue looks.grows.more (n + 1) (omega arith) ∙ take_at mid.queue n f here) in
-    let longer : length new.queue ≡ length mid.queue + length looks.grows.more = ap (λ (xs : List Edge). length xs) looks.grows.longer ∙ length-append mid.queue looks.grows.more in
+    ap (λ (xs : List Edge). take (n + 1) xs) looks.grows.longer ∙ (take_front mid.queue looks.grows.more (n + 1) (omega arith)
+    ∙ take_at mid.queue n f here) in
+    let longer : length new.queue ≡ length mid.queue + length looks.grows.more =
+    ap (λ (xs : List Edge). length xs) looks.grows.longer ∙ length-append mid.queue looks.grows.more in
     record {
       grows = grows_then c mid new before.grows looks.grows;
       within = omega arith;

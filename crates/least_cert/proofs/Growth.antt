@@ -4,10 +4,10 @@ use Rattle.std.specs.List.{filter_map}
 use Rattle.std.proofs.lemmas.Bool.{cases_lt}
 use Rattle.std.proofs.lemmas.Option.{slice_get_within}
 use Rattle.cap_model.proofs.TableMembers.{at_has, has_at}
-use Rattle.cap_model.specs.Authorities.{number_of}
+use Rattle.authorities.specs.Authorities.{number_of}
 use Rattle.cap_model.specs.Edges.{edge, same_edge}
 use Rattle.cap_model.specs.Tables.{Has, has, IsSorted}
-use Rattle.cap_model.specs.declared.authority.Authority.TheVariants.{Grant, Receive}
+use Rattle.authorities.specs.declared.authority.Authority.TheVariants.{Grant, Receive}
 use Rattle.cap_model.specs.declared.edge.Edge.{Edge}
 use Rattle.cap_model.proofs.EdgeOrder.{edges_same}
 use Rattle.least_cert.specs.Closing.{Adds, AddsAll, AddsSome, AreCopies, Closure, Copies, Flows, Gifted, Gives, GivesAll, GivesSome, Grows, IsCopy, IsGift, IsLess, IsSound, Joins, Knows, OfLeast, Puts, PutsGift, Relabels, lead, leader_at, led_by, passed_to, turn}
@@ -31,7 +31,17 @@ append_none [] = refl
 append_none (x ∷ xs) = ap (λ (ys : List Edge). x ∷ ys) (append_none xs)
 
 pub grows_none : (c : Closure) → IsSound c → Grows c c
-grows_none c sound = record { spec_is = refl; labels_is = refl; sound = sound; more = []; longer = sym (append_none c.queue); given = λ s r h. h; copied = λ s r h. inl h; together = sound.flat; led_before = λ l h. h }
+grows_none c sound = record {
+  spec_is = refl;
+  labels_is = refl;
+  sound = sound;
+  more = [];
+  longer = sym (append_none c.queue);
+  given = λ s r h. h;
+  copied = λ s r h. inl h;
+  together = sound.flat;
+  led_before = λ l h. h;
+}
 
 pub grows_has : (c new : Closure) → Grows c new → (e : Edge) → has c.queue e ≡ true → has new.queue e ≡ true
 grows_has c new g e h = subst (λ (xs : List Edge). has xs e ≡ true) (sym g.longer) (has_front c.queue g.more e h)
@@ -62,7 +72,8 @@ grows_then a b c g h = record {
 }
 
 -- of labels with one leader
-pub one_grows : (c new : Closure) → Grows c new → (l m : ℕ) → leader_at c.leaders l ≡ leader_at c.leaders m → leader_at new.leaders l ≡ leader_at new.leaders m
+pub one_grows : (c new : Closure) → Grows c new → (l m : ℕ) → leader_at c.leaders l ≡ leader_at c.leaders m
+    → leader_at new.leaders l ≡ leader_at new.leaders m
 one_grows c new g l m same = sym (g.together l) ∙ (ap (λ (k : ℕ). leader_at new.leaders k) same ∙ g.together m)
 
 pub gifted_grows : (c new : Closure) → Grows c new → (s r : ℕ) → Gifted c s r → Gifted new s r
@@ -83,7 +94,8 @@ turned_back d e = swap (d.to == e.to) (number_of d.authority == number_of e.auth
   swap false false true = refl
   swap false false false = refl
 
-module _ (asked edge_in : Edge) (c new : Closure) (sound : IsSound c) (is : edge_in ≡ lead c.leaders asked) (puts : Puts edge_in c new) (unknown : has c.known edge_in ≡ false) (of_least : OfLeast c asked) where
+module _ (asked edge_in : Edge) (c new : Closure) (sound : IsSound c) (is : edge_in ≡ lead c.leaders asked)
+    (puts : Puts edge_in c new) (unknown : has c.known edge_in ≡ false) (of_least : OfLeast c asked) where
   least : OfLeast c edge_in
   least = subst (λ (x : Edge). OfLeast c x) (sym is) (least_led c sound asked of_least)
 
@@ -114,16 +126,20 @@ module _ (asked edge_in : Edge) (c new : Closure) (sound : IsSound c) (is : edge
 
   put_carried : (e : Edge) → has new.queue e ≡ true → Knows new e
   put_carried e h = elim (put_cases_of e h) [
-    | inl old ↦ put_leads e (subst (λ (xs : List Edge). has xs (lead c.leaders e) ≡ true) (sym puts.queue_is) (has_front c.queue (edge_in ∷ []) (lead c.leaders e) (sound.carried e old)))
+    | inl old ↦ put_leads e (subst (λ (xs : List Edge). has xs (lead c.leaders e) ≡ true) (sym puts.queue_is)
+        (has_front c.queue (edge_in ∷ []) (lead c.leaders e) (sound.carried e old)))
     | inr same ↦ put_leads e (
-        let again : lead c.leaders edge_in ≡ edge_in = ap (λ (x : Edge). lead c.leaders x) is ∙ (lead_then c.leaders c.leaders sound.flat asked ∙ sym is) in
-        subst (λ (x : Edge). has new.queue (lead c.leaders x) ≡ true) same (subst (λ (x : Edge). has new.queue x ≡ true) (sym again) put_there)
+        let again : lead c.leaders edge_in ≡ edge_in = ap (λ (x : Edge). lead c.leaders x) is
+        ∙ (lead_then c.leaders c.leaders sound.flat asked ∙ sym is) in
+        subst (λ (x : Edge). has new.queue (lead c.leaders x) ≡ true) same (subst (λ (x : Edge). has new.queue x ≡ true)
+        (sym again) put_there)
         )
   ]
 
   put_length : length new.queue ≡ length new.known
   put_length =
-      let longer : length new.queue ≡ length c.queue + 1 = ap (λ (xs : List Edge). length xs) puts.queue_is ∙ length-append c.queue (edge_in ∷ []) in
+      let longer : length new.queue ≡ length c.queue + 1 = ap (λ (xs : List Edge). length xs) puts.queue_is
+      ∙ length-append c.queue (edge_in ∷ []) in
       let more : length new.known ≡ length c.known + 1 = puts.as_many unknown in
       let same = sound.as_many in
       omega arith
@@ -136,7 +152,11 @@ module _ (asked edge_in : Edge) (c new : Closure) (sound : IsSound c) (is : edge
     more = many;
     each = λ l a m h.
         let there : has new.queue (edge l a m) ≡ true = sym (put_known (edge l a m)) ∙ h in
-        elim (put_cases_of (edge l a m) there) [ inl old ↦ sound.least (edge l a m) old | inr same ↦ subst (λ (x : Edge). OfLeast c x) same least ];
+        elim (put_cases_of (edge l a m) there) [
+          | inl old ↦ sound.least (edge l a m) old
+          | inr same ↦
+              subst (λ (x : Edge). OfLeast c x) same least
+        ];
   }
 
   pub put_adds : length new.known ≤ 262144 → Adds asked c new
@@ -150,7 +170,9 @@ module _ (asked edge_in : Edge) (c new : Closure) (sound : IsSound c) (is : edge
         as_many = put_length;
         few = few;
         least = put_least;
-        flows = λ s r h. rw (puts.spec_is, puts.labels_is) (sound.flows s r (subst (λ (xs : List Edge). Has xs s Grant r) puts.gives_is h));
+        flows =
+            λ s r h. rw (puts.spec_is, puts.labels_is)
+            (sound.flows s r (subst (λ (xs : List Edge). Has xs s Grant r) puts.gives_is h));
         less = λ e h. elim (put_cases_of e h) [ inl old ↦ sound.less e old | inr same ↦ subst IsLess same puts.less ];
         gives_less = λ e h. sound.gives_less e (subst (λ (xs : List Edge). has xs e ≡ true) puts.gives_is h);
         leads = λ l. rw (puts.spec_is, puts.labels_is, puts.leaders_is) (sound.leads l);
@@ -171,7 +193,8 @@ module _ (asked edge_in : Edge) (c new : Closure) (sound : IsSound c) (is : edge
     only = λ e h. elim (put_cases_of e h) [ inl old ↦ inl old | inr same ↦ inr (sym is ∙ same) ];
   }
 
-pub known_adds : (asked edge_in : Edge) (c : Closure) → IsSound c → edge_in ≡ lead c.leaders asked → has c.known edge_in ≡ true → Adds asked c c
+pub known_adds : (asked edge_in : Edge) (c : Closure) → IsSound c → edge_in ≡ lead c.leaders asked → has c.known edge_in ≡ true
+    → Adds asked c c
 known_adds asked edge_in c sound is h = record {
   grows = grows_none c sound;
   leaders_is = refl;
@@ -183,14 +206,16 @@ known_adds asked edge_in c sound is h = record {
 
 module _ (giver taker : ℕ) (c : Closure) (sound : IsSound c) where
   pub are_copies : (edges copies : List Edge) → ((e : Edge) → has edges e ≡ true → (has c.known e ≡ true) × (e.from ≡ giver))
-      → ((e : Edge) → has c.known e ≡ true → e.from ≡ giver → e.to < 2 ^ 32 → has edges e ≡ true) → copies ≡ filter_map (passed_to taker) edges → AreCopies c giver taker copies
+      → ((e : Edge) → has c.known e ≡ true → e.from ≡ giver → e.to < 2 ^ 32 → has edges e ≡ true)
+      → copies ≡ filter_map (passed_to taker) edges → AreCopies c giver taker copies
   are_copies edges copies only every made = record {
     only = λ e h.
         let from = from_mapped (passed_to taker) edges e (subst (λ (xs : List Edge). has xs e ≡ true) made h) in
         let there = only from.0 from.1 in
         let x : Edge = from.0 in
         let giver_is : x ≡ edge giver x.authority x.to = edges_same x (edge giver x.authority x.to) there.1 refl refl in
-        let was : has c.queue (edge giver x.authority x.to) ≡ true = subst (λ (y : Edge). has c.queue y ≡ true) giver_is (sym (sound.known_is x) ∙ there.0) in
+        let was : has c.queue (edge giver x.authority x.to) ≡ true = subst (λ (y : Edge). has c.queue y ≡ true) giver_is
+        (sym (sound.known_is x) ∙ there.0) in
         let passes = passed_is taker x e from.2 in
         subst (λ (y : Edge). IsCopy c giver taker y) passes.1 (record { other = passes.0; from_is = refl; known = was });
     every = λ e copy.
@@ -199,7 +224,8 @@ module _ (giver taker : ℕ) (c : Closure) (sound : IsSound c) where
         let there : has edges x ≡ true = every x known refl (sound.less x copy.known).1 in
         let is : edge taker e.authority e.to ≡ e = edges_same (edge taker e.authority e.to) e (sym copy.from_is) refl refl in
         subst (λ (y : Edge). has copies y ≡ true) is
-        (subst (λ (xs : List Edge). Has xs taker e.authority e.to) (sym made) (to_mapped (passed_to taker) edges x (edge taker e.authority e.to) there (passes_on taker x copy.other)));
+        (subst (λ (xs : List Edge). Has xs taker e.authority e.to) (sym made)
+        (to_mapped (passed_to taker) edges x (edge taker e.authority e.to) there (passes_on taker x copy.other)));
   }
 
   pub copy_least : Flows c.spec c.labels giver taker → (e : Edge) → IsCopy c giver taker e → OfLeast c e
@@ -207,7 +233,8 @@ module _ (giver taker : ℕ) (c : Closure) (sound : IsSound c) where
       subst (λ (y : Edge). OfLeast c y) (edges_same (edge taker e.authority e.to) e (sym copy.from_is) refl refl)
       (flows e.authority e.to copy.other (sound.least (edge giver e.authority e.to) copy.known))
 
-  pub copies_made : (copies : List Edge) (new : Closure) → AreCopies c giver taker copies → AddsAll copies c new → Copies giver taker c new
+  pub copies_made : (copies : List Edge) (new : Closure) → AreCopies c giver taker copies → AddsAll copies c new
+      → Copies giver taker c new
   copies_made copies new are adds = record {
     grows = adds.grows;
     leaders_is = adds.leaders_is;
@@ -216,8 +243,10 @@ module _ (giver taker : ℕ) (c : Closure) (sound : IsSound c) where
       | inr made ↦ (
           let d : Edge = made.0 in
           let copy = are.only d made.1 in
-          let led : edge (leader_at c.leaders d.from) d.authority d.to ≡ edge giver a x = sym (lead_other c.leaders d (other_number d.authority copy.other)) ∙ made.2 in
-          let is : d ≡ edge taker a x = edges_same d (edge taker a x) copy.from_is (ap (λ (y : Edge). y.authority) led) (ap (λ (y : Edge). y.to) led) in
+          let led : edge (leader_at c.leaders d.from) d.authority d.to ≡ edge giver a x =
+          sym (lead_other c.leaders d (other_number d.authority copy.other)) ∙ made.2 in
+          let is : d ≡ edge taker a x = edges_same d (edge taker a x) copy.from_is (ap (λ (y : Edge). y.authority) led)
+          (ap (λ (y : Edge). y.to) led) in
           subst (λ (y : Edge). Knows new y) is (adds.there d made.1)
           )
     ];
@@ -225,12 +254,14 @@ module _ (giver taker : ℕ) (c : Closure) (sound : IsSound c) where
 
 -- ---- gifts
 
-module _ (giver taker : ℕ) (c mid new : Closure) (copies : Copies giver taker c mid) (puts : PutsGift (edge giver Grant taker) mid new) (less : IsLess (edge giver Grant taker)) (flows : Flows c.spec c.labels giver taker) where
+module _ (giver taker : ℕ) (c mid new : Closure) (copies : Copies giver taker c mid) (puts : PutsGift (edge giver Grant taker) mid
+    new) (less : IsLess (edge giver Grant taker)) (flows : Flows c.spec c.labels giver taker) where
   gives_cases : (e : Edge) → has new.gives e ≡ true → (has mid.gives e ≡ true) ⊎ (edge giver Grant taker ≡ e)
   gives_cases e h = put_cases (has mid.gives e) (edge giver Grant taker) e (sym (puts.gives_is e) ∙ h)
 
   kept_gives : (s r : ℕ) → Has mid.gives s Grant r → Has new.gives s Grant r
-  kept_gives s r h = puts.gives_is (edge s Grant r) ∙ put_has (has mid.gives (edge s Grant r)) (edge giver Grant taker) (edge s Grant r) h
+  kept_gives s r h = puts.gives_is (edge s Grant r) ∙ put_has (has mid.gives (edge s Grant r)) (edge giver Grant taker)
+      (edge s Grant r) h
 
   gift_there : Has new.gives giver Grant taker
   gift_there = puts.gives_is (edge giver Grant taker) ∙ put_self (has mid.gives (edge giver Grant taker)) (edge giver Grant taker)
@@ -276,7 +307,8 @@ module _ (giver taker : ℕ) (c mid new : Closure) (copies : Copies giver taker 
                 let from : giver ≡ s = ap (λ (x : Edge). x.from) same in
                 let to : taker ≡ r = ap (λ (x : Edge). x.to) same in
                 let known : Knows mid (edge taker a m) =
-                copies.copied a m other (grows_has c mid copies.grows (edge giver a m) (subst (λ (l : ℕ). Has c.queue l a m) (sym from) before)) in
+                copies.copied a m other (grows_has c mid copies.grows (edge giver a m)
+                (subst (λ (l : ℕ). Has c.queue l a m) (sym from) before)) in
                 subst (λ (l : ℕ). Knows mid (edge l a m)) to known)
           ];
           together = copies.grows.together;
@@ -300,7 +332,8 @@ pub gives_led : (s r : ℕ) (c new : Closure) → Gives (leader_at c.leaders s) 
 gives_led s r c new g = record {
   grows = g.grows;
   given = λ to_s to_r.
-      subst (λ (l : ℕ). Gifted new l r) (g.grows.led_before s to_s) (subst (λ (l : ℕ). Gifted new (leader_at c.leaders s) l) (g.grows.led_before r to_r) g.given) to_s to_r;
+      subst (λ (l : ℕ). Gifted new l r) (g.grows.led_before s to_s) (subst (λ (l : ℕ). Gifted new (leader_at c.leaders s) l)
+      (g.grows.led_before r to_r) g.given) to_s to_r;
 }
 
 -- ---- labels that one leader leads
@@ -327,7 +360,8 @@ module _ (to from : ℕ) (c mid new : Closure) (copies : Copies from to c mid) (
   second_is = ap (λ (ls : List ℕ). leader_at ls from) copies.leaders_is ∙ second
 
   -- the leader is as before, or the other one took its place
-  new_cases : (l : ℕ) → (leader_at new.leaders l ≡ leader_at mid.leaders l) ⊎ ((leader_at mid.leaders l ≡ from) × (leader_at new.leaders l ≡ to))
+  new_cases : (l : ℕ) → (leader_at new.leaders l ≡ leader_at mid.leaders l)
+      ⊎ ((leader_at mid.leaders l ≡ from) × (leader_at new.leaders l ≡ to))
   new_cases l = elim (led_cases from to (leader_at mid.leaders l)) [
     | inl same ↦ inl (relabels.leaders_are.led l ∙ same)
     | inr led ↦ inr (led.0, relabels.leaders_are.led l ∙ led.1)
@@ -340,7 +374,8 @@ module _ (to from : ℕ) (c mid new : Closure) (copies : Copies from to c mid) (
   from_is = relabels.leaders_are.led from ∙ (ap (led_by from to) second_is ∙ led_from from to)
 
   new_together : (l : ℕ) → leader_at new.leaders (leader_at mid.leaders l) ≡ leader_at new.leaders l
-  new_together l = relabels.leaders_are.led (leader_at mid.leaders l) ∙ (ap (led_by from to) (mid_sound.flat l) ∙ sym (relabels.leaders_are.led l))
+  new_together l = relabels.leaders_are.led (leader_at mid.leaders l)
+      ∙ (ap (led_by from to) (mid_sound.flat l) ∙ sym (relabels.leaders_are.led l))
 
   new_flat : (l : ℕ) → leader_at new.leaders (leader_at new.leaders l) ≡ leader_at new.leaders l
   new_flat l = elim (new_cases l) [
@@ -364,11 +399,14 @@ module _ (to from : ℕ) (c mid new : Closure) (copies : Copies from to c mid) (
   new_carried e h = elim (reply_or_not e) [
     | inl is ↦ subst (λ (x : Edge). has mid.queue x ≡ true) (sym (lead_reply new.leaders e is)) h
     | inr is ↦ (
-        let known : Has mid.queue (leader_at mid.leaders e.from) e.authority e.to = subst (λ (x : Edge). has mid.queue x ≡ true) (lead_other mid.leaders e is) (mid_sound.carried e h) in
+        let known : Has mid.queue (leader_at mid.leaders e.from) e.authority e.to = subst (λ (x : Edge). has mid.queue x ≡ true)
+        (lead_other mid.leaders e is) (mid_sound.carried e h) in
         subst (λ (x : Edge). has mid.queue x ≡ true) (sym (lead_other new.leaders e is)) (elim (new_cases e.from) [
           | inl same ↦ subst (λ (l : ℕ). Has mid.queue l e.authority e.to) (sym same) known
           | inr led ↦ subst (λ (l : ℕ). Has mid.queue l e.authority e.to) (first_is ∙ sym led.1)
-              (knows_led mid mid_sound to e.authority e.to (number_other e.authority is) (copies.copied e.authority e.to (number_other e.authority is) (subst (λ (l : ℕ). Has mid.queue l e.authority e.to) led.0 known)))
+              (knows_led mid mid_sound to e.authority e.to (number_other e.authority is)
+              (copies.copied e.authority e.to (number_other e.authority is)
+              (subst (λ (l : ℕ). Has mid.queue l e.authority e.to) led.0 known)))
         ])
         )
   ]
@@ -420,15 +458,22 @@ abbrev pub no_edge : Edge
 no_edge = record { from = 0; authority = Receive; to = 0 }
 
 pub adds_none : (edges : List Edge) (c : Closure) → IsSound c → AddsSome edges 0 c c
-adds_none edges c sound = record { grows = grows_none c sound; leaders_is = refl; there = λ k e less at. absurd (omega arith); only = λ e h. inl h }
+adds_none edges c sound = record {
+  grows = grows_none c sound;
+  leaders_is = refl;
+  there = λ k e less at. absurd (omega arith);
+  only = λ e h. inl h;
+}
 
-pub adds_more : (edges : List Edge) (n : ℕ) (e : Edge) (c mid new : Closure) → slice_get edges n ≡ Some e → AddsSome edges n c mid → Adds e mid new → AddsSome edges (n + 1) c new
+pub adds_more : (edges : List Edge) (n : ℕ) (e : Edge) (c mid new : Closure) → slice_get edges n ≡ Some e → AddsSome edges n c mid
+    → Adds e mid new → AddsSome edges (n + 1) c new
 adds_more edges n e c mid new here before adds = record {
   grows = grows_then c mid new before.grows adds.grows;
   leaders_is = adds.leaders_is ∙ before.leaders_is;
   there = λ k d less at. elim (cases_lt k n) [
     | inl below ↦ knows_grows mid new adds.grows d (before.there k d below at)
-    | inr ge ↦ (let same : k ≡ n = omega arith in let is : e ≡ d = let g : slice_get edges n ≡ Some d = subst (λ (i : ℕ). slice_get edges i ≡ Some d) same at in cc in subst (λ (x : Edge). Knows new x) is adds.there)
+    | inr ge ↦ (let same : k ≡ n = omega arith in let is : e ≡ d = let g : slice_get edges n ≡ Some d = subst
+        (λ (i : ℕ). slice_get edges i ≡ Some d) same at in cc in subst (λ (x : Edge). Knows new x) is adds.there)
   ];
   only = λ d h. elim (adds.only d h) [
     | inl old ↦ before.only d old
@@ -449,12 +494,14 @@ adds_all edges n c new le some = record {
 pub gives_none : (gifts : List Edge) (c : Closure) → IsSound c → GivesSome gifts 0 c c
 gives_none gifts c sound = record { grows = grows_none c sound; given = λ k e less at. absurd (omega arith) }
 
-pub gives_more : (gifts : List Edge) (n : ℕ) (g : Edge) (c mid new : Closure) → slice_get gifts n ≡ Some g → GivesSome gifts n c mid → Gives g.from g.to mid new → GivesSome gifts (n + 1) c new
+pub gives_more : (gifts : List Edge) (n : ℕ) (g : Edge) (c mid new : Closure) → slice_get gifts n ≡ Some g
+    → GivesSome gifts n c mid → Gives g.from g.to mid new → GivesSome gifts (n + 1) c new
 gives_more gifts n g c mid new here before gives = record {
   grows = grows_then c mid new before.grows gives.grows;
   given = λ k d less at. elim (cases_lt k n) [
     | inl below ↦ gifted_grows mid new gives.grows d.from d.to (before.given k d below at)
-    | inr ge ↦ (let same : k ≡ n = omega arith in let is : g ≡ d = let h : slice_get gifts n ≡ Some d = subst (λ (i : ℕ). slice_get gifts i ≡ Some d) same at in cc in subst (λ (x : Edge). Gifted new x.from x.to) is gives.given)
+    | inr ge ↦ (let same : k ≡ n = omega arith in let is : g ≡ d = let h : slice_get gifts n ≡ Some d = subst
+        (λ (i : ℕ). slice_get gifts i ≡ Some d) same at in cc in subst (λ (x : Edge). Gifted new x.from x.to) is gives.given)
   ];
 }
 
@@ -468,4 +515,7 @@ gives_all gifts n c new le some = record {
 
 -- what a test that fails says
 pub not_over : (test : Bool) (n : ℕ) → IsTrue test ↔ (262144 < n) → test ≡ false → n ≤ 262144
-not_over test n over no_it = elim (cases_lt 262144 n) [ inl less ↦ absurd (let yes_it : test ≡ true = over.1 less in cc) | inr ge ↦ ge ]
+not_over test n over no_it = elim (cases_lt 262144 n) [
+  | inl less ↦ absurd (let yes_it : test ≡ true = over.1 less in cc)
+  | inr ge ↦ ge
+]

@@ -8,8 +8,8 @@ use Rattle.cap_model.specs.Adds.{Adds}
 use Rattle.cap_model.specs.Edges.{edge}
 use Rattle.cap_model.specs.ObjectLabels.{label_of}
 use Rattle.cap_model.specs.Tables.{has}
-use Rattle.cap_model.specs.declared.authority.Authority.{Authority}
-use Rattle.cap_model.specs.declared.authority.Authority.TheVariants.{Grant}
+use Rattle.authorities.specs.declared.authority.Authority.{Authority}
+use Rattle.authorities.specs.declared.authority.Authority.TheVariants.{Grant}
 use Rattle.cap_model.specs.declared.edge.Edge.{Edge}
 use Rattle.cap_model.specs.Auth.{Auth, Held, Structural}
 use Rattle.cap_model.specs.State.{Node, boot, boot_node, boot_slot, no_node, node_at}
@@ -29,7 +29,8 @@ use Rattle.least_cert.proofs.Listing.{from_mapped, to_mapped}
 use Rattle.least_cert.proofs.Passing.{link_is, link_of}
 
 module _ (spec : Spec) (labels : List ℕ) where
-  held_object : (from : ℕ) (object : Object) (i : ℕ) (x : Cap) (e : Edge) → Contains (boot_node object).slots (i, Capability x) → OfCap spec labels from x e → OfHolder spec labels from object e
+  held_object : (from : ℕ) (object : Object) (i : ℕ) (x : Cap) (e : Edge) → Contains (boot_node object).slots (i, Capability x)
+      → OfCap spec labels from x e → OfHolder spec labels from object e
   held_object from (CNode bits slots) i x e there of_cap =
       let k = contains_at (map boot_slot slots) (i, Capability x) there in
       let s = slot_of slots k.0 i (Capability x) k.1 in
@@ -45,19 +46,36 @@ module _ (spec : Spec) (labels : List ℕ) where
           place = c;
           item = found.0;
           there = found.1;
-          by = held_object (label_of labels c) found.0.object i x (edge l a m) (subst (λ (n : Node). Contains n.slots (i, Capability x)) found.2 there) (record { from_is = from; conferred = conf; to_is = to });
+          by = held_object (label_of labels c) found.0.object i x (edge l a m)
+              (subst (λ (n : Node). Contains n.slots (i, Capability x)) found.2 there) (record {
+                from_is = from;
+                conferred = conf;
+                to_is = to;
+              });
         }
-        | inr none ↦ absurd (let c : Contains no_node.slots (i, Capability x) = subst (λ (n : Node). Contains n.slots (i, Capability x)) none there in let w = c.1 in omega arith)
+        | inr none ↦
+            absurd (let c : Contains no_node.slots (i, Capability x) = subst (λ (n : Node). Contains n.slots (i, Capability x))
+            none there in let w = c.1 in omega arith)
       ]
 
-  boot_contains : (slots : List (ℕ × Cap)) (k : ℕ) (slot : ℕ × Cap) → slice_get slots k ≡ Some slot → Contains (map boot_slot slots) (slot.0, Capability slot.1)
-  boot_contains slots k slot h = at_contains (map boot_slot slots) (boot_slot slot) k (let e = slice_get-map boot_slot slots k in rw (e, h) refl)
+  boot_contains : (slots : List (ℕ × Cap)) (k : ℕ) (slot : ℕ × Cap) → slice_get slots k ≡ Some slot
+      → Contains (map boot_slot slots) (slot.0, Capability slot.1)
+  boot_contains slots k slot h = at_contains (map boot_slot slots) (boot_slot slot) k (let e = slice_get-map boot_slot slots k in
+      rw (e, h) refl)
 
-  object_held : (o : ℕ) (entry : Entry) (object : Object) (e : Edge) → slice_get spec.entries o ≡ Some entry → entry.object ≡ object
+  object_held : (o : ℕ) (entry : Entry) (object : Object) (e : Edge) → slice_get spec.entries o ≡ Some entry
+      → entry.object ≡ object
       → OfHolder spec labels (label_of labels o) object e → Held spec labels (boot spec) e.from e.authority e.to
   object_held o entry (CNode bits slots) e here is of =
-      let node : node_at (boot spec) o ≡ boot_node entry.object = entry_at boot_node spec.entries o no_node entry here in
-      (o, of.item.0, of.item.1, rw (node, is) (boot_contains slots of.place of.item of.there), of.by.conferred, of.by.from_is, of.by.to_is)
+      let node : node_at (boot spec) o ≡ boot_node entry.object = entry_at boot_node spec.entries o no_node entry here in (
+        o,
+        of.item.0,
+        of.item.1,
+        rw (node, is) (boot_contains slots of.place of.item of.there),
+        of.by.conferred,
+        of.by.from_is,
+        of.by.to_is,
+      )
   object_held o entry (Pages level slots) e here is h = absurd h
   object_held o entry (Thread tcb) e here is h = absurd h
   object_held o entry (Irq bound) e here is h = absurd h
@@ -83,7 +101,8 @@ module _ (spec : Spec) (labels : List ℕ) where
   other_object from Notification e h = absurd h
   other_object from (Frame paddr fill) e h = absurd h
 
-  held_or_other : (from : ℕ) (object : Object) (e : Edge) → OfObject spec labels from object e → (OfHolder spec labels from object e) ⊎ (OfOther spec labels from object e)
+  held_or_other : (from : ℕ) (object : Object) (e : Edge) → OfObject spec labels from object e
+      → (OfHolder spec labels from object e) ⊎ (OfOther spec labels from object e)
   held_or_other from (CNode bits slots) e h = inl h
   held_or_other from (Pages level slots) e h = inr h
   held_or_other from (Thread tcb) e h = inr h
@@ -95,9 +114,15 @@ module _ (spec : Spec) (labels : List ℕ) where
   other_auth : (e : Edge) → OfOthers spec labels e → Auth spec labels (boot spec) e.from e.authority e.to
   other_auth e h =
       source_auth spec labels e.from e.authority e.to
-      (record { place = h.place; item = h.item; there = h.there; by = other_object (label_of labels h.place) h.item.object e h.by })
+      (record {
+        place = h.place;
+        item = h.item;
+        there = h.there;
+        by = other_object (label_of labels h.place) h.item.object e h.by;
+      })
 
-  structural_source : (e : Edge) → Structural spec labels (boot spec) e.from e.authority e.to → (Held spec labels (boot spec) e.from e.authority e.to) ⊎ (OfOthers spec labels e)
+  structural_source : (e : Edge) → Structural spec labels (boot spec) e.from e.authority e.to
+      → (Held spec labels (boot spec) e.from e.authority e.to) ⊎ (OfOthers spec labels e)
   structural_source e h =
       let of = auth_source spec labels e.from e.authority e.to (inr h) in
       elim (held_or_other (label_of labels of.place) of.item.object e of.by) [
@@ -105,18 +130,26 @@ module _ (spec : Spec) (labels : List ℕ) where
         | inr other ↦ inr (record { place = of.place; item = of.item; there = of.there; by = other })
       ]
 
-  pub are_links : (edges links : List Edge) → Adds (OfOthers spec labels) [] edges → links ≡ filter_map between_labels edges → AreLinks spec labels links
+  pub are_links : (edges links : List Edge) → Adds (OfOthers spec labels) [] edges → links ≡ filter_map between_labels edges
+      → AreLinks spec labels links
   are_links edges links grown is = record {
     only = λ e h.
         let from = from_mapped between_labels edges e (subst (λ (xs : List Edge). has xs e ≡ true) is h) in
-        let link = link_is from.0 e from.2 in
-        (elim (grown.only e (subst (λ (x : Edge). has edges x ≡ true) link.0 from.1)) [ inl none ↦ absurd cc | inr of ↦ other_auth e of ], link.1);
+        let link = link_is from.0 e from.2 in (
+          elim (grown.only e (subst (λ (x : Edge). has edges x ≡ true) link.0 from.1)) [
+            | inl none ↦ absurd cc
+            | inr of ↦
+                other_auth e of
+          ],
+          link.1,
+        );
     every = λ l a m h differ.
         elim (structural_source (edge l a m) h) [
           | inl held ↦ inl held
           | inr of ↦ inr
               (subst (λ (xs : List Edge). has xs (edge l a m) ≡ true) (sym is)
-              (to_mapped between_labels edges (edge l a m) (edge l a m) (grown.added (edge l a m) of) (link_of (edge l a m) differ)))
+              (to_mapped between_labels edges (edge l a m) (edge l a m) (grown.added (edge l a m) of)
+              (link_of (edge l a m) differ)))
         ];
   }
 
@@ -137,7 +170,8 @@ module _ (spec : Spec) (labels : List ℕ) where
       as_many = rw (empty.known_is, empty.queue_is) refl;
       few = rw empty.known_is (omega arith);
       least = λ e h. absurd (let g : has [] e ≡ true = subst (λ (xs : List Edge). has xs e ≡ true) empty.queue_is h in cc);
-      flows = λ s r h. absurd (let g : has [] (edge s Grant r) ≡ true = subst (λ (xs : List Edge). has xs (edge s Grant r) ≡ true) empty.gives_is h in cc);
+      flows = λ s r h. absurd (let g : has [] (edge s Grant r) ≡ true = subst (λ (xs : List Edge). has xs (edge s Grant r) ≡ true)
+          empty.gives_is h in cc);
       less = λ e h. absurd (let g : has [] e ≡ true = subst (λ (xs : List Edge). has xs e ≡ true) empty.queue_is h in cc);
       gives_less = λ e h. absurd (let g : has [] e ≡ true = subst (λ (xs : List Edge). has xs e ≡ true) empty.gives_is h in cc);
       leads = λ l. rw empty.leaders_is (λ a x other h. h);
@@ -150,11 +184,13 @@ module _ (spec : Spec) (labels : List ℕ) where
     pub held_least : (edges : List Edge) → AreHeld spec labels edges → (e : Edge) → has edges e ≡ true → OfLeast c e
     held_least edges are e h = rw (empty.spec_is, empty.labels_is) (rules.boot_held e.from e.authority e.to (are.only e h))
 
-    module _ (held links : List Edge) (mid new : Closure) (are_h : AreHeld spec labels held) (are_l : AreLinks spec labels links) (add_h : AddsAll held c mid) where
+    module _ (held links : List Edge) (mid new : Closure) (are_h : AreHeld spec labels held) (are_l : AreLinks spec labels links)
+        (add_h : AddsAll held c mid) where
       pub links_least : (e : Edge) → has links e ≡ true → OfLeast mid e
       links_least e h =
           let x = are_l.only e h in
-          rw (add_h.grows.spec_is, add_h.grows.labels_is, empty.spec_is, empty.labels_is) (auth_least e.from e.authority e.to x.0 x.1)
+          rw (add_h.grows.spec_is, add_h.grows.labels_is, empty.spec_is, empty.labels_is)
+          (auth_least e.from e.authority e.to x.0 x.1)
 
       begun_spec : (add_l : AddsAll links mid new) → new.spec ≡ spec
       begun_spec add_l = add_l.grows.spec_is ∙ (add_h.grows.spec_is ∙ empty.spec_is)
@@ -168,7 +204,8 @@ module _ (spec : Spec) (labels : List ℕ) where
         labels_is = begun_labels add_l;
         sound = add_l.grows.sound;
         has_boot = record {
-          held = rw (begun_spec add_l, begun_labels add_l) (λ l a m h. knows_grows mid new add_l.grows (edge l a m) (add_h.there (edge l a m) (are_h.every l a m h)));
+          held = rw (begun_spec add_l, begun_labels add_l) (λ l a m h. knows_grows mid new add_l.grows (edge l a m)
+              (add_h.there (edge l a m) (are_h.every l a m h)));
           structural = rw (begun_spec add_l, begun_labels add_l) (λ l a m h differ. elim (are_l.every l a m h differ) [
             | inl of ↦ knows_grows mid new add_l.grows (edge l a m) (add_h.there (edge l a m) (are_h.every l a m of))
             | inr there ↦ add_l.there (edge l a m) there

@@ -3,11 +3,11 @@ use Rattle.std.proofs.Common.{◌≡◌, ◌≢◌, ◌∙◌, ◌⊎◌, ◌++�
 use Rattle.std.proofs.lemmas.Bool.{cases_lt, eqb-true, ne_eqb}
 use Rattle.std.proofs.lemmas.List.{get_or-map, get_or_past, length-map}
 use Rattle.cam_base.proofs.Orders.{same_itself}
-use Rattle.cap_model.specs.Authorities.{number_of}
+use Rattle.authorities.specs.Authorities.{number_of}
 use Rattle.cap_model.specs.Edges.{edge}
 use Rattle.cap_model.specs.Tables.{Has, has}
-use Rattle.cap_model.specs.declared.authority.Authority.{Authority}
-use Rattle.cap_model.specs.declared.authority.Authority.TheVariants.{Reply}
+use Rattle.authorities.specs.declared.authority.Authority.{Authority}
+use Rattle.authorities.specs.declared.authority.Authority.TheVariants.{Reply}
 use Rattle.cap_model.specs.declared.edge.Edge.{Edge}
 use Rattle.cap_model.proofs.EdgeOrder.{same_number}
 use Rattle.least_cert.specs.Closing.{Closure, Flows, IsSound, Knows, IsRelabeled, OfLeast, Widens, lead, leader_at, led_by}
@@ -30,13 +30,16 @@ reply_or_not e = by (number_of e.authority == 9) refl where
 pub lead_reply : (leaders : List ℕ) (e : Edge) → number_of e.authority == 9 ≡ true → lead leaders e ≡ e
 lead_reply leaders e is = rw is refl
 
-pub lead_other : (leaders : List ℕ) (e : Edge) → number_of e.authority == 9 ≡ false → lead leaders e ≡ edge (leader_at leaders e.from) e.authority e.to
+pub lead_other : (leaders : List ℕ) (e : Edge) → number_of e.authority == 9 ≡ false
+    → lead leaders e ≡ edge (leader_at leaders e.from) e.authority e.to
 lead_other leaders e is = rw is refl
 
-pub lead_as : (leaders : List ℕ) (l : ℕ) (a : Authority) (x : ℕ) → a ≢ Reply → lead leaders (edge l a x) ≡ edge (leader_at leaders l) a x
+pub lead_as : (leaders : List ℕ) (l : ℕ) (a : Authority) (x : ℕ) → a ≢ Reply
+    → lead leaders (edge l a x) ≡ edge (leader_at leaders l) a x
 lead_as leaders l a x other = lead_other leaders (edge l a x) (other_number a other)
 
-pub lead_then : (old new : List ℕ) → ((l : ℕ) → leader_at new (leader_at old l) ≡ leader_at new l) → (e : Edge) → lead new (lead old e) ≡ lead new e
+pub lead_then : (old new : List ℕ) → ((l : ℕ) → leader_at new (leader_at old l) ≡ leader_at new l) → (e : Edge)
+    → lead new (lead old e) ≡ lead new e
 lead_then old new same e = elim (reply_or_not e) [
   | inl is ↦ ap (λ (x : Edge). lead new x) (lead_reply old e is)
   | inr is ↦ ap (λ (x : Edge). lead new x) (lead_other old e is)
@@ -61,13 +64,15 @@ module _ (c : Closure) (sound : IsSound c) where
   pub least_led : (e : Edge) → OfLeast c e → OfLeast c (lead c.leaders e)
   least_led e h = elim (reply_or_not e) [
     | inl is ↦ subst (λ (x : Edge). OfLeast c x) (sym (lead_reply c.leaders e is)) h
-    | inr is ↦ subst (λ (x : Edge). OfLeast c x) (sym (lead_other c.leaders e is)) (sound.leads e.from e.authority e.to (number_other e.authority is) h)
+    | inr is ↦ subst (λ (x : Edge). OfLeast c x) (sym (lead_other c.leaders e is))
+        (sound.leads e.from e.authority e.to (number_other e.authority is) h)
   ]
 
   pub knows_least : (e : Edge) → Knows c e → OfLeast c e
   knows_least e h = elim (reply_or_not e) [
     | inl is ↦ subst (λ (x : Edge). OfLeast c x) (lead_reply c.leaders e is) (sound.least (lead c.leaders e) h)
-    | inr is ↦ sound.follows e.from e.authority e.to (number_other e.authority is) (subst (λ (x : Edge). OfLeast c x) (lead_other c.leaders e is) (sound.least (lead c.leaders e) h))
+    | inr is ↦ sound.follows e.from e.authority e.to (number_other e.authority is)
+        (subst (λ (x : Edge). OfLeast c x) (lead_other c.leaders e is) (sound.least (lead c.leaders e) h))
   ]
 
 -- ---- leaders that change
@@ -84,19 +89,26 @@ led_to from to = elim (led_cases from to to) [ inl is ↦ is | inr is ↦ is.1 ]
 pub led_from : (from to : ℕ) → led_by from to from ≡ to
 led_from from to = rw (same_itself from) refl
 
-relabeled : (leaders : List ℕ) (from to l : ℕ) → from < length leaders → leader_at (map (led_by from to) leaders) l ≡ led_by from to (leader_at leaders l)
+relabeled : (leaders : List ℕ) (from to l : ℕ) → from < length leaders → leader_at (map (led_by from to) leaders) l ≡ led_by from
+    to (leader_at leaders l)
 relabeled leaders from to l less = elim (cases_lt l (length leaders)) [
   | inl within ↦ get_or-map (led_by from to) leaders l l l within
   | inr past ↦ (
-      let stays : led_by from to l ≡ l = elim (led_cases from to l) [ inl same ↦ same | inr led ↦ absurd (let same : l ≡ from = led.0 in omega arith) ] in
+      let stays : led_by from to l ≡ l = elim (led_cases from to l) [
+        | inl same ↦ same
+        | inr led ↦
+            absurd (let same : l ≡ from = led.0 in omega arith)
+      ] in
       let long : length (map (led_by from to) leaders) ≡ length leaders = length-map leaders (led_by from to) in
-      get_or_past (map (led_by from to) leaders) l l (omega arith) ∙ (sym stays ∙ ap (led_by from to) (sym (get_or_past leaders l l past)))
+      get_or_past (map (led_by from to) leaders) l l (omega arith)
+      ∙ (sym stays ∙ ap (led_by from to) (sym (get_or_past leaders l l past)))
       )
 ]
 
 -- ---- labels that lead themselves
 
-push_at : (xs : List ℕ) (n k d : ℕ) → (get_or (xs ++ n ∷ []) k d ≡ get_or xs k d) ⊎ ((k ≡ length xs) × (get_or (xs ++ n ∷ []) k d ≡ n) × (get_or xs k d ≡ d))
+push_at : (xs : List ℕ) (n k d : ℕ) → (get_or (xs ++ n ∷ []) k d ≡ get_or xs k d)
+    ⊎ ((k ≡ length xs) × (get_or (xs ++ n ∷ []) k d ≡ n) × (get_or xs k d ≡ d))
 push_at [] n zero d = inr (refl, refl, refl)
 push_at [] n (suc k) d = inl refl
 push_at (x ∷ xs) n zero d = inl refl
@@ -120,9 +132,11 @@ widens_all n label leaders new w less few = let long = w.long in record { within
 
 -- ---- one leader in place of another
 
-pub is_relabeled : (from to : ℕ) (leaders wide new : List ℕ) → Widens from leaders wide → new ≡ map (led_by from to) wide → IsRelabeled from to leaders new
+pub is_relabeled : (from to : ℕ) (leaders wide new : List ℕ) → Widens from leaders wide → new ≡ map (led_by from to) wide
+    → IsRelabeled from to leaders new
 is_relabeled from to leaders wide new w is = record {
-  few = (let long : length new ≡ length wide = ap (λ (ls : List ℕ). length ls) is ∙ length-map wide (led_by from to) in let few = w.few in omega arith);
+  few = (let long : length new ≡ length wide = ap (λ (ls : List ℕ). length ls) is ∙ length-map wide (led_by from to) in
+      let few = w.few in omega arith);
   led = λ l. ap (λ (ls : List ℕ). leader_at ls l) is ∙ (relabeled wide from to l w.within ∙ ap (led_by from to) (w.same l));
 }
 

@@ -1,8 +1,8 @@
 -- The rules hold for the least certificate, and it decides whether any certificate will do.
 use Rattle.std.proofs.Common.{◌≢◌, ℕ, List}
 use Rattle.cap_model.specs.Tables.{Has}
-use Rattle.cap_model.specs.declared.authority.Authority.{Authority}
-use Rattle.cap_model.specs.declared.authority.Authority.TheVariants.{Receive, AsyncSend, Grant, Control, Call, Reply, GrantBack, Handle}
+use Rattle.authorities.specs.declared.authority.Authority.{Authority}
+use Rattle.authorities.specs.declared.authority.Authority.TheVariants.{Receive, AsyncSend, Grant, Control, Call, Reply, GrantBack, Handle}
 use Rattle.cap_model.specs.declared.edge.Edge.{Edge}
 use Rattle.cap_machine.specs.Runs.{Reaches}
 use Rattle.cap_model.specs.declared.spec.Spec.{Spec}
@@ -10,7 +10,8 @@ use Rattle.cert_check.specs.Valid.{Valid}
 use Rattle.cert_check.proofs.Keeps.{runs_stay}
 use Rattle.least_cert.specs.LeastCertificate.{KeepsRules, InLeast, IsLeast}
 
-pub valid_keeps : (spec : Spec) (labels : List ℕ) (policy cert : List Edge) → Valid spec labels policy cert → KeepsRules spec labels (Has cert)
+pub valid_keeps : (spec : Spec) (labels : List ℕ) (policy cert : List Edge) → Valid spec labels policy cert
+    → KeepsRules spec labels (Has cert)
 valid_keeps spec labels policy cert v = record {
   boot_held = v.boot_held;
   boot_structural = v.boot_structural;
@@ -22,7 +23,8 @@ valid_keeps spec labels policy cert v = record {
   bind = v.bind;
 }
 
-pub keeps_valid : (spec : Spec) (labels : List ℕ) (policy cert : List Edge) → KeepsRules spec labels (Has cert) → ((l : ℕ) (a : Authority) (m : ℕ) → Has cert l a m → l ≢ m → Has policy l a m) → Valid spec labels policy cert
+pub keeps_valid : (spec : Spec) (labels : List ℕ) (policy cert : List Edge) → KeepsRules spec labels (Has cert)
+    → ((l : ℕ) (a : Authority) (m : ℕ) → Has cert l a m → l ≢ m → Has policy l a m) → Valid spec labels policy cert
 keeps_valid spec labels policy cert k within = record {
   boot_held = k.boot_held;
   boot_structural = k.boot_structural;
@@ -57,18 +59,23 @@ module _ (spec : Spec) (labels : List ℕ) (least : List Edge) (is : IsLeast spe
         boot_held = λ l a m h. is.each l a m (k.boot_held l a m h);
         boot_structural = λ l a m h differ. is.each l a m (k.boot_structural l a m h differ);
         control_out = λ l m a x c other h. is.each m a x (k.control_out l m a x (is.only l Control m c) other (is.only l a x h));
-        control_back = λ l m a x c other h. is.each l a x (k.control_back l m a x (is.only l Control m c) other (is.only m a x h));
-        grant = λ s e r a x g q other h. is.each r a x (k.grant s e r a x (is.only s Grant e g) (is.only r Receive e q) other (is.only s a x h));
+        control_back = λ l m a x c other h. is.each l a x (k.control_back l m a x (is.only l Control m c) other
+            (is.only m a x h));
+        grant = λ s e r a x g q other h. is.each r a x (k.grant s e r a x (is.only s Grant e g) (is.only r Receive e q) other
+            (is.only s a x h));
         call = λ s e r c q differ. is.each r Reply s (k.call s e r (is.only s Call e c) (is.only r Receive e q) differ);
-        grant_back = λ s e r a x c g other h. is.each s a x (k.grant_back s e r a x (is.only s Call e c) (is.only r GrantBack e g) other (is.only r a x h));
+        grant_back = λ s e r a x c g other h. is.each s a x (k.grant_back s e r a x (is.only s Call e c) (is.only r GrantBack e g)
+            other (is.only r a x h));
         bind = λ s d n h q differ. is.each d AsyncSend n (k.bind s d n (is.only s Handle d h) (is.only s AsyncSend n q) differ);
       }
 
   -- where some certificate is valid, this one is
   pub least_valid : (policy cert : List Edge) → Valid spec labels policy cert → Valid spec labels policy least
   least_valid policy cert v =
-      keeps_valid spec labels policy least table_keeps (λ l a m h differ. v.in_policy l a m (is.only l a m h cert (valid_keeps spec labels policy cert v)) differ)
+      keeps_valid spec labels policy least table_keeps
+      (λ l a m h differ. v.in_policy l a m (is.only l a m h cert (valid_keeps spec labels policy cert v)) differ)
 
   -- what runs reach between labels is in it
   pub least_reached : (l : ℕ) (a : Authority) (m : ℕ) → Reaches spec labels l a m → l ≢ m → Has least l a m
-  least_reached l a m reaches differ = runs_stay spec labels least least (keeps_valid spec labels least least table_keeps (λ x b y h other. h)) l a m reaches differ
+  least_reached l a m reaches differ = runs_stay spec labels least least (keeps_valid spec labels least least table_keeps
+      (λ x b y h other. h)) l a m reaches differ

@@ -19,7 +19,8 @@ or_none false = refl
 
 pub has_append : (xs ys : List Edge) (e : Edge) → has (xs ++ ys) e ≡ (has xs e || has ys e)
 has_append [] ys e = refl
-has_append (d ∷ xs) ys e = ap (λ (b : Bool). same_edge d e || b) (has_append xs ys e) ∙ or_assoc (same_edge d e) (has xs e) (has ys e)
+has_append (d ∷ xs) ys e = ap (λ (b : Bool). same_edge d e || b) (has_append xs ys e)
+    ∙ or_assoc (same_edge d e) (has xs e) (has ys e)
 
 pub has_front : (xs ys : List Edge) (e : Edge) → has xs e ≡ true → has (xs ++ ys) e ≡ true
 has_front xs ys e h = has_append xs ys e ∙ or_left (has xs e) (has ys e) h
@@ -28,7 +29,11 @@ pub has_push : (xs : List Edge) (d e : Edge) → has (xs ++ d ∷ []) e ≡ (has
 has_push xs d e = has_append xs (d ∷ []) e ∙ ap (λ (b : Bool). has xs e || b) (or_none (same_edge d e))
 
 pub has_last : (xs : List Edge) (d e : Edge) → has (xs ++ d ∷ []) e ≡ true → (has xs e ≡ true) ⊎ (d ≡ e)
-has_last xs d e h = elim (or_cases (has xs e) (same_edge d e) (sym (has_push xs d e) ∙ h)) [ inl x ↦ inl x | inr x ↦ inr (same_edge_true d e x) ]
+has_last xs d e h = elim (or_cases (has xs e) (same_edge d e) (sym (has_push xs d e) ∙ h)) [
+  | inl x ↦ inl x
+  | inr x ↦
+      inr (same_edge_true d e x)
+]
 
 pub has_end : (xs : List Edge) (d : Edge) → has (xs ++ d ∷ []) d ≡ true
 has_end xs d = has_push xs d d ∙ or_right (has xs d) (same_edge d d) (same_edge_self d)
@@ -45,13 +50,15 @@ put_cases old d e h = elim (or_cases old (same_edge d e) h) [ inl x ↦ inl x | 
 
 -- ---- filters
 
-pub from_mapped : (f : Edge → Option Edge) (xs : List Edge) (e : Edge) → has (filter_map f xs) e ≡ true → (x : Edge) × (has xs x ≡ true) × (f x ≡ Some e)
+pub from_mapped : (f : Edge → Option Edge) (xs : List Edge) (e : Edge) → has (filter_map f xs) e ≡ true
+    → (x : Edge) × (has xs x ≡ true) × (f x ≡ Some e)
 from_mapped f xs e h =
     let at = at_has (filter_map f xs) e h in
     let from = from_filter_map f xs at.0 e at.1 in
     (from.1, has_at xs from.0 from.1 from.2, from.3)
 
-pub to_mapped : (f : Edge → Option Edge) (xs : List Edge) (x e : Edge) → has xs x ≡ true → f x ≡ Some e → has (filter_map f xs) e ≡ true
+pub to_mapped : (f : Edge → Option Edge) (xs : List Edge) (x e : Edge) → has xs x ≡ true → f x ≡ Some e
+    → has (filter_map f xs) e ≡ true
 to_mapped f xs x e h is =
     let at = at_has xs x h in
     let to = to_filter_map f xs at.0 x e at.1 is in

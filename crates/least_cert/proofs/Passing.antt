@@ -2,10 +2,10 @@
 use Rattle.std.proofs.Common.{◌≡◌, ◌≢◌, ◌==◌, ℕ, Bool, true, false, Some, None, if◌then◌else◌, refl}
 use Rattle.std.proofs.lemmas.Bool.{eq-eqb, ne_eqb}
 use Rattle.cam_base.proofs.Orders.{same_itself}
-use Rattle.cap_model.specs.Authorities.{number_of}
+use Rattle.authorities.specs.Authorities.{number_of}
 use Rattle.cap_model.specs.Edges.{edge}
-use Rattle.cap_model.specs.declared.authority.Authority.{Authority}
-use Rattle.cap_model.specs.declared.authority.Authority.TheVariants.{Reply}
+use Rattle.authorities.specs.declared.authority.Authority.{Authority}
+use Rattle.authorities.specs.declared.authority.Authority.TheVariants.{Reply}
 use Rattle.cap_model.specs.declared.edge.Edge.{Edge}
 use Rattle.cap_model.proofs.EdgeOrder.{same_number}
 use Rattle.least_cert.specs.BootEdges.{between_labels}
@@ -32,7 +32,8 @@ passed_is r x e h =
 
 pub passes_on : (r : ℕ) (x : Edge) → x.authority ≢ Reply → passed_to r x ≡ Some (edge r x.authority x.to)
 passes_on r x other =
-    let no_it : number_of x.authority == 9 ≡ false = ne_eqb (number_of x.authority) 9 (λ e. other (same_number x.authority Reply e)) in
+    let no_it : number_of x.authority == 9 ≡ false =
+    ne_eqb (number_of x.authority) 9 (λ e. other (same_number x.authority Reply e)) in
     rw no_it refl
 
 pub from_other_is : (a : Authority) (l : ℕ) (p e : Edge) → from_other a l p ≡ Some e → (p.to ≢ l) × (edge p.to a l ≡ e)

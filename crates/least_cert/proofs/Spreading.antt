@@ -7,11 +7,11 @@ use Rattle.std.proofs.lemmas.Option.{get_or_from_slice_get, slice_get-get_or, sl
 use Rattle.cap_machine.specs.Sources.{OfEach}
 use Rattle.cap_machine.proofs.Gathering.{OfFirst, first_more_at}
 use Rattle.cap_model.specs.Adds.{Adds}
-use Rattle.cap_model.specs.Authorities.{number_of}
+use Rattle.authorities.specs.Authorities.{number_of}
 use Rattle.cap_model.specs.Edges.{edge, same_edge}
 use Rattle.cap_model.specs.Tables.{Has, has, IsSorted}
-use Rattle.cap_model.specs.declared.authority.Authority.{Authority}
-use Rattle.cap_model.specs.declared.authority.Authority.TheVariants.{Call, Receive, Reply}
+use Rattle.authorities.specs.declared.authority.Authority.{Authority}
+use Rattle.authorities.specs.declared.authority.Authority.TheVariants.{Call, Receive, Reply}
 use Rattle.cap_model.specs.declared.edge.Edge.{Edge}
 use Rattle.cap_model.proofs.EdgeOrder.{edges_same, same_number}
 use Rattle.cap_model.proofs.TableMembers.{at_has, has_at}
@@ -25,14 +25,20 @@ use Rattle.least_cert.proofs.Passing.{from_other_is, from_other_made}
 
 -- ---- lists and sets that grow
 
-pub appended : (P : Edge → Type 0) (old more : List Edge) → ((e : Edge) → has more e ≡ true → P e) → ((e : Edge) → P e → has more e ≡ true) → Adds P old (old ++ more)
+pub appended : (P : Edge → Type 0) (old more : List Edge) → ((e : Edge) → has more e ≡ true → P e)
+    → ((e : Edge) → P e → has more e ≡ true) → Adds P old (old ++ more)
 appended P old more only every = record {
   kept = λ e h. has_append old more e ∙ or_left (has old e) (has more e) h;
   added = λ e p. has_append old more e ∙ or_right (has old e) (has more e) (every e p);
-  only = λ e h. elim (or_cases (has old e) (has more e) (sym (has_append old more e) ∙ h)) [ inl was ↦ inl was | inr is ↦ inr (only e is) ];
+  only = λ e h. elim (or_cases (has old e) (has more e) (sym (has_append old more e) ∙ h)) [
+    | inl was ↦ inl was
+    | inr is ↦
+        inr (only e is)
+  ];
 }
 
-pub joined : (P : Edge → Type 0) (old more new : List Edge) → ((e : Edge) → has new e ≡ (has old e || has more e)) → ((e : Edge) → has more e ≡ true → P e) → ((e : Edge) → P e → has more e ≡ true) → Adds P old new
+pub joined : (P : Edge → Type 0) (old more new : List Edge) → ((e : Edge) → has new e ≡ (has old e || has more e))
+    → ((e : Edge) → has more e ≡ true → P e) → ((e : Edge) → P e → has more e ≡ true) → Adds P old new
 joined P old more new same only every = record {
   kept = λ e h. same e ∙ or_left (has old e) (has more e) h;
   added = λ e p. same e ∙ or_right (has old e) (has more e) (every e p);
@@ -42,14 +48,18 @@ joined P old more new same only every = record {
 pub put_none : (old : List Edge) (edges : List Edge) (e : Edge) → has old e ≡ (has old e || has (take 0 edges) e)
 put_none old edges e = sym (or_none (has old e))
 
-pub put_more : (old edges mid new : List Edge) (n : ℕ) (d : Edge) → n < length edges → ((e : Edge) → has mid e ≡ (has old e || has (take n edges) e))
-    → ((e : Edge) → has new e ≡ (has mid e || same_edge (get_or edges n d) e)) → (e : Edge) → has new e ≡ (has old e || has (take (n + 1) edges) e)
+pub put_more : (old edges mid new : List Edge) (n : ℕ) (d : Edge) → n < length edges
+    → ((e : Edge) → has mid e ≡ (has old e || has (take n edges) e))
+    → ((e : Edge) → has new e ≡ (has mid e || same_edge (get_or edges n d) e)) → (e : Edge)
+    → has new e ≡ (has old e || has (take (n + 1) edges) e)
 put_more old edges mid new n d less before put e =
     put e ∙ (ap (λ (b : Bool). b || same_edge (get_or edges n d) e) (before e)
     ∙ (sym (or_assoc (has old e) (has (take n edges) e) (same_edge (get_or edges n d) e))
-    ∙ ap (λ (b : Bool). has old e || b) (sym (has_push (take n edges) (get_or edges n d) e) ∙ ap (λ (xs : List Edge). has xs e) (sym (take_more edges n d less)))))
+    ∙ ap (λ (b : Bool). has old e || b) (sym (has_push (take n edges) (get_or edges n d) e) ∙ ap (λ (xs : List Edge). has xs e)
+    (sym (take_more edges n d less)))))
 
-pub put_all : (old edges new : List Edge) (n : ℕ) → length edges ≤ n → ((e : Edge) → has new e ≡ (has old e || has (take n edges) e)) → (e : Edge) → has new e ≡ (has old e || has edges e)
+pub put_all : (old edges new : List Edge) (n : ℕ) → length edges ≤ n
+    → ((e : Edge) → has new e ≡ (has old e || has (take n edges) e)) → (e : Edge) → has new e ≡ (has old e || has edges e)
 put_all old edges new n le same e = same e ∙ ap (λ (xs : List Edge). has old e || has xs e) (take_all n edges le)
 
 -- ---- edges that stay
@@ -73,7 +83,8 @@ stays_past n e le = by (number_of e.authority == 9) (ltb e.from n) (le-ltb e.fro
 
 -- ---- the edges of all labels
 
-pub many : (c : Closure) (edges : List Edge) → ((e : Edge) → has edges e ≡ true → OfLeast c e) → IsSorted edges → 262144 < length edges → HasMoreThan c.spec c.labels 262144
+pub many : (c : Closure) (edges : List Edge) → ((e : Edge) → has edges e ≡ true → OfLeast c e) → IsSorted edges
+    → 262144 < length edges → HasMoreThan c.spec c.labels 262144
 many c edges least sorted more = record { edges = edges; sorted = sorted; more = more; each = λ l a m h. least (edge l a m) h }
 
 abbrev pub copy_at : Closure → ℕ → ℕ → Edge → Type 0
@@ -83,7 +94,8 @@ module _ (c : Closure) (sound : IsSound c) where
   of_leader : (label leader : ℕ) (e : Edge) → slice_get c.leaders label ≡ Some leader → IsCopy c leader label e → Knows c e
   of_leader label leader e there copy =
       let leads : leader_at c.leaders label ≡ leader = get_or_from_slice_get c.leaders label leader label there in
-      let known : Knows c (edge label e.authority e.to) = led_knows c sound label e.authority e.to copy.other (subst (λ (l : ℕ). Has c.queue l e.authority e.to) (sym leads) copy.known) in
+      let known : Knows c (edge label e.authority e.to) = led_knows c sound label e.authority e.to copy.other
+      (subst (λ (l : ℕ). Has c.queue l e.authority e.to) (sym leads) copy.known) in
       subst (λ (x : Edge). Knows c x) (edges_same (edge label e.authority e.to) e (sym copy.from_is) refl refl) known
 
   stayed : (e : Edge) → has (filter_map (stays (length c.leaders)) c.queue) e ≡ true → has c.queue e ≡ true
@@ -91,7 +103,8 @@ module _ (c : Closure) (sound : IsSound c) where
       let from = from_mapped (stays (length c.leaders)) c.queue e h in
       subst (λ (x : Edge). has c.queue x ≡ true) (stays_is (length c.leaders) from.0 e from.2) from.1
 
-  pub some_knows : (P : Edge → Type 0) (start edges : List Edge) → start ≡ filter_map (stays (length c.leaders)) c.queue → Adds P start edges → ((e : Edge) → P e → Knows c e) → (e : Edge) → has edges e ≡ true → Knows c e
+  pub some_knows : (P : Edge → Type 0) (start edges : List Edge) → start ≡ filter_map (stays (length c.leaders)) c.queue
+      → Adds P start edges → ((e : Edge) → P e → Knows c e) → (e : Edge) → has edges e ≡ true → Knows c e
   some_knows P start edges is adds of e h = elim (adds.only e h) [
     | inl was ↦ sound.carried e (stayed e (subst (λ (xs : List Edge). has xs e ≡ true) is was))
     | inr p ↦ of e p
@@ -100,16 +113,20 @@ module _ (c : Closure) (sound : IsSound c) where
   pub each_knows : (e : Edge) → OfEach (copy_at c) c.leaders e → Knows c e
   each_knows e of = of_leader of.place of.item e of.there of.by
 
-  pub spread_least : (edges : List Edge) → ((e : Edge) → has edges e ≡ true → Knows c e) → (e : Edge) → has edges e ≡ true → OfLeast c e
+  pub spread_least : (edges : List Edge) → ((e : Edge) → has edges e ≡ true → Knows c e) → (e : Edge) → has edges e ≡ true
+      → OfLeast c e
   spread_least edges knows e h = knows_least c sound e (knows e h)
 
-  pub is_spread : (start edges : List Edge) → start ≡ filter_map (stays (length c.leaders)) c.queue → Adds (OfEach (copy_at c) c.leaders) start edges → IsSpread c edges
+  pub is_spread : (start edges : List Edge) → start ≡ filter_map (stays (length c.leaders)) c.queue
+      → Adds (OfEach (copy_at c) c.leaders) start edges → IsSpread c edges
   is_spread start edges is adds = record {
     only = some_knows (OfEach (copy_at c) c.leaders) start edges is adds each_knows;
     every = λ e h. elim (reply_or_not e) [
-      | inl reply ↦ stays_in e (stays_reply (length c.leaders) e reply) (subst (λ (x : Edge). has c.queue x ≡ true) (lead_reply c.leaders e reply) h)
+      | inl reply ↦ stays_in e (stays_reply (length c.leaders) e reply) (subst (λ (x : Edge). has c.queue x ≡ true)
+          (lead_reply c.leaders e reply) h)
       | inr other ↦ (
-          let led : Has c.queue (leader_at c.leaders e.from) e.authority e.to = subst (λ (x : Edge). has c.queue x ≡ true) (lead_other c.leaders e other) h in
+          let led : Has c.queue (leader_at c.leaders e.from) e.authority e.to = subst (λ (x : Edge). has c.queue x ≡ true)
+          (lead_other c.leaders e other) h in
           elim (cases_lt e.from (length c.leaders)) [
             | inl less ↦ adds.added e (record {
               place = e.from;
@@ -134,42 +151,60 @@ module _ (c : Closure) (sound : IsSound c) where
   } where
     stays_in : (e : Edge) → stays (length c.leaders) e ≡ Some e → has c.queue e ≡ true → has edges e ≡ true
     stays_in e s there =
-        adds.kept e (subst (λ (xs : List Edge). has xs e ≡ true) (sym is) (to_mapped (stays (length c.leaders)) c.queue e e there s))
+        adds.kept e (subst (λ (xs : List Edge). has xs e ≡ true) (sym is) (to_mapped (stays (length c.leaders)) c.queue
+        e e there s))
 
   -- ---- replies
 
-  pub answer_least : (edges turned : List Edge) (f e : Edge) → IsSpread c edges → AreReceivers edges turned → has edges f ≡ true → IsAnswer turned f e → (e.authority ≡ Reply) × OfLeast c e
+  pub answer_least : (edges turned : List Edge) (f e : Edge) → IsSpread c edges → AreReceivers edges turned → has edges f ≡ true
+      → IsAnswer turned f e → (e.authority ≡ Reply) × OfLeast c e
   answer_least edges turned f e spread receivers there answer =
       let called : InLeast c.spec c.labels f.from f.authority f.to = knows_least c sound f (spread.only f there) in
       let receives : InLeast c.spec c.labels e.from Receive f.to =
-      knows_least c sound (edge e.from Receive f.to) (spread.only (edge e.from Receive f.to) (receivers.only (edge f.to Receive e.from) answer.receives).1) in
+      knows_least c sound (edge e.from Receive f.to)
+      (spread.only (edge e.from Receive f.to) (receivers.only (edge f.to Receive e.from) answer.receives).1) in
       let reply : InLeast c.spec c.labels e.from Reply f.from =
-      (least_keeps c.spec c.labels).call f.from f.to e.from (subst (λ (a : Authority). InLeast c.spec c.labels f.from a f.to) answer.call called) receives (λ same. answer.differ (sym same)) in
-      (answer.reply, subst (λ (x : Edge). OfLeast c x) (edges_same (edge e.from Reply f.from) e refl (sym answer.reply) (sym answer.to_is)) reply)
+      (least_keeps c.spec c.labels).call f.from f.to e.from (subst (λ (a : Authority). InLeast c.spec c.labels f.from a f.to)
+      answer.call called) receives (λ same. answer.differ (sym same)) in (
+        answer.reply,
+        subst (λ (x : Edge). OfLeast c x) (edges_same (edge e.from Reply f.from) e refl (sym answer.reply)
+            (sym answer.to_is)) reply,
+      )
 
-  pub some_replies : (edges turned replies : List Edge) (P : Edge → Type 0) → IsSpread c edges → AreReceivers edges turned → Adds P [] replies → ((e : Edge) → P e → (f : Edge) × (has edges f ≡ true) × IsAnswer turned f e)
+  pub some_replies : (edges turned replies : List Edge) (P : Edge → Type 0) → IsSpread c edges → AreReceivers edges turned
+      → Adds P [] replies → ((e : Edge) → P e → (f : Edge) × (has edges f ≡ true) × IsAnswer turned f e)
       → (e : Edge) → has replies e ≡ true → (e.authority ≡ Reply) × OfLeast c e
   some_replies edges turned replies P spread receivers adds of e h = elim (adds.only e h) [
     | inl none ↦ absurd cc
     | inr p ↦ (let x = of e p in answer_least edges turned x.0 e spread receivers x.1 x.2)
   ]
 
-  pub are_replies : (edges turned replies : List Edge) → IsSpread c edges → AreReceivers edges turned → Adds (OfEach (λ place (f : Edge). IsAnswer turned f) edges) [] replies → AreReplies c edges replies
+  pub are_replies : (edges turned replies : List Edge) → IsSpread c edges → AreReceivers edges turned
+      → Adds (OfEach (λ place (f : Edge). IsAnswer turned f) edges) [] replies → AreReplies c edges replies
   are_replies edges turned replies spread receivers adds = record {
-    only = some_replies edges turned replies (OfEach (λ place (f : Edge). IsAnswer turned f) edges) spread receivers adds (λ e of. (of.item, has_at edges of.place of.item of.there, of.by));
+    only = some_replies edges turned replies (OfEach (λ place (f : Edge). IsAnswer turned f) edges) spread receivers adds
+        (λ e of. (of.item, has_at edges of.place of.item of.there, of.by));
     every = λ s x r called receives differ.
         let at = at_has edges (edge s Call x) called in
         adds.added (edge r Reply s) (record {
           place = at.0;
           item = edge s Call x;
           there = at.1;
-          by = record { call = refl; reply = refl; to_is = refl; receives = receivers.every r x receives; differ = λ same. differ (sym same) };
+          by = record {
+            call = refl;
+            reply = refl;
+            to_is = refl;
+            receives = receivers.every r x receives;
+            differ = λ same. differ (sym same);
+          };
         });
   }
 
   -- where the replies to some calls are too many
-  pub first_answers : (edges turned : List Edge) (n : ℕ) (old new : List Edge) → IsSpread c edges → AreReceivers edges turned → n < length edges → Adds (OfFirst (λ place (f : Edge). IsAnswer turned f) edges n) [] old
-      → Adds (IsAnswer turned (get_or edges n no_edge)) old new → IsSorted new → 262144 < length new → HasMoreThan c.spec c.labels 262144
+  pub first_answers : (edges turned : List Edge) (n : ℕ) (old new : List Edge) → IsSpread c edges → AreReceivers edges turned
+      → n < length edges → Adds (OfFirst (λ place (f : Edge). IsAnswer turned f) edges n) [] old
+      → Adds (IsAnswer turned (get_or edges n no_edge)) old new → IsSorted new → 262144 < length new
+      → HasMoreThan c.spec c.labels 262144
   first_answers edges turned n old new spread receivers less before adds sorted more =
       many c new
       (λ e h.
@@ -180,13 +215,17 @@ module _ (c : Closure) (sound : IsSound c) where
 
   -- ---- all of them
 
-  pub all_least : (edges replies all : List Edge) → IsSpread c edges → AreReplies c edges replies → all ≡ edges ++ replies → (e : Edge) → has all e ≡ true → OfLeast c e
-  all_least edges replies all spread answers is e h = elim (or_cases (has edges e) (has replies e) (sym (has_append edges replies e) ∙ subst (λ (xs : List Edge). has xs e ≡ true) is h)) [
-    | inl there ↦ knows_least c sound e (spread.only e there)
-    | inr reply ↦ (answers.only e reply).1
-  ]
+  pub all_least : (edges replies all : List Edge) → IsSpread c edges → AreReplies c edges replies → all ≡ edges ++ replies
+      → (e : Edge) → has all e ≡ true → OfLeast c e
+  all_least edges replies all spread answers is e h =
+      elim (or_cases (has edges e) (has replies e) (sym (has_append edges replies e)
+      ∙ subst (λ (xs : List Edge). has xs e ≡ true) is h)) [
+        | inl there ↦ knows_least c sound e (spread.only e there)
+        | inr reply ↦ (answers.only e reply).1
+      ]
 
-pub made : (c : Closure) (edges replies all table : List Edge) → AreReplies c edges replies → IsSpread c edges → all ≡ edges ++ replies → ((e : Edge) → has table e ≡ has all e) → IsCertificate c table
+pub made : (c : Closure) (edges replies all table : List Edge) → AreReplies c edges replies → IsSpread c edges
+    → all ≡ edges ++ replies → ((e : Edge) → has table e ≡ has all e) → IsCertificate c table
 made c edges replies all table answers spread is same = record {
   edges = edges;
   replies = replies;
@@ -200,30 +239,43 @@ made c edges replies all table answers spread is same = record {
 receiver_is : (x e : Edge) → receiver x ≡ Some e → (x.authority ≡ Receive) × (turn x ≡ e)
 receiver_is x e h = by (number_of x.authority == 0) refl where
   by : (b : Bool) → number_of x.authority == 0 ≡ b → (x.authority ≡ Receive) × (turn x ≡ e)
-  by true is = (same_number x.authority Receive (eqb-true (number_of x.authority) 0 is), let y : receiver x ≡ Some (turn x) = rw is refl in cc)
+  by true is = (
+    same_number x.authority Receive (eqb-true (number_of x.authority) 0 is),
+    let y : receiver x ≡ Some
+        (turn x) = rw is refl in cc,
+  )
   by false is = absurd (let y : receiver x ≡ None = rw is refl in cc)
 
-pub are_receivers : (edges listed turned : List Edge) → listed ≡ filter_map receiver edges → ((e : Edge) → has turned e ≡ (has [] e || has listed e)) → AreReceivers edges turned
+pub are_receivers : (edges listed turned : List Edge) → listed ≡ filter_map receiver edges
+    → ((e : Edge) → has turned e ≡ (has [] e || has listed e)) → AreReceivers edges turned
 are_receivers edges listed turned is same = record {
   only = λ e h.
       let from = from_mapped receiver edges e (subst (λ (xs : List Edge). has xs e ≡ true) is (sym (same e) ∙ h)) in
       let made = receiver_is from.0 e from.2 in
-      subst (λ (y : Edge). (y.authority ≡ Receive) × Has edges y.to Receive y.from) made.1
-      (made.0, subst (λ (y : Edge). has edges y ≡ true) (edges_same from.0 (edge from.0.from Receive from.0.to) refl made.0 refl) from.1);
+      subst (λ (y : Edge). (y.authority ≡ Receive) × Has edges y.to Receive y.from) made.1 (
+        made.0,
+        subst (λ (y : Edge). has edges y ≡ true) (edges_same from.0 (edge from.0.from Receive from.0.to) refl made.0
+            refl) from.1,
+      );
   every = λ r x h.
-      same (edge x Receive r) ∙ subst (λ (xs : List Edge). Has xs x Receive r) (sym is) (to_mapped receiver edges (edge r Receive x) (edge x Receive r) h refl);
+      same (edge x Receive r) ∙ subst (λ (xs : List Edge). Has xs x Receive r) (sym is)
+      (to_mapped receiver edges (edge r Receive x) (edge x Receive r) h refl);
 }
 
-pub receivers_less : (c : Closure) (edges turned : List Edge) → IsSpread c edges → AreReceivers edges turned → (e : Edge) → has turned e ≡ true → IsLess e
+pub receivers_less : (c : Closure) (edges turned : List Edge) → IsSpread c edges → AreReceivers edges turned → (e : Edge)
+    → has turned e ≡ true → IsLess e
 receivers_less c edges turned spread receivers e h =
     let less = spread.less (edge e.to Receive e.from) (receivers.only e h).1 in
     (less.1, less.0)
 
 -- ---- what one call asks for
 
-pub answers_made : (turned peers made old new : List Edge) (f : Edge) → f.authority ≡ Call → ((e : Edge) → has turned e ≡ true → IsLess e)
-    → ((e : Edge) → has peers e ≡ true → (has turned e ≡ true) × (e.from ≡ f.to) × (e.authority ≡ Receive)) → ((m : ℕ) → has turned (edge f.to Receive m) ≡ true → m < 2 ^ 32 → has peers (edge f.to Receive m) ≡ true)
-    → made ≡ filter_map (from_other Reply f.from) peers → ((e : Edge) → has new e ≡ (has old e || has made e)) → Adds (IsAnswer turned f) old new
+pub answers_made : (turned peers made old new : List Edge) (f : Edge) → f.authority ≡ Call
+    → ((e : Edge) → has turned e ≡ true → IsLess e)
+    → ((e : Edge) → has peers e ≡ true → (has turned e ≡ true) × (e.from ≡ f.to) × (e.authority ≡ Receive))
+    → ((m : ℕ) → has turned (edge f.to Receive m) ≡ true → m < 2 ^ 32 → has peers (edge f.to Receive m) ≡ true)
+    → made ≡ filter_map (from_other Reply f.from) peers → ((e : Edge) → has new e ≡ (has old e || has made e))
+    → Adds (IsAnswer turned f) old new
 answers_made turned peers made old new f call less only every is same = joined (IsAnswer turned f) old made new same
     (λ e h.
     let from = from_mapped (from_other Reply f.from) peers e (subst (λ (xs : List Edge). has xs e ≡ true) is h) in
@@ -241,4 +293,5 @@ answers_made turned peers made old new f call less only every is same = joined (
     let p : Edge = edge f.to Receive e.from in
     let there : has peers p ≡ true = every e.from answer.receives (less p answer.receives).1 in
     subst (λ (x : Edge). has made x ≡ true) (edges_same (edge e.from Reply f.from) e refl (sym answer.reply) (sym answer.to_is))
-    (subst (λ (xs : List Edge). Has xs e.from Reply f.from) (sym is) (to_mapped (from_other Reply f.from) peers p (edge e.from Reply f.from) there (from_other_made Reply f.from p answer.differ))))
+    (subst (λ (xs : List Edge). Has xs e.from Reply f.from) (sym is) (to_mapped (from_other Reply f.from) peers p
+    (edge e.from Reply f.from) there (from_other_made Reply f.from p answer.differ))))

@@ -3,7 +3,7 @@ use Rattle.std.specs.Prelude.{◌≡◌, ◌≢◌, ◌==◌, ◌⊎◌, ℕ, tr
 use Rattle.cap_machine.specs.Sources.{OfEach, OfObject, OfSlots}
 use Rattle.cap_model.specs.ObjectLabels.{label_of}
 use Rattle.cap_model.specs.Tables.{Has, has}
-use Rattle.cap_model.specs.declared.authority.Authority.{Authority}
+use Rattle.authorities.specs.declared.authority.Authority.{Authority}
 use Rattle.cap_model.specs.declared.edge.Edge.{Edge}
 use Rattle.cap_model.specs.Auth.{Auth, Held, Structural}
 use Rattle.cap_model.specs.State.{boot}
@@ -24,7 +24,8 @@ OfHolder spec labels from (objects.Frame paddr fill) e = ⊥
 
 -- what those of all CNodes confer
 abbrev pub OfHolders : Spec → List ℕ → Edge → Type 0
-OfHolders spec labels e = OfEach (λ place (entry : Entry). OfHolder spec labels (label_of labels place) entry.object) spec.entries e
+OfHolders spec labels e = OfEach (λ place (entry : Entry). OfHolder spec labels (label_of labels place) entry.object)
+    spec.entries e
 
 -- the edges at boot that an object with this label is the source of, where it is no CNode
 abbrev pub OfOther : Spec → List ℕ → ℕ → Object → Edge → Type 0
@@ -52,4 +53,5 @@ pub record AreHeld (spec : Spec) (labels : List ℕ) (edges : List Edge) : Type 
 -- its edges between different labels, but for held ones
 pub record AreLinks (spec : Spec) (labels : List ℕ) (edges : List Edge) : Type 0 where
   pub only : (e : Edge) → has edges e ≡ true → Auth spec labels (boot spec) e.from e.authority e.to × (e.from ≢ e.to)
-  pub every : (l : ℕ) (a : Authority) (m : ℕ) → Structural spec labels (boot spec) l a m → l ≢ m → (Held spec labels (boot spec) l a m) ⊎ (Has edges l a m)
+  pub every : (l : ℕ) (a : Authority) (m : ℕ) → Structural spec labels (boot spec) l a m → l ≢ m
+      → (Held spec labels (boot spec) l a m) ⊎ (Has edges l a m)

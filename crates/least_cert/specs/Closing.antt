@@ -1,10 +1,10 @@
 -- Words for the contracts of private functions alone: edges in the making of the least certificate.
 use Rattle.std.specs.Prelude.{◌≡◌, ◌≢◌, ◌<◌, ◌≤◌, ◌+◌, ◌^◌, ◌⊎◌, ◌++◌, ◌∷◌, ◌==◌, ◌||◌, ℕ, true, false, List, [], Option, Some, None, if◌then◌else◌, length, ltb, slice_get, slice_index_or, take}
-use Rattle.cap_model.specs.Authorities.{number_of}
+use Rattle.authorities.specs.Authorities.{number_of}
 use Rattle.cap_model.specs.Edges.{edge, same_edge}
 use Rattle.cap_model.specs.Tables.{Has, has}
-use Rattle.cap_model.specs.declared.authority.Authority.{Authority}
-use Rattle.cap_model.specs.declared.authority.Authority.TheVariants.{Receive, AsyncSend, Grant, Control, Call, Reply, GrantBack, Handle}
+use Rattle.authorities.specs.declared.authority.Authority.{Authority}
+use Rattle.authorities.specs.declared.authority.Authority.TheVariants.{Receive, AsyncSend, Grant, Control, Call, Reply, GrantBack, Handle}
 use Rattle.cap_model.specs.declared.edge.Edge.{Edge}
 use Rattle.cap_model.specs.Auth.{Held, Structural}
 use Rattle.cap_model.specs.State.{boot}
@@ -103,7 +103,8 @@ pub record AddsAll (edges : List Edge) (c : Closure) (new : Closure) : Type 0 wh
   pub grows : Grows c new
   pub leaders_is : new.leaders ≡ c.leaders
   pub there : (e : Edge) → has edges e ≡ true → Knows new e
-  pub only : (e : Edge) → has new.queue e ≡ true → (has c.queue e ≡ true) ⊎ ((d : Edge) × (has edges d ≡ true) × (lead c.leaders d ≡ e))
+  pub only : (e : Edge) → has new.queue e ≡ true
+      → (has c.queue e ≡ true) ⊎ ((d : Edge) × (has edges d ≡ true) × (lead c.leaders d ≡ e))
 
 -- what the giver has, the taker has
 pub record Copies (giver : ℕ) (taker : ℕ) (c : Closure) (new : Closure) : Type 0 where
@@ -313,7 +314,8 @@ pub record AddsSome (edges : List Edge) (n : ℕ) (c : Closure) (new : Closure) 
   pub grows : Grows c new
   pub leaders_is : new.leaders ≡ c.leaders
   pub there : (k : ℕ) (e : Edge) → k < n → slice_get edges k ≡ Some e → Knows new e
-  pub only : (e : Edge) → has new.queue e ≡ true → (has c.queue e ≡ true) ⊎ ((d : Edge) × (has edges d ≡ true) × (lead c.leaders d ≡ e))
+  pub only : (e : Edge) → has new.queue e ≡ true
+      → (has c.queue e ≡ true) ⊎ ((d : Edge) × (has edges d ≡ true) × (lead c.leaders d ≡ e))
 
 -- those labels give
 pub record GivesSome (gifts : List Edge) (n : ℕ) (c : Closure) (new : Closure) : Type 0 where

@@ -2,8 +2,8 @@
 -- that compares it with a policy.
 use Rattle.std.specs.Prelude.{◌≢◌, ◌<◌, ℕ, List, length}
 use Rattle.cap_model.specs.Tables.{Has, IsSorted}
-use Rattle.cap_model.specs.declared.authority.Authority.{Authority}
-use Rattle.cap_model.specs.declared.authority.Authority.TheVariants.{Receive, AsyncSend, Grant, Control, Call, Reply, GrantBack, Handle}
+use Rattle.authorities.specs.declared.authority.Authority.{Authority}
+use Rattle.authorities.specs.declared.authority.Authority.TheVariants.{Receive, AsyncSend, Grant, Control, Call, Reply, GrantBack, Handle}
 use Rattle.cap_model.specs.declared.edge.Edge.{Edge}
 use Rattle.cap_model.specs.Auth.{Held, Structural}
 use Rattle.cap_model.specs.State.{boot}

@@ -3,7 +3,7 @@
 ghost use Rattle.cap_model.specs.Adds.{Adds as AddsEdges};
 ghost use Rattle.cap_model.specs.Edges.{edge};
 ghost use Rattle.cap_model.specs.Tables.{has, IsSorted};
-ghost use Rattle.cap_model.specs.declared.authority.Authority.TheVariants.{Grant};
+ghost use Rattle.authorities.specs.declared.authority.Authority.TheVariants.{Grant};
 ghost use Rattle.cap_model.specs.declared.edge.Edge.{Edge};
 ghost use Rattle.least_cert.specs.Closing.{Adds, AddsAll, AreCopies, AreOut, AreTo, Copies, Gives, Flows, GivesAll, IsCopy, IsEmpty, IsGift, IsLess, IsRelabeled, IsSound, IsSpread, Joins, OfLeast, Puts, PutsGift, Relabels, Widens, lead, leader_at, led_by, passed_to, stays, turn};
 ghost use Rattle.least_cert.specs.LeastCertificate.{CloseRefused};

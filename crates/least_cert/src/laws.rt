@@ -1,7 +1,7 @@
 //! Laws of the definitions. These functions do nothing: what they ensure is the law.
 
 ghost use Rattle.cap_model.specs.Tables.{Has};
-ghost use Rattle.cap_model.specs.declared.authority.Authority.{Authority};
+ghost use Rattle.authorities.specs.declared.authority.Authority.{Authority};
 ghost use Rattle.cap_model.specs.declared.edge.Edge.{Edge};
 ghost use Rattle.least_cert.specs.LeastCertificate.{InLeast, IsLeast, KeepsRules};
 ghost use Rattle.cap_machine.specs.Runs.{Reaches};

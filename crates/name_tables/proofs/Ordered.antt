@@ -43,7 +43,8 @@ same_name k l d e =
     by_test : (b : Bool) → bytes_eq k.1.now l.1.now ≡ b → (is_eq (nat_cmp k.0 l.0) && b) ≡ b
     by_test true t =
         let n = (bytes_eq-Decides k.1.now l.1.now).0 t in
-        and_from (is_eq (nat_cmp k.0 l.0)) true (unsigned_tied k.0 l.0 ∙ one_digest k.0 l.0 (digest k.1.now) (digest l.1.now) (ap digest n) d e) refl
+        and_from (is_eq (nat_cmp k.0 l.0)) true (unsigned_tied k.0 l.0 ∙ one_digest k.0 l.0 (digest k.1.now) (digest l.1.now)
+        (ap digest n) d e) refl
     by_test false t = and-false (is_eq (nat_cmp k.0 l.0))
 
 -- a digest that was made
@@ -65,27 +66,34 @@ module _ {V : Type 0} where
   shown es = map (λ e. (e.0.1.now, e.1)) es
 
   -- a key that is put in keeps all of them digested
-  pub digested_put : (es : List (Key × V)) (k : Key) (v : V) → are_digested es ≡ true → is_digested k ≡ true → are_digested (insert_entry key_cmp es k v) ≡ true
+  pub digested_put : (es : List (Key × V)) (k : Key) (v : V) → are_digested es ≡ true → is_digested k ≡ true
+      → are_digested (insert_entry key_cmp es k v) ≡ true
   digested_put [] k v a d = and_from (is_digested k) true d refl
-  digested_put (e ∷ es) k v a d = by_order (key_cmp k e.0) (digested_put es k v (and_parts (is_digested e.0) (are_digested es) a).1 d)
+  digested_put (e ∷ es) k v a d =
+      by_order (key_cmp k e.0) (digested_put es k v (and_parts (is_digested e.0) (are_digested es) a).1 d)
     where
       parts : (is_digested e.0 ≡ true) × (are_digested es ≡ true)
       parts = and_parts (is_digested e.0) (are_digested es) a
 
-      by_order : (o : Ordering) → are_digested (insert_entry key_cmp es k v) ≡ true → are_digested (match_ordering o ((k, v) ∷ e ∷ es) ((e.0, v) ∷ es) (e ∷ insert_entry key_cmp es k v)) ≡ true
+      by_order : (o : Ordering) → are_digested (insert_entry key_cmp es k v) ≡ true
+          → are_digested (match_ordering o ((k, v) ∷ e ∷ es) ((e.0, v) ∷ es) (e ∷ insert_entry key_cmp es k v)) ≡ true
       by_order Less rest = and_from (is_digested k) (are_digested (e ∷ es)) d a
       by_order Equal rest = and_from (is_digested e.0) (are_digested es) parts.0 parts.1
       by_order Greater rest = and_from (is_digested e.0) (are_digested (insert_entry key_cmp es k v)) parts.0 rest
 
-  pub found_entry : (es : List (Key × V)) (k : Key) → are_digested es ≡ true → is_digested k ≡ true → lookup (is_key k) es ≡ found (shown es) k.1.now
+  pub found_entry : (es : List (Key × V)) (k : Key) → are_digested es ≡ true → is_digested k ≡ true
+      → lookup (is_key k) es ≡ found (shown es) k.1.now
   found_entry [] k a d = refl
   found_entry (e ∷ es) k a d =
       let p = and_parts (is_digested e.0) (are_digested es) a in
-      ap (λ b. cond b (Some e.1) (lookup (is_key k) es)) (same_name k e.0 d p.0) ∙ ap (λ z. cond (bytes_eq k.1.now e.0.1.now) (Some e.1) z) (found_entry es k p.1 d)
+      ap (λ b. cond b (Some e.1) (lookup (is_key k) es)) (same_name k e.0 d p.0)
+      ∙ ap (λ z. cond (bytes_eq k.1.now e.0.1.now) (Some e.1) z) (found_entry es k p.1 d)
 
   -- what is found after a key was put in
-  put_found : (old new : List (Key × V)) (before : List (Name × V)) (k : Key) (x : V) → shown old ≡ before → are_digested old ≡ true → are_digested new ≡ true → is_digested k ≡ true
-      → ((q : Key) → lookup (is_key q) new ≡ cond (is_key k q) (Some x) (lookup (is_key q) old)) → (n : Name) → found (shown new) n ≡ cond (bytes_eq k.1.now n) (Some x) (found before n)
+  put_found : (old new : List (Key × V)) (before : List (Name × V)) (k : Key) (x : V) → shown old ≡ before
+      → are_digested old ≡ true → are_digested new ≡ true → is_digested k ≡ true
+      → ((q : Key) → lookup (is_key q) new ≡ cond (is_key k q) (Some x) (lookup (is_key q) old)) → (n : Name)
+      → found (shown new) n ≡ cond (bytes_eq k.1.now n) (Some x) (found before n)
   put_found old new before k x seen a b d put n =
       sym (found_entry new (key n) b (is_its_digest n))
       ∙ put (key n)
@@ -93,7 +101,10 @@ module _ {V : Type 0} where
       ∙ ap (λ z. cond (bytes_eq k.1.now n) (Some x) z) (found_entry old (key n) a (is_its_digest n) ∙ ap (λ s. found s n) seen)
 
   -- where its name wasn't there
-  pub entry_put : (old new : List (Key × V)) (before : List (Name × V)) (k : Key) (x : V) → shown old ≡ before → are_digested old ≡ true → are_digested new ≡ true → is_digested k ≡ true
+  pub entry_put : (old new : List (Key × V)) (before : List (Name × V)) (k : Key) (x : V) → shown old ≡ before
+      → are_digested old ≡ true → are_digested new ≡ true → is_digested k ≡ true
       → is_some (found before k.1.now) ≡ false
-      → ((q : Key) → lookup (is_key q) new ≡ cond (is_key k q) (Some x) (lookup (is_key q) old)) → (n : Name) → found (shown new) n ≡ option_or (found before n) (cond (bytes_eq n k.1.now) (Some x) None)
-  entry_put old new before k x seen a b d absent put = found_put (found before) (found (shown new)) k.1.now x absent (put_found old new before k x seen a b d put)
+      → ((q : Key) → lookup (is_key q) new ≡ cond (is_key k q) (Some x) (lookup (is_key q) old)) → (n : Name)
+      → found (shown new) n ≡ option_or (found before n) (cond (bytes_eq n k.1.now) (Some x) None)
+  entry_put old new before k x seen a b d absent put = found_put (found before) (found (shown new)) k.1.now x absent
+      (put_found old new before k x seen a b d put)

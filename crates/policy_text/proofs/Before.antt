@@ -1,18 +1,6 @@
 -- One line more behind others, and lines in two parts.
-use Rattle.std.proofs.Common.{◌≡◌, ◌∙◌, ap, sym, refl, ℕ, ◌+◌, Bool, true, false, cond, ◌||◌, List, [], ◌∷◌, ◌++◌, append_assoc, count_by, Some, None, arith}
-use Rattle.std.specs.List.{list_any}
-use Rattle.std.specs.Option.{option_or, is_none}
-use Rattle.std.proofs.Math.Bool.{or_comm, or-false}
-use Rattle.std.proofs.lemmas.List.Elements.{filter_map-append}
-use Rattle.std.proofs.lemmas.List.Folds.{list_any-append}
-use Rattle.std.proofs.lemmas.List.Sums.{sum_by-append}
-use Rattle.std.proofs.lemmas.List.{append-nil}
-use Rattle.cam_base.proofs.Options.{option_or-assoc}
-use Rattle.policy_text.specs.declared.kind.Kind.{Kind}
-use Rattle.policy_text.specs.Entries.{Number, Entry}
-use Rattle.policy_text.specs.PolicyFaults.{Told, fault_at, first_wrong, is_new_edge, new_edges}
-use Rattle.policy_text.specs.PolicyTexts.{said, told_of, told, form_fault, has_label}
-use Rattle.cam_base.specs.Lines.{Line}
+use Rattle.policy_text.proofs.Common.{Bool, Entry, Kind, Line, List, None, Number, Some, Told, [], ap, append-nil, append_assoc, arith, cond, count_by, false, fault_at, filter_map-append, first_wrong, form_fault, has_label, is_new_edge, is_none}
+use Rattle.policy_text.proofs.Common.{list_any, list_any-append, new_edges, option_or, option_or-assoc, or-false, or_comm, refl, said, sum_by-append, sym, told, told_of, true, ℕ, ◌++◌, ◌+◌, ◌||◌, ◌∙◌, ◌∷◌, ◌≡◌}
 
 -- ---- one more
 

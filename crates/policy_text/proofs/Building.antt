@@ -1,23 +1,6 @@
 -- What lines say together, after one line more.
-use Rattle.std.proofs.Common.{◌≡◌, ◌∙◌, ap, sym, refl, ℕ, true, false, List, [], ◌∷◌, ◌++◌, Option, Some, None, Result, Ok, Err}
-use Rattle.std.specs.BTreeMap.{insert_entry}
-use Rattle.std.specs.List.{filter_map}
-use Rattle.std.specs.Ordering.{nat_cmp}
-use Rattle.std.proofs.lemmas.List.Elements.{filter_map-append}
-use Rattle.std.proofs.lemmas.List.Sums.{fold-append}
-use Rattle.std.specs.Result.{OnOk}
-use Rattle.std.proofs.lemmas.List.{append-nil}
-use Rattle.cap_model.specs.declared.authority.Authority.{Authority}
-use Rattle.cap_model.specs.declared.edge.Edge.{Edge}
-use Rattle.cam_base.specs.declared.error.NoMemory.{NoMemory}
-use Rattle.cam_base.specs.Names.{is_name}
-use Rattle.policy_text.specs.declared.parts.Parts.{Parts}
-use Rattle.policy_text.specs.Entries.{label, object, edge}
-use Rattle.policy_text.specs.Numbers.{narrow}
-use Rattle.policy_text.specs.PartsBuilt.{IsBuilt, Builds, built_label, built_object, built_edge}
-use Rattle.policy_text.specs.PolicyFaults.{Told}
-use Rattle.policy_text.specs.PolicyTexts.{by_number}
-use Rattle.cam_base.specs.Lines.{Line}
+use Rattle.policy_text.proofs.Common.{Authority, Builds, Edge, Err, IsBuilt, Line, List, NoMemory, None, Ok, OnOk, Option, Parts, Result, Some, Told, [], ap, append-nil, built_edge, built_label, built_object, by_number, edge, false, filter_map}
+use Rattle.policy_text.proofs.Common.{filter_map-append, fold-append, insert_entry, is_name, label, narrow, nat_cmp, object, refl, sym, true, ℕ, ◌++◌, ◌∙◌, ◌∷◌, ◌≡◌}
 
 one_more : {Y : Type 0} (h : Told → Option Y) (before : List Told) (t : Told) (y : Y) → h t ≡ Some y
     → filter_map h (before ++ t ∷ []) ≡ filter_map h before ++ y ∷ []

@@ -1,14 +1,6 @@
 -- The first field of a text, and the fields behind it.
-use Rattle.std.proofs.Common.{◌≡◌, ◌∙◌, ap, sym, refl, ℕ, ◌+◌, ◌-◌, ◌<◌, ◌≤◌, ◌==◌, nat_lt, Bool, true, false, List, [], ◌∷◌, Some, None, length, take, drop, arith}
-use Rattle.std.specs.List.{position, position_or_len}
-use Rattle.std.proofs.lemmas.Bool.{ltb-true}
-use Rattle.std.proofs.lemmas.Bool.Decides.{nat_tests}
-use Rattle.std.proofs.lemmas.List.{length-drop, take_all}
-use Rattle.std.proofs.lemmas.List.Splits.{slice_split_first, slice_split_none, length-slice_split}
-use Rattle.std.proofs.lemmas.List.Sums.{fails_before_first}
-use Rattle.policy_text.specs.declared.kind.Kind.{Kind}
-use Rattle.policy_text.specs.Entries.{entry_of}
-use Rattle.cam_base.specs.Fields.{fields}
+use Rattle.policy_text.proofs.Common.{Bool, Kind, List, None, Some, [], ap, arith, drop, entry_of, fails_before_first, false, fields, length, length-drop, length-slice_split, ltb-true, nat_lt, nat_tests, position, position_or_len, refl}
+use Rattle.policy_text.proofs.Common.{slice_split_first, slice_split_none, sym, take, take_all, true, ℕ, ◌+◌, ◌-◌, ◌<◌, ◌==◌, ◌∙◌, ◌∷◌, ◌≡◌, ◌≤◌}
 
 pub cut_some : (text : List ℕ) (n : ℕ) → position (λ b. b == 32) text ≡ Some n
     → fields text ≡ take n text ∷ fields (take (length text - (n + 1)) (drop (n + 1) text))

@@ -1,19 +1,12 @@
 -- How long the lines of edges and the text of a certificate are, where its labels are below the limit.
-use Rattle.std.proofs.Common.{◌≡◌, ◌∙◌, ◌<◌, ◌≤◌, ◌+◌, ◌*◌, ◌||◌, ℕ, Bool, true, false, List, [], ◌∷◌, length, ap, refl, arith}
+use Rattle.policy_text.proofs.Common.{AsyncSend, Authority, Bool, Call, Control, Edge, Grant, GrantBack, Handle, List, Read, Receive, Reply, Reset, SyncSend, Write, [], ap, arith, edge_line, false, flat_map, length, length-append, list_any, refl}
+use Rattle.policy_text.proofs.Common.{same_edge, same_edge_self, text_of, true, ℕ, ◌*◌, ◌+◌, ◌<◌, ◌||◌, ◌∙◌, ◌∷◌, ◌≡◌, ◌≤◌}
 use Rattle.std.proofs.Math.Nat.{mul-suc}
 use Rattle.std.proofs.lemmas.Fmt.{length-decimal-le}
-use Rattle.std.proofs.lemmas.List.{length-append}
-use Rattle.std.specs.List.{flat_map, list_any}
 use Rattle.std.specs.Prelude.{codes, decimal}
-use Rattle.cap_model.proofs.EdgeOrder.{same_edge_self}
-use Rattle.cap_model.specs.Authorities.{text_of}
-use Rattle.cap_model.specs.Edges.{same_edge}
 use Rattle.cap_model.specs.Tables.{has}
-use Rattle.cap_model.specs.declared.authority.Authority.{Authority}
-use Rattle.cap_model.specs.declared.authority.Authority.TheVariants.{Receive, SyncSend, AsyncSend, Reset, Grant, Read, Write, Control, Call, Reply, GrantBack, Handle}
-use Rattle.cap_model.specs.declared.edge.Edge.{Edge}
 use Rattle.cam_base.specs.Texts.{◌⊹◌, together}
-use Rattle.policy_text.specs.PolicyLines.{cert_text, edge_line}
+use Rattle.policy_text.specs.PolicyLines.{cert_text}
 use Rattle.policy_text.proofs.Inserting.{or_right}
 
 together_length : (x : List ℕ) (xs : List (List ℕ)) → length (together (x ∷ xs)) ≡ length x + length (together xs)

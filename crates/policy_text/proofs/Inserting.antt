@@ -1,17 +1,7 @@
 -- Labels in the order of their numbers, after one label more.
-use Rattle.std.proofs.Common.{◌≡◌, ◌≢◌, ◌∙◌, ap, sym, refl, ℕ, ◌<◌, ◌==◌, nat_lt, Bool, true, false, ◌||◌, List, [], ◌∷◌, fold, true≢false, arith}
-use Rattle.std.specs.BTreeMap.{insert_entry}
-use Rattle.std.specs.List.{list_any, All, AllPairs}
+use Rattle.policy_text.proofs.Common.{All, All-cons, All-nil, AllPairs, AllPairs-cons, Bool, List, NumbersDiffer, [], ap, arith, bytes_eq, bytes_eq-Decides, bytes_eq-sym, eqb-true, false, fold, insert_entry, is_label_name, label_name, list_any}
+use Rattle.policy_text.proofs.Common.{nat_cmp, nat_lt, nat_tests, or_parts, refl, sym, true, true≢false, ℕ, ◌<◌, ◌==◌, ◌||◌, ◌∙◌, ◌∷◌, ◌≡◌, ◌≢◌}
 use Rattle.std.specs.Option.{is_some}
-use Rattle.std.specs.Ordering.{nat_cmp}
-use Rattle.std.specs.Str.{bytes_eq}
-use Rattle.std.proofs.lemmas.Bool.{eqb-true, or_parts}
-use Rattle.std.proofs.lemmas.Bool.Decides.{nat_tests}
-use Rattle.std.proofs.lemmas.List.Elements.{All-nil, All-cons}
-use Rattle.std.proofs.lemmas.List.Kept.{AllPairs-cons}
-use Rattle.std.proofs.lemmas.Slice.Eq.{bytes_eq-Decides}
-use Rattle.cam_base.proofs.Bytes.{bytes_eq-sym}
-use Rattle.cap_model.specs.Policies.{NumbersDiffer, label_name, is_label_name}
 
 abbrev pub Pairs : Type 0
 Pairs = List (ℕ × List ℕ)

@@ -1,33 +1,13 @@
 -- One line judged or noted, and then the lines behind it.
-use Rattle.std.proofs.Common.{◌≡◌, ◌∙◌, ap, sym, refl, ℕ, ◌+◌, ◌≤◌, min, nat_le, Bool, true, false, cond, ◌||◌, List, [], ◌∷◌, ◌++◌, append_assoc, count_by, length, take, drop, get_or, ◌<◌, Option, Some, None, Result, Ok, Err, subst, arith}
-use Rattle.std.specs.Option.{option_map, option_or}
-use Rattle.std.specs.Result.{IsErrAnd, OnOk}
-use Rattle.std.specs.Str.{bytes_eq}
-use Rattle.std.proofs.Math.Bool.{or_comm, or_assoc, or-false}
-use Rattle.std.proofs.lemmas.List.{drop_more, map_more, map_push, take-map}
-use Rattle.std.proofs.lemmas.List.Sums.{sum_by-append, sum_by-take-le}
-use Rattle.cap_model.specs.declared.authority.Authority.{Authority}
-use Rattle.cam_base.specs.declared.error.NoMemory.{NoMemory}
-use Rattle.cam_base.specs.declared.error.Refused.{Refused}
+use Rattle.policy_text.proofs.Common.{Authority, Bool, Entry, Err, HasFewEdges, IsAdded, IsErrAnd, IsFault, IsLineJudged, IsNear, IsRefusal, IsSeen, Kind, Line, List, NoMemory, None, Number, Ok, OnOk, Option, PolicySyntax, Refused, Result, Seen}
+use Rattle.policy_text.proofs.Common.{Some, TextFault, Told, Words, [], ap, append_assoc, arith, at_line, bytes_eq, cond, count_by, drop, drop_more, edge, edges_limit, false, fault_at, first_wrong, form_fault, get_or, gives, has, has_label, is_edge}
+use Rattle.policy_text.proofs.Common.{label, length, map_more, map_push, meant, min, nat_le, object, option_map, option_or, or-false, or_assoc, or_comm, refl, said, subst, sum_by-append, sum_by-take-le, sym, take, take-map, told, told_line}
+use Rattle.policy_text.proofs.Common.{told_lines, true, wrong_entry, ℕ, ◌++◌, ◌+◌, ◌<◌, ◌||◌, ◌∙◌, ◌∷◌, ◌≡◌, ◌≤◌}
 use Rattle.cam_base.specs.declared.error.Refused.TheVariants as refused
-use Rattle.cam_base.specs.declared.text_fault.TextCode.TheVariants.{PolicySyntax}
-use Rattle.cam_base.specs.declared.text_fault.TextFault.{TextFault}
-use Rattle.policy_text.specs.declared.kind.Kind.{Kind}
 use Rattle.policy_text.specs.declared.entry.EntryLine.{EntryLine}
 use Rattle.policy_text.specs.declared.read.Noted.{Noted}
-use Rattle.policy_text.specs.declared.seen.Seen.{Seen}
-use Rattle.policy_text.specs.declared.words.Words.{Words}
-use Rattle.policy_text.specs.Entries.{Number, Entry, label, object, edge}
-use Rattle.policy_text.specs.EntriesRead.{meant, told_line, told_lines}
-use Rattle.policy_text.specs.KnownNumbers.{IsNear}
-use Rattle.policy_text.specs.LinesSeen.{HasFewEdges, IsSeen, IsLineJudged}
-use Rattle.policy_text.specs.PolicyFaults.{Told, edges_limit, gives, is_edge, wrong_entry, fault_at, first_wrong}
-use Rattle.policy_text.specs.PolicyTexts.{said, told, form_fault, has_label, IsFault}
 use Rattle.policy_text.specs.TextsRead.{FindsFault, AreNoted, Notes}
-use Rattle.policy_text.specs.WordSets.{has, IsAdded}
 use Rattle.policy_text.proofs.Before.{told-cons, form-cons, has_label-append, one_if, told_one}
-use Rattle.cam_base.specs.LineFaults.{at_line, IsRefusal}
-use Rattle.cam_base.specs.Lines.{Line}
 
 -- ---- faults of texts in parts
 

@@ -1,44 +1,16 @@
 -- What lines without faults mean together: numbers fit, no name and no object stands twice, and each number that is used has a
 -- label.
-use Rattle.std.proofs.Common.{◌≡◌, ◌≢◌, ◌∙◌, ap, sym, refl, subst, ℕ, ◌==◌, nat_lt, nat_le, leb, length, Bool, true, false, ◌||◌, ◌&&◌, List, [], ◌∷◌, ◌++◌, Option, Some, None, true≢false, get_or, codes, arith}
-use Rattle.std.specs.BTreeMap.{insert_entry}
-use Rattle.std.specs.List.{list_any, list_all, filter_map, All, AllPairs}
-use Rattle.std.specs.Option.{is_some, option_map, option_map_or, option_or, unwrap_or}
-use Rattle.std.specs.Ordering.{nat_cmp}
-use Rattle.std.specs.Str.{bytes_eq}
-use Rattle.std.proofs.lemmas.Bool.{or_parts}
-use Rattle.std.proofs.lemmas.Bool.Decides.{nat_tests, Decides-eqb}
-use Rattle.std.proofs.lemmas.List.Elements.{All-nil, All-cons, All-from_get_or}
-use Rattle.std.proofs.lemmas.List.Kept.{AllPairs-cons}
-use Rattle.std.proofs.lemmas.Option.{slice_get-get_or}
-use Rattle.std.proofs.lemmas.Slice.Eq.{bytes_eq-Decides}
-use Rattle.cap_model.specs.Authorities.{authority_of}
-use Rattle.cap_model.specs.declared.authority.Authority.{Authority}
-use Rattle.cap_model.specs.declared.authority.Authority.TheVariants.{Receive}
-use Rattle.cap_model.specs.declared.edge.Edge.{Edge}
-use Rattle.cap_model.specs.declared.policy.Policy.{Policy}
-use Rattle.cap_model.specs.Edges.{same_edge}
-use Rattle.cap_model.specs.Policies.{label_name, is_label_name, IsPolicy, NumbersDiffer}
+use Rattle.policy_text.proofs.Common.{All, All-cons, All-from_get_or, All-nil, AllPairs, AllPairs-cons, Authority, Bool, Decides-eqb, Edge, Entry, IsBuilt, IsPolicy, IsPolicyOf, Kind, Line, List, None, Number, NumbersDiffer, Option, Parts, Policy}
+use Rattle.policy_text.proofs.Common.{Receive, Says, Some, TextFault, Told, Wrong, [], ap, arith, at_line, authority_of, built_edge, built_label, built_object, by_number, bytes_eq, bytes_eq-Decides, bytes_eq-refl, codes, edge, edge_entry, edge_of}
+use Rattle.policy_text.proofs.Common.{entry_of, false, fault_at, fields, filter_map, first_wrong, get_or, gives, has_at, has_label, insert_entry, is_decimal, is_label_name, is_letter, is_name, is_past, is_word, is_word_byte, label, label_entry}
+use Rattle.policy_text.proofs.Common.{label_name, label_of, label_value, labels_object, leb, length, list_all, list_any, long_entry, names_label, narrow, nat_cmp, nat_le, nat_lt, nat_tests, object, object_entry, object_of, option_map, option_map_or}
+use Rattle.policy_text.proofs.Common.{option_or, or_parts, refl, said, same_edge, same_edge_true, short_entry, slice_get-get_or, subst, sym, told, true, true≢false, unwrap_or, value, within, wrong, wrong_entry, ℕ, ◌&&◌, ◌++◌, ◌==◌, ◌||◌, ◌∙◌, ◌∷◌}
+use Rattle.policy_text.proofs.Common.{◌≡◌, ◌≢◌}
+use Rattle.std.specs.Option.{is_some}
 use Rattle.cap_model.specs.Tables.{has}
-use Rattle.cap_model.proofs.EdgeOrder.{same_edge_true}
-use Rattle.cap_model.proofs.TableMembers.{has_at}
-use Rattle.cam_base.specs.declared.text_fault.TextFault.{TextFault}
-use Rattle.cam_base.specs.Names.{is_letter, is_word_byte, is_name, is_word}
-use Rattle.cam_base.specs.Numbers.{is_decimal}
-use Rattle.cam_base.proofs.Bytes.{bytes_eq-refl}
-use Rattle.policy_text.specs.declared.kind.Kind.{Kind}
 use Rattle.policy_text.specs.declared.kind.Kind.TheVariants as kinds
-use Rattle.policy_text.specs.declared.parts.Parts.{Parts}
-use Rattle.policy_text.specs.Entries.{Number, value, Entry, label, object, edge, label_entry, object_entry, edge_entry, short_entry, long_entry, entry_of}
-use Rattle.policy_text.specs.Numbers.{within, narrow}
-use Rattle.policy_text.specs.PartsBuilt.{IsBuilt, IsPolicyOf, built_label, built_object, built_edge}
-use Rattle.policy_text.specs.PolicyFaults.{Told, gives, names_label, labels_object, is_past, wrong_entry, wrong, fault_at, first_wrong}
-use Rattle.policy_text.specs.PolicyTexts.{said, told, has_label, label_value, label_of, object_of, edge_of, by_number, Says}
 use Rattle.policy_text.proofs.Before.{any_more}
 use Rattle.policy_text.proofs.Inserting.{Pairs, or_left, or_right, named, Differ, named_insert, differ_insert, none_pair, names_differ, Valid, valid_insert, all_valid, Rising, rising_insert, numbers_differ, inserted, keyed_in, has_name}
-use Rattle.cam_base.specs.Fields.{fields}
-use Rattle.cam_base.specs.LineFaults.{Wrong, at_line}
-use Rattle.cam_base.specs.Lines.{Line}
 
 -- ---- what the form of a line gives
 

@@ -1,16 +1,7 @@
 -- The numbers of labels, after one label more.
-use Rattle.std.proofs.Common.{◌≡◌, ◌∙◌, ap, sym, refl, ℕ, ◌+◌, ◌<◌, ◌^◌, ◌==◌, Bool, true, false, cond, ◌||◌, List, [], ◌∷◌, length, take, get_or, is_some, inl, inr, arith}
-use Rattle.std.specs.BTreeMap.{is_at}
-use Rattle.std.specs.BTreeSet.{BTreeSet, contains, Updates}
-use Rattle.std.specs.List.{list_any}
-use Rattle.std.specs.Ordering.{nat_cmp}
-use Rattle.std.proofs.lemmas.Bool.{cases_lt, eqb-true}
-use Rattle.std.proofs.lemmas.Bool.Decides.{nat_tests}
-use Rattle.std.proofs.lemmas.List.Folds.{list_any_more}
-use Rattle.std.proofs.Math.Bool.{or_comm}
+use Rattle.policy_text.proofs.Common.{BTreeSet, Bool, IsSmall, List, Updates, [], ap, arith, cases_lt, cond, contains, eqb-true, false, get_or, inl, inr, is_at, is_some, label_name, length, list_any, list_any_more, nat_cmp, nat_tests, or_comm, refl}
+use Rattle.policy_text.proofs.Common.{sym, take, true, ℕ, ◌+◌, ◌<◌, ◌==◌, ◌^◌, ◌||◌, ◌∙◌, ◌∷◌, ◌≡◌}
 use Rattle.cam_base.proofs.Orders.{is_eq-nat_cmp}
-use Rattle.cap_model.specs.Policies.{label_name}
-use Rattle.policy_text.specs.KnownNumbers.{IsSmall}
 
 is_named : (labels : List (ℕ × List ℕ)) (n : ℕ) → is_some (label_name labels n) ≡ list_any (λ l. l.0 == n) labels
 is_named [] n = refl

@@ -1,19 +1,10 @@
 -- A table of the labels of objects that is filled line by line, and the labels of a spec's objects.
-use Rattle.std.proofs.Common.{◌≡◌, ◌∙◌, ap, sym, refl, ℕ, ◌+◌, ◌<◌, Bool, true, false, cond, List, ◌∷◌, Option, Some, None, length, drop, get_or, Result, Ok, Err, subst}
+use Rattle.policy_text.proofs.Common.{Bool, Err, IsErrAnd, IsFault, IsLabelling, List, None, Ok, Option, Policy, Refused, Result, Some, TextFault, ap, at_drop_more, bytes_eq, cond, drop, false, first_unlabelled, get_or, length, object_label}
+use Rattle.policy_text.proofs.Common.{option_or, option_or-cond, refl, subst, sym, true, unlabelled, ℕ, ◌+◌, ◌<◌, ◌∙◌, ◌∷◌, ◌≡◌}
 use mathlib.Core.Path.{fun_ext}
-use Rattle.std.specs.Option.{option_or}
-use Rattle.std.specs.Str.{bytes_eq}
-use Rattle.std.proofs.lemmas.List.{at_drop_more}
-use Rattle.std.specs.Result.{IsErrAnd}
 use Rattle.cap_model.specs.declared.object_labels.Labels.{Labels}
-use Rattle.cap_model.specs.declared.policy.Policy.{Policy}
-use Rattle.cam_base.specs.declared.error.Refused.{Refused}
-use Rattle.cam_base.specs.declared.text_fault.TextFault.{TextFault}
-use Rattle.cam_base.proofs.Options.{option_or-cond}
 use Rattle.cap_model.specs.declared.spec.Entry.{Entry}
 use Rattle.cap_model.specs.declared.spec.Spec.{Spec}
-use Rattle.policy_text.specs.Labelled.{object_label, unlabelled, first_unlabelled, IsLabelling}
-use Rattle.policy_text.specs.PolicyTexts.{IsFault}
 
 first_label : (o : List ℕ × ℕ) (more : List (List ℕ × ℕ)) (name : List ℕ)
     → object_label (o ∷ more) name ≡ cond (bytes_eq o.0 name) (Some o.1) (object_label more name)

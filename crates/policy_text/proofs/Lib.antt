@@ -1,3 +1,4 @@
+pub mod Common
 pub mod Before
 pub mod Building
 pub mod Cutting

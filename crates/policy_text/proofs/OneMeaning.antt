@@ -1,13 +1,7 @@
 -- Lines mean at most one policy, and one table of edges; bytes have one answer.
-use Rattle.std.proofs.Common.{◌≡◌, ◌∙◌, ap, sym, refl, ℕ, List, Option, None, Result, Ok, Err}
-use Rattle.cap_model.specs.declared.edge.Edge.{Edge}
-use Rattle.cap_model.specs.declared.policy.Policy.{Policy}
-use Rattle.cap_model.proofs.TableMembers.{one_table}
-use Rattle.cam_base.specs.declared.error.Refused.{Refused}
+use Rattle.policy_text.proofs.Common.{Edge, Err, IsAnswer, IsCertRead, IsFault, IsPolicyRead, List, None, Ok, Option, Policy, Refused, Result, Says, SaysEdges, TextFault, Told, ap, cert_lines, first_cert_fault, first_policy_fault, one_table}
+use Rattle.policy_text.proofs.Common.{policy_lines, refl, sym, ℕ, ◌∙◌, ◌≡◌}
 use Rattle.cam_base.specs.declared.error.Refused.TheVariants as refused
-use Rattle.cam_base.specs.declared.text_fault.TextFault.{TextFault}
-use Rattle.policy_text.specs.PolicyFaults.{Told}
-use Rattle.policy_text.specs.PolicyTexts.{Says, SaysEdges, IsAnswer, IsFault, IsPolicyRead, IsCertRead, first_policy_fault, first_cert_fault, policy_lines, cert_lines}
 
 policies_same : (p q : Policy) → p.labels ≡ q.labels → p.objects ≡ q.objects → p.edges ≡ q.edges → p ≡ q
 policies_same p q l o e =

@@ -1,29 +1,14 @@
 -- What is written of a policy or a certificate is a text of it.
-use Rattle.std.proofs.Common.{◌≡◌, ◌∙◌, ap, sym, refl, subst, ℕ, ◌+◌, ◌<◌, ◌≤◌, ◌^◌, ◌==◌, nat_lt, true≢false, Bool, true, false, cond, List, [], ◌∷◌, ◌++◌, append_assoc, length, map, get_or, count_by, codes, decimal, drop, Option, Some, None, is_some, arith}
-use Rattle.std.specs.List.{filter_map, flat_map, All}
-use Rattle.std.specs.Option.{option_map_or}
-use Rattle.std.proofs.lemmas.Bool.{eqb-true}
-use Rattle.std.proofs.lemmas.Bool.Decides.{nat_tests}
-use Rattle.std.proofs.lemmas.List.{append-nil}
-use Rattle.std.proofs.lemmas.List.Elements.{All-head, All-tail, filter_map-append}
-use Rattle.std.proofs.lemmas.List.Sums.{sum_by-append}
-use Rattle.cap_model.specs.declared.edge.Edge.{Edge}
-use Rattle.cap_model.specs.declared.policy.Policy.{Policy}
-use Rattle.cap_model.specs.Policies.{IsPolicy, label_name, is_label_name}
+use Rattle.policy_text.proofs.Common.{All, All-head, All-tail, Bool, Edge, IsCertText, IsPolicy, IsPolicyText, Kind, List, None, Number, Option, Policy, PolicyLimit, PolicySyntax, Says, Some, TextFault, Told, [], ap, append-nil, append_assoc, arith}
+use Rattle.policy_text.proofs.Common.{at_start, body, by_number, bytes_limit, codes, cond, count_by, decimal, drop, edge_line, edge_of, entry_of, eqb-true, false, fields, filter_map, filter_map-append, first_wrong, flat_map, form_fault, get_or}
+use Rattle.policy_text.proofs.Common.{has_label, head_fault, header, is_edge, is_headed, is_label_name, is_labelled, is_name, is_object, is_some, label_line, label_name, label_of, labels_object, length, lines, map, nat_lt, nat_tests}
+use Rattle.policy_text.proofs.Common.{number_value-decimal, object_line, object_of, option_map_or, placed, policy_lines, refl, subst, sum_by-append, sym, told, true, true≢false, ℕ, ◌++◌, ◌+◌, ◌<◌, ◌==◌, ◌^◌, ◌∙◌, ◌∷◌, ◌≡◌, ◌≤◌}
 use Rattle.cap_model.specs.Tables.{has}
-use Rattle.cam_base.specs.declared.text_fault.TextCode.TheVariants.{PolicySyntax, PolicyLimit}
-use Rattle.cam_base.specs.declared.text_fault.TextFault.{TextFault}
-use Rattle.cam_base.specs.Names.{is_name}
 use Rattle.cam_base.specs.Texts.{◌⊹◌}
-use Rattle.policy_text.specs.declared.kind.Kind.{Kind}
 use Rattle.policy_text.specs.declared.kind.Kind.TheVariants as kinds
-use Rattle.policy_text.specs.Entries.{Number, entry_of}
-use Rattle.policy_text.specs.PolicyFaults.{Told, labels_object, is_object, is_edge, first_wrong}
-use Rattle.policy_text.specs.PolicyLines.{label_line, object_line, edge_line, policy_text, cert_text}
-use Rattle.policy_text.specs.PolicyTexts.{bytes_limit, header, is_headed, at_start, body, told, form_fault, head_fault, has_label, policy_lines, is_labelled, label_of, object_of, edge_of, by_number, Says, IsPolicyText, IsCertText}
+use Rattle.policy_text.specs.PolicyLines.{policy_text, cert_text}
 use Rattle.policy_text.specs.Writable.{IsWritable, IsWritableCert}
 use Rattle.policy_text.proofs.Before.{first_wrong-append, has_label-append}
-use Rattle.cam_base.proofs.Decimals.{number_value-decimal}
 use Rattle.policy_text.proofs.Inserting.{Pairs, or_left}
 use Rattle.policy_text.proofs.Judging.{none_then}
 use Rattle.policy_text.proofs.Reading.{fault_none}
@@ -31,8 +16,6 @@ use Rattle.policy_text.proofs.Rendering.{two_unfed, label_item, object_item, edg
 use Rattle.policy_text.proofs.Rows.{ended, IsRow, AreRows, lines-ended, Item, rows_of, told_at, Spells, told-rows, form-rows, after, told_at-append, spells-append, rows-append}
 use Rattle.policy_text.proofs.WrittenMeans.{nothing_meant, labels_meant, objects_meant, edges_meant, by_number-rising}
 use Rattle.policy_text.proofs.WrittenRight.{labels_right, objects_right, edges_right, any_apart, count_apart, has_label-told}
-use Rattle.cam_base.specs.Fields.{fields}
-use Rattle.cam_base.specs.Lines.{lines, placed}
 
 -- ---- one text out of rows
 

@@ -1,27 +1,11 @@
 -- What the readers cite as they refuse a text and as they answer.
-use Rattle.std.proofs.Common.{◌≡◌, ◌∙◌, ap, sym, refl, subst, ℕ, ◌<◌, ◌^◌, nat_lt, Bool, true, false, List, [], Option, Some, None, Result, Ok, Err, true≢false, arith}
+use Rattle.policy_text.proofs.Common.{AreLabelled, BTreeSet, Bool, Edge, Err, IsBuilt, IsCertRead, IsCertText, IsErrAnd, IsFault, IsPolicy, IsPolicyOf, IsPolicyRead, IsPolicyText, IsSmall, IsSorted, Kind, List, None, Number, Ok, Option, Parts}
+use Rattle.policy_text.proofs.Common.{Policy, Refused, Result, SaysEdges, Some, TextFault, Told, Words, [], ap, arith, body, cert_lines, contains, false, first_cert_fault, first_fault, first_policy_fault, first_wrong, form_fault, has_label}
+use Rattle.policy_text.proofs.Common.{head_fault, is_labelled, label_name, nat_cmp, nat_lt, nat_tests, option_map_or, option_or, policy_lines, refl, subst, sym, told, true, true≢false, unwrap_or, value, within, ℕ, ◌<◌, ◌^◌, ◌∙◌, ◌≡◌}
 use mathlib.Core.Path.{fun_ext}
-use Rattle.std.specs.BTreeSet.{BTreeSet, contains}
-use Rattle.std.specs.Option.{is_some, option_map_or, option_or, unwrap_or}
-use Rattle.std.specs.Ordering.{nat_cmp}
-use Rattle.std.specs.Result.{IsErrAnd}
-use Rattle.std.proofs.lemmas.Bool.Decides.{nat_tests}
-use Rattle.cap_model.specs.declared.edge.Edge.{Edge}
-use Rattle.cap_model.specs.declared.policy.Policy.{Policy}
-use Rattle.cap_model.specs.Policies.{label_name, IsPolicy}
-use Rattle.cap_model.specs.Tables.{has, IsSorted}
-use Rattle.cam_base.specs.declared.error.Refused.{Refused}
-use Rattle.cam_base.specs.declared.text_fault.TextFault.{TextFault}
-use Rattle.policy_text.specs.declared.kind.Kind.{Kind}
+use Rattle.std.specs.Option.{is_some}
+use Rattle.cap_model.specs.Tables.{has}
 use Rattle.policy_text.specs.declared.kind.Kind.TheVariants as kinds
-use Rattle.policy_text.specs.declared.parts.Parts.{Parts}
-use Rattle.policy_text.specs.declared.words.Words.{Words}
-use Rattle.policy_text.specs.Entries.{Number, value}
-use Rattle.policy_text.specs.KnownNumbers.{IsSmall}
-use Rattle.policy_text.specs.Numbers.{within}
-use Rattle.policy_text.specs.PartsBuilt.{IsBuilt, IsPolicyOf}
-use Rattle.policy_text.specs.PolicyFaults.{Told, first_wrong}
-use Rattle.policy_text.specs.PolicyTexts.{told, body, head_fault, form_fault, first_fault, IsFault, first_policy_fault, first_cert_fault, policy_lines, cert_lines, has_label, is_labelled, SaysEdges, AreLabelled, IsPolicyText, IsCertText, IsPolicyRead, IsCertRead}
 use Rattle.policy_text.specs.WordSets as words
 use Rattle.policy_text.proofs.Judging.{fault_first, fault_then, none_then}
 use Rattle.policy_text.proofs.Kept.{Clean, clean, formed_all, built_edges, edges_labelled, all_edges, policy_says, policy_kept}

@@ -1,26 +1,11 @@
 -- The rows of labels, objects and edges: their fields, and what they say.
-use Rattle.std.proofs.Common.{◌≡◌, ◌∙◌, ap, refl, ℕ, ◌<◌, ◌^◌, ◌==◌, nat_lt, leb, ◌&&◌, Bool, true, false, List, [], ◌∷◌, ◌++◌, append_assoc, length, codes, decimal, Some, arith}
-use Rattle.std.specs.List.{list_all, All}
-use Rattle.std.proofs.lemmas.Bool.{and_parts}
-use Rattle.std.proofs.lemmas.Bool.Decides.{nat_tests}
-use Rattle.std.proofs.lemmas.List.Elements.{All-nil, All-cons, All-append, All-weaker}
-use Rattle.std.proofs.lemmas.List.Splits.{slice_split_at, slice_split_none}
-use Rattle.cap_model.specs.Authorities.{text_of}
-use Rattle.cap_model.specs.Policies.{is_label_byte, is_label_name}
-use Rattle.cap_model.specs.declared.authority.Authority.{Authority}
-use Rattle.cap_model.specs.declared.authority.Authority.TheVariants.{Receive, SyncSend, AsyncSend, Reset, Grant, Read, Write, Control, Call, Reply, GrantBack, Handle}
-use Rattle.cap_model.specs.declared.edge.Edge.{Edge}
-use Rattle.cam_base.specs.Names.{is_letter, is_word_byte, is_name, is_word}
-use Rattle.cam_base.specs.Numbers.{is_digit}
+use Rattle.policy_text.proofs.Common.{All, All-append, All-cons, All-nil, All-weaker, AsyncSend, Authority, Bool, Call, Control, Edge, Grant, GrantBack, Handle, Kind, List, Read, Receive, Reply, Reset, Some, SyncSend, Write, [], and_parts, ap}
+use Rattle.policy_text.proofs.Common.{append_assoc, arith, codes, decimal, digits-decimal, edge, edge_line, entry_of, false, fields, is_decimal-decimal, is_digit, is_label_byte, is_label_name, is_letter, is_name, is_word, is_word_byte, label}
+use Rattle.policy_text.proofs.Common.{label_line, leb, length, list_all, nat_lt, nat_tests, object, object_line, refl, slice_split_at, slice_split_none, text_of, true, ℕ, ◌&&◌, ◌++◌, ◌<◌, ◌==◌, ◌^◌, ◌∙◌, ◌∷◌, ◌≡◌}
 use Rattle.cam_base.specs.Texts.{together}
-use Rattle.policy_text.specs.declared.kind.Kind.{Kind}
 use Rattle.policy_text.specs.declared.kind.Kind.TheVariants as kinds
-use Rattle.policy_text.specs.Entries.{label, object, edge, entry_of}
-use Rattle.policy_text.specs.PolicyLines.{label_line, object_line, edge_line}
-use Rattle.cam_base.proofs.Decimals.{is_decimal-decimal, digits-decimal}
 use Rattle.policy_text.proofs.Rows.{IsRow, Item}
-use Rattle.cam_base.specs.Fields.{fields}
-use Rattle.cap_model.proofs.Words.{its_word}
+use Rattle.authorities.proofs.Words.{its_word}
 
 -- ---- fields
 

@@ -1,16 +1,8 @@
 -- Rows that are written one behind another, each ended by a line feed: the lines of the text, and what they say.
-use Rattle.std.proofs.Common.{◌≡◌, ◌∙◌, ap, refl, ℕ, ◌+◌, ◌==◌, false, List, [], ◌∷◌, ◌++◌, append_assoc, length, map, Some, None}
-use Rattle.std.specs.List.{slice_split, flat_map, All}
-use Rattle.std.specs.Option.{option_or}
-use Rattle.std.proofs.lemmas.List.Splits.{slice_split_at}
-use Rattle.policy_text.specs.declared.kind.Kind.{Kind}
-use Rattle.policy_text.specs.Entries.{Entry, entry_of}
-use Rattle.policy_text.specs.PolicyFaults.{Told}
-use Rattle.policy_text.specs.PolicyTexts.{told, form_fault}
+use Rattle.policy_text.proofs.Common.{All, Entry, Kind, Line, List, None, Some, Told, [], ap, append_assoc, entry_of, false, fields, flat_map, form_fault, is_silent, length, lines, map, option_or, placed, refl, slice_split, slice_split_at, telling}
+use Rattle.policy_text.proofs.Common.{told, ℕ, ◌++◌, ◌+◌, ◌==◌, ◌∙◌, ◌∷◌, ◌≡◌}
 use Rattle.policy_text.proofs.Before.{told-cons, form-cons, told_one}
 use Rattle.policy_text.proofs.Judging.{form_some}
-use Rattle.cam_base.specs.Fields.{fields}
-use Rattle.cam_base.specs.Lines.{Line, lines, placed, telling, is_silent}
 
 -- ---- rows
 

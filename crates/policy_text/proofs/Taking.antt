@@ -1,19 +1,8 @@
 -- What is kept of the lines so far, after one line more.
-use Rattle.std.proofs.Common.{◌≡◌, ◌∙◌, ap, sym, refl, ℕ, ◌+◌, Bool, true, false, cond, ◌||◌, not, List, [], ◌∷◌, ◌++◌, Option, Some, None, IfSome, Result, Ok, Err, count_by, ◌≤◌, ◌&&◌, nat_le, arith, subst}
-use Rattle.std.specs.List.{list_any}
-use Rattle.std.specs.Str.{bytes_eq}
-use Rattle.std.proofs.lemmas.List.Sums.{sum_by-append}
-use Rattle.std.specs.Result.{OnOk}
-use Rattle.cap_model.specs.declared.authority.Authority.{Authority}
-use Rattle.cam_base.specs.declared.error.NoMemory.{NoMemory}
-use Rattle.policy_text.specs.Entries.{Number, Entry, label, object, edge}
-use Rattle.policy_text.specs.LinesSeen.{HasEdges, HasFewEdges, HasRoom, IsSeen, Takes}
-use Rattle.policy_text.specs.PolicyFaults.{Told, gives, names_label, labels_object, says_edge, is_edge, is_label, is_object, is_new_edge, new_edges, edges_limit, wrong_entry}
-use Rattle.policy_text.specs.WordSets.{has, IsAdded}
-use Rattle.policy_text.specs.declared.seen.Seen.{Seen}
-use Rattle.policy_text.specs.declared.words.Words.{Words}
+use Rattle.policy_text.proofs.Common.{Authority, Bool, Entry, Err, HasEdges, HasFewEdges, HasRoom, IfSome, IsAdded, IsSeen, Line, List, NoMemory, None, Number, Ok, OnOk, Option, Result, Seen, Some, Takes, Told, Words, [], ap, arith, bytes_eq, cond}
+use Rattle.policy_text.proofs.Common.{count_by, edge, edges_limit, false, gives, has, is_edge, is_label, is_new_edge, is_object, label, labels_object, list_any, names_label, nat_le, new_edges, not, object, refl, says_edge, subst, sum_by-append, sym}
+use Rattle.policy_text.proofs.Common.{true, wrong_entry, ℕ, ◌&&◌, ◌++◌, ◌+◌, ◌||◌, ◌∙◌, ◌∷◌, ◌≡◌, ◌≤◌}
 use Rattle.policy_text.proofs.Before.{any_more, count_more, edges_more, one_if}
-use Rattle.cam_base.specs.Lines.{Line}
 
 -- a label that isn't wrong has a number that no line in front of it has
 fresh_label : (knows : Number → Bool) (before : List Told) (line : Line) (n name : List ℕ)

@@ -1,15 +1,6 @@
 -- What each text of a policy keeps: what policies keep, and labels of objects below the limit.
-use Rattle.std.proofs.Common.{◌≡◌, ◌<◌, ℕ, ◌++◌, Bool, true, false, List, [], ◌∷◌, Option, Some, None, nat_le, sym, subst, arith}
-use Rattle.std.proofs.lemmas.Bool.Decides.{nat_tests}
-use Rattle.std.proofs.lemmas.List.Elements.{All-nil, All-cons}
-use Rattle.std.specs.List.{All, filter_map}
-use Rattle.std.specs.Option.{option_map_or, option_or, unwrap_or}
-use Rattle.cap_model.specs.Policies.{IsPolicy}
-use Rattle.cap_model.specs.declared.policy.Policy.{Policy}
-use Rattle.cam_base.proofs.Options.{neither}
-use Rattle.policy_text.specs.Entries.{Number, value, label, object, edge}
-use Rattle.policy_text.specs.PolicyFaults.{Told, first_wrong}
-use Rattle.policy_text.specs.PolicyTexts.{IsPolicyText, body, first_policy_fault, form_fault, has_label, head_fault, label_value, object_of, policy_lines}
+use Rattle.policy_text.proofs.Common.{All, All-cons, All-nil, Bool, IsPolicy, IsPolicyText, List, None, Number, Option, Policy, Some, Told, [], arith, body, edge, false, filter_map, first_policy_fault, first_wrong, form_fault, has_label, head_fault}
+use Rattle.policy_text.proofs.Common.{label, label_value, nat_le, nat_tests, neither, object, object_of, option_map_or, option_or, policy_lines, subst, sym, true, unwrap_or, value, ℕ, ◌++◌, ◌<◌, ◌∷◌, ◌≡◌}
 use Rattle.policy_text.specs.declared.kind.Kind.TheVariants as kinds
 use Rattle.policy_text.proofs.Kept.{Clean, clean, formed_all, gives_small, policy_kept, right_object}
 

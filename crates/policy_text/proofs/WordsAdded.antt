@@ -1,12 +1,6 @@
 -- A set of words with one word more.
-use Rattle.std.proofs.Common.{◌≡◌, ◌∙◌, ap, refl, sym, [], ◌∷◌, ◌++◌, ℕ, Bool, true, false, ◌||◌, List}
-use Rattle.std.specs.Str.{bytes_eq}
+use Rattle.policy_text.proofs.Common.{Bool, IsAdded, IsNear, List, Words, [], ap, bytes_eq, false, has, list_any, or_comm, refl, sym, true, ℕ, ◌++◌, ◌||◌, ◌∙◌, ◌∷◌, ◌≡◌}
 use Rattle.std.specs.Borrow.{Bor}
-use Rattle.std.specs.List.{list_any}
-use Rattle.std.proofs.Math.Bool.{or_comm}
-use Rattle.policy_text.specs.KnownNumbers.{IsNear}
-use Rattle.policy_text.specs.WordSets.{has, IsAdded}
-use Rattle.policy_text.specs.declared.words.Words.{Words}
 use Rattle.policy_text.proofs.Before.{any_more}
 
 -- the words that are found by their place stay in the set

@@ -1,19 +1,9 @@
 -- What the lines mean that are written of a policy or a certificate.
-use Rattle.std.proofs.Common.{◌≡◌, ◌∙◌, ap, sym, refl, ℕ, suc, ◌+◌, ◌<◌, ◌^◌, List, [], ◌∷◌, ◌++◌, append_assoc, length, map, fold, decimal, Option, None, arith}
-use Rattle.std.specs.BTreeMap.{insert_entry}
-use Rattle.std.specs.List.{filter_map, All, AllPairs}
-use Rattle.std.specs.Option.{unwrap_or}
-use Rattle.std.specs.Ordering.{nat_cmp}
-use Rattle.std.proofs.lemmas.List.{append-nil}
-use Rattle.std.proofs.lemmas.List.Elements.{All-nil, All-head, All-tail, All-push, All-weaker}
-use Rattle.cap_model.specs.declared.edge.Edge.{Edge}
-use Rattle.policy_text.specs.PolicyFaults.{Told}
-use Rattle.policy_text.specs.PolicyTexts.{label_value, label_of, object_of, edge_of, by_number}
-use Rattle.cam_base.proofs.Decimals.{number_value-decimal}
+use Rattle.policy_text.proofs.Common.{All, All-head, All-nil, All-push, All-tail, All-weaker, AllPairs, Edge, Line, List, None, Option, Told, [], ap, append-nil, append_assoc, arith, by_number, decimal, edge_of, filter_map, fold, insert_entry}
+use Rattle.policy_text.proofs.Common.{label_of, label_value, length, map, nat_cmp, number_value-decimal, object_of, refl, suc, sym, unwrap_or, ℕ, ◌++◌, ◌+◌, ◌<◌, ◌^◌, ◌∙◌, ◌∷◌, ◌≡◌}
 use Rattle.policy_text.proofs.Inserting.{Pairs, insert_by}
 use Rattle.policy_text.proofs.Rendering.{label_item, object_item, edge_item}
 use Rattle.policy_text.proofs.Rows.{Item, line_at, told_at}
-use Rattle.cam_base.specs.Lines.{Line}
 
 label_value-decimal : (n : ℕ) → n < 2 ^ 64 → label_value (decimal n) ≡ n
 label_value-decimal n h = ap (λ (o : Option ℕ). unwrap_or o 0) (number_value-decimal n h)

@@ -1,28 +1,12 @@
 -- With the lines that are written of a policy or a certificate nothing is wrong.
-use Rattle.std.proofs.Common.{◌≡◌, ◌≢◌, ◌∙◌, ap, sym, refl, ℕ, suc, ◌+◌, ◌<◌, ◌≤◌, ◌^◌, ◌==◌, nat_lt, nat_le, Bool, true, false, not, cond, ◌&&◌, ◌||◌, List, [], ◌∷◌, ◌++◌, length, map, get_or, count_by, decimal, Option, Some, None, is_some, true≢false, arith}
-use Rattle.std.specs.List.{list_any, All, AllPairs}
-use Rattle.std.specs.Option.{option_map, option_map_or, option_or}
-use Rattle.std.specs.Str.{bytes_eq}
-use Rattle.std.proofs.lemmas.Bool.{eqb-true}
-use Rattle.std.proofs.lemmas.Bool.Decides.{nat_tests}
-use Rattle.std.proofs.lemmas.List.Elements.{All-head, All-tail}
-use Rattle.std.proofs.lemmas.List.Sums.{sum_by-cons}
-use Rattle.std.proofs.lemmas.Slice.Eq.{bytes_eq-Decides}
-use Rattle.cap_model.specs.declared.authority.Authority.{Authority}
-use Rattle.cap_model.specs.declared.edge.Edge.{Edge}
-use Rattle.cap_model.specs.Policies.{label_name}
-use Rattle.cam_base.specs.Numbers.{number_value}
-use Rattle.cam_base.specs.Names.{is_name}
-use Rattle.policy_text.specs.Entries.{Number, Entry, label, object, edge}
-use Rattle.policy_text.specs.PolicyFaults.{Told, gives, names_label, labels_object, is_label, is_object, is_edge, is_past, says_edge, new_edges, wrong_entry, first_wrong}
-use Rattle.policy_text.specs.PolicyTexts.{has_label}
+use Rattle.policy_text.proofs.Common.{All, All-head, All-tail, AllPairs, Authority, Bool, Edge, Entry, Line, List, None, Number, Option, Some, Told, Wrong, [], ap, arith, at_line, bytes_eq, bytes_eq-Decides, cond, count_by, decimal, edge, eqb-true}
+use Rattle.policy_text.proofs.Common.{false, first_wrong, get_or, gives, has_label, is_edge, is_label, is_name, is_object, is_past, is_some, label, label_name, labels_object, length, list_any, map, names_label, nat_le, nat_lt, nat_tests, new_edges}
+use Rattle.policy_text.proofs.Common.{not, number_value, number_value-decimal, object, option_map, option_map_or, option_or, refl, says_edge, suc, sum_by-cons, sym, true, true≢false, wrong_entry, ℕ, ◌&&◌, ◌++◌, ◌+◌, ◌<◌, ◌==◌, ◌^◌, ◌||◌, ◌∙◌, ◌∷◌}
+use Rattle.policy_text.proofs.Common.{◌≡◌, ◌≢◌, ◌≤◌}
 use Rattle.policy_text.proofs.Before.{any_more, count_more}
-use Rattle.cam_base.proofs.Decimals.{number_value-decimal}
 use Rattle.policy_text.proofs.Inserting.{Pairs, neither, or_left, or_right}
 use Rattle.policy_text.proofs.Rendering.{label_item, object_item, edge_item}
 use Rattle.policy_text.proofs.Rows.{Item, line_at, told_at}
-use Rattle.cam_base.specs.LineFaults.{Wrong, at_line}
-use Rattle.cam_base.specs.Lines.{Line}
 use Rattle.policy_text.proofs.Taking.{new_edges_most}
 
 -- ---- numbers and words that differ

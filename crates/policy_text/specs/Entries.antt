@@ -4,9 +4,9 @@
 use Rattle.std.specs.Prelude.{ℕ, ◌&&◌, if◌then◌else◌, List, [], ◌∷◌, Option, Some, None, codes}
 use Rattle.std.specs.Option.{option_map}
 use Rattle.std.specs.Str.{bytes_eq}
-use Rattle.cap_model.specs.Authorities.{authority_of}
+use Rattle.authorities.specs.Authorities.{authority_of}
 use Rattle.cap_model.specs.Policies.{is_label_name}
-use Rattle.cap_model.specs.declared.authority.Authority.{Authority}
+use Rattle.authorities.specs.declared.authority.Authority.{Authority}
 use Rattle.cam_base.specs.Names.{is_word}
 use Rattle.cam_base.specs.Numbers.{is_decimal, number_value}
 use Rattle.policy_text.specs.declared.kind.Kind.{Kind}

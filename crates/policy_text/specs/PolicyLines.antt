@@ -2,7 +2,7 @@
 -- in their order.
 use Rattle.std.specs.Prelude.{ℕ, List, [], ◌∷◌, codes, decimal}
 use Rattle.std.specs.List.{flat_map}
-use Rattle.cap_model.specs.Authorities.{text_of}
+use Rattle.authorities.specs.Authorities.{text_of}
 use Rattle.cap_model.specs.declared.edge.Edge.{Edge}
 use Rattle.cap_model.specs.declared.policy.Policy.{Policy}
 use Rattle.cam_base.specs.Texts.{◌⊹◌, together}

@@ -1,6 +1,6 @@
 //! What the lines in front of a line have said.
 
-ghost use Rattle.cap_model.specs.declared.authority.Authority.{Authority};
+ghost use Rattle.authorities.specs.declared.authority.Authority.{Authority};
 ghost use Rattle.policy_text.specs.Entries.{Number, label, object, edge};
 ghost use Rattle.policy_text.specs.EntriesRead.{meant, told_line};
 ghost use Rattle.policy_text.specs.KnownNumbers.{knows, IsRight};

@@ -1,30 +1,15 @@
 -- What a label may do at boot that isn't Control, Read, Write or a signal of its interrupt, it holds in a CNode.
-use Rattle.std.proofs.Common.{◌≡◌, ◌≢◌, ◌⊎◌, ◌∙◌, ◌&&◌, ℕ, Bool, true, false, nat_lt, List, Option, Some, None, slice_get, refl, sym, ap, subst, inl, inr, arith, true≢false}
-use Rattle.std.specs.List.{Contains, list_all}
-use Rattle.std.proofs.lemmas.Bool.{and_parts}
+use Rattle.reach_laws.proofs.Common.{AsyncSend, Auth, Authority, Bool, Cap, Contains, Control, Entry, Held, Kind, List, None, Object, Option, Read, Rights, Some, Spec, Structural, Write, and_parts, ap, arith, boot, buffer_of, confers, contains_at}
+use Rattle.reach_laws.proofs.Common.{entry_object, false, get_or_from_slice_get, inl, inr, irq_at, is_at, is_kind, is_space_root, kind_at, kind_confers, label_of, list_all, nat_lt, none_saved, nothing_pending, object_at, of_buffer, of_irq, of_mapped}
+use Rattle.reach_laws.proofs.Common.{of_reply, of_root, of_saved, of_space, of_table, option_confers, refl, same_kind, slice_get_within, subst, sym, table_of, true, true≢false, ℕ, ◌&&◌, ◌∙◌, ◌≡◌, ◌≢◌, ◌⊎◌}
+use Rattle.std.proofs.Common.{slice_get}
 use Rattle.std.proofs.lemmas.List.Sums.{AllPass-from_list_all}
-use Rattle.std.proofs.lemmas.Option.{slice_get_within, get_or_from_slice_get}
-use Rattle.cap_model.specs.ObjectLabels.{label_of}
-use Rattle.cap_model.specs.declared.authority.Authority.{Authority}
-use Rattle.cap_model.specs.declared.authority.Authority.TheVariants.{AsyncSend, Read, Write, Control}
-use Rattle.cap_model.specs.Auth.{Auth, Held, Structural, buffer_of, of_buffer, of_irq, of_mapped, of_reply, of_root, of_saved, of_space, of_table, table_of}
-use Rattle.cap_model.specs.Confers.{confers, kind_confers, option_confers}
 use Rattle.cap_model.specs.Kept.{IsKept, fits, fits_as, if_any, keeps, keeps_table, rise}
-use Rattle.cap_model.specs.Kinds.{is_at, is_kind, is_space_root, kind_at, same_kind}
 use Rattle.cap_model.specs.Levels.{child, size}
-use Rattle.cap_model.specs.Lookup.{entry_object, object_at}
-use Rattle.cap_model.specs.State.{boot, irq_at}
-use Rattle.cap_model.specs.declared.cap.Cap.{Cap}
-use Rattle.cap_model.specs.declared.kind.Kind.{Kind}
 use Rattle.cap_model.specs.declared.kind.Kind.TheVariants as kinds
 use Rattle.cap_model.specs.declared.level.Level.{Level}
 use Rattle.cap_model.specs.declared.level.Level.TheVariants.{Global, Upper, Directory, Table}
-use Rattle.cap_model.specs.declared.object.Object.{Object}
 use Rattle.cap_model.specs.declared.object.Object.TheVariants as objects
-use Rattle.cap_model.specs.declared.rights.Rights.{Rights}
-use Rattle.cap_model.specs.declared.spec.Entry.{Entry}
-use Rattle.cap_model.specs.declared.spec.Spec.{Spec}
-use Rattle.cap_model.proofs.BootPlaces.{contains_at, none_saved, nothing_pending}
 
 -- ---- what memory confers
 

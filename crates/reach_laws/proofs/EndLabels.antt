@@ -1,19 +1,9 @@
 -- The labels of ends and locks.
-use Rattle.std.proofs.Common.{◌≡◌, ◌∙◌, ℕ, Bool, true, false, Some, refl, sym, ap}
-use Rattle.std.specs.List.{slice_get}
+use Rattle.reach_laws.proofs.Common.{AreApart, Bool, Connector, EndAt, From, Handles, Interrupt, IsEnd, IsFlat, IsThere, Leaf, LockAt, Role, Some, Tables, To, ap, connection_label, domain_label, false, has_label, is_at_device, leaf_label, number_of}
+use Rattle.reach_laws.proofs.Common.{owner_in, refl, slice_get, sym, true, ℕ, ◌∙◌, ◌≡◌}
 use Rattle.std.specs.Option.{option_map_or}
-use Rattle.adl_ast.specs.declared.composition.Role.{Role}
-use Rattle.adl_ast.specs.declared.composition.Role.TheVariants.{From, To}
-use Rattle.adl_meaning.specs.declared.connector.Connector.{Connector}
-use Rattle.adl_meaning.specs.declared.connector.Connector.TheVariants.{Interrupt}
-use Rattle.adl_meaning.specs.declared.flat.Leaf.{Leaf}
 use Rattle.arch_policy.specs.declared.owner.Owner.TheVariants.{OfDomain, OfConnection, OfLeaf}
-use Rattle.arch_policy.specs.Ends.{EndAt, IsEnd, LockAt}
-use Rattle.arch_policy.specs.Owners.{has_label, owner_in}
-use Rattle.arch_policy.specs.Reasons.{Handles}
-use Rattle.arch_policy.specs.Tables.{AreApart, IsThere, Tables, connection_label, domain_label, leaf_label, number_of}
 use Rattle.conn_rules.specs.Ends.{end_rule}
-use Rattle.reach_laws.specs.Flat.{IsFlat, is_at_device}
 
 -- a label that is a domain's, and one that is a device's
 pub record IsDomains (t : Tables) (label : ℕ) : Type 0 where

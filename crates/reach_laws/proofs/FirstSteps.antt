@@ -1,30 +1,12 @@
 -- One call, and one binding, from the boot state.
-use Rattle.std.proofs.Common.{◌≡◌, ◌≢◌, ◌<◌, ◌⊎◌, ℕ, true, ◌&&◌, ◌||◌, List, [], ◌∷◌, length, slice_get, Option, Some, None, refl, sym, ◌∙◌, ap, subst, inl, inr}
+use Rattle.reach_laws.proofs.Common.{Acts, AsyncSend, CNode, Call, Capability, Endpoint, Entry, Frame, Handle, Held, Irq, Kind, List, None, Notification, Object, Option, Pages, Peer, Pending, Reaches, Receive, Reply, Rights, Some, Spec, State}
+use Rattle.reach_laws.proofs.Common.{Thread, ThreadState, [], ap, boot, boot_irq, boot_thread, called, entry_at, entry_object, inl, inr, is_at, is_kind, kind_at, label_of, length, no_thread, number_found, object_at, of_irq, of_reply, option_confers}
+use Rattle.reach_laws.proofs.Common.{refl, slice_get_within, subst, sym, thread_at, true, with_pending, ℕ, ◌&&◌, ◌<◌, ◌||◌, ◌∙◌, ◌∷◌, ◌≡◌, ◌≢◌, ◌⊎◌}
+use Rattle.std.proofs.Common.{slice_get}
 use Rattle.std.specs.Prelude.{slice_set}
 use Rattle.std.proofs.lemmas.List.{get_or-set_same, get_or-set_other, length-map}
-use Rattle.std.proofs.lemmas.Option.{slice_get_within}
-use Rattle.cap_model.specs.ObjectLabels.{label_of}
-use Rattle.cap_model.specs.declared.authority.Authority.TheVariants.{AsyncSend, Call, Handle, Receive, Reply}
-use Rattle.cap_machine.specs.Runs.{Reaches}
-use Rattle.cap_machine.specs.StepTable.{Acts, Peer}
 use Rattle.cap_machine.specs.declared.step.Step.TheVariants as steps
-use Rattle.cap_machine.specs.Effects.{called, with_pending}
-use Rattle.cap_model.specs.Auth.{Held, of_reply, of_irq}
-use Rattle.cap_model.specs.Confers.{option_confers}
-use Rattle.cap_model.specs.Kinds.{is_at, is_kind, kind_at}
-use Rattle.cap_model.specs.Lookup.{entry_object, object_at}
-use Rattle.cap_model.specs.State.{State, boot, boot_irq, boot_thread, no_thread, thread_at}
-use Rattle.cap_model.specs.declared.kind.Kind.{Kind}
-use Rattle.cap_model.specs.declared.kind.Kind.TheVariants.{Endpoint, Notification, CNode, Thread, Frame, Pages, Irq}
-use Rattle.cap_model.specs.declared.object.Object.{Object}
 use Rattle.cap_model.specs.declared.object.Object.TheVariants as objects
-use Rattle.cap_model.specs.declared.rights.Rights.{Rights}
-use Rattle.cap_model.specs.declared.spec.Entry.{Entry}
-use Rattle.cap_model.specs.declared.spec.Spec.{Spec}
-use Rattle.cap_model.specs.declared.state.Content.TheVariants.{Capability}
-use Rattle.cap_model.specs.declared.state.Pending.{Pending}
-use Rattle.cap_model.specs.declared.state.ThreadState.{ThreadState}
-use Rattle.cap_model.proofs.BootPlaces.{entry_at, number_found}
 use Rattle.reach_laws.specs.Arranged.{Holds, IsArranged, RootOf}
 
 module _ (spec : Spec) (labels : List ℕ) (laid : IsArranged spec labels) where

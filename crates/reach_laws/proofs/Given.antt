@@ -1,18 +1,8 @@
 -- Which ends the connector table gives an authority, and over what.
-use Rattle.std.proofs.Common.{◌≡◌, ◌⊎◌, ◌∙◌, ◌&&◌, ◌||◌, Bool, true, false, ◌∷◌, refl, sym, inl, inr, true≢false}
-use Rattle.std.proofs.lemmas.Bool.{and_parts}
-use Rattle.adl_ast.specs.declared.composition.Role.{Role}
-use Rattle.adl_ast.specs.declared.composition.Role.TheVariants.{From, To}
-use Rattle.adl_meaning.specs.declared.connector.Connector.{Connector}
-use Rattle.adl_meaning.specs.declared.connector.Connector.TheVariants.{Rpc, Notification, SharedMemory, Mmio, Interrupt, Direct}
-use Rattle.cap_model.specs.declared.authority.Authority.TheVariants.{Receive, AsyncSend, Grant, Control, Call, GrantBack, Handle}
-use Rattle.conn_rules.specs.declared.rule.ObjectKind.{ObjectKind}
-use Rattle.conn_rules.specs.declared.rule.ObjectKind.TheVariants.{NoObject, OfEndpoint, OfNotification, OfFrames, OfDevice, OfIrq}
-use Rattle.conn_rules.specs.Row.{same_connector, same_role}
-use Rattle.arch_policy.specs.Gives.{gives, same_object}
-use Rattle.arch_policy.specs.Owners.{has_label}
+use Rattle.reach_laws.proofs.Common.{AsyncSend, Bool, Call, Connector, Control, Direct, From, Grant, GrantBack, Handle, Interrupt, Mmio, NoObject, ObjectKind, OfDevice, OfEndpoint, OfFrames, OfIrq, OfNotification, Receive, Role, Rpc, SharedMemory}
+use Rattle.reach_laws.proofs.Common.{To, and_parts, false, gives, has_label, implied, implies, inl, inr, over_object, refl, same_connector, same_object, same_role, sym, true, true≢false, ◌&&◌, ◌||◌, ◌∙◌, ◌∷◌, ◌≡◌, ◌⊎◌}
+use Rattle.adl_meaning.specs.declared.connector.Connector.TheVariants.{Notification}
 use Rattle.arch_policy.proofs.Same.{is_connector, is_object}
-use Rattle.arch_policy.proofs.Given.{implied, implies, over_object}
 use Rattle.conn_rules.proofs.Roles.{is_role}
 
 -- ---- who is given what

@@ -1,19 +1,6 @@
 -- The certificate of a system is the least valid one.
-use Rattle.std.proofs.Common.{◌≡◌, ◌≢◌, ◌∙◌, ℕ, List, refl, sym, ap, subst, inl, inr}
-use Rattle.cap_model.specs.Edges.{edge}
-use Rattle.cap_model.specs.Tables.{Has}
-use Rattle.cap_model.specs.declared.authority.Authority.{Authority}
-use Rattle.cap_model.specs.declared.authority.Authority.TheVariants.{AsyncSend, Receive, Reply}
-use Rattle.cap_model.specs.declared.edge.Edge.{Edge}
-use Rattle.cap_model.specs.Auth.{Auth, Held}
-use Rattle.cap_model.specs.State.{boot}
-use Rattle.cap_model.specs.declared.spec.Spec.{Spec}
-use Rattle.cert_check.specs.Valid.{Valid}
-use Rattle.arch_policy.specs.Policies.{IsCertificateOf, IsLockEdge}
-use Rattle.arch_policy.specs.Tables.{AreApart, Tables, connection_label, leaf_label}
-use Rattle.arch_policy.specs.Reasons.{Reason, by_bind, by_call, by_direct, by_lock}
-use Rattle.reach_laws.specs.Flat.{IsFlat}
-use Rattle.reach_laws.specs.LaidOut.{IsLaidOut}
+use Rattle.reach_laws.proofs.Common.{AreApart, AsyncSend, Auth, Authority, Edge, Has, Held, IsCertificateOf, IsFlat, IsLaidOut, IsLockEdge, List, Reason, Receive, Reply, Spec, Tables, Valid, ap, boot, by_bind, by_call, by_direct, by_lock}
+use Rattle.reach_laws.proofs.Common.{connection_label, edge, inl, inr, leaf_label, refl, subst, sym, ℕ, ◌∙◌, ◌≡◌, ◌≢◌}
 use Rattle.reach_laws.proofs.Reached.{calls, handles, receives, signals}
 
 module _ (t : Tables) (spec : Spec) (labels : List ℕ) (flat : IsFlat t.source t.flat) (apart : AreApart t)

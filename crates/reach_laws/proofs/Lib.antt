@@ -1,3 +1,4 @@
+pub mod Common
 pub mod AtBoot
 pub mod EndLabels
 pub mod Given

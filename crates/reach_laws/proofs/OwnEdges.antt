@@ -1,27 +1,13 @@
 -- Every system has a certificate: the assigned edges, and those of locks.
-use Rattle.std.proofs.Common.{◌≡◌, ◌∙◌, ℕ, true, List, ◌++◌, Option, Some, None, refl, sym, ap, subst, inl, inr}
-use Rattle.std.specs.List.{list_any, slice_get}
+use Rattle.reach_laws.proofs.Common.{AsyncSend, Authority, Edge, IsCertificateOf, IsLockEdge, Leaf, List, LockAt, None, Notification, Option, RW, Some, Tables, an_authority, ap, domain_label, edge, inl, inr, kind_confers, list_any, listed, lock_edge}
+use Rattle.reach_laws.proofs.Common.{lock_edges, lock_of_member, refl, slice_get, subst, sym, triples, true, ℕ, ◌++◌, ◌∙◌, ◌≡◌}
 use Rattle.adl_ast.specs.declared.component.Member.TheVariants as members
-use Rattle.adl_meaning.specs.declared.flat.Leaf.{Leaf}
-use Rattle.cap_model.specs.Authorities.{authorities}
-use Rattle.cap_model.specs.Edges.{edge}
-use Rattle.cap_model.specs.declared.authority.Authority.{Authority}
-use Rattle.cap_model.specs.declared.authority.Authority.TheVariants.{AsyncSend}
-use Rattle.cap_model.specs.declared.edge.Edge.{Edge}
-use Rattle.cap_model.specs.Confers.{kind_confers}
-use Rattle.cap_model.specs.declared.kind.Kind.TheVariants.{Notification}
-use Rattle.conn_rules.specs.Row.{RW}
+use Rattle.authorities.specs.Authorities.{authorities}
 use Rattle.cspace_layout.specs.Members.{is_lock, members_at}
 use Rattle.cam_base.specs.Gather.{IsIn, gather}
 use Rattle.cam_base.proofs.Gathered.{from_gather, in_append, in_gather, in_left, in_place, in_right, place_of}
-use Rattle.arch_policy.specs.Ends.{LockAt}
-use Rattle.arch_policy.specs.Policies.{IsCertificateOf, IsLockEdge}
-use Rattle.arch_policy.specs.Tables.{Tables, domain_label}
-use Rattle.arch_policy.specs.Triples.{lock_edge, lock_edges, triples}
 use Rattle.arch_policy.specs.Where.{where_true}
-use Rattle.arch_policy.proofs.Listed.{listed, lock_of_member}
 use Rattle.arch_policy.proofs.Lists.{from_where, has_in, in_any, in_has, in_where}
-use Rattle.arch_policy.proofs.Given.{an_authority}
 use Rattle.cam_base.proofs.NumberedLists.{from_any}
 
 -- what RW on a notification confers, from one label to itself

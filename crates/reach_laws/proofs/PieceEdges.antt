@@ -1,13 +1,5 @@
 -- The boot edges between different labels, put together from their pieces.
-use Rattle.std.proofs.Common.{◌≢◌, ◌↔◌, ℕ, List, inl, inr, arith}
-use Rattle.cap_model.specs.Edges.{edge}
-use Rattle.cap_model.specs.declared.authority.Authority.{Authority}
-use Rattle.cap_model.specs.Auth.{Auth, of_buffer, of_irq, of_mapped, of_reply, of_root, of_saved, of_space, of_table}
-use Rattle.cap_model.specs.State.{boot}
-use Rattle.cap_model.specs.declared.spec.Spec.{Spec}
-use Rattle.cap_model.proofs.BootPlaces.{none_saved, nothing_pending}
-use Rattle.arch_policy.specs.Tables.{Tables}
-use Rattle.arch_policy.specs.Reasons.{DirectReason}
+use Rattle.reach_laws.proofs.Common.{Auth, Authority, DirectReason, List, Spec, Tables, arith, boot, edge, inl, inr, none_saved, nothing_pending, of_buffer, of_irq, of_mapped, of_reply, of_root, of_saved, of_space, of_table, ℕ, ◌↔◌, ◌≢◌}
 use Rattle.reach_laws.specs.Pieces.{HasPieces}
 use Rattle.reach_laws.proofs.WindowEdges.{direct_table, table_direct}
 

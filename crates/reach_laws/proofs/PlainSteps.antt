@@ -1,31 +1,17 @@
 -- From the boot state of a plain spec only plain steps are ever legal.
-use Rattle.std.proofs.Common.{◌≡◌, ◌==◌, ℕ, Bool, true, false, not, List, [], ◌∷◌, Option, Some, None, refl, sym, ◌∙◌, ap, subst, inl, inr, arith, get_or, set, true≢false}
-use Rattle.std.specs.List.{All, Contains}
-use Rattle.std.proofs.lemmas.Bool.{and_parts}
+use Rattle.reach_laws.proofs.Common.{All, Bool, Cap, Capability, Contains, Kind, List, Node, None, Object, Option, Own, Pending, Run, SavedReply, Some, Spec, State, StepTo, ThreadState, [], and_parts, ap, arith, boot, content_in, dropped, false}
+use Rattle.reach_laws.proofs.Common.{get_or, grown, grown_at, inl, inr, is_at, is_root_object, is_space_root, kind_at, no_node, no_thread, node_at, none_saved, not, nothing_pending, object_at, refl, set, subst, sym, thread_at, true, true≢false}
+use Rattle.reach_laws.proofs.Common.{waiting, with_pending, without, ℕ, ◌==◌, ◌∙◌, ◌∷◌, ◌≡◌}
 use Rattle.std.proofs.lemmas.List.Elements.{All-contains, All-push, All-filter, Contains-get_or}
 use Rattle.std.proofs.lemmas.Map.Views.{Contains-from_lookup}
 use Rattle.cap_machine.specs.declared.step.Step.{Step}
 use Rattle.cap_machine.specs.declared.step.Step.TheVariants.{Take, Put, Grant, Call, Reply, SetCspace, SetVspace, Map, Bind, Drop, Save, ReplyTo}
-use Rattle.cap_machine.specs.Effects.{dropped, grown, grown_at, waiting, with_pending, without}
-use Rattle.cap_machine.specs.Runs.{Run}
-use Rattle.cap_machine.specs.StepTable.{Own, StepTo}
 use Rattle.cap_machine.proofs.Applied.{read_written}
-use Rattle.cap_model.specs.Kinds.{is_at, is_root_object, is_space_root, kind_at}
-use Rattle.cap_model.specs.Lookup.{object_at}
-use Rattle.cap_model.specs.State.{Node, State, boot, content_in, no_node, no_thread, node_at, thread_at}
-use Rattle.cap_model.specs.declared.cap.Cap.{Cap}
-use Rattle.cap_model.specs.declared.kind.Kind.{Kind}
 use Rattle.cap_model.specs.declared.kind.Kind.TheVariants as kinds
-use Rattle.cap_model.specs.declared.object.Object.{Object}
 use Rattle.cap_model.specs.declared.object.Object.TheVariants as objects
-use Rattle.cap_model.specs.declared.spec.Spec.{Spec}
 use Rattle.cap_model.specs.declared.state.Content.{Content}
-use Rattle.cap_model.specs.declared.state.Content.TheVariants.{Capability, SavedReply}
-use Rattle.cap_model.specs.declared.state.Pending.{Pending}
-use Rattle.cap_model.specs.declared.state.ThreadState.{ThreadState}
 use Rattle.cap_model.proofs.Kept.{kind_is}
 use Rattle.reach_laws.specs.Plain.{HoldsPlain, IsPlainStep, is_plain, option_plain, plain_kind}
-use Rattle.cap_model.proofs.BootPlaces.{none_saved, nothing_pending}
 
 each_after_write : {A : Type 0} (P : A → Type 0) (xs : List A) (i : ℕ) (v d : A) → ((k : ℕ) → P (get_or xs k d)) → P v → (k : ℕ)
     → P (get_or (set xs i v) k d)

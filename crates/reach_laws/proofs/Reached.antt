@@ -1,28 +1,10 @@
 -- What is reached has a reason, and what has a reason is reached.
-use Rattle.std.proofs.Common.{◌≡◌, ◌≢◌, ◌∙◌, ◌↔◌, ℕ, true, List, [], refl, sym, ap, subst}
-use Rattle.adl_ast.specs.declared.composition.Role.{Role}
-use Rattle.adl_ast.specs.declared.composition.Role.TheVariants.{From, To}
-use Rattle.adl_meaning.specs.declared.connector.Connector.{Connector}
-use Rattle.adl_meaning.specs.declared.connector.Connector.TheVariants.{Rpc, Notification, Interrupt}
-use Rattle.cap_model.specs.Edges.{edge}
-use Rattle.cap_model.specs.declared.authority.Authority.{Authority}
-use Rattle.cap_model.specs.declared.authority.Authority.TheVariants.{Receive, AsyncSend, Call, Reply, Handle}
-use Rattle.cap_machine.specs.Runs.{Reaches}
-use Rattle.cap_model.specs.Auth.{Held}
-use Rattle.cap_model.specs.State.{boot}
-use Rattle.cap_model.specs.declared.spec.Spec.{Spec}
+use Rattle.reach_laws.proofs.Common.{AreApart, AsyncSend, Authority, Call, Connector, DirectReason, EndAt, From, Handle, Handles, Held, Interrupt, IsEnd, IsFlat, IsLaidOut, IsReasoned, List, ObjectKind, OfEndpoint, OfIrq, OfNotification, Reaches}
+use Rattle.reach_laws.proofs.Common.{Reason, Receive, Reply, Role, Rpc, Spec, Tables, To, [], ap, boot, by_bind, by_call, by_direct, by_lock, connection_label, edge, gives, leaf_label, opposite, refl, subst, sym, triples, triples_are_policy, true, ℕ}
+use Rattle.reach_laws.proofs.Common.{◌↔◌, ◌∙◌, ◌≡◌, ◌≢◌}
+use Rattle.adl_meaning.specs.declared.connector.Connector.TheVariants.{Notification}
 use Rattle.cert_check.proofs.Keeps.{runs_stay}
-use Rattle.conn_rules.specs.declared.rule.ObjectKind.{ObjectKind}
-use Rattle.conn_rules.specs.declared.rule.ObjectKind.TheVariants.{OfEndpoint, OfNotification, OfIrq}
-use Rattle.arch_policy.specs.Ends.{EndAt, IsEnd}
-use Rattle.arch_policy.specs.Gives.{gives, opposite}
-use Rattle.arch_policy.specs.Tables.{AreApart, Tables, connection_label, leaf_label}
-use Rattle.arch_policy.specs.Reasons.{DirectReason, Handles, IsReasoned, Reason, by_bind, by_call, by_direct, by_lock}
-use Rattle.arch_policy.specs.Triples.{triples}
-use Rattle.arch_policy.proofs.Listed.{triples_are_policy}
 use Rattle.reach_laws.proofs.FirstSteps.{bind_reached, call_reached}
-use Rattle.reach_laws.specs.Flat.{IsFlat}
-use Rattle.reach_laws.specs.LaidOut.{IsLaidOut}
 use Rattle.reach_laws.proofs.AtBoot.{Signals, held, held_signal}
 use Rattle.reach_laws.proofs.EndLabels.{domain_no_connection, domain_no_device, end_domain, handler_domain, source_device, there_end}
 use Rattle.reach_laws.proofs.OwnEdges.{certificate, certificate_is}

@@ -1,34 +1,10 @@
 -- The certificate of a system keeps the rules.
-use Rattle.std.proofs.Common.{◌≡◌, ◌≢◌, ◌⊎◌, ◌∙◌, ℕ, true, List, refl, sym, ap, subst, inl, inr, true≢false}
-use Rattle.std.proofs.lemmas.Bool.{cases_eq}
-use Rattle.adl_ast.specs.declared.composition.Role.TheVariants.{From}
-use Rattle.adl_meaning.specs.declared.connector.Connector.{Connector}
-use Rattle.adl_meaning.specs.declared.connector.Connector.TheVariants.{Rpc}
+use Rattle.reach_laws.proofs.Common.{AreApart, AsyncSend, AtOtherEnd, Authority, Call, Connector, Control, DirectReason, Edge, EndAt, From, Grant, GrantBack, Handle, Handles, Has, Held, IsCertificateOf, IsEnd, IsFlat, IsLaidOut, IsLockEdge}
+use Rattle.reach_laws.proofs.Common.{IsPolicyOf, IsReasoned, LeadsTo, List, ObjectKind, OfEndpoint, OfNotification, RW, Reason, Receive, Reply, Role, Rpc, Spec, Structural, Tables, Valid, ap, boot, by_bind, by_call, by_direct, by_lock, cases_eq}
+use Rattle.reach_laws.proofs.Common.{connection_label, edge, gives, has_label, inl, inr, kind_confers, leaf_label, opposite, refl, subst, sym, true, true≢false, ℕ, ◌∙◌, ◌≡◌, ◌≢◌, ◌⊎◌}
 use Rattle.adl_meaning.specs.declared.flat.FlatConnection.{FlatConnection}
-use Rattle.cap_model.specs.Edges.{edge}
-use Rattle.cap_model.specs.Tables.{Has}
-use Rattle.cap_model.specs.declared.authority.Authority.{Authority}
-use Rattle.cap_model.specs.declared.authority.Authority.TheVariants.{Receive, AsyncSend, Grant, Control, Call, Reply, GrantBack, Handle}
-use Rattle.cap_model.specs.declared.edge.Edge.{Edge}
-use Rattle.adl_ast.specs.declared.composition.Role.{Role}
-use Rattle.cap_model.specs.Auth.{Held, Structural}
-use Rattle.cap_model.specs.Confers.{kind_confers}
-use Rattle.cap_model.specs.State.{boot}
 use Rattle.cap_model.specs.declared.kind.Kind.TheVariants as kinds
-use Rattle.cap_model.specs.declared.spec.Spec.{Spec}
-use Rattle.cert_check.specs.Valid.{Valid}
-use Rattle.conn_rules.specs.Row.{RW}
-use Rattle.conn_rules.specs.declared.rule.ObjectKind.{ObjectKind}
-use Rattle.conn_rules.specs.declared.rule.ObjectKind.TheVariants.{OfEndpoint, OfNotification}
-use Rattle.arch_policy.specs.Policies.{IsCertificateOf, IsLockEdge, IsPolicyOf}
-use Rattle.arch_policy.specs.Ends.{EndAt, IsEnd}
-use Rattle.arch_policy.specs.Gives.{gives, opposite}
-use Rattle.arch_policy.specs.Owners.{has_label}
-use Rattle.arch_policy.specs.Tables.{AreApart, Tables, connection_label, leaf_label}
-use Rattle.arch_policy.specs.Reasons.{AtOtherEnd, DirectReason, Handles, IsReasoned, LeadsTo, Reason, by_bind, by_call, by_direct, by_lock}
 use Rattle.reach_laws.proofs.Given.{no_control, no_grant, no_grant_back, who_calls, who_handles, who_receives, who_signals}
-use Rattle.reach_laws.specs.Flat.{IsFlat}
-use Rattle.reach_laws.specs.LaidOut.{IsLaidOut}
 use Rattle.reach_laws.proofs.EndLabels.{IsDomains, domain_no_connection, domain_no_device, handler_domain, lock_domain, one_connection, same_connection, source_device, there_connection, end_device}
 
 -- ---- what a direct reason says

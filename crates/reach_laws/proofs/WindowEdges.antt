@@ -1,23 +1,8 @@
 -- The edges of page tables between different labels are what ends at memory are given directly.
-use Rattle.std.proofs.Common.{◌≡◌, ◌≢◌, ◌⊎◌, ◌∙◌, ℕ, true, List, Option, refl, sym, ap, subst, inl, inr, true≢false}
-use Rattle.adl_ast.specs.declared.composition.Role.{Role}
-use Rattle.adl_meaning.specs.declared.connector.Connector.{Connector}
+use Rattle.reach_laws.proofs.Common.{Authority, Cap, Connector, DirectReason, EndAt, Frame, LeadsTo, List, ObjectKind, OfTable, Option, Read, Role, Spec, Tables, Write, ap, confers, edge, gives, implied, implies, inl, inr, kind_confers, leaf_label}
+use Rattle.reach_laws.proofs.Common.{leaves, option_confers, over_object, refl, subst, sym, true, true≢false, ℕ, ◌∙◌, ◌≡◌, ◌≢◌, ◌⊎◌}
 use Rattle.adl_meaning.specs.declared.settled.EndSetting.{EndSetting}
-use Rattle.cap_model.specs.Edges.{edge}
-use Rattle.cap_model.specs.declared.authority.Authority.{Authority}
-use Rattle.cap_model.specs.declared.authority.Authority.TheVariants.{Read, Write}
-use Rattle.cap_model.specs.Auth.{OfTable}
-use Rattle.cap_model.specs.Confers.{confers, kind_confers, option_confers}
-use Rattle.cap_model.specs.declared.cap.Cap.{Cap}
-use Rattle.cap_model.specs.declared.kind.Kind.TheVariants.{Frame}
-use Rattle.cap_model.specs.declared.spec.Spec.{Spec}
-use Rattle.conn_rules.specs.declared.rule.ObjectKind.{ObjectKind}
 use Rattle.cspace_layout.specs.Lookups.{setting_of}
-use Rattle.arch_policy.specs.Tables.{Tables, leaf_label}
-use Rattle.arch_policy.specs.Ends.{EndAt}
-use Rattle.arch_policy.specs.Gives.{gives, leaves}
-use Rattle.arch_policy.specs.Reasons.{DirectReason, LeadsTo}
-use Rattle.arch_policy.proofs.Given.{implied, implies, over_object}
 use Rattle.reach_laws.specs.Windows.{HasPage, HasWindows, IsWindow, window_rights}
 
 -- who may read may write, and the other way round: access alone tells them apart

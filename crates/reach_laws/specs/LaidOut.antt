@@ -5,7 +5,7 @@
 use Rattle.std.specs.Prelude.{◌≡◌, ◌≢◌, ◌↔◌, ℕ, List, Some}
 use Rattle.cap_model.specs.Edges.{edge}
 use Rattle.cap_model.specs.ObjectLabels.{label_of}
-use Rattle.cap_model.specs.declared.authority.Authority.{Authority}
+use Rattle.authorities.specs.declared.authority.Authority.{Authority}
 use Rattle.cap_model.specs.Auth.{Auth, Held}
 use Rattle.cap_model.specs.State.{boot, irq_at}
 use Rattle.cap_model.specs.declared.cap.Cap.{Cap}

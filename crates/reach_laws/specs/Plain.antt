@@ -15,10 +15,7 @@ abbrev pub plain_kind : Kind → Rights → Bool
 plain_kind kinds.Endpoint r = not r.grant
 plain_kind kinds.Notification r = true
 plain_kind kinds.Irq r = true
-plain_kind kinds.CNode r = false
-plain_kind kinds.Thread r = false
-plain_kind kinds.Frame r = false
-plain_kind (kinds.Pages level) r = false
+plain_kind _ r = false
 
 abbrev pub option_plain : Option Kind → Rights → Bool
 option_plain None r = false

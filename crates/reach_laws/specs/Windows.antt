@@ -4,7 +4,7 @@ use Rattle.std.specs.Prelude.{◌≡◌, ◌≢◌, ℕ, true, false, List, Opti
 use Rattle.std.specs.List.{Contains}
 use Rattle.adl_meaning.specs.declared.settled.EndSetting.{EndSetting}
 use Rattle.cap_model.specs.ObjectLabels.{label_of}
-use Rattle.cap_model.specs.declared.authority.Authority.TheVariants.{Read, Write}
+use Rattle.authorities.specs.declared.authority.Authority.TheVariants.{Read, Write}
 use Rattle.cap_model.specs.Auth.{table_of}
 use Rattle.cap_model.specs.Kinds.{kind_at}
 use Rattle.cap_model.specs.Lookup.{object_at}

@@ -1,6 +1,6 @@
 //! What is reached by one step, as functions that do nothing.
 
-ghost use Rattle.cap_model.specs.declared.authority.Authority.TheVariants.{AsyncSend, Call, Handle, Receive, Reply};
+ghost use Rattle.authorities.specs.declared.authority.Authority.TheVariants.{AsyncSend, Call, Handle, Receive, Reply};
 ghost use Rattle.cap_machine.specs.Runs.{Reaches};
 ghost use Rattle.cap_model.specs.Auth.{Held};
 ghost use Rattle.cap_model.specs.State.{boot};

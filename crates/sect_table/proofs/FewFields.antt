@@ -1,8 +1,6 @@
 -- Fields too few or too many for a line's form.
-use Rattle.std.proofs.Common.{◌≡◌, refl, ◌<◌, List, [], ◌∷◌, ℕ, None, length, arith}
+use Rattle.sect_table.proofs.Common.{List, None, [], arith, header_of, length, refl, spelled, ℕ, ◌<◌, ◌∷◌, ◌≡◌}
 use Rattle.std.specs.Borrow.{Bor}
-use Rattle.sect_table.specs.Headers.{header_of}
-use Rattle.sect_table.specs.Sections.{spelled}
 use Rattle.cam_base.specs.LineTexts.{texts}
 
 pub no_header : (fields : List (Bor (List ℕ))) → length fields < 2 → header_of (texts fields) ≡ None

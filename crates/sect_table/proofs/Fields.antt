@@ -1,27 +1,16 @@
 -- The fields of the lines of a table.
-use Rattle.std.proofs.Common.{◌≡◌, ◌∙◌, refl, sym, ap, ℕ, ◌+◌, ◌<◌, ◌^◌, ◌==◌, ◌&&◌, leb, Bool, true, false, not, List, [], ◌∷◌, ◌++◌, append_assoc, length, Option, Some, None, arith}
-use Rattle.std.specs.Prelude.{codes, ◌%◌}
-use Rattle.std.specs.List.{AllByRecursion, flat_map, list_all}
+use Rattle.sect_table.proofs.Common.{AllByRecursion, Bool, HasRow, Image, List, None, Option, Section, Some, [], and_parts, ap, append_assoc, arith, codes, ends_within, entry_line, false, flat_map, header, header_of, is_placed, is_silent, is_sound}
+use Rattle.sect_table.proofs.Common.{leb, length, list_all, ltb-true, nat_tests, not, number_value, number_value-hex_text, numbers_of, place_of, refl, section_line, section_of, spaced_fields, spelled, sym, true, writes_of, ℕ, ◌%◌, ◌&&◌, ◌++◌, ◌+◌}
+use Rattle.sect_table.proofs.Common.{◌<◌, ◌==◌, ◌^◌, ◌∙◌, ◌∷◌, ◌≡◌}
 use Rattle.std.specs.Str.{bytes_eq}
-use Rattle.std.proofs.lemmas.Bool.{and_parts, ltb-true}
-use Rattle.std.proofs.lemmas.Bool.Decides.{nat_tests}
 use Rattle.cam_base.specs.Hex.{hex_text}
 use Rattle.cam_base.specs.Names.{is_letter, is_name, is_word_byte}
-use Rattle.cam_base.specs.Numbers.{number_value}
 use Rattle.cam_base.specs.Texts.{together}
 use Rattle.cam_io.proofs.Writing.{beside}
 use Rattle.cap_model.specs.declared.level.Arch.{Arch}
 use Rattle.cap_model.specs.declared.level.Arch.TheVariants.{Arm11, Aarch64}
-use Rattle.sect_table.specs.TablesBack.{HasRow}
-use Rattle.sect_table.specs.Texts.{entry_line, section_line, table_text}
-use Rattle.sect_table.specs.Headers.{header, header_of}
-use Rattle.sect_table.specs.Sections.{ends_within, is_placed, is_sound, numbers_of, place_of, section_of, spelled, writes_of}
-use Rattle.sect_table.specs.declared.image.Image.{Image}
-use Rattle.sect_table.specs.declared.image.Section.{Section}
-use Rattle.cam_base.specs.Fields.{spaced_fields}
-use Rattle.cam_base.specs.Lines.{is_silent}
+use Rattle.sect_table.specs.Texts.{table_text}
 use Rattle.sect_table.proofs.Lines.{ended, loud}
-use Rattle.cam_base.proofs.Hexadecimals.{number_value-hex_text}
 use Rattle.sect_table.proofs.Numbers.{hex_plain}
 use Rattle.sect_table.proofs.Words.{Plain, is_clean, is_shown, spaced, spaced_read, spaced_shown}
 
@@ -66,7 +55,8 @@ clean_byte b h = grind (arith, nat_tests)
 
 clean_bytes : (bs : List ℕ) → list_all is_word_byte bs ≡ true → list_all is_clean bs ≡ true
 clean_bytes [] h = refl
-clean_bytes (b ∷ bs) h = let p = and_parts (is_word_byte b) (list_all is_word_byte bs) h in rw (clean_byte b p.0, clean_bytes bs p.1) refl
+clean_bytes (b ∷ bs) h = let p = and_parts (is_word_byte b) (list_all is_word_byte bs) h in
+    rw (clean_byte b p.0, clean_bytes bs p.1) refl
 
 name_plain : (name : List ℕ) → is_name name ≡ true → Plain name
 name_plain [] h = absurd cc
@@ -93,7 +83,8 @@ place_plain None size h = record { some = omega arith; clean = refl }
 place_plain (Some at) size h = hex_plain at (at_small at size h)
 
 words_plain : (s : Section) → HasRow s → AllByRecursion Plain (words s)
-words_plain s h = let n = numbers s h.sound in (hex_plain s.vaddr n.vaddr, (hex_plain s.size n.size, (rights_plain s.write, (place_plain s.at s.size n.at, tt))))
+words_plain s h = let n = numbers s h.sound in
+    (hex_plain s.vaddr n.vaddr, (hex_plain s.size n.size, (rights_plain s.write, (place_plain s.at s.size n.at, tt))))
 
 rights_read : (b : Bool) → writes_of (rights b) ≡ Some b
 rights_read true = refl
@@ -107,13 +98,20 @@ place_read : (at : Option ℕ) (size : ℕ) → is_placed at size ≡ true → p
 place_read None size h = refl
 place_read (Some at) size h = other (hex_text at) at (number_value-hex_text at (at_small at size h)) (hex_no_dash at)
   where
-    other : (word : List ℕ) (n : ℕ) → number_value word ≡ Some n → bytes_eq word (codes "-") ≡ false → place_of word ≡ Some (Some n)
+    other : (word : List ℕ) (n : ℕ) → number_value word ≡ Some n → bytes_eq word (codes "-") ≡ false
+        → place_of word ≡ Some (Some n)
     other word n v e = rw (e, v) refl
 
-numbers_read : (s : Section) → HasRow s → numbers_of (hex_text s.vaddr) (hex_text s.size) (rights s.write) (place s.at) ≡ Some (s.vaddr, s.size, s.write, s.at)
+numbers_read : (s : Section) → HasRow s → numbers_of (hex_text s.vaddr) (hex_text s.size) (rights s.write) (place s.at) ≡ Some
+    (s.vaddr, s.size, s.write, s.at)
 numbers_read s h =
     let n = numbers s h.sound in
-    rw (number_value-hex_text s.vaddr n.vaddr, number_value-hex_text s.size n.size, rights_read s.write, place_read s.at s.size n.at) refl
+    rw (
+      number_value-hex_text s.vaddr n.vaddr,
+      number_value-hex_text s.size n.size,
+      rights_read s.write,
+      place_read s.at s.size n.at,
+    ) refl
 
 pub row_read : (s : Section) → HasRow s → section_of (spaced_fields (row s)) ≡ Some s
 row_read s h =
@@ -146,12 +144,16 @@ entry_words_plain : (arch : Arch) (entry : ℕ) → entry < 2 ^ 64 → AllByRecu
 entry_words_plain Arm11 entry l = (hex_plain entry l, tt)
 entry_words_plain Aarch64 entry l = (hex_plain entry l, (record { some = omega arith; clean = refl }, tt))
 
-header_read : (arch : Arch) (entry : ℕ) → entry < 2 ^ 64 → header_of (codes "entry" ∷ entry_words arch entry) ≡ Some (header arch entry)
+header_read : (arch : Arch) (entry : ℕ) → entry < 2 ^ 64 → header_of (codes "entry" ∷ entry_words arch entry) ≡ Some
+    (header arch entry)
 header_read Arm11 entry l = rw (number_value-hex_text entry l) refl
 header_read Aarch64 entry l = rw (number_value-hex_text entry l) refl
 
-pub entry_read : (arch : Arch) (entry : ℕ) → entry < 2 ^ 64 → header_of (spaced_fields (entry_row arch entry)) ≡ Some (header arch entry)
-entry_read arch entry l = ap header_of (spaced_read (codes "entry") (entry_words arch entry) entry_plain (entry_words_plain arch entry l)) ∙ header_read arch entry l
+pub entry_read : (arch : Arch) (entry : ℕ) → entry < 2 ^ 64 → header_of (spaced_fields (entry_row arch entry)) ≡ Some
+    (header arch entry)
+entry_read arch entry l =
+    ap header_of (spaced_read (codes "entry") (entry_words arch entry) entry_plain (entry_words_plain arch entry l))
+    ∙ header_read arch entry l
 
 pub entry_shown : (arch : Arch) (entry : ℕ) → entry < 2 ^ 64 → list_all is_shown (entry_row arch entry) ≡ true
 entry_shown arch entry l = spaced_shown (codes "entry") (entry_words arch entry) entry_plain (entry_words_plain arch entry l)
@@ -166,7 +168,8 @@ section_text : (s : Section) → section_line s ≡ row s ++ 10 ∷ []
 unfolding together
 section_text s = go s.write s.at
   where
-    go : (write : Bool) (at : Option ℕ) → section_line (record s { write = write; at = at }) ≡ row (record s { write = write; at = at }) ++ 10 ∷ []
+    go : (write : Bool) (at : Option ℕ) → section_line (record s { write = write; at = at }) ≡ row
+        (record s { write = write; at = at }) ++ 10 ∷ []
     go true None = sym (simp append_assoc)
     go true (Some at) = sym (simp append_assoc)
     go false None = sym (simp append_assoc)
@@ -183,7 +186,8 @@ rows (s ∷ ss) = row s ∷ rows ss
 
 sections_text : (ss : List Section) → flat_map section_line ss ≡ ended (rows ss)
 sections_text [] = refl
-sections_text (s ∷ ss) = ap (λ k. k ++ flat_map section_line ss) (section_text s) ∙ append_assoc (row s) (10 ∷ []) (flat_map section_line ss) ∙ ap (λ k. row s ++ 10 ∷ k) (sections_text ss)
+sections_text (s ∷ ss) = ap (λ k. k ++ flat_map section_line ss) (section_text s) ∙ append_assoc (row s) (10 ∷ [])
+    (flat_map section_line ss) ∙ ap (λ k. row s ++ 10 ∷ k) (sections_text ss)
 
 pub table_ended : (image : Image) → table_text image ≡ ended (entry_row image.arch image.entry ∷ rows image.sections)
 unfolding table_text

@@ -1,3 +1,4 @@
+pub mod Common
 pub mod FewFields
 pub mod Heads
 pub mod Reading

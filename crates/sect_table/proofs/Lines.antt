@@ -1,9 +1,5 @@
 -- Lines, each of which a line feed ends.
-use Rattle.std.proofs.Common.{◌≡◌, ◌∙◌, refl, ap, ℕ, ◌+◌, ◌==◌, true, false, List, [], ◌∷◌, ◌++◌, length, arith}
-use Rattle.std.specs.List.{AllByRecursion, list_all}
-use Rattle.std.proofs.lemmas.Bool.Decides.{nat_tests}
-use Rattle.cam_base.specs.Lines.{Line, is_silent, lines, placed, telling}
-use Rattle.cam_base.specs.Parts.{parts}
+use Rattle.sect_table.proofs.Common.{AllByRecursion, Line, List, [], ap, arith, false, is_silent, length, lines, list_all, nat_tests, parts, placed, refl, telling, true, ℕ, ◌++◌, ◌+◌, ◌==◌, ◌∙◌, ◌∷◌, ◌≡◌}
 use Rattle.sect_table.proofs.Words.{is_shown, split_with}
 
 abbrev pub ended : List (List ℕ) → List ℕ
@@ -24,7 +20,8 @@ told at ls = telling (placed at (ls ++ [] ∷ []))
 pub lines_ended : (ls : List (List ℕ)) → AllByRecursion (λ l. list_all is_shown l ≡ true) ls → lines (ended ls) ≡ told 0 ls
 lines_ended ls h = ap (λ ps. telling (placed 0 ps)) (parts_ended ls h)
 
-pub told_more : (at : ℕ) (l : List ℕ) (ls : List (List ℕ)) → is_silent l ≡ false → told at (l ∷ ls) ≡ record { first = at; text = l } ∷ told (at + (length l + 1)) ls
+pub told_more : (at : ℕ) (l : List ℕ) (ls : List (List ℕ)) → is_silent l ≡ false
+    → told at (l ∷ ls) ≡ record { first = at; text = l } ∷ told (at + (length l + 1)) ls
 told_more at l ls e = rw e refl
 
 pub loud : (b : ℕ) (bs : List ℕ) → (b == 45) ≡ false → is_silent (b ∷ bs) ≡ false

@@ -1,11 +1,6 @@
 -- Hexadecimal texts are words.
-use Rattle.std.proofs.Common.{◌≡◌, ℕ, ◌<◌, ◌^◌, true, List, [], ◌∷◌, refl, arith}
-use Rattle.std.specs.List.{list_all}
-use Rattle.std.proofs.lemmas.Bool.{and_parts}
-use Rattle.std.proofs.lemmas.Bool.Decides.{nat_tests}
+use Rattle.sect_table.proofs.Common.{List, [], and_parts, arith, is_hex_digit, is_hexadecimal, is_hexadecimal-hex_digits, list_all, nat_tests, refl, true, ℕ, ◌<◌, ◌^◌, ◌∷◌, ◌≡◌}
 use Rattle.cam_base.specs.Hex.{hex_digits, hex_text}
-use Rattle.cam_base.specs.Numbers.{is_hex_digit, is_hexadecimal}
-use Rattle.cam_base.proofs.Hexadecimals.{is_hexadecimal-hex_digits}
 use Rattle.sect_table.proofs.Words.{Plain, is_clean}
 
 clean_digit : (b : ℕ) → is_hex_digit b ≡ true → is_clean b ≡ true
@@ -13,7 +8,8 @@ clean_digit b h = grind (arith, nat_tests)
 
 clean_digits : (bs : List ℕ) → list_all is_hex_digit bs ≡ true → list_all is_clean bs ≡ true
 clean_digits [] h = refl
-clean_digits (b ∷ bs) h = let p = and_parts (is_hex_digit b) (list_all is_hex_digit bs) h in rw (clean_digit b p.0, clean_digits bs p.1) refl
+clean_digits (b ∷ bs) h = let p = and_parts (is_hex_digit b) (list_all is_hex_digit bs) h in
+    rw (clean_digit b p.0, clean_digits bs p.1) refl
 
 clean_hex : (bs : List ℕ) → is_hexadecimal bs ≡ true → list_all is_clean bs ≡ true
 clean_hex [] h = refl

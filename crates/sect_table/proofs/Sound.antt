@@ -1,28 +1,14 @@
 -- A table can say the image of a file.
-use Rattle.std.proofs.Common.{◌≡◌, ◌∙◌, refl, sym, ap, subst, ℕ, zero, suc, ◌+◌, ◌-◌, ◌<◌, ◌≤◌, ◌^◌, nat_lt, ◌==◌, leb, Bool, true, false, not, cond, List, [], ◌∷◌, ◌++◌, length, take, drop, Some, None, lit<, arith}
-use Rattle.std.specs.Prelude.{codes, decimal, ◌%◌}
-use Rattle.std.specs.List.{AllByRecursion, list_all}
-use Rattle.std.specs.Option.{option_or}
-use Rattle.std.proofs.Math.Nat.{pow-le-pow_right, pow-suc}
-use Rattle.std.proofs.lemmas.Bool.{and_from, and_parts, eqb-true, ltb-true}
-use Rattle.std.proofs.lemmas.Bool.Decides.{nat_tests}
+use Rattle.sect_table.proofs.Common.{AllByRecursion, AreBytes, Bool, Class, Elf, ElfFault, HasRow, HasTable, Image, List, None, ProgramHeader, Section, Some, [], and_from, and_parts, ap, arith, codes, cond, decimal, drop, eqb-true, false, fault}
+use Rattle.sect_table.proofs.Common.{fault_behind, fault_of_used, fault_within, file_end, file_header, header_fault, header_length, headers, headers_fault, headers_from, image_of, is_aligned, is_sized, is_sound, is_used, is_whole, is_writable, leb}
+use Rattle.sect_table.proofs.Common.{length, limit_fault, list_all, lit<, loaded, ltb-true, memory_end, nat_lt, nat_tests, not, option_or, page_down, page_up, pow-le-pow_right, pow-suc, program_header, refl, sections_of_all, sections_of_used, short}
+use Rattle.sect_table.proofs.Common.{subst, suc, sym, table_fault, take, true, zero, zeros, zeros_behind, ℕ, ◌%◌, ◌++◌, ◌+◌, ◌-◌, ◌<◌, ◌==◌, ◌^◌, ◌∙◌, ◌∷◌, ◌≡◌, ◌≤◌}
 use Rattle.cam_base.proofs.Options.{neither}
-use Rattle.sect_table.specs.TablesBack.{AreBytes, HasRow, HasTable}
-use Rattle.sect_table.specs.Classes.{header_length}
-use Rattle.sect_table.specs.Elf.{Elf, image_of}
-use Rattle.sect_table.specs.Faults.{fault, fault_behind, fault_of_used, fault_within, header_fault, headers_fault, is_aligned, is_sized, is_whole, limit_fault, short, table_fault}
 use Rattle.sect_table.specs.Fields.{field, little}
-use Rattle.sect_table.specs.ElfHeaders.{file_header, headers, headers_from, program_header}
-use Rattle.sect_table.specs.ElfSections.{file_end, is_used, is_writable, loaded, memory_end, page_down, page_up, sections_of, sections_of_all, sections_of_used, zeros, zeros_behind}
-use Rattle.sect_table.specs.declared.class.Class.{Class}
+use Rattle.sect_table.specs.ElfSections.{sections_of}
 use Rattle.sect_table.specs.declared.class.Class.TheVariants.{Bits32, Bits64}
 use Rattle.sect_table.specs.declared.fault.ElfCode.TheVariants as code
-use Rattle.sect_table.specs.declared.fault.ElfFault.{ElfFault}
-use Rattle.sect_table.specs.declared.program_header.ProgramHeader.{ProgramHeader}
 use Rattle.cam_base.proofs.Naming.{is_name-numbered}
-use Rattle.sect_table.specs.Sections.{is_sound}
-use Rattle.sect_table.specs.declared.image.Image.{Image}
-use Rattle.sect_table.specs.declared.image.Section.{Section}
 
 -- ---- fields
 
@@ -38,7 +24,8 @@ little_small (b ∷ bs) h =
 all_taken : (p : ℕ → Bool) (n : ℕ) (bs : List ℕ) → list_all p bs ≡ true → list_all p (take n bs) ≡ true
 all_taken p zero bs h = refl
 all_taken p (suc n) [] h = refl
-all_taken p (suc n) (b ∷ bs) h = let q = and_parts (p b) (list_all p bs) h in and_from (p b) (list_all p (take n bs)) q.0 (all_taken p n bs q.1)
+all_taken p (suc n) (b ∷ bs) h = let q = and_parts (p b) (list_all p bs) h in
+    and_from (p b) (list_all p (take n bs)) q.0 (all_taken p n bs q.1)
 
 all_dropped : (p : ℕ → Bool) (n : ℕ) (bs : List ℕ) → list_all p bs ≡ true → list_all p (drop n bs) ≡ true
 all_dropped p zero bs h = h
@@ -53,14 +40,17 @@ take_short (suc n) (b ∷ bs) = let ih = take_short n bs in omega (arith, ih)
 field_small : (bytes : List ℕ) (at size : ℕ) → AreBytes bytes → field bytes at size < 256 ^ size
 field_small bytes at size h =
     let part = take (at + size - at) (drop at bytes) in
-    let small = little_small part (all_taken (λ b. nat_lt b 256) (at + size - at) (drop at bytes) (all_dropped (λ b. nat_lt b 256) at bytes h.small)) in
+    let small =
+    little_small part (all_taken (λ b. nat_lt b 256) (at + size - at) (drop at bytes)
+    (all_dropped (λ b. nat_lt b 256) at bytes h.small)) in
     let short = take_short (at + size - at) (drop at bytes) in
     let up = pow-le-pow_right {n = 256} (lit< tt) {i = length part} {j = size} (omega (arith, short)) in
     omega (arith, small, up)
 
 entry_small : (class : Class) (bytes : List ℕ) → AreBytes bytes → (file_header class bytes).entry < 2 ^ 64
 entry_small Bits32 bytes h = let s = field_small bytes 24 4 h in let e : 256 ^ 4 ≡ 4294967296 = refl in omega (arith, s, e)
-entry_small Bits64 bytes h = let s = field_small bytes 24 8 h in let e : 256 ^ 8 ≡ 18446744073709551616 = refl in omega (arith, s, e)
+entry_small Bits64 bytes h = let s = field_small bytes 24 8 h in let e : 256 ^ 8 ≡ 18446744073709551616 = refl in
+    omega (arith, s, e)
 
 count_small : (class : Class) (bytes : List ℕ) → AreBytes bytes → (file_header class bytes).count < 65536
 count_small Bits32 bytes h = let s = field_small bytes 44 2 h in let e : 256 ^ 2 ≡ 65536 = refl in omega (arith, s, e)
@@ -91,29 +81,35 @@ fine size h e = first (is_sized h) refl
 
 -- ---- sections
 
-sound : (name : List ℕ) (vaddr size : ℕ) (write : Bool) → vaddr % 4096 ≡ 0 → 0 < size → vaddr + size < 2 ^ 64 → is_sound (record { name = name; vaddr = vaddr; size = size; write = write; at = None }) ≡ true
+sound : (name : List ℕ) (vaddr size : ℕ) (write : Bool) → vaddr % 4096 ≡ 0 → 0 < size → vaddr + size < 2 ^ 64
+    → is_sound (record { name = name; vaddr = vaddr; size = size; write = write; at = None }) ≡ true
 sound name vaddr size write a b c = grind (arith, nat_tests)
 
-sound_at : (name : List ℕ) (vaddr size at : ℕ) (write : Bool) → vaddr % 4096 ≡ 0 → 0 < size → vaddr + size < 2 ^ 64 → at + size < 2 ^ 64 → is_sound (record { name = name; vaddr = vaddr; size = size; write = write; at = Some at }) ≡ true
+sound_at : (name : List ℕ) (vaddr size at : ℕ) (write : Bool) → vaddr % 4096 ≡ 0 → 0 < size → vaddr + size < 2 ^ 64
+    → at + size < 2 ^ 64 → is_sound (record { name = name; vaddr = vaddr; size = size; write = write; at = Some at }) ≡ true
 sound_at name vaddr size at write a b c d = grind (arith, nat_tests)
 
 page_begins : (n : ℕ) → page_down n % 4096 ≡ 0
 page_begins n = omega arith
 
-zeros_row : (h : ProgramHeader) (first : ℕ) → h.number < 2 ^ 64 → first % 4096 ≡ 0 → first < memory_end h → memory_end h < 2 ^ 64 → HasRow (zeros h first)
+zeros_row : (h : ProgramHeader) (first : ℕ) → h.number < 2 ^ 64 → first % 4096 ≡ 0 → first < memory_end h → memory_end h < 2 ^ 64
+    → HasRow (zeros h first)
 zeros_row h first n a b c = record {
   named = is_name-numbered (codes "zero_") h.number refl (lit< tt) n;
   sound = sound (codes "zero_" ++ decimal h.number) first (memory_end h - first) (is_writable h) a (omega arith) (omega arith);
 }
 
-loaded_row : (h : ProgramHeader) (size : ℕ) → h.number < 2 ^ 64 → 0 < h.file → file_end h < 2 ^ 64 → h.offset + h.file ≤ size → size < 2 ^ 64 → h.offset % 4096 ≡ h.vaddr % 4096 → HasRow (loaded h)
+loaded_row : (h : ProgramHeader) (size : ℕ) → h.number < 2 ^ 64 → 0 < h.file → file_end h < 2 ^ 64 → h.offset + h.file ≤ size
+    → size < 2 ^ 64 → h.offset % 4096 ≡ h.vaddr % 4096 → HasRow (loaded h)
 loaded_row h size n a b c d e = record {
   named = is_name-numbered (codes "load_") h.number refl (lit< tt) n;
-  sound = sound_at (codes "load_" ++ decimal h.number) (page_down h.vaddr) (file_end h - page_down h.vaddr) (h.offset - (h.vaddr - page_down h.vaddr)) (is_writable h) (page_begins h.vaddr) (omega arith) (omega arith) (omega arith);
+  sound = sound_at (codes "load_" ++ decimal h.number) (page_down h.vaddr) (file_end h - page_down h.vaddr)
+      (h.offset - (h.vaddr - page_down h.vaddr)) (is_writable h) (page_begins h.vaddr) (omega arith) (omega arith) (omega arith);
 }
 
 -- what the tests say
-sized_is : (h : ProgramHeader) → is_sized h ≡ true → (h.file ≤ h.memory) × (memory_end h < 2 ^ 64) × (page_up (memory_end h) < 2 ^ 64)
+sized_is : (h : ProgramHeader) → is_sized h ≡ true → (h.file ≤ h.memory) × (memory_end h < 2 ^ 64)
+    × (page_up (memory_end h) < 2 ^ 64)
 sized_is h e =
     let p = and_parts (leb h.file h.memory) (nat_lt (page_up (memory_end h)) (2 ^ 64)) e in
     let l = ltb-true (page_up (memory_end h)) (2 ^ 64) p.1 in
@@ -138,10 +134,16 @@ behind_rows : (h : ProgramHeader) → h.number < 2 ^ 64 → memory_end h < 2 ^ 6
 behind_rows h n m = go (nat_lt (page_up (file_end h)) (memory_end h)) refl
   where
     go : (b : Bool) → nat_lt (page_up (file_end h)) (memory_end h) ≡ b → AllByRecursion HasRow (zeros_behind h)
-    go true e = rw e (zeros_row h (page_up (file_end h)) n (page_begins (file_end h + 4095)) (ltb-true (page_up (file_end h)) (memory_end h) e) m, tt)
+    go true e =
+        rw e (
+          zeros_row h (page_up (file_end h)) n (page_begins (file_end h + 4095))
+              (ltb-true (page_up (file_end h)) (memory_end h) e) m,
+          tt,
+        )
     go false e = rw e tt
 
-used_rows : (h : ProgramHeader) (size : ℕ) → h.number < 2 ^ 64 → size < 2 ^ 64 → 0 < h.memory → Fine size h → AllByRecursion HasRow (sections_of_used h)
+used_rows : (h : ProgramHeader) (size : ℕ) → h.number < 2 ^ 64 → size < 2 ^ 64 → 0 < h.memory → Fine size h
+    → AllByRecursion HasRow (sections_of_used h)
 used_rows h size n l m f = go (h.file == 0) refl
   where
     s : (h.file ≤ h.memory) × (memory_end h < 2 ^ 64) × (page_up (memory_end h) < 2 ^ 64)
@@ -149,9 +151,14 @@ used_rows h size n l m f = go (h.file == 0) refl
 
     go : (b : Bool) → (h.file == 0) ≡ b → AllByRecursion HasRow (sections_of_used h)
     go true e = rw e (zeros_row h (page_down h.vaddr) n (page_begins h.vaddr) (omega arith) s.1, tt)
-    go false e = rw e (loaded_row h size n (some_file h.file e) (omega (arith, s.0, s.1)) (whole_is h size e f.whole) l (aligned_is h e f.aligned), behind_rows h n s.1)
+    go false e = rw e (
+      loaded_row h size n (some_file h.file e) (omega (arith, s.0, s.1)) (whole_is h size e f.whole) l
+          (aligned_is h e f.aligned),
+      behind_rows h n s.1,
+    )
 
-header_rows : (h : ProgramHeader) (size : ℕ) → h.number < 2 ^ 64 → size < 2 ^ 64 → header_fault size h ≡ None → AllByRecursion HasRow (sections_of h)
+header_rows : (h : ProgramHeader) (size : ℕ) → h.number < 2 ^ 64 → size < 2 ^ 64 → header_fault size h ≡ None
+    → AllByRecursion HasRow (sections_of h)
 header_rows h size n l e = go (is_used h) refl
   where
     some : (m : ℕ) → not (m == 0) ≡ true → 0 < m
@@ -171,7 +178,8 @@ number_is : (class : Class) (bytes : List ℕ) (number first : ℕ) → (program
 number_is Bits32 bytes number first = refl
 number_is Bits64 bytes number first = refl
 
-all_rows : (class : Class) (bytes : List ℕ) (size number first left : ℕ) → size < 2 ^ 64 → number + left < 2 ^ 64 → headers_fault size (headers_from class bytes number first left) ≡ None
+all_rows : (class : Class) (bytes : List ℕ) (size number first left : ℕ) → size < 2 ^ 64 → number + left < 2 ^ 64
+    → headers_fault size (headers_from class bytes number first left) ≡ None
     → AllByRecursion HasRow (sections_of_all (headers_from class bytes number first left))
 all_rows class bytes size number first zero l n e = tt
 all_rows class bytes size number first (suc left) l n e =
@@ -194,14 +202,17 @@ few_sections n f e = go (nat_lt 256 n) refl
     go true t = let s = rw t at e in absurd cc
     go false t = at_most t
 
-class_has_table : (name bytes : List ℕ) (class : Class) → AreBytes bytes → fault_within bytes class ≡ None → HasTable (image_of name bytes class)
+class_has_table : (name bytes : List ℕ) (class : Class) → AreBytes bytes → fault_within bytes class ≡ None
+    → HasTable (image_of name bytes class)
 class_has_table name bytes class b e =
-    let p = neither (table_fault class bytes) (option_or (headers_fault (length bytes) (headers class bytes)) (limit_fault (headers class bytes))) e in
+    let p = neither (table_fault class bytes) (option_or (headers_fault (length bytes) (headers class bytes))
+    (limit_fault (headers class bytes))) e in
     let q = neither (headers_fault (length bytes) (headers class bytes)) (limit_fault (headers class bytes)) p.1 in
     record {
       entry = entry_small class bytes b;
       few = few_sections (length (sections_of_all (headers class bytes))) _ q.1;
-      rows = all_rows class bytes (length bytes) 0 (file_header class bytes).table (file_header class bytes).count b.few (omega (arith, count_small class bytes b)) q.0;
+      rows = all_rows class bytes (length bytes) 0 (file_header class bytes).table (file_header class bytes).count b.few
+          (omega (arith, count_small class bytes b)) q.0;
     }
 
 pub has_table : (name bytes : List ℕ) (image : Image) → AreBytes bytes → Elf name bytes image → HasTable image

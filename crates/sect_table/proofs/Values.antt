@@ -1,6 +1,5 @@
 -- How large the number of so many bytes is.
-use Rattle.std.proofs.Common.{◌≡◌, ℕ, suc, ◌+◌, ◌*◌, ◌<◌, ◌≤◌, ◌^◌, lit<, arith, refl}
-use Rattle.std.proofs.Math.Nat.{pow-suc, pow-le-pow_right}
+use Rattle.sect_table.proofs.Common.{arith, lit<, pow-le-pow_right, pow-suc, refl, suc, ℕ, ◌*◌, ◌+◌, ◌<◌, ◌^◌, ◌≡◌, ◌≤◌}
 
 pub byte_more : (b r n : ℕ) → b < 256 → r < 256 ^ n → b + 256 * r < 256 ^ suc n
 byte_more b r n l h = let e = pow-suc 256 n in omega (arith, e)

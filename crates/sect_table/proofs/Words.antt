@@ -1,12 +1,8 @@
 -- Words, which one space parts.
-use Rattle.std.proofs.Common.{◌≡◌, ◌∙◌, refl, ap, ℕ, suc, ◌-◌, ◌<◌, nat_lt, ◌==◌, Bool, true, false, not, cond, List, [], ◌∷◌, ◌++◌, length, filter, arith}
-use Rattle.std.specs.List.{AllByRecursion, list_all, onto_first, slice_index}
-use Rattle.std.proofs.lemmas.Bool.{and_parts, and_from, or_from}
-use Rattle.std.proofs.lemmas.Bool.Decides.{nat_tests}
+use Rattle.sect_table.proofs.Common.{AllByRecursion, Bool, List, [], and_from, and_parts, ap, arith, cond, false, fields, filter, is_padded, length, list_all, nat_lt, nat_tests, not, onto_first, or_from, parts, refl, slice_index, spaced_fields, suc}
+use Rattle.sect_table.proofs.Common.{true, ℕ, ◌++◌, ◌-◌, ◌<◌, ◌==◌, ◌∙◌, ◌∷◌, ◌≡◌}
 use Rattle.std.proofs.lemmas.List.Folds.{list_all-append}
 use Rattle.std.proofs.lemmas.List.Splits.{slice_split-cons_no, slice_split-cons_yes}
-use Rattle.cam_base.specs.Fields.{fields, is_padded, spaced_fields}
-use Rattle.cam_base.specs.Parts.{parts}
 
 -- bytes behind the space, and from it on
 abbrev pub is_clean : ℕ → Bool
@@ -25,13 +21,15 @@ pub record Plain (w : List ℕ) : Type 0 where
 same_byte : (c : ℕ) → (c == c) ≡ true
 same_byte c = grind (arith, nat_tests)
 
-pub split_with : (c : ℕ) (q : ℕ → Bool) → ((b : ℕ) → q b ≡ true → (b == c) ≡ false) → (xs ys : List ℕ) → list_all q xs ≡ true → parts c (xs ++ c ∷ ys) ≡ xs ∷ parts c ys
+pub split_with : (c : ℕ) (q : ℕ → Bool) → ((b : ℕ) → q b ≡ true → (b == c) ≡ false) → (xs ys : List ℕ) → list_all q xs ≡ true
+    → parts c (xs ++ c ∷ ys) ≡ xs ∷ parts c ys
 split_with c q apart [] ys all = slice_split-cons_yes (λ b. b == c) c ys (same_byte c)
 split_with c q apart (x ∷ xs) ys all =
     let p = and_parts (q x) (list_all q xs) all in
     slice_split-cons_no (λ b. b == c) x (xs ++ c ∷ ys) (apart x p.0) ∙ ap (onto_first x) (split_with c q apart xs ys p.1)
 
-split_whole : (c : ℕ) (q : ℕ → Bool) → ((b : ℕ) → q b ≡ true → (b == c) ≡ false) → (xs : List ℕ) → list_all q xs ≡ true → parts c xs ≡ xs ∷ []
+split_whole : (c : ℕ) (q : ℕ → Bool) → ((b : ℕ) → q b ≡ true → (b == c) ≡ false) → (xs : List ℕ) → list_all q xs ≡ true
+    → parts c xs ≡ xs ∷ []
 split_whole c q apart [] all = refl
 split_whole c q apart (x ∷ xs) all =
     let p = and_parts (q x) (list_all q xs) all in
@@ -48,7 +46,8 @@ spaced w (u ∷ us) = w ++ 32 ∷ spaced u us
 
 fields_spaced : (w : List ℕ) (us : List (List ℕ)) → Plain w → AllByRecursion Plain us → fields (spaced w us) ≡ w ∷ us
 fields_spaced w [] p ps = split_whole 32 is_clean no_space w p.clean
-fields_spaced w (u ∷ us) p ps = split_with 32 is_clean no_space w (spaced u us) p.clean ∙ ap (λ k. w ∷ k) (fields_spaced u us ps.0 ps.1)
+fields_spaced w (u ∷ us) p ps = split_with 32 is_clean no_space w (spaced u us) p.clean
+    ∙ ap (λ k. w ∷ k) (fields_spaced u us ps.0 ps.1)
 
 all_kept : (ws : List (List ℕ)) → AllByRecursion Plain ws → filter (λ (f : List ℕ). not (length f == 0)) ws ≡ ws
 all_kept [] h = refl
@@ -70,7 +69,8 @@ some_behind : (xs ys : List ℕ) (c : ℕ) → 0 < length (xs ++ c ∷ ys)
 some_behind [] ys c = omega arith
 some_behind (x ∷ xs) ys c = omega arith
 
-last_behind : (xs ys : List ℕ) (c : ℕ) → 0 < length ys → slice_index (xs ++ c ∷ ys) (length (xs ++ c ∷ ys) - 1) ≡ slice_index ys (length ys - 1)
+last_behind : (xs ys : List ℕ) (c : ℕ) → 0 < length ys → slice_index (xs ++ c ∷ ys) (length (xs ++ c ∷ ys) - 1) ≡ slice_index ys
+    (length ys - 1)
 last_behind [] ys c h = last_cons c ys h
 last_behind (x ∷ xs) ys c h = last_cons x (xs ++ c ∷ ys) (some_behind xs ys c) ∙ last_behind xs ys c h
 
@@ -85,13 +85,15 @@ some_spaced : (w : List ℕ) (us : List (List ℕ)) → Plain w → 0 < length (
 some_spaced w [] p = p.some
 some_spaced w (u ∷ us) p = some_behind w (spaced u us) 32
 
-back : (w : List ℕ) (us : List (List ℕ)) → Plain w → AllByRecursion Plain us → (slice_index (spaced w us) (length (spaced w us) - 1) == 32) ≡ false
+back : (w : List ℕ) (us : List (List ℕ)) → Plain w → AllByRecursion Plain us
+    → (slice_index (spaced w us) (length (spaced w us) - 1) == 32) ≡ false
 back w [] p ps = last_clean w p.some p.clean
 back w (u ∷ us) p ps = ap (λ n. n == 32) (last_behind w (spaced u us) 32 (some_spaced u us ps.0)) ∙ back u us ps.0 ps.1
 
 pub spaced_read : (w : List ℕ) (us : List (List ℕ)) → Plain w → AllByRecursion Plain us → spaced_fields (spaced w us) ≡ w ∷ us
 spaced_read w us p ps =
-    let pad : is_padded (spaced w us) ≡ false = or_from (slice_index (spaced w us) 0 == 32) (slice_index (spaced w us) (length (spaced w us) - 1) == 32) (front w us p) (back w us p ps) in
+    let pad : is_padded (spaced w us) ≡ false = or_from (slice_index (spaced w us) 0 == 32)
+    (slice_index (spaced w us) (length (spaced w us) - 1) == 32) (front w us p) (back w us p ps) in
     ap (λ b. cond b [] (filter (λ (f : List ℕ). not (length f == 0)) (fields (spaced w us)))) pad
     ∙ ap (filter (λ (f : List ℕ). not (length f == 0))) (fields_spaced w us p ps)
     ∙ all_kept (w ∷ us) (p, ps)
@@ -107,4 +109,5 @@ clean_shown (b ∷ bs) h = let p = and_parts (is_clean b) (list_all is_clean bs)
 
 pub spaced_shown : (w : List ℕ) (us : List (List ℕ)) → Plain w → AllByRecursion Plain us → list_all is_shown (spaced w us) ≡ true
 spaced_shown w [] p ps = clean_shown w p.clean
-spaced_shown w (u ∷ us) p ps = list_all-append is_shown w (32 ∷ spaced u us) ∙ and_from (list_all is_shown w) _ (clean_shown w p.clean) (spaced_shown u us ps.0 ps.1)
+spaced_shown w (u ∷ us) p ps = list_all-append is_shown w (32 ∷ spaced u us) ∙ and_from (list_all is_shown w) _
+    (clean_shown w p.clean) (spaced_shown u us ps.0 ps.1)

@@ -12,7 +12,12 @@ use Rattle.sect_table.specs.declared.fault.ElfFault.{ElfFault}
 use Rattle.sect_table.specs.declared.image.Image.{Image}
 
 abbrev pub image_of : List ℕ → List ℕ → Class → Image
-image_of name bytes class = record { name = name; arch = arch_of class; entry = (file_header class bytes).entry; sections = sections_of_all (headers class bytes) }
+image_of name bytes class = record {
+  name = name;
+  arch = arch_of class;
+  entry = (file_header class bytes).entry;
+  sections = sections_of_all (headers class bytes);
+}
 
 -- the image of a file, under a name
 pub record Elf (name bytes : List ℕ) (image : Image) : Type 0 where

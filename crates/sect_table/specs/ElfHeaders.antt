@@ -8,8 +8,18 @@ use Rattle.sect_table.specs.declared.file_header.FileHeader.{FileHeader}
 use Rattle.sect_table.specs.declared.program_header.ProgramHeader.{ProgramHeader}
 
 abbrev pub file_header : Class → List ℕ → FileHeader
-file_header Bits32 bytes = record { entry = field bytes 24 4; table = field bytes 28 4; length = field bytes 42 2; count = field bytes 44 2 }
-file_header Bits64 bytes = record { entry = field bytes 24 8; table = field bytes 32 8; length = field bytes 54 2; count = field bytes 56 2 }
+file_header Bits32 bytes = record {
+  entry = field bytes 24 4;
+  table = field bytes 28 4;
+  length = field bytes 42 2;
+  count = field bytes 44 2;
+}
+file_header Bits64 bytes = record {
+  entry = field bytes 24 8;
+  table = field bytes 32 8;
+  length = field bytes 54 2;
+  count = field bytes 56 2;
+}
 
 -- the program header of that number, which begins at a place
 abbrev pub program_header : Class → List ℕ → ℕ → ℕ → ProgramHeader
@@ -39,7 +49,8 @@ program_header Bits64 bytes number first = record {
 -- so many program headers, from that number and that place on
 abbrev pub headers_from : Class → List ℕ → ℕ → ℕ → ℕ → List ProgramHeader
 headers_from class bytes number first zero = []
-headers_from class bytes number first (suc left) = program_header class bytes number first ∷ headers_from class bytes (number + 1) (first + header_length class) left
+headers_from class bytes number first (suc left) = program_header class bytes number first ∷ headers_from class bytes (number + 1)
+    (first + header_length class) left
 
 -- the program headers of a file
 abbrev pub headers : Class → List ℕ → List ProgramHeader

@@ -38,7 +38,13 @@ loaded h = record {
 
 -- zeros from an address up to the end of its memory
 abbrev pub zeros : ProgramHeader → ℕ → Section
-zeros h first = record { name = codes "zero_" ++ decimal h.number; vaddr = first; size = memory_end h - first; write = is_writable h; at = None }
+zeros h first = record {
+  name = codes "zero_" ++ decimal h.number;
+  vaddr = first;
+  size = memory_end h - first;
+  write = is_writable h;
+  at = None;
+}
 
 -- the zeros behind its file bytes
 abbrev pub zeros_behind : ProgramHeader → List Section

@@ -56,7 +56,8 @@ is_past length class h = not (h.count == 0) && nat_lt length (h.table + h.count 
 abbrev pub table_fault : Class → List ℕ → Option ElfFault
 table_fault class bytes =
     if nat_lt (length bytes) (fields_end class) then Some (short (length bytes))
-    else if is_of_another_length class (file_header class bytes) then Some (fault code.Size (length_at class) (length_at class + 2))
+    else if is_of_another_length class (file_header class bytes) then Some
+    (fault code.Size (length_at class) (length_at class + 2))
     else fault_if (is_past (length bytes) class (file_header class bytes)) (short (length bytes))
 
 -- it has no more file bytes than memory, and in whole pages the memory ends within 64 bits
@@ -92,7 +93,8 @@ limit_fault hs = fault_if (nat_lt sections_limit (length (sections_of_all hs))) 
 
 -- the first fault of a file of that class
 abbrev pub fault_within : List ℕ → Class → Option ElfFault
-fault_within bytes class = option_or (table_fault class bytes) (option_or (headers_fault (length bytes) (headers class bytes)) (limit_fault (headers class bytes)))
+fault_within bytes class = option_or (table_fault class bytes) (option_or (headers_fault (length bytes) (headers class bytes))
+    (limit_fault (headers class bytes)))
 
 abbrev pub fault_behind : List ℕ → Result Class ElfFault → Option ElfFault
 fault_behind bytes (Err f) = Some f

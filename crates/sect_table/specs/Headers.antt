@@ -14,5 +14,6 @@ header arch entry = record { arch = arch; entry = entry }
 -- the header that fields spell
 abbrev pub header_of : List (List ℕ) → Option Header
 header_of (word ∷ entry ∷ []) = if bytes_eq word (codes "entry") then option_map (header Arm11) (number_value entry) else None
-header_of (word ∷ entry ∷ arch ∷ []) = if bytes_eq word (codes "entry") && bytes_eq arch (codes "aarch64") then option_map (header Aarch64) (number_value entry) else None
+header_of (word ∷ entry ∷ arch ∷ []) = if bytes_eq word (codes "entry") && bytes_eq arch (codes "aarch64") then option_map
+    (header Aarch64) (number_value entry) else None
 header_of _ = None

@@ -20,14 +20,16 @@ place_of word = if bytes_eq word (codes "-") then Some None else option_map (λ 
 
 -- its address, its size, whether it may be written, and its place in the file
 abbrev pub numbers_of : List ℕ → List ℕ → List ℕ → List ℕ → Option (ℕ × ℕ × Bool × Option ℕ)
-numbers_of vaddr size rights at = of_four (λ vaddr size write at. (vaddr, size, write, at)) (number_value vaddr) (number_value size) (writes_of rights) (place_of at)
+numbers_of vaddr size rights at = of_four (λ vaddr size write at. (vaddr, size, write, at)) (number_value vaddr)
+    (number_value size) (writes_of rights) (place_of at)
 
 abbrev pub section : List ℕ → ℕ × ℕ × Bool × Option ℕ → Section
 section name (vaddr, size, write, at) = record { name = name; vaddr = vaddr; size = size; write = write; at = at }
 
 -- the section that fields spell
 abbrev pub spelled : List (List ℕ) → Option Section
-spelled (name ∷ vaddr ∷ size ∷ rights ∷ at ∷ []) = if is_name name then option_map (section name) (numbers_of vaddr size rights at) else None
+spelled (name ∷ vaddr ∷ size ∷ rights ∷ at ∷ []) = if is_name name then option_map (section name)
+    (numbers_of vaddr size rights at) else None
 spelled _ = None
 
 -- so many bytes from a number on end within 64 bits

@@ -24,7 +24,8 @@ unless_at_fault class None None = Ok class
 
 abbrev pub sound_behind : List ℕ → Result Class ElfFault → Result Class ElfFault
 sound_behind bytes (Err fault) = Err fault
-sound_behind bytes (Ok class) = unless_at_fault class (table_fault class bytes) (headers_fault (length bytes) (headers class bytes))
+sound_behind bytes (Ok class) = unless_at_fault class (table_fault class bytes)
+    (headers_fault (length bytes) (headers class bytes))
 
 -- the class of a file, where neither its fields nor its program headers have a fault; else the first of these
 abbrev pub sound_class : List ℕ → Result Class ElfFault

@@ -36,7 +36,8 @@ bad_line file line = bad_between file line.first (end_of line)
 -- the first fault of a table's lines; where it has none, it stands at the end of the file
 abbrev pub fault_in : ℕ → ℕ → List Line → Option Fault
 fault_in file length [] = Some (bad_between file length length)
-fault_in file length (line ∷ more) = if is_some (header_of (spaced_fields line.text)) then option_map (bad_line file) (first_bad 0 more) else Some (bad_line file line)
+fault_in file length (line ∷ more) = if is_some (header_of (spaced_fields line.text)) then option_map (bad_line file)
+    (first_bad 0 more) else Some (bad_line file line)
 
 -- the first fault of a table under its file's number
 abbrev pub first_fault : ℕ → List ℕ → Option Fault

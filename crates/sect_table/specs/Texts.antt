@@ -26,7 +26,8 @@ place_word (Some at) = hex_text at
 
 -- `load_0 0x10000 0x1810 RW 0x1000`
 abbrev pub section_line : Section → List ℕ
-section_line s = together (s.name ∷ codes " " ∷ hex_text s.vaddr ∷ codes " " ∷ hex_text s.size ∷ rights_word s.write ∷ place_word s.at ∷ codes "\n" ∷ [])
+section_line s = together (s.name ∷ codes " " ∷ hex_text s.vaddr ∷ codes " " ∷ hex_text s.size ∷ rights_word s.write
+    ∷ place_word s.at ∷ codes "\n" ∷ [])
 
 unfoldable pub table_text : Image → List ℕ
 table_text image = entry_line image.arch image.entry ⊹ flat_map section_line image.sections

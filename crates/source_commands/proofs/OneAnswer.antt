@@ -6,9 +6,9 @@ use Rattle.arch_policy.specs.Labels.{label_texts}
 use Rattle.arch_policy.specs.Reasons.{IsReasoned, Reason, by_bind, by_call, by_direct, by_lock}
 use Rattle.arch_policy.specs.Tables.{Tables}
 use Rattle.cap_model.proofs.TableMembers.{one_table}
-use Rattle.cap_model.specs.Authorities.{authority_of}
+use Rattle.authorities.specs.Authorities.{authority_of}
 use Rattle.cap_model.specs.Tables.{has}
-use Rattle.cap_model.specs.declared.authority.Authority.{Authority}
+use Rattle.authorities.specs.declared.authority.Authority.{Authority}
 use Rattle.cap_model.specs.declared.edge.Edge.{Edge}
 use Rattle.cam_io.specs.Contents.{Contents}
 use Rattle.explain.specs.Explained.{AtMost, ComesFirst, Explains, IsAsked, numbers, tell, told_of}

@@ -21,12 +21,12 @@ use Rattle.assigned_laws.proofs.Ranked.{line_name, line_place, lines_apart}
 use Rattle.assigned_laws.proofs.TextReasons.{assigned_texts}
 use Rattle.assigned_laws.specs.Texts.{IsAssignedText}
 use Rattle.assigned_laws.specs.Triples.{name_at, triple}
-use Rattle.cap_model.specs.Authorities.{authority_of, text_of}
+use Rattle.authorities.specs.Authorities.{authority_of, text_of}
 use Rattle.cap_model.specs.Edges.{edge}
-use Rattle.cap_model.specs.declared.authority.Authority.{Authority}
+use Rattle.authorities.specs.declared.authority.Authority.{Authority}
 use Rattle.cap_model.specs.declared.edge.Edge.{Edge}
 use Rattle.cam_io.specs.Contents.{Contents}
-use Rattle.policy_text.specs.EdgeLines.{Labels, apart_line, edge_line, name_of, words_line}
+use Rattle.policy_text.specs.EdgeLines.{LabelNames, apart_line, edge_line, name_of, words_line}
 use Rattle.explain.specs.Explained.{IsAsked}
 use Rattle.flat_laws.proofs.FewEnds.{no_first}
 use Rattle.front_end.proofs.LoadedShort.{loaded_short, short_spelled}
@@ -67,7 +67,7 @@ line_of flat e differ i j = by_test (e.from == e.to) refl
         ap (λ z. words_line [] z (text_of e.authority) (name_of (label_lines flat) e.to)) (named e.from i)
         ∙ ap (λ z. words_line [] (name_at flat e.from) (text_of e.authority) z) (named e.to j)
 
-lines_same : (labels : Labels) (flat : Flat) (edges : List Edge)
+lines_same : (labels : LabelNames) (flat : Flat) (edges : List Edge)
     → ((e : Edge) → IsIn e edges → apart_line labels e ≡ triple_line (triple flat e))
     → flat_map (apart_line labels) edges ≡ flat_map triple_line (map (triple flat) edges)
 lines_same labels flat [] h = refl

@@ -5,8 +5,8 @@ use Rattle.adl_ast.specs.declared.source.Source.{Source}
 use Rattle.adl_import.specs.Loaded.{IsLoaded}
 use Rattle.assigned_laws.specs.Texts.{IsAssignedText}
 use Rattle.assigned_laws.specs.Triples.{AreAll, Triple}
-use Rattle.cap_model.specs.Authorities.{authority_of, text_of}
-use Rattle.cap_model.specs.declared.authority.Authority.{Authority}
+use Rattle.authorities.specs.Authorities.{authority_of, text_of}
+use Rattle.authorities.specs.declared.authority.Authority.{Authority}
 use Rattle.cam_io.specs.Contents.{Contents}
 use Rattle.policy_text.specs.EdgeLines.{words_line}
 

@@ -2,7 +2,7 @@
 use Rattle.std.specs.Prelude.{ℕ, Bool, false, if◌then◌else◌, List, [], ◌∷◌, codes, decimal, Option, Some, None, slice_get}
 use Rattle.std.specs.Option.{option_map_or}
 use Rattle.adl_meaning.specs.declared.connector.Connector.{Connector}
-use Rattle.adl_meaning.specs.declared.connector.Connector.TheVariants.{Rpc, Notification, SharedMemory, Mmio, Interrupt, Direct}
+use Rattle.adl_meaning.specs.declared.connector.Connector.TheVariants.{Mmio, Interrupt}
 use Rattle.adl_meaning.specs.declared.flat.Flat.{Flat}
 use Rattle.adl_meaning.specs.declared.flat.FlatConnection.{FlatConnection}
 use Rattle.adl_meaning.specs.declared.flat.FlatEnd.{FlatEnd}
@@ -30,10 +30,7 @@ device_text n c x =
 abbrev pub device_row : Connector → List ℕ → EndSetting → List Row
 device_row Mmio text s = (text ∷ hex_text s.paddr ∷ decimal s.bytes ∷ [] ∷ []) ∷ []
 device_row Interrupt text s = (text ∷ [] ∷ [] ∷ decimal s.irq ∷ []) ∷ []
-device_row Rpc text s = []
-device_row Notification text s = []
-device_row SharedMemory text s = []
-device_row Direct text s = []
+device_row _ text s = []
 
 -- of an end with its settings
 abbrev pub end_rows : Named → FlatConnection → Option EndSetting → FlatEnd → List Row

@@ -13,7 +13,7 @@ use Rattle.domain_table.specs.Tables.{domain_labels}
 use Rattle.cam_base.specs.Gather.{gather}
 use Rattle.view_text.specs.Pictures.{shape_at}
 use Rattle.view_text.specs.declared.shape.Shape.{Shape}
-use Rattle.view_text.specs.declared.shape.Shape.TheVariants.{Plain, Domain, Connection, Device, LeftOut}
+use Rattle.view_text.specs.declared.shape.Shape.TheVariants.{Domain, Connection, Device, LeftOut}
 
 -- ---- by the names of labels
 
@@ -40,10 +40,7 @@ shapes_of flat labels = shapes_by (domain_labels flat) (device_labels flat) labe
 
 abbrev pub is_domain : Shape → Bool
 is_domain Domain = true
-is_domain Plain = false
-is_domain Connection = false
-is_domain Device = false
-is_domain LeftOut = false
+is_domain _ = false
 
 -- the label of this number, where it is a domain's
 abbrev pub domain_at : List Shape → ℕ → List ℕ

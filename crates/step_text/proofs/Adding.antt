@@ -1,23 +1,18 @@
 -- A table of threads that is filled object by object.
-use Rattle.std.proofs.Common.{◌≡◌, ◌∙◌, ap, sym, refl, ℕ, ◌+◌, ◌<◌, ◌≤◌, Bool, true, false, cond, ◌&&◌, List, ◌∷◌, Option, Some, None, length, drop, get_or, is_some, true≢false}
+use Rattle.step_text.proofs.Common.{Bool, Entry, List, None, Option, Some, Spec, ap, at_drop_all, at_drop_more, bytes_eq, cond, drop, false, get_or, is_thread, length, option_or, option_or-cond, option_or-none, position, position_from, refl, sym}
+use Rattle.step_text.proofs.Common.{thread_named, true, true≢false, ℕ, ◌&&◌, ◌+◌, ◌<◌, ◌∙◌, ◌∷◌, ◌≡◌, ◌≤◌}
+use Rattle.std.proofs.Common.{is_some}
 use mathlib.Core.Path.{fun_ext}
-use Rattle.std.specs.List.{position_from, position}
-use Rattle.std.specs.Option.{option_or}
-use Rattle.std.specs.Str.{bytes_eq}
 use Rattle.std.proofs.lemmas.Iterator.Adapters.{position_from-zero}
-use Rattle.std.proofs.lemmas.List.{at_drop_more, at_drop_all}
 use Rattle.std.proofs.lemmas.Slice.Eq.{bytes_eq-Decides}
-use Rattle.cam_base.proofs.Options.{option_or-none, option_or-cond}
-use Rattle.cap_model.specs.declared.spec.Entry.{Entry}
-use Rattle.cap_model.specs.declared.spec.Spec.{Spec}
-use Rattle.step_text.specs.Threads.{is_thread, thread_named}
 
 abbrev pub is_named : List ℕ → Entry → Bool
 is_named name entry = is_thread entry.object && bytes_eq entry.name name
 
 -- what a table finds after the insertion of a key that was not there
 pub inserted : (f g : List ℕ → Option ℕ) (key : List ℕ) (x : ℕ) → is_some (f key) ≡ false
-    → ((name : List ℕ) → g name ≡ cond (bytes_eq key name) (Some x) (f name)) → (name : List ℕ) → g name ≡ option_or (f name) (cond (bytes_eq key name) (Some x) None)
+    → ((name : List ℕ) → g name ≡ cond (bytes_eq key name) (Some x) (f name)) → (name : List ℕ)
+    → g name ≡ option_or (f name) (cond (bytes_eq key name) (Some x) None)
 inserted f g key x absent updates name = go (bytes_eq key name) refl
   where
     none_or : (o : Option ℕ) → is_some o ≡ false → Some x ≡ option_or o (Some x)
@@ -29,8 +24,10 @@ inserted f g key x absent updates name = go (bytes_eq key name) refl
     go false e = updates name ∙ rw e (option_or-none (f name))
 
 -- one object more: f is what the table found before it, and g what it finds after
-pub added_more : (name : List ℕ) (entries : List Entry) (i : ℕ) (entry : Entry) (f g : Option ℕ) (all : Option ℕ) → i < length entries → entry ≡ get_or entries i entry
-    → option_or f (position_from (is_named name) i (drop i entries)) ≡ all → g ≡ option_or f (cond (is_named name entry) (Some i) None)
+pub added_more : (name : List ℕ) (entries : List Entry) (i : ℕ) (entry : Entry) (f g : Option ℕ) (all : Option ℕ)
+    → i < length entries → entry ≡ get_or entries i entry
+    → option_or f (position_from (is_named name) i (drop i entries)) ≡ all
+    → g ≡ option_or f (cond (is_named name entry) (Some i) None)
     → option_or g (position_from (is_named name) (i + 1) (drop (i + 1) entries)) ≡ all
 added_more name entries i entry f g all lt is before after =
     ap (λ o. option_or o (position_from (is_named name) (i + 1) (drop (i + 1) entries))) after
@@ -40,8 +37,10 @@ added_more name entries i entry f g all lt is before after =
     ∙ before
 
 -- all objects: what the table finds is the first thread of the name
-pub added_all : (spec : Spec) (entries : List Entry) (found : List ℕ → Option ℕ) (i : ℕ) → entries ≡ spec.entries → length entries ≤ i
-    → ((name : List ℕ) → option_or (found name) (position_from (is_named name) i (drop i entries)) ≡ position_from (is_named name) 0 entries) → found ≡ thread_named spec
+pub added_all : (spec : Spec) (entries : List Entry) (found : List ℕ → Option ℕ) (i : ℕ) → entries ≡ spec.entries
+    → length entries ≤ i
+    → ((name : List ℕ) → option_or (found name) (position_from (is_named name) i (drop i entries)) ≡ position_from (is_named name)
+    0 entries) → found ≡ thread_named spec
 added_all spec entries found i is end filled = fun_ext (λ name.
     option_or-none (found name) ∙ ap (option_or (found name)) (sym (at_drop_all (position_from (is_named name) i) entries i end))
     ∙ filled name ∙ sym (position_from-zero (is_named name) entries) ∙ ap (position (is_named name)) is)

@@ -1,14 +1,10 @@
 -- No step has more than seven fields, so that the first eight tell all.
-use Rattle.std.proofs.Common.{◌≡◌, ◌∙◌, sym, refl, ℕ, List, [], ◌∷◌, Option, Some, None, take, length, ◌≤◌, arith}
+use Rattle.step_text.proofs.Common.{Bind, Call, Drop, Grant, List, Map, None, Option, Put, Reply, ReplyTo, Save, SetCspace, SetVspace, Some, Take, Verb, [], any_word, arith, length, names, names_behind, refl, spelled, spelled_behind, spelled_by, sym}
+use Rattle.step_text.proofs.Common.{take, texts, verb_of, wrong, ℕ, ◌∙◌, ◌∷◌, ◌≡◌, ◌≤◌}
 use Rattle.std.specs.Borrow.{Bor}
-use Rattle.step_text.specs.declared.verb.Verb.{Verb}
-use Rattle.step_text.specs.declared.verb.Verb.TheVariants.{Take, Put, Grant, Call, Reply, SetCspace, SetVspace, Map, Bind, Drop, Save, ReplyTo}
-use Rattle.step_text.specs.Spelling.{spelled_behind, spelled_by, spelled, any_word, names_behind, names}
-use Rattle.step_text.specs.StepTexts.{wrong}
-use Rattle.cam_base.specs.LineTexts.{texts}
-use Rattle.step_text.specs.Verbs.{verb_of}
 
-too_many : (place : List ℕ → Option ℕ) (verb : Verb) (a b c d e f g : List ℕ) (more : List (List ℕ)) → spelled_behind place verb (a ∷ b ∷ c ∷ d ∷ e ∷ f ∷ g ∷ more) ≡ None
+too_many : (place : List ℕ → Option ℕ) (verb : Verb) (a b c d e f g : List ℕ) (more : List (List ℕ))
+    → spelled_behind place verb (a ∷ b ∷ c ∷ d ∷ e ∷ f ∷ g ∷ more) ≡ None
 too_many place Take a b c d e f g more = refl
 too_many place Put a b c d e f g more = refl
 too_many place Grant a b c d e f g more = refl
@@ -23,7 +19,8 @@ too_many place Save a b c d e f g more = refl
 too_many place ReplyTo a b c d e f g more = refl
 
 -- only one has six
-pub six_fields : (place : List ℕ → Option ℕ) (verb : Verb) (fields : List (Bor (List ℕ))) → (verb ≡ Grant → ⊥) → length fields ≡ 6 → spelled_behind place verb (texts fields) ≡ None
+pub six_fields : (place : List ℕ → Option ℕ) (verb : Verb) (fields : List (Bor (List ℕ))) → (verb ≡ Grant → ⊥) → length fields ≡ 6
+    → spelled_behind place verb (texts fields) ≡ None
 six_fields place verb [] o n = absurd (omega arith)
 six_fields place verb (a ∷ []) o n = absurd (omega arith)
 six_fields place verb (a ∷ b ∷ []) o n = absurd (omega arith)
@@ -59,7 +56,8 @@ five place Drop a b c d e = refl
 five place Save a b c d e = refl
 five place ReplyTo a b c d e = refl
 
-pub five_fields : (place : List ℕ → Option ℕ) (verb : Verb) (fields : List (Bor (List ℕ))) → length fields ≡ 5 → spelled_behind place verb (texts fields) ≡ None
+pub five_fields : (place : List ℕ → Option ℕ) (verb : Verb) (fields : List (Bor (List ℕ))) → length fields ≡ 5
+    → spelled_behind place verb (texts fields) ≡ None
 five_fields place verb [] n = absurd (omega arith)
 five_fields place verb (a ∷ []) n = absurd (omega arith)
 five_fields place verb (a ∷ b ∷ []) n = absurd (omega arith)
@@ -69,7 +67,8 @@ five_fields place verb (a ∷ b ∷ c ∷ d ∷ e ∷ []) n = five place verb a.
 five_fields place verb (a ∷ b ∷ c ∷ d ∷ e ∷ f ∷ more) n = absurd (omega arith)
 
 -- or seven
-pub seven_fields : (place : List ℕ → Option ℕ) (verb : Verb) (fields : List (Bor (List ℕ))) → 7 ≤ length fields → spelled_behind place verb (texts fields) ≡ None
+pub seven_fields : (place : List ℕ → Option ℕ) (verb : Verb) (fields : List (Bor (List ℕ))) → 7 ≤ length fields
+    → spelled_behind place verb (texts fields) ≡ None
 seven_fields place verb [] n = absurd (omega arith)
 seven_fields place verb (a ∷ []) n = absurd (omega arith)
 seven_fields place verb (a ∷ b ∷ []) n = absurd (omega arith)
@@ -77,9 +76,11 @@ seven_fields place verb (a ∷ b ∷ c ∷ []) n = absurd (omega arith)
 seven_fields place verb (a ∷ b ∷ c ∷ d ∷ []) n = absurd (omega arith)
 seven_fields place verb (a ∷ b ∷ c ∷ d ∷ e ∷ []) n = absurd (omega arith)
 seven_fields place verb (a ∷ b ∷ c ∷ d ∷ e ∷ f ∷ []) n = absurd (omega arith)
-seven_fields place verb (a ∷ b ∷ c ∷ d ∷ e ∷ f ∷ g ∷ more) n = too_many place verb a.now b.now c.now d.now e.now f.now g.now (texts more)
+seven_fields place verb (a ∷ b ∷ c ∷ d ∷ e ∷ f ∷ g ∷ more) n = too_many place verb a.now b.now c.now d.now e.now f.now
+    g.now (texts more)
 
-few_behind : (place : List ℕ → Option ℕ) (verb : Verb) (fields : List (List ℕ)) → spelled_behind place verb (take 7 fields) ≡ spelled_behind place verb fields
+few_behind : (place : List ℕ → Option ℕ) (verb : Verb) (fields : List (List ℕ))
+    → spelled_behind place verb (take 7 fields) ≡ spelled_behind place verb fields
 few_behind place verb [] = refl
 few_behind place verb (a ∷ []) = refl
 few_behind place verb (a ∷ b ∷ []) = refl
@@ -87,9 +88,11 @@ few_behind place verb (a ∷ b ∷ c ∷ []) = refl
 few_behind place verb (a ∷ b ∷ c ∷ d ∷ []) = refl
 few_behind place verb (a ∷ b ∷ c ∷ d ∷ e ∷ []) = refl
 few_behind place verb (a ∷ b ∷ c ∷ d ∷ e ∷ f ∷ []) = refl
-few_behind place verb (a ∷ b ∷ c ∷ d ∷ e ∷ f ∷ g ∷ more) = too_many place verb a b c d e f g [] ∙ sym (too_many place verb a b c d e f g more)
+few_behind place verb (a ∷ b ∷ c ∷ d ∷ e ∷ f ∷ g ∷ more) = too_many place verb a b c d e f g []
+    ∙ sym (too_many place verb a b c d e f g more)
 
-few_by : (place : List ℕ → Option ℕ) (verb : Option Verb) (fields : List (List ℕ)) → spelled_by place verb (take 7 fields) ≡ spelled_by place verb fields
+few_by : (place : List ℕ → Option ℕ) (verb : Option Verb) (fields : List (List ℕ))
+    → spelled_by place verb (take 7 fields) ≡ spelled_by place verb fields
 few_by place None fields = refl
 few_by place (Some verb) fields = few_behind place verb fields
 
@@ -119,5 +122,6 @@ few_names : (fields : List (List ℕ)) → names (take 8 fields) ≡ names field
 few_names [] = refl
 few_names (word ∷ fields) = names_few (verb_of word) fields
 
-pub few_wrong : (place : List ℕ → Option ℕ) (before : ℕ) (fields : List (List ℕ)) → wrong place before (take 8 fields) ≡ wrong place before fields
+pub few_wrong : (place : List ℕ → Option ℕ) (before : ℕ) (fields : List (List ℕ))
+    → wrong place before (take 8 fields) ≡ wrong place before fields
 few_wrong place before fields = rw (few_spelled place fields, few_spelled any_word fields, few_names fields) refl

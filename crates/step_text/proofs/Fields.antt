@@ -1,15 +1,8 @@
 -- The fields of a line that a space parts.
-use Rattle.std.proofs.Common.{◌≡◌, ◌∙◌, ℕ, ◌+◌, Bool, true, false, List, [], ◌∷◌, ◌++◌, refl, sym, ap, arith, append_assoc}
-use Rattle.std.specs.Prelude.{◌==◌, ◌&&◌, not}
-use Rattle.std.specs.List.{list_all}
-use Rattle.std.proofs.lemmas.Bool.{and_parts, not-true}
-use Rattle.std.proofs.lemmas.Bool.Decides.{nat_tests}
+use Rattle.step_text.proofs.Common.{Bool, List, [], and_parts, ap, append_assoc, arith, false, fields, is_digit, is_word_byte, list_all, nat_tests, not, not-true, parts, refl, sym, true, ℕ, ◌++◌, ◌+◌, ◌==◌, ◌∙◌, ◌∷◌, ◌≡◌}
+use Rattle.std.specs.Prelude.{◌&&◌}
 use Rattle.std.proofs.lemmas.List.Folds.{list_all-append}
-use Rattle.cam_base.specs.Names.{is_word_byte}
-use Rattle.cam_base.specs.Numbers.{is_digit}
 use Rattle.cam_base.proofs.Orders.{same_itself}
-use Rattle.cam_base.specs.Fields.{fields}
-use Rattle.cam_base.specs.Parts.{parts}
 
 -- ---- bytes that neither part fields nor end lines
 
@@ -27,18 +20,21 @@ plain_letter b h = grind (arith, nat_tests)
 
 pub plain_digits : (bs : List ℕ) → list_all is_digit bs ≡ true → is_plain bs ≡ true
 plain_digits [] h = refl
-plain_digits (b ∷ bs) h = let k = and_parts (is_digit b) (list_all is_digit bs) h in rw (plain_digit b k.0, plain_digits bs k.1) refl
+plain_digits (b ∷ bs) h = let k = and_parts (is_digit b) (list_all is_digit bs) h in
+    rw (plain_digit b k.0, plain_digits bs k.1) refl
 
 pub plain_word : (bs : List ℕ) → list_all is_word_byte bs ≡ true → is_plain bs ≡ true
 plain_word [] h = refl
-plain_word (b ∷ bs) h = let k = and_parts (is_word_byte b) (list_all is_word_byte bs) h in rw (plain_letter b k.0, plain_word bs k.1) refl
+plain_word (b ∷ bs) h = let k = and_parts (is_word_byte b) (list_all is_word_byte bs) h in
+    rw (plain_letter b k.0, plain_word bs k.1) refl
 
 -- ---- a list that a byte parts
 
 abbrev pub lacks : ℕ → List ℕ → Bool
 lacks separator bs = list_all (λ b. not (b == separator)) bs
 
-pub split_front : (separator : ℕ) (xs ys : List ℕ) → lacks separator xs ≡ true → parts separator (xs ++ separator ∷ ys) ≡ xs ∷ parts separator ys
+pub split_front : (separator : ℕ) (xs ys : List ℕ) → lacks separator xs ≡ true → parts separator (xs ++ separator ∷ ys) ≡ xs
+    ∷ parts separator ys
 split_front separator [] ys h = rw (same_itself separator) refl
 split_front separator (x ∷ xs) ys h =
     let k = and_parts (not (x == separator)) (lacks separator xs) h in
@@ -93,8 +89,10 @@ joined_lacks f (g ∷ fs) h =
     let k = and_parts (is_plain f) (are_plain (g ∷ fs)) h in
     list_all-append (λ (b : ℕ). not (b == 10)) f (32 ∷ joined (g ∷ fs)) ∙ rw (plain_lacks_feed f k.0, joined_lacks g fs k.1) refl
 
-pub line_parts : (f : List ℕ) (fs : List (List ℕ)) (rest : List ℕ) → are_plain (f ∷ fs) ≡ true → parts 10 (ended (f ∷ fs) ++ rest) ≡ joined (f ∷ fs) ∷ parts 10 rest
-line_parts f fs rest h = ap (λ (xs : List ℕ). parts 10 xs) (ended_joined f fs rest) ∙ split_front 10 (joined (f ∷ fs)) rest (joined_lacks f fs h)
+pub line_parts : (f : List ℕ) (fs : List (List ℕ)) (rest : List ℕ) → are_plain (f ∷ fs) ≡ true
+    → parts 10 (ended (f ∷ fs) ++ rest) ≡ joined (f ∷ fs) ∷ parts 10 rest
+line_parts f fs rest h = ap (λ (xs : List ℕ). parts 10 xs) (ended_joined f fs rest) ∙ split_front 10 (joined (f ∷ fs)) rest
+    (joined_lacks f fs h)
 
 pub fields_joined : (f : List ℕ) (fs : List (List ℕ)) → are_plain (f ∷ fs) ≡ true → fields (joined (f ∷ fs)) ≡ f ∷ fs
 fields_joined f [] h = split_none 32 f (plain_lacks_space f (and_parts (is_plain f) true h).0)

@@ -1,23 +1,11 @@
 -- How long the text of steps is, where names are names and numbers fit 64 bits.
-use Rattle.std.proofs.Common.{◌≡◌, ◌<◌, ◌≤◌, ◌+◌, ◌*◌, ◌^◌, ◌&&◌, ℕ, Bool, true, false, List, [], ◌∷◌, length, Option, Some, None, refl, arith, slice_get}
+use Rattle.step_text.proofs.Common.{All, All-head, All-tail, Bool, Entry, IsReadable, List, None, Option, Rights, Some, Spec, Step, [], all_at, and_parts, arith, call_line, codes, copy_line, decimal, false, flat_map, grant_line, is_letter, is_name}
+use Rattle.step_text.proofs.Common.{is_word_byte, leb, leb-true, length, length-append, list_all, name_at, number_line, numbers_line, refl, reply_line, rights_field, slice_get, step_line, steps_text, thread_line, true, ℕ, ◌&&◌, ◌*◌, ◌+◌, ◌<◌, ◌^◌}
+use Rattle.step_text.proofs.Common.{◌∷◌, ◌≡◌, ◌≤◌}
 use Rattle.std.proofs.Math.Nat.{mul-suc}
-use Rattle.std.proofs.lemmas.Bool.{and_parts, leb-true}
 use Rattle.std.proofs.lemmas.Fmt.{length-decimal-le}
-use Rattle.std.proofs.lemmas.List.{length-append}
-use Rattle.std.proofs.lemmas.List.Elements.{All-head, All-tail}
-use Rattle.std.specs.List.{All, flat_map, list_all}
-use Rattle.std.specs.Prelude.{codes, decimal, leb}
-use Rattle.cam_base.specs.Names.{is_letter, is_name, is_word_byte}
 use Rattle.cam_base.specs.Texts.{together}
-use Rattle.cap_machine.specs.declared.step.Step.{Step}
 use Rattle.cap_machine.specs.declared.step.Step.TheVariants as steps
-use Rattle.cap_model.proofs.Kept.{all_at}
-use Rattle.cap_model.specs.Lookup.{name_at}
-use Rattle.cap_model.specs.declared.rights.Rights.{Rights}
-use Rattle.cap_model.specs.declared.spec.Entry.{Entry}
-use Rattle.cap_model.specs.declared.spec.Spec.{Spec}
-use Rattle.step_text.specs.Readable.{IsReadable}
-use Rattle.step_text.specs.StepLines.{call_line, copy_line, grant_line, number_line, numbers_line, reply_line, rights_field, step_line, steps_text, thread_line}
 
 -- ---- texts in parts
 
@@ -70,7 +58,9 @@ rights_short r = go r.read r.write r.grant r.reply
 
 name_short : (name : List ℕ) → is_name name ≡ true → length name ≤ 127
 name_short [] is = omega arith
-name_short (b ∷ bs) is = let few = leb-true (length bs) 126 (and_parts (leb (length bs) 126) (is_letter b && list_all is_word_byte bs) is).0 in omega (arith, few)
+name_short (b ∷ bs) is = let few =
+    leb-true (length bs) 126 (and_parts (leb (length bs) 126) (is_letter b && list_all is_word_byte bs) is).0 in
+    omega (arith, few)
 
 module _ (spec : Spec) (named : list_all (λ entry. is_name entry.name) spec.entries ≡ true) where
   at_short : (t : ℕ) → length (name_at spec t) ≤ 127
@@ -81,42 +71,91 @@ module _ (spec : Spec) (named : list_all (λ entry. is_name entry.name) spec.ent
       go (Some entry) e = rw e (name_short entry.name (all_at (λ (x : Entry). is_name x.name) spec.entries t entry named e))
 
   of_thread : (word : List ℕ) (t : ℕ) → length word ≤ 10 → length (thread_line word (name_at spec t)) ≤ 330
-  of_thread word t w = let s = all_short (10 ∷ 127 ∷ 1 ∷ []) (word ∷ name_at spec t ∷ codes "\n" ∷ []) (w, (at_short t, (omega arith, tt))) in omega (arith, s)
+  of_thread word t w = let s = all_short (10 ∷ 127 ∷ 1 ∷ []) (word ∷ name_at spec t ∷ codes "\n" ∷ [])
+      (w, (at_short t, (omega arith, tt))) in omega (arith, s)
 
   of_number : (word : List ℕ) (t i : ℕ) → length word ≤ 10 → i < 2 ^ 64 → length (number_line word (name_at spec t) i) ≤ 330
   of_number word t i w f =
-      let s = all_short (10 ∷ 127 ∷ 1 ∷ 20 ∷ 1 ∷ []) (word ∷ name_at spec t ∷ codes " " ∷ decimal i ∷ codes "\n" ∷ []) (w, (at_short t, (omega arith, (number_short i f, (omega arith, tt))))) in
+      let s = all_short (10 ∷ 127 ∷ 1 ∷ 20 ∷ 1 ∷ []) (word ∷ name_at spec t ∷ codes " " ∷ decimal i ∷ codes "\n" ∷ [])
+      (w, (at_short t, (omega arith, (number_short i f, (omega arith, tt))))) in
       omega (arith, s)
 
-  of_numbers : (word : List ℕ) (t i j : ℕ) → length word ≤ 10 → i < 2 ^ 64 → j < 2 ^ 64 → length (numbers_line word (name_at spec t) i j) ≤ 330
+  of_numbers : (word : List ℕ) (t i j : ℕ) → length word ≤ 10 → i < 2 ^ 64 → j < 2 ^ 64
+      → length (numbers_line word (name_at spec t) i j) ≤ 330
   of_numbers word t i j w f g =
-      let s = all_short (10 ∷ 127 ∷ 1 ∷ 20 ∷ 1 ∷ 20 ∷ 1 ∷ []) (word ∷ name_at spec t ∷ codes " " ∷ decimal i ∷ codes " " ∷ decimal j ∷ codes "\n" ∷ [])
+      let s = all_short (10 ∷ 127 ∷ 1 ∷ 20 ∷ 1 ∷ 20 ∷ 1 ∷ []) (word ∷ name_at spec t ∷ codes " " ∷ decimal i ∷ codes " "
+      ∷ decimal j ∷ codes "\n" ∷ [])
       (w, (at_short t, (omega arith, (number_short i f, (omega arith, (number_short j g, (omega arith, tt))))))) in
       omega (arith, s)
 
-  of_copy : (word : List ℕ) (t i j : ℕ) (r : Rights) → length word ≤ 10 → i < 2 ^ 64 → j < 2 ^ 64 → length (copy_line word (name_at spec t) i j r) ≤ 330
+  of_copy : (word : List ℕ) (t i j : ℕ) (r : Rights) → length word ≤ 10 → i < 2 ^ 64 → j < 2 ^ 64
+      → length (copy_line word (name_at spec t) i j r) ≤ 330
   of_copy word t i j r w f g =
-      let s = all_short (10 ∷ 127 ∷ 1 ∷ 20 ∷ 1 ∷ 20 ∷ 1 ∷ 4 ∷ 1 ∷ []) (word ∷ name_at spec t ∷ codes " " ∷ decimal i ∷ codes " " ∷ decimal j ∷ codes " " ∷ rights_field r ∷ codes "\n" ∷ [])
-      (w, (at_short t, (omega arith, (number_short i f, (omega arith, (number_short j g, (omega arith, (rights_short r, (omega arith, tt))))))))) in
+      let s = all_short (10 ∷ 127 ∷ 1 ∷ 20 ∷ 1 ∷ 20 ∷ 1 ∷ 4 ∷ 1 ∷ []) (word ∷ name_at spec t ∷ codes " " ∷ decimal i ∷ codes " "
+      ∷ decimal j ∷ codes " " ∷ rights_field r ∷ codes "\n" ∷ []) (
+        w,
+        (
+          at_short t,
+          (
+            omega arith,
+            (number_short i f, (omega arith, (number_short j g, (omega arith, (rights_short r, (omega arith, tt)))))),
+          ),
+        ),
+      ) in
       omega (arith, s)
 
   of_reply : (t k : ℕ) (r : Rights) → k < 2 ^ 64 → length (reply_line (name_at spec t) k r) ≤ 330
   of_reply t k r f =
-      let s = all_short (6 ∷ 127 ∷ 1 ∷ 20 ∷ 1 ∷ 4 ∷ 1 ∷ []) (codes "reply " ∷ name_at spec t ∷ codes " " ∷ decimal k ∷ codes " " ∷ rights_field r ∷ codes "\n" ∷ [])
+      let s = all_short (6 ∷ 127 ∷ 1 ∷ 20 ∷ 1 ∷ 4 ∷ 1 ∷ []) (codes "reply " ∷ name_at spec t ∷ codes " " ∷ decimal k ∷ codes " "
+      ∷ rights_field r ∷ codes "\n" ∷ [])
       (omega arith, (at_short t, (omega arith, (number_short k f, (omega arith, (rights_short r, (omega arith, tt))))))) in
       omega (arith, s)
 
   of_call : (t i u j : ℕ) → i < 2 ^ 64 → j < 2 ^ 64 → length (call_line (name_at spec t) i (name_at spec u) j) ≤ 330
   of_call t i u j f g =
-      let s = all_short (5 ∷ 127 ∷ 1 ∷ 20 ∷ 1 ∷ 127 ∷ 1 ∷ 20 ∷ 1 ∷ []) (codes "call " ∷ name_at spec t ∷ codes " " ∷ decimal i ∷ codes " " ∷ name_at spec u ∷ codes " " ∷ decimal j ∷ codes "\n" ∷ [])
-      (omega arith, (at_short t, (omega arith, (number_short i f, (omega arith, (at_short u, (omega arith, (number_short j g, (omega arith, tt))))))))) in
+      let s = all_short (5 ∷ 127 ∷ 1 ∷ 20 ∷ 1 ∷ 127 ∷ 1 ∷ 20 ∷ 1 ∷ []) (codes "call " ∷ name_at spec t ∷ codes " " ∷ decimal i
+      ∷ codes " " ∷ name_at spec u ∷ codes " " ∷ decimal j ∷ codes "\n" ∷ []) (
+        omega arith,
+        (
+          at_short t,
+          (
+            omega arith,
+            (number_short i f, (omega arith, (at_short u, (omega arith, (number_short j g, (omega arith, tt)))))),
+          ),
+        ),
+      ) in
       omega (arith, s)
 
-  of_grant : (t i u j k : ℕ) (r : Rights) → i < 2 ^ 64 → j < 2 ^ 64 → k < 2 ^ 64 → length (grant_line (name_at spec t) i (name_at spec u) j k r) ≤ 330
+  of_grant : (t i u j k : ℕ) (r : Rights) → i < 2 ^ 64 → j < 2 ^ 64 → k < 2 ^ 64
+      → length (grant_line (name_at spec t) i (name_at spec u) j k r) ≤ 330
   of_grant t i u j k r f g h =
       let s = all_short (6 ∷ 127 ∷ 1 ∷ 20 ∷ 1 ∷ 127 ∷ 1 ∷ 20 ∷ 1 ∷ 20 ∷ 1 ∷ 4 ∷ 1 ∷ [])
-      (codes "grant " ∷ name_at spec t ∷ codes " " ∷ decimal i ∷ codes " " ∷ name_at spec u ∷ codes " " ∷ decimal j ∷ codes " " ∷ decimal k ∷ codes " " ∷ rights_field r ∷ codes "\n" ∷ [])
-      (omega arith, (at_short t, (omega arith, (number_short i f, (omega arith, (at_short u, (omega arith, (number_short j g, (omega arith, (number_short k h, (omega arith, (rights_short r, (omega arith, tt))))))))))))) in
+      (codes "grant " ∷ name_at spec t ∷ codes " " ∷ decimal i ∷ codes " " ∷ name_at spec u ∷ codes " " ∷ decimal j ∷ codes " "
+      ∷ decimal k ∷ codes " " ∷ rights_field r ∷ codes "\n" ∷ []) (
+        omega arith,
+        (
+          at_short t,
+          (
+            omega arith,
+            (
+              number_short i f,
+              (
+                omega arith,
+                (
+                  at_short u,
+                  (
+                    omega arith,
+                    (
+                      number_short j g,
+                      (omega arith, (number_short k h, (omega arith, (rights_short r, (omega arith, tt))))),
+                    ),
+                  ),
+                ),
+              ),
+            ),
+          ),
+        ),
+      ) in
       omega (arith, s)
 
   step_short : (step : Step) → IsReadable spec step → length (step_line spec step) ≤ 330

@@ -1,60 +1,64 @@
 -- One line more.
-use Rattle.std.proofs.Common.{◌≡◌, ◌∙◌, ap, sym, ℕ, ◌+◌, List, [], ◌∷◌, ◌++◌, append_assoc, take, Option, Some, None, Result, Ok, Err, length, ◌≤◌, nat_lt, false, subst, arith}
-use Rattle.std.specs.List.{filter_map}
-use Rattle.std.specs.Option.{option_or, option_map}
+use Rattle.step_text.proofs.Common.{Err, IsRead, IsRefusal, Line, List, None, Ok, Option, Result, Some, Spec, Step, Wrong, [], ap, append_assoc, arith, at_line, bytes_limit, false, fault_of, fields, filter_map, first_fault_of, length, lines}
+use Rattle.step_text.proofs.Common.{nat_tests, option_map, option_or, spelled, step_of, subst, sym, take, thread_named, wrong, ℕ, ◌++◌, ◌+◌, ◌∙◌, ◌∷◌, ◌≡◌, ◌≤◌}
+use Rattle.std.proofs.Common.{nat_lt}
 use Rattle.std.specs.Result.{IsErrAnd}
-use Rattle.std.proofs.lemmas.Bool.Decides.{nat_tests}
 use Rattle.cam_base.specs.declared.error.Refused.{Refused}
 use Rattle.cam_base.specs.declared.error.Refused.TheVariants as refused
 use Rattle.cam_base.specs.declared.text_fault.TextFault.{TextFault}
-use Rattle.cap_machine.specs.declared.step.Step.{Step}
-use Rattle.cap_model.specs.declared.spec.Spec.{Spec}
-use Rattle.cam_base.specs.Lines.{Line, lines}
-use Rattle.step_text.specs.Threads.{thread_named}
-use Rattle.cam_base.specs.Fields.{fields}
-use Rattle.cam_base.specs.LineFaults.{Wrong, at_line, IsRefusal}
 use Rattle.step_text.specs.LinesRead.{IsLineRead}
-use Rattle.step_text.specs.Spelling.{spelled}
-use Rattle.step_text.specs.StepTexts.{bytes_limit, wrong, fault_of, step_of, first_fault_of, IsRead}
 use Rattle.step_text.proofs.FewFields.{few_wrong, few_spelled}
 
 -- a line without a fault
-pub fault_behind : (place : List ℕ → Option ℕ) (before : ℕ) (line : Line) (left more : List Line) → left ≡ line ∷ more → fault_of place before line ≡ None
+pub fault_behind : (place : List ℕ → Option ℕ) (before : ℕ) (line : Line) (left more : List Line) → left ≡ line ∷ more
+    → fault_of place before line ≡ None
     → first_fault_of place before left ≡ first_fault_of place (before + 1) more
-fault_behind place before line left more is none = ap (first_fault_of place before) is ∙ ap (λ fault. option_or fault (first_fault_of place (before + 1) more)) none
+fault_behind place before line left more is none = ap (first_fault_of place before) is
+    ∙ ap (λ fault. option_or fault (first_fault_of place (before + 1) more)) none
 
 -- the first line with a fault
-pub fault_here : (place : List ℕ → Option ℕ) (before : ℕ) (line : Line) (left more : List Line) (fault : TextFault) → left ≡ line ∷ more → fault_of place before line ≡ Some fault
+pub fault_here : (place : List ℕ → Option ℕ) (before : ℕ) (line : Line) (left more : List Line) (fault : TextFault)
+    → left ≡ line ∷ more → fault_of place before line ≡ Some fault
     → first_fault_of place before left ≡ Some fault
-fault_here place before line left more fault is here = ap (first_fault_of place before) is ∙ ap (λ fault. option_or fault (first_fault_of place (before + 1) more)) here
+fault_here place before line left more fault is here = ap (first_fault_of place before) is
+    ∙ ap (λ fault. option_or fault (first_fault_of place (before + 1) more)) here
 
 -- a step more
-pub step_more : (place : List ℕ → Option ℕ) (steps : List Step) (step : Step) (line : Line) (left more : List Line) → left ≡ line ∷ more → step_of place line ≡ Some step
+pub step_more : (place : List ℕ → Option ℕ) (steps : List Step) (step : Step) (line : Line) (left more : List Line)
+    → left ≡ line ∷ more → step_of place line ≡ Some step
     → (steps ++ step ∷ []) ++ filter_map (step_of place) more ≡ steps ++ filter_map (step_of place) left
-step_more place steps step line left more is spelled = rw is (rw spelled (append_assoc steps (step ∷ []) (filter_map (step_of place) more)))
+step_more place steps step line left more is spelled =
+    rw is (rw spelled (append_assoc steps (step ∷ []) (filter_map (step_of place) more)))
 
 -- a line whose first eight fields spell a step
-pub line_step : (place : List ℕ → Option ℕ) (before : ℕ) (line : Line) (first : List (List ℕ)) (step : Step) → first ≡ take 8 (fields line.text)
-    → (wrong place before first ≡ None) × (spelled place first ≡ Some step) → (fault_of place before line ≡ None) × (step_of place line ≡ Some step)
+pub line_step : (place : List ℕ → Option ℕ) (before : ℕ) (line : Line) (first : List (List ℕ)) (step : Step)
+    → first ≡ take 8 (fields line.text)
+    → (wrong place before first ≡ None) × (spelled place first ≡ Some step) → (fault_of place before line ≡ None)
+    × (step_of place line ≡ Some step)
 line_step place before line first step is judged = (
   ap (option_map (at_line line)) (sym (few_wrong place before (fields line.text)) ∙ ap (wrong place before) (sym is) ∙ judged.0),
   sym (few_spelled place (fields line.text)) ∙ ap (spelled place) (sym is) ∙ judged.1,
 )
 
 -- a line with a fault among them
-pub line_fault : (place : List ℕ → Option ℕ) (before : ℕ) (line : Line) (first : List (List ℕ)) (what : Wrong) (refusal : Refused TextFault) → first ≡ take 8 (fields line.text)
+pub line_fault : (place : List ℕ → Option ℕ) (before : ℕ) (line : Line) (first : List (List ℕ)) (what : Wrong)
+    (refusal : Refused TextFault) → first ≡ take 8 (fields line.text)
     → wrong place before first ≡ Some what → IsRefusal line what refusal → IsLineRead place before line (Err refusal)
 line_fault place before line first what (refused.Fault fault) is stands fits =
-    ap (option_map (at_line line)) (sym (few_wrong place before (fields line.text)) ∙ ap (wrong place before) (sym is) ∙ stands) ∙ ap (λ f. Some f) (sym fits)
+    ap (option_map (at_line line)) (sym (few_wrong place before (fields line.text)) ∙ ap (wrong place before) (sym is) ∙ stands)
+    ∙ ap (λ f. Some f) (sym fits)
 line_fault place before line first what refused.NoMemory is stands fits = tt
 
 -- the text of a line with a fault
-pub text_refused : (spec : Spec) (bytes : List ℕ) (place : List ℕ → Option ℕ) (before : ℕ) (line : Line) (left more : List Line) (refusal : Refused TextFault)
-    → length bytes ≤ bytes_limit → place ≡ thread_named spec → left ≡ line ∷ more → first_fault_of place before left ≡ first_fault_of place 0 (lines bytes)
+pub text_refused : (spec : Spec) (bytes : List ℕ) (place : List ℕ → Option ℕ) (before : ℕ) (line : Line) (left more : List Line)
+    (refusal : Refused TextFault)
+    → length bytes ≤ bytes_limit → place ≡ thread_named spec → left ≡ line ∷ more
+    → first_fault_of place before left ≡ first_fault_of place 0 (lines bytes)
     → IsLineRead place before line (Err refusal) → IsRead spec bytes (Err refusal)
 text_refused spec bytes place before line left more (refused.Fault fault) short threads is so_far here =
     let within : nat_lt bytes_limit (length bytes) ≡ false = grind (arith, nat_tests) in
-    rw within (ap (λ p. first_fault_of p 0 (lines bytes)) (sym threads) ∙ sym so_far ∙ fault_here place before line left more fault is here)
+    rw within (ap (λ p. first_fault_of p 0 (lines bytes)) (sym threads) ∙ sym so_far ∙ fault_here place before line left more
+    fault is here)
 text_refused spec bytes place before line left more refused.NoMemory short threads is so_far here = tt
 
 -- a refusal that is passed on

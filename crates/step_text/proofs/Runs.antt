@@ -1,15 +1,10 @@
 -- The steps of a run can be read back: who acts has a root, so is a thread, and its name is a word; and the numbers that steps
 -- name hold something, so lie below the next number of a CNode, which grows by one a step at most.
-use Rattle.std.proofs.Common.{◌≡◌, ◌<◌, ◌≤◌, ◌⊎◌, ◌+◌, ◌^◌, ◌&&◌, ◌++◌, ℕ, zero, suc, Bool, true, false, cond, List, [], ◌∷◌, length, map, Option, Some, None, refl, sym, ap, subst, inl, inr, arith, get_or, set, slice_get, ◌∙◌}
-use Rattle.std.proofs.lemmas.Bool.{and_parts}
-use Rattle.std.proofs.lemmas.Bool.Decides.{Decides-eqb, Decides-ltb}
-use Rattle.std.proofs.lemmas.List.Elements.{All-cons, All-nil}
+use Rattle.step_text.proofs.Common.{All, All-cons, All-nil, AllByRecursion, Bool, Decides-eqb, Decides-ltb, Entry, IsNamed, IsNumber, IsReadable, List, None, Option, Some, Spec, Step, [], all_at, and_parts, ap, arith, bytes_eq, cond, false, get_or}
+use Rattle.step_text.proofs.Common.{inl, inr, is_letter, is_name, is_thread, is_word_byte, kind_is, length, list_all, map, name_at, nat_lt, not, object_at, position, position_or_len, refl, set, slice_get, subst, suc, sym, thread_named, true, zero, ℕ}
+use Rattle.step_text.proofs.Common.{◌&&◌, ◌++◌, ◌+◌, ◌<◌, ◌==◌, ◌^◌, ◌∙◌, ◌∷◌, ◌≡◌, ◌≤◌, ◌⊎◌}
 use Rattle.std.proofs.lemmas.Option.{get_or_from_slice_get, slice_get_within}
-use Rattle.std.specs.List.{All, AllByRecursion, list_all, position, position_or_len}
 use Rattle.std.specs.Map.{keys_of, lookup}
-use Rattle.std.specs.Prelude.{◌==◌, nat_lt, not}
-use Rattle.std.specs.Str.{bytes_eq}
-use Rattle.cam_base.specs.Names.{is_letter, is_name, is_word_byte}
 use Rattle.cap_machine.proofs.Applied.{nexts_fit, read_written}
 use Rattle.cap_machine.proofs.Booting.{all_bootable, boot_fits, boot_nexts_fit}
 use Rattle.cap_machine.proofs.Fitting.{step_fits}
@@ -22,26 +17,19 @@ use Rattle.cap_machine.specs.Runs.{Run}
 use Rattle.cap_machine.specs.StepTable.{Acts, StepTo}
 use Rattle.cap_machine.specs.declared.change.Change.{Change}
 use Rattle.cap_machine.specs.declared.change.Change.TheVariants as changes
-use Rattle.cap_machine.specs.declared.step.Step.{Step}
 use Rattle.cap_machine.specs.declared.step.Step.TheVariants as steps
 use Rattle.cap_model.proofs.BootPlaces.{at_entry}
 use Rattle.cap_model.proofs.Found.{found}
-use Rattle.cap_model.proofs.Kept.{all_at, kind_is}
 use Rattle.cap_model.specs.FitsSpec.{FitsSpec}
 use Rattle.cap_model.specs.Kept.{IsKept}
 use Rattle.cap_model.specs.Kinds.{is_at, kind_at, kind_of_object}
-use Rattle.cap_model.specs.Lookup.{name_at, object_at}
 use Rattle.cap_model.specs.State.{Node, State, boot, boot_node, content_at, content_in, no_node, no_thread, node_at, thread_at}
 use Rattle.cap_model.specs.declared.kind.Kind.{Kind}
 use Rattle.cap_model.specs.declared.kind.Kind.TheVariants as kinds
 use Rattle.cap_model.specs.declared.object.Object.{Object}
 use Rattle.cap_model.specs.declared.object.Object.TheVariants as objects
-use Rattle.cap_model.specs.declared.spec.Entry.{Entry}
-use Rattle.cap_model.specs.declared.spec.Spec.{Spec}
 use Rattle.cap_model.specs.declared.state.Content.{Content}
 use Rattle.cap_model.specs.declared.state.Content.TheVariants.{Capability, SavedReply}
-use Rattle.step_text.specs.Readable.{IsNamed, IsNumber, IsReadable}
-use Rattle.step_text.specs.Threads.{is_thread, thread_named}
 
 -- ---- numbers lie below the next number
 
@@ -80,7 +68,8 @@ change_below s (changes.Bind irq notification) all = all
 change_below s (changes.Drop node i) all = drops s.nodes node i all
 change_below s (changes.Save t node pending) all = grows s.nodes node (SavedReply pending) all
 change_below s (changes.Release node i caller) all = drops s.nodes node i all
-change_below s (changes.ReleaseAdd node i caller to x) all = drops (grown_at s.nodes to (Capability x)) node i (grows s.nodes to (Capability x) all)
+change_below s (changes.ReleaseAdd node i caller to x) all = drops (grown_at s.nodes to (Capability x)) node i
+    (grows s.nodes to (Capability x) all)
 
 boot_node_below : (object : Object) → Bootable object → IsBelow (boot_node object)
 boot_node_below (objects.CNode bits slots) b = boot_below (2 ^ bits) slots b.2
@@ -100,9 +89,11 @@ all_boot_below spec kept c =
   where
     at_place : (entry : Entry) → slice_get spec.entries c ≡ Some entry → Bootable entry.object
     at_place entry there =
-        subst (λ (e : Entry). Bootable e.object) (get_or_from_slice_get spec.entries c entry entry there) (all_bootable spec kept c entry (slice_get_within spec.entries c entry there))
+        subst (λ (e : Entry). Bootable e.object) (get_or_from_slice_get spec.entries c entry entry there)
+        (all_bootable spec kept c entry (slice_get_within spec.entries c entry there))
 
-found_below : (slots : List (ℕ × Content)) (i bound : ℕ) (content : Content) → AllByRecursion (λ n. n < bound) (keys_of slots) → lookup (λ n. n == i) slots ≡ Some content → i < bound
+found_below : (slots : List (ℕ × Content)) (i bound : ℕ) (content : Content) → AllByRecursion (λ n. n < bound) (keys_of slots)
+    → lookup (λ n. n == i) slots ≡ Some content → i < bound
 found_below [] i bound content all there = absurd cc
 found_below ((n, x) ∷ slots) i bound content all there = go (n == i) refl (λ h. found_below slots i bound content all.1 h)
   where
@@ -113,7 +104,8 @@ found_below ((n, x) ∷ slots) i bound content all there = go (n == i) refl (λ 
 -- ---- threads by name
 
 -- the first of those that pass two tests, where it is the first that passes the second one
-first_of_both : {A : Type 0} (p q : A → Bool) (xs : List A) (t : ℕ) (x : A) → slice_get xs t ≡ Some x → p x ≡ true → position_or_len q xs ≡ t → position_or_len (λ y. p y && q y) xs ≡ t
+first_of_both : {A : Type 0} (p q : A → Bool) (xs : List A) (t : ℕ) (x : A) → slice_get xs t ≡ Some x → p x ≡ true
+    → position_or_len q xs ≡ t → position_or_len (λ y. p y && q y) xs ≡ t
 first_of_both p q [] t x there passes first = absurd cc
 first_of_both p q (y ∷ xs) zero x there passes first = go (q y) refl
   where
@@ -122,11 +114,13 @@ first_of_both p q (y ∷ xs) zero x there passes first = go (q y) refl
     go false e = let none : 1 + position_or_len q xs ≡ 0 = rw e at first in absurd (let no : ⊥ = omega (arith, none) in no)
 first_of_both p q (y ∷ xs) (suc t) x there passes first = go (q y) refl (λ less. first_of_both p q xs t x there passes less)
   where
-    neither_passes : (b : Bool) → position_or_len (λ y. p y && q y) xs ≡ t → cond (not (b && false)) (1 + position_or_len (λ y. p y && q y) xs) 0 ≡ suc t
+    neither_passes : (b : Bool) → position_or_len (λ y. p y && q y) xs ≡ t
+        → cond (not (b && false)) (1 + position_or_len (λ y. p y && q y) xs) 0 ≡ suc t
     neither_passes true rest = omega (arith, rest)
     neither_passes false rest = omega (arith, rest)
 
-    go : (b : Bool) → q y ≡ b → (position_or_len q xs ≡ t → position_or_len (λ y. p y && q y) xs ≡ t) → position_or_len (λ y. p y && q y) (y ∷ xs) ≡ suc t
+    go : (b : Bool) → q y ≡ b → (position_or_len q xs ≡ t → position_or_len (λ y. p y && q y) xs ≡ t)
+        → position_or_len (λ y. p y && q y) (y ∷ xs) ≡ suc t
     go true e rest = let no : 0 ≡ suc t = rw e at first in absurd cc
     go false e rest =
         let behind : 1 + position_or_len q xs ≡ suc t = rw e at first in
@@ -158,13 +152,20 @@ word_of_name (b ∷ bs) is =
 
 module _ (spec : Spec) (kept : IsKept spec) (named : list_all (λ entry. is_name entry.name) spec.entries ≡ true) where
   entry_named : (t : ℕ) (entry : Entry) → slice_get spec.entries t ≡ Some entry → is_thread entry.object ≡ true → IsNamed spec t
-  entry_named t entry there thread = record { word = rw there (word_of_name entry.name (all_at (λ (e : Entry). is_name e.name) spec.entries t entry named there)); found = rw there place }
+  entry_named t entry there thread =
+      record {
+        word = rw there (word_of_name entry.name (all_at (λ (e : Entry). is_name e.name) spec.entries t entry named there));
+        found = rw there place;
+      }
     where
       place : thread_named spec entry.name ≡ Some t
       place =
-          let first : position_or_len (λ (e : Entry). bytes_eq e.name entry.name) spec.entries ≡ t = place_is _ t (length spec.entries) (found spec t entry kept there) in
-          let both = first_of_both (λ (e : Entry). is_thread e.object) (λ e. bytes_eq e.name entry.name) spec.entries t entry there thread first in
-          let less : nat_lt t (length spec.entries) ≡ true = (Decides-ltb t (length spec.entries)).1 (slice_get_within spec.entries t entry there) in
+          let first : position_or_len (λ (e : Entry). bytes_eq e.name entry.name) spec.entries ≡ t =
+          place_is _ t (length spec.entries) (found spec t entry kept there) in
+          let both = first_of_both (λ (e : Entry). is_thread e.object) (λ e. bytes_eq e.name entry.name) spec.entries t entry
+          there thread first in
+          let less : nat_lt t (length spec.entries) ≡ true =
+          (Decides-ltb t (length spec.entries)).1 (slice_get_within spec.entries t entry there) in
           rw (both, less) refl
 
   thread_is_named : (t : ℕ) → is_at spec kinds.Thread t ≡ true → IsNamed spec t
@@ -184,7 +185,11 @@ module _ (spec : Spec) (kept : IsKept spec) (named : list_all (λ entry. is_name
     pub below : AllBelow s.nodes
 
   begun : IsReached (boot spec) 0
-  begun = record { fits = boot_fits spec kept; nexts = boot_nexts_fit spec.entries (all_bootable spec kept); below = all_boot_below spec kept }
+  begun = record {
+    fits = boot_fits spec kept;
+    nexts = boot_nexts_fit spec.entries (all_bootable spec kept);
+    below = all_boot_below spec kept;
+  }
 
   goes_on : (s new : State) (n : ℕ) (step : Step) → IsReached s n → StepTo spec s step new → IsReached new (n + 1)
   goes_on s new n step r to =
@@ -210,8 +215,10 @@ module _ (spec : Spec) (kept : IsKept spec) (named : list_all (λ entry. is_name
         go (inr is) = thread_is_named t is
 
     step_readable : (step : Step) (new : State) → StepTo spec s step new → IsReadable spec step
-    step_readable (steps.Take t i j x) new (c, to, cap, acts, own, there, e) = (acts_named t c acts, small c i (Capability to) own.there, small to.object j (Capability cap) there)
-    step_readable (steps.Put t i j x) new (c, to, cap, acts, own, there, e) = (acts_named t c acts, small c i (Capability to) own.there, small c j (Capability cap) there)
+    step_readable (steps.Take t i j x) new (c, to, cap, acts, own, there, e) =
+        (acts_named t c acts, small c i (Capability to) own.there, small to.object j (Capability cap) there)
+    step_readable (steps.Put t i j x) new (c, to, cap, acts, own, there, e) =
+        (acts_named t c acts, small c i (Capability to) own.there, small c j (Capability cap) there)
     step_readable (steps.Grant t i u j k x) new (c, to, cap, d, from, acts, own, may, there, peer, e) = (
       acts_named t c acts,
       acts_named u d peer.acts,
@@ -219,25 +226,38 @@ module _ (spec : Spec) (kept : IsKept spec) (named : list_all (λ entry. is_name
       small d j (Capability from) peer.own.there,
       small c k (Capability cap) there,
     )
-    step_readable (steps.Call t i u j) new (c, to, d, from, acts, own, may, peer, e) =
-        (acts_named t c acts, acts_named u d peer.acts, small c i (Capability to) own.there, small d j (Capability from) peer.own.there)
+    step_readable (steps.Call t i u j) new (c, to, d, from, acts, own, may, peer, e) = (
+      acts_named t c acts,
+      acts_named u d peer.acts,
+      small c i (Capability to) own.there,
+      small d j (Capability from)
+          peer.own.there,
+    )
     step_readable (steps.Reply t None) new (c, pending, acts, owes, e) = acts_named t c acts
-    step_readable (steps.Reply t (Some copy)) new (c, pending, cap, d, acts, owes, grants, there, root, e) = (acts_named t c acts, small c copy.0 (Capability cap) there)
-    step_readable (steps.SetCspace t i j) new (c, to, cap, acts, own, of, e) = (acts_named t c acts, small c i (Capability to) own.there, small c j (Capability cap) of.there)
-    step_readable (steps.SetVspace t i j) new (c, to, cap, acts, own, of, e) = (acts_named t c acts, small c i (Capability to) own.there, small c j (Capability cap) of.there)
-    step_readable (steps.Map t i j x) new (c, frame, cap, acts, own, of, e) = (acts_named t c acts, small c i (Capability frame) own.there, small c j (Capability cap) of.there)
-    step_readable (steps.Bind t i j) new (c, irq, cap, acts, own, of, writes, e) = (acts_named t c acts, small c i (Capability irq) own.there, small c j (Capability cap) of.there)
+    step_readable (steps.Reply t (Some copy)) new (c, pending, cap, d, acts, owes, grants, there, root, e) =
+        (acts_named t c acts, small c copy.0 (Capability cap) there)
+    step_readable (steps.SetCspace t i j) new (c, to, cap, acts, own, of, e) =
+        (acts_named t c acts, small c i (Capability to) own.there, small c j (Capability cap) of.there)
+    step_readable (steps.SetVspace t i j) new (c, to, cap, acts, own, of, e) =
+        (acts_named t c acts, small c i (Capability to) own.there, small c j (Capability cap) of.there)
+    step_readable (steps.Map t i j x) new (c, frame, cap, acts, own, of, e) =
+        (acts_named t c acts, small c i (Capability frame) own.there, small c j (Capability cap) of.there)
+    step_readable (steps.Bind t i j) new (c, irq, cap, acts, own, of, writes, e) =
+        (acts_named t c acts, small c i (Capability irq) own.there, small c j (Capability cap) of.there)
     step_readable (steps.Drop t i) new (c, content, acts, there, e) = (acts_named t c acts, small c i content there)
     step_readable (steps.Save t) new (c, pending, acts, owes, e) = acts_named t c acts
-    step_readable (steps.ReplyTo t i None) new (c, reply, acts, there, e) = (acts_named t c acts, small c i (SavedReply reply) there)
+    step_readable (steps.ReplyTo t i None) new (c, reply, acts, there, e) =
+        (acts_named t c acts, small c i (SavedReply reply) there)
     step_readable (steps.ReplyTo t i (Some copy)) new (c, reply, cap, d, acts, own, grants, there, root, e) =
         (acts_named t c acts, small c i (SavedReply reply) own, small c copy.0 (Capability cap) there)
 
-  all_readable : (list : List Step) (s new : State) (n : ℕ) → n + length list < 2 ^ 63 → IsReached s n → Run spec s list new → All (IsReadable spec) list
+  all_readable : (list : List Step) (s new : State) (n : ℕ) → n + length list < 2 ^ 63 → IsReached s n → Run spec s list new
+      → All (IsReadable spec) list
   all_readable [] s new n few r run = All-nil (IsReadable spec)
   all_readable (step ∷ list) s new n few r (then, one, more) =
       All-cons (IsReadable spec) step list (step_readable s n (omega (arith, few)) r step then one)
       (all_readable list then new (n + 1) (omega (arith, few)) (goes_on s then n step r one) more)
 
-  pub run_readable : (list : List Step) (new : State) → Run spec (boot spec) list new → length list < 2 ^ 63 → All (IsReadable spec) list
+  pub run_readable : (list : List Step) (new : State) → Run spec (boot spec) list new → length list < 2 ^ 63
+      → All (IsReadable spec) list
   run_readable list new run few = all_readable list (boot spec) new 0 (omega (arith, few)) begun run

@@ -1,19 +1,6 @@
 -- The text of steps, line by line.
-use Rattle.std.proofs.Common.{◌≡◌, ◌∙◌, ◌<◌, ◌≤◌, ◌+◌, ℕ, true, false, List, [], ◌∷◌, ◌++◌, Some, None, length, refl, ap, arith}
-use Rattle.std.specs.Prelude.{nat_lt}
-use Rattle.std.specs.List.{All, filter_map}
-use Rattle.std.proofs.lemmas.Bool.Decides.{nat_tests}
-use Rattle.std.proofs.lemmas.List.Elements.{All-head, All-tail}
-use Rattle.cap_machine.specs.declared.step.Step.{Step}
-use Rattle.cap_model.specs.declared.spec.Spec.{Spec}
-use Rattle.step_text.specs.Spelling.{spelled}
-use Rattle.step_text.specs.StepTexts.{first_fault, first_fault_of, past_limit, step_of, steps_of}
-use Rattle.step_text.specs.Threads.{thread_named}
-use Rattle.step_text.specs.StepLines.{steps_text}
-use Rattle.cam_base.specs.Fields.{fields}
-use Rattle.cam_base.specs.Lines.{Line, is_silent, placed, telling}
-use Rattle.cam_base.specs.Parts.{parts}
-use Rattle.step_text.specs.Readable.{IsReadable}
+use Rattle.step_text.proofs.Common.{All, All-head, All-tail, IsReadable, Line, List, None, Some, Spec, Step, [], ap, arith, false, fields, filter_map, first_fault, first_fault_of, is_silent, length, nat_lt, nat_tests, parts, past_limit, placed, refl}
+use Rattle.step_text.proofs.Common.{spelled, step_of, steps_of, steps_text, telling, thread_named, true, ℕ, ◌++◌, ◌+◌, ◌<◌, ◌∙◌, ◌∷◌, ◌≡◌, ◌≤◌}
 use Rattle.step_text.proofs.Fields.{fields_joined, joined, line_parts}
 use Rattle.step_text.proofs.SpelledBack.{behind, line_fields, not_silent, plain_fields, spelled_back, word_of}
 
@@ -22,7 +9,8 @@ module _ (spec : Spec) where
   body : Step → List ℕ
   body step = joined (word_of spec step ∷ behind spec step)
 
-  text_parts : (step : Step) (more : List Step) → IsReadable spec step → parts 10 (steps_text spec (step ∷ more)) ≡ body step ∷ parts 10 (steps_text spec more)
+  text_parts : (step : Step) (more : List Step) → IsReadable spec step → parts 10 (steps_text spec (step ∷ more)) ≡ body step
+      ∷ parts 10 (steps_text spec more)
   unfolding body
   text_parts step more h =
       ap (λ (xs : List ℕ). parts 10 (xs ++ steps_text spec more)) (line_fields spec step)
@@ -31,7 +19,8 @@ module _ (spec : Spec) where
   body_spelled : (step : Step) → IsReadable spec step → spelled (thread_named spec) (fields (body step)) ≡ Some step
   unfolding body
   body_spelled step h =
-      ap (λ (fs : List (List ℕ)). spelled (thread_named spec) fs) (fields_joined (word_of spec step) (behind spec step) (plain_fields spec step h)) ∙ spelled_back spec step h
+      ap (λ (fs : List (List ℕ)). spelled (thread_named spec) fs) (fields_joined (word_of spec step) (behind spec step)
+      (plain_fields spec step h)) ∙ spelled_back spec step h
 
   body_tells : (step : Step) → is_silent (body step) ≡ false
   unfolding body
@@ -45,27 +34,32 @@ module _ (spec : Spec) where
       → lines_at at (step ∷ more) ≡ record { first = at; text = body step } ∷ lines_at (at + (length (body step) + 1)) more
   line_first at step more h = rw (text_parts step more h) (rw (body_tells step) refl)
 
-  spelled_all : (at : ℕ) (more : List Step) → All (IsReadable spec) more → filter_map (step_of (thread_named spec)) (lines_at at more) ≡ more
+  spelled_all : (at : ℕ) (more : List Step) → All (IsReadable spec) more
+      → filter_map (step_of (thread_named spec)) (lines_at at more) ≡ more
   spelled_all at [] h = refl
   spelled_all at (step ∷ more) h =
       let here = All-head (IsReadable spec) step more h in
       ap (λ (ls : List Line). filter_map (step_of (thread_named spec)) ls) (line_first at step more here)
-      ∙ rw (body_spelled step here) (ap (λ (xs : List Step). step ∷ xs) (spelled_all (at + (length (body step) + 1)) more (All-tail (IsReadable spec) step more h)))
+      ∙ rw (body_spelled step here) (ap (λ (xs : List Step). step ∷ xs) (spelled_all (at + (length (body step) + 1)) more
+      (All-tail (IsReadable spec) step more h)))
 
   few : (n : ℕ) → n < 100000 → past_limit n ≡ None
   few n h = let e : nat_lt n 100000 ≡ true = grind (arith, nat_tests) in rw e refl
 
-  faultless : (at before : ℕ) (more : List Step) → All (IsReadable spec) more → before + length more ≤ 100000 → first_fault_of (thread_named spec) before (lines_at at more) ≡ None
+  faultless : (at before : ℕ) (more : List Step) → All (IsReadable spec) more → before + length more ≤ 100000
+      → first_fault_of (thread_named spec) before (lines_at at more) ≡ None
   faultless at before [] h le = refl
   faultless at before (step ∷ more) h le =
       let here = All-head (IsReadable spec) step more h in
       ap (λ (ls : List Line). first_fault_of (thread_named spec) before ls) (line_first at step more here)
-      ∙ rw (body_spelled step here) (rw (few before (omega arith)) (faultless (at + (length (body step) + 1)) (before + 1) more (All-tail (IsReadable spec) step more h) (omega arith)))
+      ∙ rw (body_spelled step here) (rw (few before (omega arith)) (faultless (at + (length (body step) + 1)) (before + 1) more
+      (All-tail (IsReadable spec) step more h) (omega arith)))
 
   pub read_back : (steps : List Step) → All (IsReadable spec) steps → steps_of spec (steps_text spec steps) ≡ steps
   read_back steps h = spelled_all 0 steps h
 
-  pub no_fault : (steps : List Step) → All (IsReadable spec) steps → length steps ≤ 100000 → length (steps_text spec steps) ≤ 67108864 → first_fault spec (steps_text spec steps) ≡ None
+  pub no_fault : (steps : List Step) → All (IsReadable spec) steps → length steps ≤ 100000
+      → length (steps_text spec steps) ≤ 67108864 → first_fault spec (steps_text spec steps) ≡ None
   no_fault steps h few_steps few_bytes =
       let e : nat_lt 67108864 (length (steps_text spec steps)) ≡ false = grind (arith, nat_tests) in
       rw e (faultless 0 0 steps h (omega arith))

@@ -29,7 +29,8 @@ abbrev pub numbers_line : List ℕ → List ℕ → ℕ → ℕ → List ℕ
 numbers_line word thread i j = together (word ∷ thread ∷ codes " " ∷ decimal i ∷ codes " " ∷ decimal j ∷ codes "\n" ∷ [])
 
 abbrev pub copy_line : List ℕ → List ℕ → ℕ → ℕ → Rights → List ℕ
-copy_line word thread i j r = together (word ∷ thread ∷ codes " " ∷ decimal i ∷ codes " " ∷ decimal j ∷ codes " " ∷ rights_field r ∷ codes "\n" ∷ [])
+copy_line word thread i j r = together (word ∷ thread ∷ codes " " ∷ decimal i ∷ codes " " ∷ decimal j ∷ codes " " ∷ rights_field r
+    ∷ codes "\n" ∷ [])
 
 abbrev pub reply_line : List ℕ → ℕ → Rights → List ℕ
 reply_line thread k r = together (codes "reply " ∷ thread ∷ codes " " ∷ decimal k ∷ codes " " ∷ rights_field r ∷ codes "\n" ∷ [])
@@ -39,7 +40,8 @@ call_line t i u j = together (codes "call " ∷ t ∷ codes " " ∷ decimal i �
 
 abbrev pub grant_line : List ℕ → ℕ → List ℕ → ℕ → ℕ → Rights → List ℕ
 grant_line t i u j k r =
-    together (codes "grant " ∷ t ∷ codes " " ∷ decimal i ∷ codes " " ∷ u ∷ codes " " ∷ decimal j ∷ codes " " ∷ decimal k ∷ codes " " ∷ rights_field r ∷ codes "\n" ∷ [])
+    together (codes "grant " ∷ t ∷ codes " " ∷ decimal i ∷ codes " " ∷ u ∷ codes " " ∷ decimal j ∷ codes " " ∷ decimal k
+    ∷ codes " " ∷ rights_field r ∷ codes "\n" ∷ [])
 
 -- the line of a step
 abbrev pub step_line : Spec → Step → List ℕ

@@ -31,7 +31,8 @@ first_unknown place names = unwrap_or (find (λ name. is_none (place name)) name
 
 -- what is wrong with fields that spell no step: they would if every word named a thread, or they are of no step's form
 abbrev pub misspelled : (List ℕ → Option ℕ) → List (List ℕ) → Wrong
-misspelled place fields = if is_some (spelled any_word fields) then (StepUnknown, first_unknown place (names fields)) else (StepSyntax, [])
+misspelled place fields = if is_some (spelled any_word fields) then (StepUnknown, first_unknown place (names fields)) else
+    (StepSyntax, [])
 
 -- what is wrong with a step, where so many stand before it
 abbrev pub past_limit : ℕ → Option Wrong

@@ -1,4 +1,4 @@
-ghost use Rattle.cap_model.specs.Authorities.{authorities};
+ghost use Rattle.authorities.specs.Authorities.{authorities};
 ghost use Rattle.cap_model.specs.Edges.{edge};
 ghost use Rattle.cap_model.specs.Tables.{has};
 ghost use Rattle.cam_base.specs.Gather.{gather};

@@ -142,12 +142,8 @@ Refuses error.NoMemory answer = answer ≡ NoMemory
 -- what a source assigns is drawn with its notes
 abbrev pub Explains : FrontEnd → Answer → Type 0
 Explains f (Shown text) = (notes : List (List ℕ)) × AreNotes (of_front f) f.policy.edges notes × (text ≡ graph_of f.policy notes)
-Explains f (Faulty text) = ⊥
-Explains f (Refused text) = ⊥
-Explains f NoFlow = ⊥
-Explains f Usage = ⊥
-Explains f (ReadFault text) = ⊥
 Explains f NoMemory = Unit {0}
+Explains f _ = ⊥
 
 -- the picture of a source's policy without what fewer than two domains touch
 abbrev pub overview_of : FrontEnd → List ℕ
@@ -187,12 +183,8 @@ page_of root b notes =
 abbrev pub Assesses : List ℕ → Build → Answer → Type 0
 Assesses root b (Shown text) =
     (notes : List (List ℕ)) × ArePageNotes (of_build b) notes × (text ≡ page_text (page_of root b notes))
-Assesses root b (Faulty text) = ⊥
-Assesses root b (Refused text) = ⊥
-Assesses root b NoFlow = ⊥
-Assesses root b Usage = ⊥
-Assesses root b (ReadFault text) = ⊥
 Assesses root b NoMemory = Unit {0}
+Assesses root b _ = ⊥
 
 -- what is wanted of a source that is compiled: the tables of the domain with this label, its page, or its first fault
 pub data Wanted : Type 0 where

@@ -2,7 +2,7 @@
 
 ghost use Rattle.cam_io.specs.Reading.{InAll, KeepsFiles};
 ghost use Rattle.domain_table.specs.Tables.{domain_called, tables_of};
-ghost use Rattle.front_end.specs.Steps.{IsSound};
+ghost use Rattle.front_end.specs.Steps.{HasMeaning};
 ghost use Rattle.std.specs.Prelude.{◌≡◌, ◌<◌, ◌^◌, length};
 ghost use Rattle.view_tool.specs.Answers.{Assesses, FitsBuild, RefusesAs, ShowsBuild, Tabled, named, wanted};
 ghost use Rattle.view_tool.specs.Words.{Gives};
@@ -64,7 +64,7 @@ fn show_table(alloc: Global, build: &Build, label: &str) -> Answer
 /// The page of a source.
 fn show_page(alloc: Global, build: &Build, root: &str) -> Answer
     requires few { length build.now.meaning.flat.domains < 2 ^ 32 }
-    requires sound { IsSound build.now.meaning.source build.now.meaning.flat build.now.meaning.settled }
+    requires sound { HasMeaning build.now.meaning.source build.now.meaning.flat build.now.meaning.settled }
     ensures { Assesses root.now build.now result }
 {
     let grounds = Grounds {
@@ -95,7 +95,7 @@ fn show_page(alloc: Global, build: &Build, root: &str) -> Answer
 
 fn show(alloc: Global, build: &Build, root: &str, asked: Asked<'_>) -> Answer
     requires few { length build.now.meaning.flat.domains < 2 ^ 32 }
-    requires sound { IsSound build.now.meaning.source build.now.meaning.flat build.now.meaning.settled }
+    requires sound { HasMeaning build.now.meaning.source build.now.meaning.flat build.now.meaning.settled }
     ensures { ShowsBuild root.now (wanted asked.entry) build.now result }
 {
     match asked {

@@ -1,6 +1,6 @@
 //! The lines that tell the first reason of each edge.
 
-ghost use Rattle.front_end.specs.Steps.{IsSound};
+ghost use Rattle.front_end.specs.Steps.{HasMeaning};
 ghost use Rattle.std.specs.Prelude.{◌≡◌, leb, length, IfOk};
 ghost use Rattle.view_tool.specs.Notes.{AreNotes, ArePageNotes, IsNote, Tells, label_at, told};
 
@@ -50,7 +50,7 @@ fn note_text(
 
 /// The lines of an edge's first reason.
 fn note_of(alloc: Global, grounds: &Grounds<'_>, edge: &Edge) -> Result<Text, NoMemory>
-    requires { IsSound grounds.now.source.now grounds.now.flat.now grounds.now.settled.now }
+    requires { HasMeaning grounds.now.source.now grounds.now.flat.now grounds.now.settled.now }
     ensures { IfOk result (IsNote (told grounds.now) edge.now) }
 {
     let labels = grounds.policy.labels.as_slice();
@@ -70,7 +70,7 @@ fn note_of(alloc: Global, grounds: &Grounds<'_>, edge: &Edge) -> Result<Text, No
 
 /// The notes of all edges.
 pub(crate) fn notes_of(alloc: Global, grounds: &Grounds<'_>) -> Result<List<Text>, NoMemory>
-    requires { IsSound grounds.now.source.now grounds.now.flat.now grounds.now.settled.now }
+    requires { HasMeaning grounds.now.source.now grounds.now.flat.now grounds.now.settled.now }
     ensures { IfOk result (AreNotes (told grounds.now) grounds.now.policy.now.edges) }
 {
     let edges = &grounds.policy.edges;
@@ -93,7 +93,7 @@ fn are_few(edges: &EdgeTable) -> bool
 
 /// The notes of all edges, where they are not too many for a page.
 pub(crate) fn page_notes(alloc: Global, grounds: &Grounds<'_>) -> Result<List<Text>, NoMemory>
-    requires { IsSound grounds.now.source.now grounds.now.flat.now grounds.now.settled.now }
+    requires { HasMeaning grounds.now.source.now grounds.now.flat.now grounds.now.settled.now }
     ensures { IfOk result (ArePageNotes (told grounds.now)) }
 {
     if are_few(&grounds.policy.edges) {

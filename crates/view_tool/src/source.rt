@@ -1,7 +1,7 @@
 //! Pictures of what a source assigns.
 
 ghost use Rattle.cam_io.specs.Reading.{InAll, KeepsFiles};
-ghost use Rattle.front_end.specs.Steps.{IsSound};
+ghost use Rattle.front_end.specs.Steps.{HasMeaning};
 ghost use Rattle.std.specs.Prelude.{◌≡◌, IfOk};
 ghost use Rattle.source_views.specs.Shapes.{shapes_of};
 ghost use Rattle.view_text.specs.Pictures.{picture_of};
@@ -29,7 +29,7 @@ pub(crate) enum Drawing {
 }
 
 fn draw_reasons(alloc: Global, front: &FrontEnd) -> Answer
-    requires { IsSound front.now.source front.now.flat front.now.settled }
+    requires { HasMeaning front.now.source front.now.flat front.now.settled }
     ensures { Explains front.now result }
 {
     let grounds = Grounds {
@@ -61,7 +61,7 @@ fn overview_of(alloc: Global, front: &FrontEnd) -> Result<List<u8>, NoMemory>
 
 /// What a source assigns, drawn.
 fn draw(alloc: Global, front: &FrontEnd, drawing: Drawing) -> Answer
-    requires { IsSound front.now.source front.now.flat front.now.settled }
+    requires { HasMeaning front.now.source front.now.flat front.now.settled }
     ensures { DrawsFront drawing front.now result }
 {
     match drawing {

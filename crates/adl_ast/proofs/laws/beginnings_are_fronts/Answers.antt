@@ -12,10 +12,13 @@ pub returns-clause-value : goal.returns-clause-value
 returns-clause-value c = begun_is_front token_code samples true nested_line (λ e. nested_spellable) value_line value_parts
 
 pub returns-clause-composition : goal.returns-clause-composition
-returns-clause-composition c = begun_is_front token_code samples true nested_line (λ e. nested_spellable) composition_line composition_parts
+returns-clause-composition c = begun_is_front token_code samples true nested_line (λ e. nested_spellable) composition_line
+    composition_parts
 
 pub returns-clause-configuration : goal.returns-clause-configuration
-returns-clause-configuration c = begun_is_front token_code samples true nested_line (λ e. nested_spellable) configuration_line configuration_parts
+returns-clause-configuration c = begun_is_front token_code samples true nested_line (λ e. nested_spellable) configuration_line
+    configuration_parts
 
 pub returns-clause-assembly : goal.returns-clause-assembly
-returns-clause-assembly c = begun_is_front token_code samples true nested_line (λ e. nested_spellable) assembly_line assembly_parts
+returns-clause-assembly c = begun_is_front token_code samples true nested_line (λ e. nested_spellable) assembly_line
+    assembly_parts

@@ -12,4 +12,5 @@ pub returns-clause-at_any_depth : goal.returns-clause-at_any_depth
 returns-clause-at_any_depth c = depths_agree interface_line interface_written interface_to interface_from
 
 pub returns-clause-begun : goal.returns-clause-begun
-returns-clause-begun c = begun_agree interface_line interface_written interface_to interface_from interface_parts interface_written_parts
+returns-clause-begun c = begun_agree interface_line interface_written interface_to interface_from interface_parts
+    interface_written_parts

@@ -28,7 +28,8 @@ loop-number-preserved c =
     let h : d < length ws = omega arith in
     let v : c.index_mut.result.now ≡ inner_of ws d = inner_at ws d _ h c.index_mut.ensures.value in
     let w : c.push.new.self ≡ inner_of ws d ++ a ∷ [] = c.in_ok-push.ensures.ok ∙ ap (λ xs. xs ++ a ∷ []) v in
-    let P : List ℕ → Type 0 = λ v. (c x : ℕ) → has (inner_of (set ws d v) c) x ≡ true → ((x ≡ a) × (has inner c ≡ true)) ⊎ (has (inner_of old c) x ≡ true) in
+    let P : List ℕ → Type 0 = λ v. (c x : ℕ) → has (inner_of (set ws d v) c) x ≡ true → ((x ≡ a) × (has inner c ≡ true))
+    ⊎ (has (inner_of old c) x ≡ true) in
     record {
       size = length-set ws d c.push.new.self ∙ s;
       edges = subst P (sym w) (turned_more ws old inner a d h e c.loop-number.invariant.edges);

@@ -35,14 +35,17 @@ push_unseen-requires-clause-inner c = λ x e.
     let s : c.as_slice.result.now ≡ inner_of g a = c.as_slice.ensures ∙ inner_at _ _ _ l c.index-graph-component.is in
     let P : List ℕ → Type 0 = λ xs. has xs x ≡ true in
     let k : x < length g = c.requires.range a x l (subst P s e) in
-    let size : c.insert-else-contains.new.self.size ≡ length g = ap (λ (z : Numbers). z.size) c.in_ok-insert-2.ensures ∙ c.loop-step.invariant.seen in
+    let size : c.insert-else-contains.new.self.size ≡ length g = ap (λ (z : Numbers). z.size) c.in_ok-insert-2.ensures
+    ∙ c.loop-step.invariant.seen in
     omega arith
 
 pub push_unseen-requires-clause-waiting : goal.push_unseen-requires-clause-waiting
 push_unseen-requires-clause-waiting c = λ x e.
     let g = c.args.graph.now in
-    let k : x < length g = c.loop-step.invariant.waiting x (let P : List ℕ → Type 0 = λ xs. has xs x ≡ true in subst P (c.in_ok-push.ensures.items ∙ sym c.in-Some.ensures.items) e) in
-    let size : c.insert-else-contains.new.self.size ≡ length g = ap (λ (z : Numbers). z.size) c.in_ok-insert-2.ensures ∙ c.loop-step.invariant.seen in
+    let k : x < length g = c.loop-step.invariant.waiting x (let P : List ℕ → Type 0 = λ xs. has xs x ≡ true in
+    subst P (c.in_ok-push.ensures.items ∙ sym c.in-Some.ensures.items) e) in
+    let size : c.insert-else-contains.new.self.size ≡ length g = ap (λ (z : Numbers). z.size) c.in_ok-insert-2.ensures
+    ∙ c.loop-step.invariant.seen in
     omega arith
 
 pub loop-step-preserved : goal.loop-step-preserved
@@ -57,7 +60,8 @@ loop-step-preserved c =
         waiting = subst Q (sym w.waiting-is) (rest_below _ _ _ n c.in-Some.ensures.items c.loop-step.invariant.waiting);
       }
       | else-contains+in_ok-insert-2+in_ok-push+in_ok-push_unseen w ↦
-          let size : w.insert-else-contains.new.self.size ≡ n = ap (λ (z : Numbers). z.size) w.in_ok-insert-2.ensures ∙ c.loop-step.invariant.seen in
+          let size : w.insert-else-contains.new.self.size ≡ n = ap (λ (z : Numbers). z.size) w.in_ok-insert-2.ensures
+          ∙ c.loop-step.invariant.seen in
           let R : ℕ → Type 0 = λ m. (x : ℕ) → has w.push_unseen.new.waiting.items x ≡ true → x < m in
           record {
             seen = subst P (sym w.seen-is) size;

@@ -15,6 +15,7 @@ loop-number-preserved c =
     let P : Vec ℕ Global → Type 0 = λ v. (x : ℕ) → has v.items x ≡ true → x < c.args.seen.now.size in
     elim c.if-not-contains.branch [
       | then-not-contains+in_ok-push w ↦
-          subst P (sym w.waiting-is) (more_below c.loop-number.waiting.items _ _ _ w.in_ok-push.ensures.items c.loop-number.invariant l)
+          subst P (sym w.waiting-is) (more_below c.loop-number.waiting.items _ _ _ w.in_ok-push.ensures.items
+          c.loop-number.invariant l)
       | else-not-contains w ↦ subst P (sym w.waiting-is) c.loop-number.invariant
     ]

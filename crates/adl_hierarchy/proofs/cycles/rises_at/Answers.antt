@@ -13,7 +13,8 @@ loop-number-preserved c = λ d e.
     let roots = c.args.roots.now in
     let ranks = c.args.ranks.now in
     let n : ℕ = get_or inner c.loop-number.number-index 0 in
-    let P : ℕ → Type 0 = λ y. (get_or roots y 0 ≡ c.args.root) ⊎ (get_or ranks c.args.root 0 < get_or ranks (get_or roots y 0) 0) in
+    let P : ℕ → Type 0 = λ y. (get_or roots y 0 ≡ c.args.root)
+    ⊎ (get_or ranks c.args.root 0 < get_or ranks (get_or roots y 0) 0) in
     elim (has_more inner c.loop-number.number-index d (omega arith) e) [
       | inl p ↦ c.loop-number.invariant d p
       | inr s ↦ subst P (sym s) (elim c.else-other-root.branch [

@@ -13,5 +13,7 @@ returns-then-rises c =
     let R : List ℕ → Type 0 = λ rs. (a d : ℕ) → a < length g → has (inner_of g a) d ≡ true
     → (get_or rs d 0 ≡ get_or rs a 0) ⊎ (get_or ranks (get_or rs a 0) 0 < get_or ranks (get_or rs d 0) 0) in
     let P : List ℕ → Type 0 = λ ns. TellCycles g ns in
-    subst P (sym c.from_vec.ensures) (told g c.args.turned.now c.args.roots.items others ranks c.requires.range c.requires.turned c.requires.roots c.requires.others
-    (subst A c.as_slice.ensures.value (c.if-agree.ensures refl)) (subst R c.as_slice-then-agree.ensures.value (c.if-rises.ensures refl)))
+    subst P (sym c.from_vec.ensures) (told g c.args.turned.now c.args.roots.items others ranks c.requires.range c.requires.turned
+    c.requires.roots c.requires.others
+    (subst A c.as_slice.ensures.value (c.if-agree.ensures refl)) (subst R c.as_slice-then-agree.ensures.value
+    (c.if-rises.ensures refl)))

@@ -7,7 +7,9 @@ pub loop-number-init : goal.loop-number-init
 loop-number-init c = more_none _
 
 pub insert-requires : goal.insert-requires
-insert-requires c = rw c.loop-number.invariant.size (c.requires _ (has_at c.args.numbers.now c.loop-number.number-index (omega arith)))
+insert-requires c =
+    rw c.loop-number.invariant.size (c.requires _ (has_at c.args.numbers.now c.loop-number.number-index (omega arith)))
 
 pub loop-number-preserved : goal.loop-number-preserved
-loop-number-preserved c = more_next _ _ _ _ c.loop-number.number-index (omega arith) c.loop-number.invariant c.in_ok-insert.ensures
+loop-number-preserved c = more_next _ _ _ _ c.loop-number.number-index (omega arith) c.loop-number.invariant
+    c.in_ok-insert.ensures

@@ -4,4 +4,5 @@ use Rattle.adl_items.specs.Located.{located}
 use Rattle.adl_items.proofs.located.assemblies.Given as goal
 
 abbrev pub invariant-loop-x : goal.invariant-loop-x
-invariant-loop-x l = map located l.found.items ++ filter_map as_assembly (map located (drop l.x-index l.items)) ≡ filter_map as_assembly (map located l.items)
+invariant-loop-x l = map located l.found.items ++ filter_map as_assembly (map located (drop l.x-index l.items)) ≡ filter_map
+    as_assembly (map located l.items)

@@ -4,6 +4,8 @@ use Rattle.adl_names.proofs.bodies.bodies.Given as goal
 
 abbrev pub invariant-loop-x : goal.invariant-loop-x
 invariant-loop-x l = record {
-  noted : noted l.first (flat_map (λ x. duplicates_in_item x.1) (map located (drop l.x-index l.x-items))) ≡ noted l.fn.first (flat_map (λ x. duplicates_in_item x.1) (items_of l.items));
-  bodies : map item_of l.bodies.items ++ map (λ x. x.1) (map located (drop l.x-index l.x-items)) ≡ map (λ x. x.1) (items_of l.items);
+  noted : noted l.first (flat_map (λ x. duplicates_in_item x.1) (map located (drop l.x-index l.x-items))) ≡ noted l.fn.first
+      (flat_map (λ x. duplicates_in_item x.1) (items_of l.items));
+  bodies : map item_of l.bodies.items ++ map (λ x. x.1) (map located (drop l.x-index l.x-items)) ≡ map (λ x. x.1)
+      (items_of l.items);
 }

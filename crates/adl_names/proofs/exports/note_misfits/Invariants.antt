@@ -4,10 +4,12 @@ use Rattle.adl_names.proofs.exports.note_misfits.Given as goal
 
 abbrev pub invariant-loop-body : goal.invariant-loop-body
 invariant-loop-body l =
-    noted l.first (flat_map (misfits_in_item (known_in l.tables)) (map item_of (drop l.body-index l.body-items))) ≡ noted l.fn.first (flat_map (misfits_in_item (known_in l.tables)) (map (λ x. x.1) (items_of l.tables)))
+    noted l.first (flat_map (misfits_in_item (known_in l.tables)) (map item_of (drop l.body-index l.body-items))) ≡ noted
+    l.fn.first (flat_map (misfits_in_item (known_in l.tables)) (map (λ x. x.1) (items_of l.tables)))
 
 abbrev pub invariant-loop-holding : goal.invariant-loop-holding
 invariant-loop-holding l =
-    noted l.first (flat_map (misfits_in_composition (known_in l.tables) (Some (known_of l.table))) (drop l.holding-index l.holding-items)
+    noted l.first (flat_map (misfits_in_composition (known_in l.tables) (Some (known_of l.table)))
+    (drop l.holding-index l.holding-items)
     ++ flat_map (misfits_in_item (known_in l.tables)) (map item_of (drop (l.body-index + 1) l.body-items)))
     ≡ noted l.fn.first (flat_map (misfits_in_item (known_in l.tables)) (map (λ x. x.1) (items_of l.tables)))

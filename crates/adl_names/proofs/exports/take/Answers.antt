@@ -2,7 +2,8 @@ use Rattle.adl_names.proofs.Common.{Bool, Name, None, Some, ap, arith, as_port, 
 use Rattle.adl_meaning.specs.Export.{inner_of}
 use Rattle.adl_names.proofs.exports.take.Goals as goal
 
-or_from_keys : (f g : ℕ) (m n : Name) (rest : Bool) → cond (nat_eq f g && bytes_eq m n) true rest ≡ (rest || (nat_eq g f && bytes_eq n m))
+or_from_keys : (f g : ℕ) (m n : Name) (rest : Bool)
+    → cond (nat_eq f g && bytes_eq m n) true rest ≡ (rest || (nat_eq g f && bytes_eq n m))
 or_from_keys f g m n rest = by_test (bytes_eq m n) rest ∙ ap (λ z. rest || (nat_eq g f && z)) (bytes_eq-sym m n)
   where
     by_test : (b rest : Bool) → cond (nat_eq f g && b) true rest ≡ (rest || (nat_eq g f && b))
@@ -18,4 +19,5 @@ returns-clause-taken c = λ p.
     c.in_ok-is_new.ensures.updates.0 (p.0.id.place.first, record { ref_ptr = (0, 0); now = p.1 })
     ∙ ap (λ n. cond (nat_eq first p.0.id.place.first && bytes_eq n p.1) true had) c.as_bytes.ensures.bytes
     ∙ or_from_keys first p.0.id.place.first port.interface.now p.1 had
-    ∙ sym (ap (λ o. had || is_port (inner_of types (option_map as_port o)) p) c.in-Some.is ∙ ap (λ b. had || is_port (cond b (Some (as_port port)) None) p) declared)
+    ∙ sym (ap (λ o. had || is_port (inner_of types (option_map as_port o)) p) c.in-Some.is
+    ∙ ap (λ b. had || is_port (cond b (Some (as_port port)) None) p) declared)

@@ -7,4 +7,6 @@ invariant-loop-x l =
 
 abbrev pub invariant-loop-instance : goal.invariant-loop-instance
 invariant-loop-instance l =
-    (l.types ++ filter_map (λ i. found l.numbers i.component.name) (pointed (drop l.instance-index l.instance-items))) ∷ graph_of (found l.numbers) (trees (drop (l.x-index + 1) l.components)) ≡ graph_of (found l.numbers) (trees (drop l.x-index l.components))
+    (l.types ++ filter_map (λ i. found l.numbers i.component.name) (pointed (drop l.instance-index l.instance-items)))
+    ∷ graph_of (found l.numbers) (trees (drop (l.x-index + 1) l.components)) ≡ graph_of (found l.numbers)
+    (trees (drop l.x-index l.components))

@@ -3,7 +3,8 @@ use Rattle.adl_names.proofs.repeats.note_procedure.Given as goal
 
 abbrev pub invariant-loop-member : goal.invariant-loop-member
 invariant-loop-member l =
-    noted l.first (repeats_after (has_name l.met) (map (λ m. m.id) (filter_map as_method (drop l.member-index l.procedure.members))))
+    noted l.first
+    (repeats_after (has_name l.met) (map (λ m. m.id) (filter_map as_method (drop l.member-index l.procedure.members))))
     ≡ noted l.fn.first (repeats (map (λ m. m.id) (filter_map as_method l.procedure.members)))
 
 abbrev pub invariant-loop-part : goal.invariant-loop-part
@@ -13,5 +14,6 @@ invariant-loop-part l =
 
 abbrev pub invariant-loop-param : goal.invariant-loop-param
 invariant-loop-param l =
-    noted l.first (repeats_after (has_name l.taken) (map (λ a. a.id) (drop l.param-index l.param-items)) ++ flat_map repeated_params (filter_map as_method (drop (l.part-index + 1) l.part-items)))
+    noted l.first (repeats_after (has_name l.taken) (map (λ a. a.id) (drop l.param-index l.param-items))
+    ++ flat_map repeated_params (filter_map as_method (drop (l.part-index + 1) l.part-items)))
     ≡ noted l.fn.first (duplicates_in_procedure l.procedure)

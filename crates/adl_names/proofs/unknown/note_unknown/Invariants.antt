@@ -4,5 +4,7 @@ use Rattle.adl_names.proofs.unknown.note_unknown.Given as goal
 
 abbrev pub invariant-loop-body : goal.invariant-loop-body
 invariant-loop-body l =
-    noted l.first (flat_map (unknown_in_item (known_in l.tables) (is_procedure l.tables)) (map item_of (drop l.body-index l.body-items)))
-    ≡ noted l.fn.first (flat_map (unknown_in_item (known_in l.tables) (is_procedure l.tables)) (map (λ x. x.1) (items_of l.tables)))
+    noted l.first (flat_map (unknown_in_item (known_in l.tables) (is_procedure l.tables))
+    (map item_of (drop l.body-index l.body-items)))
+    ≡ noted l.fn.first (flat_map (unknown_in_item (known_in l.tables) (is_procedure l.tables))
+    (map (λ x. x.1) (items_of l.tables)))

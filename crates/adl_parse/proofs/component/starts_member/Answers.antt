@@ -16,7 +16,8 @@ returns-then-starts_interface c =
     let body = starts token_code body_codes t in
     let three = starts_three token_code flag_codes interface_codes body_codes t in
     elim c.if-starts_flag.branch [
-      | then-starts_flag w ↦ c.if-starts_interface.true ∙ sym (three ∙ ap (λ z. z || (interface || body)) (sym c.starts_flag.ensures ∙ w.if-starts_flag.true))
+      | then-starts_flag w ↦ c.if-starts_interface.true
+          ∙ sym (three ∙ ap (λ z. z || (interface || body)) (sym c.starts_flag.ensures ∙ w.if-starts_flag.true))
       | else-starts_flag w ↦
           c.if-starts_interface.true
           ∙ sym

@@ -39,13 +39,17 @@ abbrev pub decreases-bracketed : goal.decreases-bracketed
 decreases-bracketed l = 10 * l.room + 7
 
 abbrev pub invariant-values-more : goal.invariant-values-more
-invariant-values-more l = with_front l.items (nests l.room (Many (behind (mark_code marks.Comma) value_form)) (see l.bytes l.rest)) ≡ nests l.room values_line (see l.bytes l.fn.tokens)
+invariant-values-more l =
+    with_front l.items (nests l.room (Many (behind (mark_code marks.Comma) value_form)) (see l.bytes l.rest)) ≡ nests l.room
+    values_line (see l.bytes l.fn.tokens)
 
 abbrev pub decreases-values-more : goal.decreases-values-more
 decreases-values-more l = length (see l.bytes l.rest)
 
 abbrev pub invariant-entries-more : goal.invariant-entries-more
-invariant-entries-more l = with_front l.items (nests l.room (Many (behind (mark_code marks.Comma) entry_form)) (see l.bytes l.rest)) ≡ nests l.room entries_line (see l.bytes l.fn.tokens)
+invariant-entries-more l =
+    with_front l.items (nests l.room (Many (behind (mark_code marks.Comma) entry_form)) (see l.bytes l.rest)) ≡ nests l.room
+    entries_line (see l.bytes l.fn.tokens)
 
 abbrev pub decreases-entries-more : goal.decreases-entries-more
 decreases-entries-more l = length (see l.bytes l.rest)

@@ -11,5 +11,6 @@ returns-clause-value c =
       badge = (c.in_ok-badge.ensures.value ∙ ap (λ b. where_set b (value_of h j (codes "_attributes"))) c.has_badge.ensures) i;
       size = c.in_ok-size.ensures.value i;
       paddr = (c.in_ok-paddr.ensures.value ∙ ap (λ b. where_set b (value_of h j (codes "_paddr"))) c.is_device_memory.ensures) i;
-      irq = (c.in_ok-irq.ensures.value ∙ ap (λ b. where_set b (value_of h j (codes "_irq_number"))) c.is_device_event-has_irq.ensures) i;
+      irq = (c.in_ok-irq.ensures.value ∙ ap (λ b. where_set b (value_of h j (codes "_irq_number")))
+          c.is_device_event-has_irq.ensures) i;
     }

@@ -6,6 +6,10 @@ returns-clause-found c =
     let h = c.args.lookup.now in
     λ i. record {
       leaf = c.args.leaf.now;
-      priority = (c.in_ok-priority.ensures.value ∙ (λ j. where_set (not (sym c.if-leaf.false j)) (value_at h (c.names-path.ensures j) (codes "_priority")))) i;
-      stack = (c.in_ok-stack.ensures.value ∙ (λ j. where_set (not (sym c.if-leaf.false j)) (value_at h (c.names-path.ensures j) (codes "_stack_size")))) i;
+      priority =
+          (c.in_ok-priority.ensures.value
+          ∙ (λ j. where_set (not (sym c.if-leaf.false j)) (value_at h (c.names-path.ensures j) (codes "_priority")))) i;
+      stack =
+          (c.in_ok-stack.ensures.value
+          ∙ (λ j. where_set (not (sym c.if-leaf.false j)) (value_at h (c.names-path.ensures j) (codes "_stack_size")))) i;
     }

@@ -15,6 +15,7 @@ returns-clause-fault c =
     let h = c.args.bodies.now in
     let start = c.in_ok-settings.ensures.noted ∙ ap (λ o. noted o (settings_twice h)) c.none-first.ensures in
     subst (λ (o : Option Fault). Refuses c.settled.result o)
-    ((λ i. noted (start i) (value_faults ((c.as_slice.ensures.value ∙ c.in_ok-leaves.ensures.found) i) ((c.as_slice-2.ensures.value ∙ c.in_ok-connections.ensures) i)))
+    ((λ i. noted (start i) (value_faults ((c.as_slice.ensures.value ∙ c.in_ok-leaves.ensures.found) i)
+    ((c.as_slice-2.ensures.value ∙ c.in_ok-connections.ensures) i)))
     ∙ first_noted c.args.source.now h c.args.flat.now c.requires.bodies c.requires.flat)
     c.settled.ensures.fault

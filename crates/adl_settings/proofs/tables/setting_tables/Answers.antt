@@ -6,10 +6,12 @@ pub loop-number-preserved : goal.loop-number-preserved
 loop-number-preserved c =
     let h = c.args.bodies.now in
     let before = c.loop-number.invariant in
-    let next = bodies_next h c.loop-number.number (omega (arith, c.loop-number-test.true, c.top_number-number-end.ensures.number)) in
+    let next =
+    bodies_next h c.loop-number.number (omega (arith, c.loop-number-test.true, c.top_number-number-end.ensures.number)) in
     record {
       so_many = ap length c.in_ok-push.ensures.items ∙ search (arith, before.so_many);
-      each = each_more (IsTable h) c.loop-number.tables.items c.push.new.self.items c.in_ok-table_of.field-0 c.loop-number.number before.so_many c.in_ok-push.ensures.items before.each c.in_ok-table_of.ensures.found;
+      each = each_more (IsTable h) c.loop-number.tables.items c.push.new.self.items c.in_ok-table_of.field-0 c.loop-number.number
+          before.so_many c.in_ok-push.ensures.items before.each c.in_ok-table_of.ensures.found;
       twice = grind (arith, noted-append, next, c.in_ok-table_of.ensures.noted, before.twice);
     }
 
@@ -18,7 +20,17 @@ returns-clause-found c =
     let h = c.args.bodies.now in
     let last = c.top_number.result in
     let at_last = body-behind h last (omega (arith, c.top_number.ensures.number)) in
-    each_or (IsTable h) c.loop-number.tables.items c.in_ok-top.top (λ k l. c.loop-number.invariant.each k (omega (arith, l, c.loop-number.invariant.so_many)))
+    each_or (IsTable h) c.loop-number.tables.items c.in_ok-top.top
+    (λ k l. c.loop-number.invariant.each k (omega (arith, l, c.loop-number.invariant.so_many)))
     (λ k l p x.
     c.in_ok-top.ensures.found p x
-    ∙ setting_of-same h last k (at_last ∙ sym (body-behind h k (omega (arith, l, c.loop-number.invariant.so_many, c.loop-number-test.false, c.top_number-number-end.ensures.number)))) p x)
+    ∙ setting_of-same h last k
+    (at_last
+    ∙ sym
+    (body-behind h k (omega (
+      arith,
+      l,
+      c.loop-number.invariant.so_many,
+      c.loop-number-test.false,
+      c.top_number-number-end.ensures.number,
+    )))) p x)

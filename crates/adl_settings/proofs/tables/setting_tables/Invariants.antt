@@ -6,5 +6,6 @@ abbrev pub invariant-loop-number : goal.invariant-loop-number
 invariant-loop-number l = record {
   so_many : length l.tables.items ≡ l.number;
   each : (k : ℕ) → k < l.number → (t : SettingTable) → IsTable l.bodies k (get_or l.tables.items k t);
-  twice : noted l.first (flat_map (repeated_in l.bodies) (enumerate_from l.number (drop l.number (all_bodies l.bodies)))) ≡ noted l.fn.first (settings_twice l.bodies);
+  twice : noted l.first (flat_map (repeated_in l.bodies) (enumerate_from l.number (drop l.number (all_bodies l.bodies)))) ≡ noted
+      l.fn.first (settings_twice l.bodies);
 }

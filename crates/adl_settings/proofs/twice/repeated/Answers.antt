@@ -8,8 +8,23 @@ loop-number-preserved c = λ n.
     let i = c.loop-number.number-index in
     let more = count_by_more_yes (λ m. nat_eq n m) xs i 0 c.loop-number-test.true in
     let same = count_by_more_no (λ m. nat_eq n m) xs i 0 c.loop-number-test.true in
-    grind (arith, nat_tests, c.loop-number.invariant n, c.loop-number.invariant (get_or xs i 0), c.contains_key-is_met.ensures, c.in_ok-insert.ensures.updates.0 n, more, same)
+    grind (
+      arith,
+      nat_tests,
+      c.loop-number.invariant n,
+      c.loop-number.invariant (get_or xs i 0),
+      c.contains_key-is_met.ensures,
+      c.in_ok-insert.ensures.updates.0 n,
+      more,
+      same,
+    )
 
 pub returns : goal.returns
 unfolding is_marked
-returns c = λ n. grind (arith, nat_tests, c.loop-number.invariant n, take_all c.loop-number.number-index c.args.numbers.now c.loop-number-test.false)
+returns c = λ n. grind (
+  arith,
+  nat_tests,
+  c.loop-number.invariant n,
+  take_all c.loop-number.number-index c.args.numbers.now
+      c.loop-number-test.false,
+)

@@ -6,5 +6,6 @@ invariant-loop-number l = l.first ≡ noted None (faults_below l.program l.numbe
 
 abbrev pub invariant-loop-wire : goal.invariant-loop-wire
 invariant-loop-wire l =
-    noted l.first (flat_map (wire_faults l.program l.number) (drop l.wire-index l.wire-items) ++ option_map_or (λ c. flat_map size_faults c.members) (body l.program l.number).component [])
+    noted l.first (flat_map (wire_faults l.program l.number) (drop l.wire-index l.wire-items)
+    ++ option_map_or (λ c. flat_map size_faults c.members) (body l.program l.number).component [])
     ≡ noted None (faults_below l.program (l.number + 1))

@@ -1,6 +1,4 @@
-use Rattle.std.proofs.Common.{◌≡◌, [], take}
-use Rattle.boot_plan.specs.Devices.{device_refusal}
-use Rattle.boot_plan.specs.DevicesTold.{IsSetOf}
+use Rattle.boot_plan.proofs.Common.{IsSetOf, [], device_refusal, take, ◌≡◌}
 use Rattle.boot_plan.proofs.Pages.{pages, refusal_from}
 use Rattle.boot_plan.proofs.device.device_refusal.Given as goal
 

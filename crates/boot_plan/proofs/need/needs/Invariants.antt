@@ -1,6 +1,4 @@
-use Rattle.std.proofs.Common.{◌≡◌, map, take}
-use Rattle.boot_plan.specs.Needs.{need}
-use Rattle.cap_model.specs.declared.spec.Entry.{Entry}
+use Rattle.boot_plan.proofs.Common.{Entry, map, need, take, ◌≡◌}
 use Rattle.boot_plan.proofs.need.needs.Given as goal
 
 abbrev pub invariant-loop-entry : goal.invariant-loop-entry

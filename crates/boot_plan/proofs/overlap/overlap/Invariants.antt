@@ -1,5 +1,4 @@
-use Rattle.std.proofs.Common.{◌≡◌, take, drop}
-use Rattle.boot_plan.specs.Overlaps.{first_overlap, overlap_behind}
+use Rattle.boot_plan.proofs.Common.{drop, first_overlap, overlap_behind, take, ◌≡◌}
 use Rattle.boot_plan.proofs.overlap.overlap.Given as goal
 
 abbrev pub invariant-loop-second : goal.invariant-loop-second

@@ -1,6 +1,4 @@
-use Rattle.std.proofs.Common.{◌≡◌, ◌≤◌, ◌<◌, ◌*◌, ℕ, length, take}
-use Rattle.std.specs.List.{slice_index}
-use Rattle.boot_plan.specs.Rooms.{had}
+use Rattle.boot_plan.proofs.Common.{had, length, slice_index, take, ℕ, ◌*◌, ◌<◌, ◌≡◌, ◌≤◌}
 use Rattle.boot_plan.proofs.pack.bases.Given as goal
 
 abbrev pub invariant-loop-region : goal.invariant-loop-region

@@ -1,6 +1,4 @@
-use Rattle.std.proofs.Common.{◌≡◌, ◌<◌, ◌+◌, ℕ, length}
-use Rattle.std.specs.List.{slice_index}
-use Rattle.boot_plan.specs.Rooms.{needed}
+use Rattle.boot_plan.proofs.Common.{length, needed, slice_index, ℕ, ◌+◌, ◌<◌, ◌≡◌}
 use Rattle.boot_plan.proofs.pack.starts.Given as goal
 
 abbrev pub invariant-loop-bits : goal.invariant-loop-bits

@@ -1,4 +1,4 @@
-use Rattle.std.proofs.Common.{sym, arith}
+use Rattle.boot_plan.proofs.Common.{arith, sym}
 use Rattle.boot_plan.proofs.Reading.{no_region}
 use Rattle.boot_plan.proofs.read.read_region.Goals as goal
 

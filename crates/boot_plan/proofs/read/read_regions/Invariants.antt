@@ -1,6 +1,4 @@
-use Rattle.std.proofs.Common.{◌≡◌, ◌++◌, length}
-use Rattle.boot_plan.specs.UntypedTexts.{first_bad, regions_in}
-use Rattle.cam_base.specs.LinesLeft.{lines_left}
+use Rattle.boot_plan.proofs.Common.{first_bad, length, lines_left, regions_in, ◌++◌, ◌≡◌}
 use Rattle.boot_plan.proofs.Reading.{Sound}
 use Rattle.boot_plan.proofs.read.read_regions.Given as goal
 

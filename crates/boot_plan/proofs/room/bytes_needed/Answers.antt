@@ -1,8 +1,4 @@
-use Rattle.std.proofs.Common.{get_or, arith}
-use Rattle.std.proofs.lemmas.List.Sums.{sum_by_more}
-use Rattle.boot_plan.specs.Rooms.{block_bytes}
-use Rattle.boot_plan.specs.declared.need.Need.{Need}
-use Rattle.boot_plan.specs.declared.need.Need.TheVariants.{Nothing}
+use Rattle.boot_plan.proofs.Common.{Need, Nothing, arith, block_bytes, get_or, sum_by_more}
 use Rattle.boot_plan.proofs.Usual.{block_small, usual_got}
 use Rattle.boot_plan.proofs.room.bytes_needed.Goals as goal
 

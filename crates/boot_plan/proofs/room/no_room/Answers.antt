@@ -1,4 +1,4 @@
-use Rattle.std.proofs.Common.{arith}
+use Rattle.boot_plan.proofs.Common.{arith}
 use Rattle.boot_plan.proofs.Usual.{none_needed}
 use Rattle.boot_plan.proofs.room.no_room.Goals as goal
 

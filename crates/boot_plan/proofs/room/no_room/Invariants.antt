@@ -1,5 +1,4 @@
-use Rattle.std.proofs.Common.{ℕ, ◌≤◌, ◌<◌, ◌+◌}
-use Rattle.boot_plan.specs.Rooms.{had, needed}
+use Rattle.boot_plan.proofs.Common.{had, needed, ℕ, ◌+◌, ◌<◌, ◌≤◌}
 use Rattle.boot_plan.proofs.room.no_room.Given as goal
 
 abbrev pub invariant-loop-less : goal.invariant-loop-less

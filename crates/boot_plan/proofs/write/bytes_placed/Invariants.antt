@@ -1,6 +1,4 @@
-use Rattle.std.proofs.Common.{◌≡◌, ◌≤◌, ◌*◌, length, take}
-use Rattle.std.specs.List.{sum_by, zip}
-use Rattle.boot_plan.specs.Texts.{bytes_placed}
+use Rattle.boot_plan.proofs.Common.{bytes_placed, length, sum_by, take, zip, ◌*◌, ◌≡◌, ◌≤◌}
 use Rattle.boot_plan.proofs.write.bytes_placed.Given as goal
 
 abbrev pub invariant-loop-entry : goal.invariant-loop-entry

@@ -1,6 +1,4 @@
-use Rattle.std.proofs.Common.{◌≡◌, ◌≤◌, length, take}
-use Rattle.std.specs.List.{sum_by, zip}
-use Rattle.boot_plan.specs.Texts.{one_placed}
+use Rattle.boot_plan.proofs.Common.{length, one_placed, sum_by, take, zip, ◌≡◌, ◌≤◌}
 use Rattle.boot_plan.proofs.write.objects_placed.Given as goal
 
 abbrev pub invariant-loop-place : goal.invariant-loop-place

@@ -1,5 +1,4 @@
-use Rattle.std.proofs.Common.{refl, []}
-use Rattle.cam_io.proofs.Sequence.{wrote_none}
+use Rattle.boot_plan.proofs.Common.{[], refl, wrote_none}
 use Rattle.boot_plan.proofs.write.write_place.Goals as goal
 
 pub returns-in_default : goal.returns-in_default

@@ -1,34 +1,44 @@
-use Rattle.std.proofs.Common.{length, rules}
-use Rattle.std.specs.List.{zip}
-use Rattle.std.proofs.lemmas.List.{length_push}
-use Rattle.std.proofs.lemmas.Slice.Zip.{zip_end, zip_turn}
-use Rattle.cam_io.proofs.Lines.{lines_begin, lines_end, lines_fail, lines_step}
-use Rattle.cam_io.proofs.Sequence.{writes_exit}
-use Rattle.boot_plan.specs.Texts.{place_line}
+use Rattle.boot_plan.proofs.Common.{length, length_push, lines_begin, lines_end, lines_fail, lines_step, place_line, rules, writes_exit, zip, zip_end, zip_turn}
 use Rattle.boot_plan.proofs.Zipping.{few_turn, turn, turned}
 use Rattle.boot_plan.proofs.write.write_places.Goals as goal
 
 pub loop-entry-init : goal.loop-entry-init
-loop-entry-init g c = lines_begin (place_line c.args.spec.now.arch) (zip c.args.spec.now.entries c.args.places.now) c.requires.open
+loop-entry-init g c = lines_begin (place_line c.args.spec.now.arch) (zip c.args.spec.now.entries c.args.places.now)
+    c.requires.open
 
 pub write_place-requires-clause-few : goal.write_place-requires-clause-few
 write_place-requires-clause-few g c =
     let t = turn c.args.spec.now.entries c.args.places.now (length c.loop-entry.yielded) c.in-Some.entry.now c.in-Some.place.now
-    (zip_turn c.args.spec.now.entries c.args.places.now c.loop-entry.yielded c.into_iter-entry-iterator.result c.loop-entry.entry-iterator c.next.new.self c.next.result (search rules) (search rules) c.loop-entry.yielded_by (c.in-Some.entry, c.in-Some.place) c.in-Some.is c.next.ensures.steps) in
-    few_turn c.args.spec.now c.args.places.now (length c.loop-entry.yielded) c.in-Some.entry.now c.in-Some.place.now c.requires.kept t
+    (zip_turn c.args.spec.now.entries c.args.places.now c.loop-entry.yielded c.into_iter-entry-iterator.result
+    c.loop-entry.entry-iterator c.next.new.self c.next.result (search rules) (search rules) c.loop-entry.yielded_by
+    (c.in-Some.entry, c.in-Some.place) c.in-Some.is c.next.ensures.steps) in
+    few_turn c.args.spec.now c.args.places.now (length c.loop-entry.yielded) c.in-Some.entry.now c.in-Some.place.now
+    c.requires.kept t
 
 pub returns-in_err-write_place : goal.returns-in_err-write_place
 returns-in_err-write_place g c =
     let t = turn c.args.spec.now.entries c.args.places.now (length c.loop-entry.yielded) c.in-Some.entry.now c.in-Some.place.now
-    (zip_turn c.args.spec.now.entries c.args.places.now c.loop-entry.yielded c.into_iter-entry-iterator.result c.loop-entry.entry-iterator c.next.new.self c.next.result (search rules) (search rules) c.loop-entry.yielded_by (c.in-Some.entry, c.in-Some.place) c.in-Some.is c.next.ensures.steps) in
-    writes_exit c.from_residual.ensures.0 (lines_fail (place_line c.args.spec.now.arch) (zip c.args.spec.now.entries c.args.places.now) (length c.loop-entry.yielded) (c.in-Some.entry.now, c.in-Some.place.now) t.within t.is c.loop-entry.invariant c.in_err-write_place.ensures)
+    (zip_turn c.args.spec.now.entries c.args.places.now c.loop-entry.yielded c.into_iter-entry-iterator.result
+    c.loop-entry.entry-iterator c.next.new.self c.next.result (search rules) (search rules) c.loop-entry.yielded_by
+    (c.in-Some.entry, c.in-Some.place) c.in-Some.is c.next.ensures.steps) in
+    writes_exit c.from_residual.ensures.0 (lines_fail (place_line c.args.spec.now.arch)
+    (zip c.args.spec.now.entries c.args.places.now) (length c.loop-entry.yielded) (c.in-Some.entry.now, c.in-Some.place.now)
+    t.within t.is c.loop-entry.invariant c.in_err-write_place.ensures)
 
 pub loop-entry-preserved : goal.loop-entry-preserved
 loop-entry-preserved g c =
     let t = turn c.args.spec.now.entries c.args.places.now (length c.loop-entry.yielded) c.in-Some.entry.now c.in-Some.place.now
-    (zip_turn c.args.spec.now.entries c.args.places.now c.loop-entry.yielded c.into_iter-entry-iterator.result c.loop-entry.entry-iterator c.next.new.self c.next.result (search rules) (search rules) c.loop-entry.yielded_by (c.in-Some.entry, c.in-Some.place) c.in-Some.is c.next.ensures.steps) in
-    rw length_push (lines_step (place_line c.args.spec.now.arch) (zip c.args.spec.now.entries c.args.places.now) (length c.loop-entry.yielded) (c.in-Some.entry.now, c.in-Some.place.now) t.within t.is c.loop-entry.invariant c.in_ok-write_place.ensures)
+    (zip_turn c.args.spec.now.entries c.args.places.now c.loop-entry.yielded c.into_iter-entry-iterator.result
+    c.loop-entry.entry-iterator c.next.new.self c.next.result (search rules) (search rules) c.loop-entry.yielded_by
+    (c.in-Some.entry, c.in-Some.place) c.in-Some.is c.next.ensures.steps) in
+    rw length_push (lines_step (place_line c.args.spec.now.arch) (zip c.args.spec.now.entries c.args.places.now)
+    (length c.loop-entry.yielded) (c.in-Some.entry.now, c.in-Some.place.now) t.within t.is c.loop-entry.invariant
+    c.in_ok-write_place.ensures)
 
 pub returns : goal.returns
-returns g c = lines_end (place_line c.args.spec.now.arch) (zip c.args.spec.now.entries c.args.places.now) (length c.loop-entry.yielded)
-    (turned c.args.spec.now.entries c.args.places.now (length c.loop-entry.yielded) (zip_end c.args.spec.now.entries c.args.places.now c.loop-entry.yielded c.into_iter-entry-iterator.result c.loop-entry.entry-iterator c.next.new.self c.next.result (search rules) (search rules) c.loop-entry.yielded_by c.in-None.is c.next.ensures.steps)) c.loop-entry.invariant
+returns g c = lines_end (place_line c.args.spec.now.arch) (zip c.args.spec.now.entries c.args.places.now)
+    (length c.loop-entry.yielded)
+    (turned c.args.spec.now.entries c.args.places.now (length c.loop-entry.yielded)
+    (zip_end c.args.spec.now.entries c.args.places.now c.loop-entry.yielded c.into_iter-entry-iterator.result
+    c.loop-entry.entry-iterator c.next.new.self c.next.result (search rules) (search rules) c.loop-entry.yielded_by
+    c.in-None.is c.next.ensures.steps)) c.loop-entry.invariant

@@ -4,4 +4,5 @@ use Rattle.cam_base.specs.LineTexts.{texts}
 use Rattle.cam_base.proofs.field.spaced_fields.Given as goal
 
 abbrev pub invariant-loop-field : goal.invariant-loop-field
-invariant-loop-field l = texts l.fields.items ++ filter (λ field. not (length field == 0)) (texts (drop l.field-index l.field-items)) ≡ spaced_fields l.line
+invariant-loop-field l = texts l.fields.items ++ filter (λ field. not (length field == 0))
+    (texts (drop l.field-index l.field-items)) ≡ spaced_fields l.line

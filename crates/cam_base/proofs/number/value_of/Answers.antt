@@ -14,7 +14,8 @@ returns-in_err-value c =
     let next = c.loop-digit.value * base + digit_value (get_or ds i 0) in
     let more = drop (i + 1) ds in
     let is : digits_value_after base next more ≡ digits_value base ds =
-    sym (at_drop_more (digits_value_after base c.loop-digit.value) ds i 0 c.loop-digit-test.true) ∙ c.loop-digit.invariant.so_far in
+    sym (at_drop_more (digits_value_after base c.loop-digit.value) ds i 0 c.loop-digit-test.true)
+    ∙ c.loop-digit.invariant.so_far in
     let least : next ≤ digits_value_after base next more = digits_value_after_at_least base next more c.requires in
     let none : fits true next ≡ None = sym c.with_digit.ensures ∙ c.in_err-value.was in
     c.from_residual.ensures ∙ sym (fits_none next (digits_value base ds) (rw is at least) none)
@@ -24,5 +25,6 @@ returns c =
     let base = c.args.base in
     let value = c.loop-digit.value in
     let is : value ≡ digits_value base c.args.digits.now =
-    sym (at_drop_all (digits_value_after base value) c.args.digits.now c.loop-digit.digit-index c.loop-digit-test.false) ∙ c.loop-digit.invariant.so_far in
+    sym (at_drop_all (digits_value_after base value) c.args.digits.now c.loop-digit.digit-index c.loop-digit-test.false)
+    ∙ c.loop-digit.invariant.so_far in
     fits_whole value (digits_value base c.args.digits.now) c.loop-digit.invariant.small is

@@ -10,7 +10,8 @@ returns-in_err-item g c =
     let b = c.args.bytes.now in
     let r = g.R.Repeated.gives b in
     let p = err_from_is_err_and c.from_residual.result c.from_residual.ensures.1 in
-    rw (p.1, p.2) (fails t.code g.R.Repeated.codes r (g.met.R.Repeated.eats b) c.in_err-item.field-0.0 c.more.items (t.see b c.more.rest.now) (many t.code g.R.Repeated.codes r (t.see b c.args.tokens.now))
+    rw (p.1, p.2) (fails t.code g.R.Repeated.codes r (g.met.R.Repeated.eats b) c.in_err-item.field-0.0 c.more.items
+    (t.see b c.more.rest.now) (many t.code g.R.Repeated.codes r (t.see b c.args.tokens.now))
     (sym c.starts.ensures ∙ c.more-test.true) c.in_err-item.ensures c.more.invariant)
 
 pub more-smaller : goal.more-smaller
@@ -24,7 +25,9 @@ more-preserved g c =
     let t = g.L.Language in
     let b = c.args.bytes.now in
     let r = g.R.Repeated.gives b in
-    rw c.in_ok-push.ensures.ok (goes_on t.code g.R.Repeated.codes r (g.met.R.Repeated.eats b) c.more.items (t.see b c.more.rest.now) c.in_ok-item.item (t.see b c.in_ok-item.after.now) (many t.code g.R.Repeated.codes r (t.see b c.args.tokens.now))
+    rw c.in_ok-push.ensures.ok (goes_on t.code g.R.Repeated.codes r (g.met.R.Repeated.eats b) c.more.items
+    (t.see b c.more.rest.now) c.in_ok-item.item (t.see b c.in_ok-item.after.now)
+    (many t.code g.R.Repeated.codes r (t.see b c.args.tokens.now))
     (sym c.starts.ensures ∙ c.more-test.true) c.in_ok-item.ensures c.more.invariant)
 
 pub returns : goal.returns
@@ -32,4 +35,6 @@ returns g c =
     let t = g.L.Language in
     let b = c.args.bytes.now in
     let r = g.R.Repeated.gives b in
-    rw c.fitted.ensures (is_done t.code g.R.Repeated.codes r (g.met.R.Repeated.eats b) c.more.items (t.see b c.more.rest.now) (many t.code g.R.Repeated.codes r (t.see b c.args.tokens.now)) (sym c.starts.ensures ∙ c.more-test.false) c.more.invariant)
+    rw c.fitted.ensures (is_done t.code g.R.Repeated.codes r (g.met.R.Repeated.eats b) c.more.items (t.see b c.more.rest.now)
+    (many t.code g.R.Repeated.codes r (t.see b c.args.tokens.now)) (sym c.starts.ensures ∙ c.more-test.false)
+    c.more.invariant)

@@ -11,7 +11,8 @@ returns-in_err-item g c =
     let b = c.args.bytes.now in
     let r = g.R.Repeated.gives b in
     let p = err_from_is_err_and c.from_residual-in_err-item.result c.from_residual-in_err-item.ensures.1 in
-    rw (p.1, p.2) (fails t.code cs (behind_one t.code cs r) (behind_eats t.code cs r (g.met.R.Repeated.eats b)) c.in_err-item.field-0.0 c.more.items (t.see b c.more.rest.now) (list_of t.code t.comma r (t.see b c.args.tokens.now))
+    rw (p.1, p.2) (fails t.code cs (behind_one t.code cs r) (behind_eats t.code cs r (g.met.R.Repeated.eats b))
+    c.in_err-item.field-0.0 c.more.items (t.see b c.more.rest.now) (list_of t.code t.comma r (t.see b c.args.tokens.now))
     (sym c.next_is_comma.ensures ∙ c.more-test.true) c.in_err-item.ensures c.more.invariant)
 
 pub more-preserved : goal.more-preserved
@@ -20,7 +21,9 @@ more-preserved g c =
     let cs = t.comma ∷ [] in
     let b = c.args.bytes.now in
     let r = g.R.Repeated.gives b in
-    rw c.in_ok-push-2.ensures.ok (goes_on t.code cs (behind_one t.code cs r) (behind_eats t.code cs r (g.met.R.Repeated.eats b)) c.more.items (t.see b c.more.rest.now) c.in_ok-item.item (t.see b c.in_ok-item.after.now) (list_of t.code t.comma r (t.see b c.args.tokens.now))
+    rw c.in_ok-push-2.ensures.ok (goes_on t.code cs (behind_one t.code cs r) (behind_eats t.code cs r (g.met.R.Repeated.eats b))
+    c.more.items (t.see b c.more.rest.now) c.in_ok-item.item (t.see b c.in_ok-item.after.now)
+    (list_of t.code t.comma r (t.see b c.args.tokens.now))
     (sym c.next_is_comma.ensures ∙ c.more-test.true) c.in_ok-item.ensures c.more.invariant)
 
 pub returns : goal.returns
@@ -29,4 +32,6 @@ returns g c =
     let cs = t.comma ∷ [] in
     let b = c.args.bytes.now in
     let r = g.R.Repeated.gives b in
-    rw c.fitted.ensures (is_done t.code cs (behind_one t.code cs r) (behind_eats t.code cs r (g.met.R.Repeated.eats b)) c.more.items (t.see b c.more.rest.now) (list_of t.code t.comma r (t.see b c.args.tokens.now)) (sym c.next_is_comma.ensures ∙ c.more-test.false) c.more.invariant)
+    rw c.fitted.ensures (is_done t.code cs (behind_one t.code cs r) (behind_eats t.code cs r (g.met.R.Repeated.eats b))
+    c.more.items (t.see b c.more.rest.now) (list_of t.code t.comma r (t.see b c.args.tokens.now))
+    (sym c.next_is_comma.ensures ∙ c.more-test.false) c.more.invariant)

@@ -8,7 +8,8 @@ abbrev pub invariant-more : goal.invariant-more
 invariant-more g l =
     let t = g.L.Language in
     let r = g.R.Repeated.gives l.bytes in
-    with_front l.items (many t.code (t.comma ∷ []) (behind_one t.code (t.comma ∷ []) r) (t.see l.bytes l.rest)) ≡ list_of t.code t.comma r (t.see l.bytes l.fn.tokens)
+    with_front l.items (many t.code (t.comma ∷ []) (behind_one t.code (t.comma ∷ []) r) (t.see l.bytes l.rest)) ≡ list_of t.code
+    t.comma r (t.see l.bytes l.fn.tokens)
 
 abbrev pub decreases-more : goal.decreases-more
 decreases-more g l = length (g.L.Language.see l.bytes l.rest)

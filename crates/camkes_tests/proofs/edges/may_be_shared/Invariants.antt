@@ -1,6 +1,6 @@
 use Rattle.std.proofs.Common.{◌≡◌, ◌<◌, ℕ, slice_index_or}
 use Rattle.cap_model.specs.Shared.{PairBefore}
-use Rattle.cap_model.specs.declared.authority.Authority.{Authority}
+use Rattle.authorities.specs.declared.authority.Authority.{Authority}
 use Rattle.camkes_tests.proofs.edges.may_be_shared.Given as goal
 
 abbrev pub invariant-loop-i : goal.invariant-loop-i

@@ -1,9 +1,4 @@
-use Rattle.std.proofs.Common.{◌≡◌, ℕ, ◌+◌, ◌≤◌, List, false, length, get_or, slice_get, Some, sym, ap, subst, arith}
-use Rattle.std.proofs.lemmas.Option.{slice_get-get_or}
-use Rattle.cap_model.specs.declared.cap.Cap.{Cap}
-use Rattle.cap_audit.specs.Search.{Found}
-use Rattle.cap_audit.specs.Spread.{slots_at}
-use Rattle.cap_audit.specs.Start.{Starts}
+use Rattle.cap_audit.proofs.Common.{Cap, Found, List, Some, Starts, ap, arith, false, get_or, length, slice_get, slice_get-get_or, slots_at, subst, sym, ℕ, ◌+◌, ◌≡◌, ◌≤◌}
 use Rattle.cap_audit.proofs.Beginning.{owned_starts, valued_starts, next_object}
 use Rattle.cap_audit.proofs.begin.own_slots.Goals as goal
 
@@ -16,9 +11,11 @@ loop-slot-preserved c =
     let here : slice_get (slots_at c.args.spec.now c.args.c) c.loop-slot.slot-index ≡ Some slot =
     subst (λ (slots : List (ℕ × Cap)). slice_get slots c.loop-slot.slot-index ≡ Some slot) c.requires.slots
     (slice_get-get_or c.args.slots.now c.loop-slot.slot-index no_slot c.loop-slot-test.true) in
-    let starts = valued_starts c.args.spec.now c.loop-slot.findings c.value_of.new.findings c.args.c c.loop-slot.slot-index c.in_ok-value.value slot.1 c.in_ok-value.ensures c.loop-slot.invariant in
+    let starts = valued_starts c.args.spec.now c.loop-slot.findings c.value_of.new.findings c.args.c c.loop-slot.slot-index
+    c.in_ok-value.value slot.1 c.in_ok-value.ensures c.loop-slot.invariant in
     subst (λ (f : Found). Starts c.args.spec.now f c.args.c (c.loop-slot.slot-index + 1)) (sym c.in_ok-own.ensures)
-    (owned_starts c.args.spec.now c.value_of.new.findings c.args.c c.loop-slot.slot-index starts slot here c.requires.inside c.in_ok-value.value c.in_ok-value.ensures.1)
+    (owned_starts c.args.spec.now c.value_of.new.findings c.args.c c.loop-slot.slot-index starts slot here c.requires.inside
+    c.in_ok-value.value c.in_ok-value.ensures.1)
 
 pub returns : goal.returns
 returns c =

@@ -1,5 +1,4 @@
-use Rattle.cap_model.specs.declared.spec.Entry.{Entry}
-use Rattle.cap_audit.specs.Counts.{cap_count}
+use Rattle.cap_audit.proofs.Common.{Entry, cap_count}
 use Rattle.cap_audit.proofs.Counting.{Counted}
 use Rattle.cap_audit.proofs.count.caps.Given as goal
 

@@ -1,5 +1,4 @@
-use Rattle.cap_model.specs.declared.spec.Entry.{Entry}
-use Rattle.cap_audit.specs.Counts.{cnode_count}
+use Rattle.cap_audit.proofs.Common.{Entry, cnode_count}
 use Rattle.cap_audit.proofs.Counting.{Counted}
 use Rattle.cap_audit.proofs.count.cnodes.Given as goal
 

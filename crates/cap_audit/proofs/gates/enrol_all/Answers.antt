@@ -1,8 +1,5 @@
-use Rattle.std.proofs.Common.{◌≡◌, ◌<◌, ℕ, List, Some, length, get_or, sym, ap, subst, arith, ◌∙◌}
-use Rattle.cap_model.specs.declared.spec.Entry.{Entry}
-use Rattle.cap_audit.specs.Spread.{root_of}
+use Rattle.cap_audit.proofs.Common.{AreRosters, Entry, List, Some, ap, arith, get_or, length, root_of, subst, sym, ℕ, ◌<◌, ◌∙◌, ◌≡◌}
 use Rattle.cap_audit.proofs.Beginning.{root_item, root_inside}
-use Rattle.cap_audit.specs.Gates.{AreRosters}
 use Rattle.cap_audit.proofs.Gating.{rosters_more, rosters_none}
 use Rattle.cap_audit.proofs.gates.enrol_all.Goals as goal
 
@@ -12,11 +9,14 @@ loop-t-init c = rosters_none c.args.spec.now c.args.rosters.now c.requires.none
 pub loop-t-preserved : goal.loop-t-preserved
 loop-t-preserved c =
     let item : Entry = c.index-entries-t.result in
-    let less : c.loop-t.t < length c.args.spec.now.entries = subst (λ (es : List Entry). c.loop-t.t < length es) c.as_slice-entries.ensures c.loop-t-test.true in
+    let less : c.loop-t.t < length c.args.spec.now.entries = subst (λ (es : List Entry). c.loop-t.t < length es)
+    c.as_slice-entries.ensures c.loop-t-test.true in
     let is =
     sym (root_item c.args.spec.now c.loop-t.t item less)
-    ∙ (ap (λ (es : List Entry). root_of (Some (get_or es c.loop-t.t item).object)) (sym c.as_slice-entries.ensures) ∙ sym c.root_of.ensures) in
-    rosters_more c.args.spec.now c.loop-t.rosters c.enrol.new.rosters c.loop-t.t c.root_of.result (λ d some. root_inside c.args.spec.now c.loop-t.t d c.requires.kept (is ∙ some)) c.loop-t.invariant is
+    ∙ (ap (λ (es : List Entry). root_of (Some (get_or es c.loop-t.t item).object)) (sym c.as_slice-entries.ensures)
+    ∙ sym c.root_of.ensures) in
+    rosters_more c.args.spec.now c.loop-t.rosters c.enrol.new.rosters c.loop-t.t c.root_of.result
+    (λ d some. root_inside c.args.spec.now c.loop-t.t d c.requires.kept (is ∙ some)) c.loop-t.invariant is
     c.in_ok-enrol.ensures
 
 pub returns : goal.returns

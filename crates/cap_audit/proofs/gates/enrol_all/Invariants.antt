@@ -1,4 +1,4 @@
-use Rattle.cap_audit.specs.Gates.{AreRosters}
+use Rattle.cap_audit.proofs.Common.{AreRosters}
 use Rattle.cap_audit.proofs.gates.enrol_all.Given as goal
 
 abbrev pub invariant-loop-t : goal.invariant-loop-t

@@ -1,5 +1,4 @@
-use Rattle.std.proofs.Common.{◌≡◌, ℕ, length, subst, arith}
-use Rattle.cap_audit.specs.Gates.{AreGates}
+use Rattle.cap_audit.proofs.Common.{AreGates, arith, length, subst, ℕ, ◌≡◌}
 use Rattle.cap_audit.proofs.Gating.{gates_more, gates_none}
 use Rattle.cap_audit.proofs.gates.let_all_in.Goals as goal
 
@@ -8,10 +7,13 @@ loop-place-init c = gates_none c.args.spec.now c.args.findings.now c.args.heads.
 
 pub loop-place-preserved : goal.loop-place-preserved
 loop-place-preserved c =
-    gates_more c.args.spec.now c.args.findings.now c.args.heads.now c.loop-place.gates c.let_in.new.gates c.loop-place.place c.pair-pair.result c.caller.result c.pair-pair.ensures c.loop-place.invariant c.caller.ensures
+    gates_more c.args.spec.now c.args.findings.now c.args.heads.now c.loop-place.gates c.let_in.new.gates c.loop-place.place
+    c.pair-pair.result c.caller.result c.pair-pair.ensures c.loop-place.invariant c.caller.ensures
     c.in_ok-let_in.ensures
 
 pub returns : goal.returns
 returns c =
-    let at_end : c.loop-place.place ≡ length c.args.findings.now.queue = omega (arith, c.loop-place-test.false, c.loop-place.auto.place-end, c.count-place-end.ensures) in
-    subst (λ (n : ℕ). AreGates c.args.spec.now c.args.findings.now c.args.heads.now c.loop-place.gates n) at_end c.loop-place.invariant
+    let at_end : c.loop-place.place ≡ length c.args.findings.now.queue =
+    omega (arith, c.loop-place-test.false, c.loop-place.auto.place-end, c.count-place-end.ensures) in
+    subst (λ (n : ℕ). AreGates c.args.spec.now c.args.findings.now c.args.heads.now c.loop-place.gates n) at_end
+    c.loop-place.invariant

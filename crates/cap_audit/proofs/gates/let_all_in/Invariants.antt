@@ -1,4 +1,4 @@
-use Rattle.cap_audit.specs.Gates.{AreGates}
+use Rattle.cap_audit.proofs.Common.{AreGates}
 use Rattle.cap_audit.proofs.gates.let_all_in.Given as goal
 
 abbrev pub invariant-loop-place : goal.invariant-loop-place

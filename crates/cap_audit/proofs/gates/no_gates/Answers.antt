@@ -1,5 +1,4 @@
-use Rattle.std.proofs.Common.{List, []}
-use Rattle.cap_audit.specs.declared.found.Pair.{Pair}
+use Rattle.cap_audit.proofs.Common.{List, Pair, []}
 use Rattle.cap_audit.proofs.Beginning.{repeated_more}
 use Rattle.cap_audit.proofs.gates.no_gates.Goals as goal
 

@@ -1,5 +1,4 @@
-use Rattle.std.proofs.Common.{◌≡◌, []}
-use Rattle.cap_audit.specs.Start.{repeated}
+use Rattle.cap_audit.proofs.Common.{[], repeated, ◌≡◌}
 use Rattle.cap_audit.proofs.gates.no_gates.Given as goal
 
 abbrev pub invariant-loop : goal.invariant-loop

@@ -1,4 +1,4 @@
-use Rattle.std.proofs.Common.{List, [], ℕ}
+use Rattle.cap_audit.proofs.Common.{List, [], ℕ}
 use Rattle.cap_audit.proofs.Beginning.{repeated_more}
 use Rattle.cap_audit.proofs.gates.no_rosters.Goals as goal
 

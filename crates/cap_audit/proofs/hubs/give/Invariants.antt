@@ -1,11 +1,9 @@
-use Rattle.std.proofs.Common.{◌≡◌, ◌<◌, ℕ, slice_get, Some}
-use Rattle.cap_audit.specs.Hubs.{Widened}
-use Rattle.cap_audit.specs.Ways.{Path}
-use Rattle.cap_audit.specs.declared.hubs.Member.{Member}
+use Rattle.cap_audit.proofs.Common.{Member, Path, Some, Widened, slice_get, ℕ, ◌<◌, ◌≡◌}
 use Rattle.cap_audit.proofs.hubs.give.Given as goal
 
 abbrev pub invariant-loop-taker : goal.invariant-loop-taker
 invariant-loop-taker l = record {
   widened : Widened l.spec l.initial.web.findings l.initial.web.net l.web.findings l.web.net;
-  paths : (k : ℕ) (taker : Member) → k < l.taker-index → slice_get l.takers k ≡ Some taker → Path l.web.net l.giver.node taker.node;
+  paths : (k : ℕ) (taker : Member) → k < l.taker-index → slice_get l.takers k ≡ Some taker
+      → Path l.web.net l.giver.node taker.node;
 }

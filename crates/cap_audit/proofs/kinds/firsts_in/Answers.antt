@@ -1,5 +1,4 @@
-use Rattle.std.proofs.Common.{◌≡◌, ◌+◌, ℕ, List, subst, sym, arith, length}
-use Rattle.cap_audit.specs.Kinds.{AreFirsts, AreRows, IsLike}
+use Rattle.cap_audit.proofs.Common.{AreFirsts, AreRows, IsLike, List, arith, length, subst, sym, ℕ, ◌+◌, ◌≡◌}
 use Rattle.cap_audit.proofs.Kinding.{firsts_more, firsts_none, rows_more, rows_none}
 use Rattle.cap_audit.proofs.kinds.firsts_in.Goals as goal
 
@@ -12,13 +11,17 @@ loop-c-init c = record {
 pub loop-c-preserved : goal.loop-c-preserved
 loop-c-preserved c =
     let before : List ℕ = c.loop-c.firsts.items in
-    let like : IsLike c.threads_of.result.now c.args.marks.now c.loop-c.c c.first_like-first.result = c.first_like-first.ensures in
+    let like : IsLike c.threads_of.result.now c.args.marks.now c.loop-c.c c.first_like-first.result =
+    c.first_like-first.ensures in
     record {
-      firsts = subst (λ (xs : List ℕ). AreFirsts c.args.classes.now c.args.marks.now xs (c.loop-c.c + 1)) (sym c.in_ok-push.ensures.items)
-          (firsts_more c.args.classes.now c.args.marks.now before c.loop-c.c c.first_like-first.result c.loop-c.invariant.firsts c.loop-c.rows c.loop-c.invariant.rows
+      firsts = subst (λ (xs : List ℕ). AreFirsts c.args.classes.now c.args.marks.now xs (c.loop-c.c + 1))
+          (sym c.in_ok-push.ensures.items)
+          (firsts_more c.args.classes.now c.args.marks.now before c.loop-c.c c.first_like-first.result c.loop-c.invariant.firsts
+          c.loop-c.rows c.loop-c.invariant.rows
           (subst (λ (xs : List ℕ). IsLike xs c.args.marks.now c.loop-c.c c.first_like-first.result) c.threads_of.ensures like));
       rows = subst (λ (xs : List ℕ). AreRows c.args.classes.now xs c.put_first.new.rows) (sym c.in_ok-push.ensures.items)
-          (rows_more c.args.classes.now c.args.marks.now before c.loop-c.c c.first_like-first.result c.loop-c.invariant.firsts c.loop-c.rows c.loop-c.invariant.rows c.put_first.new.rows c.in_ok-put_first.ensures);
+          (rows_more c.args.classes.now c.args.marks.now before c.loop-c.c c.first_like-first.result c.loop-c.invariant.firsts
+          c.loop-c.rows c.loop-c.invariant.rows c.put_first.new.rows c.in_ok-put_first.ensures);
     }
 
 pub returns : goal.returns

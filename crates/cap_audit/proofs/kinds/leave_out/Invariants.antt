@@ -1,4 +1,4 @@
-use Rattle.cap_audit.specs.Kinds.{AreLeft}
+use Rattle.cap_audit.proofs.Common.{AreLeft}
 use Rattle.cap_audit.proofs.kinds.leave_out.Given as goal
 
 abbrev pub invariant-loop-c : goal.invariant-loop-c

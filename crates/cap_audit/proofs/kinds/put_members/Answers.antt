@@ -1,6 +1,4 @@
-use Rattle.std.proofs.Common.{◌≡◌, ℕ, length, get_or, subst, arith}
-use Rattle.std.proofs.lemmas.List.{get_or_default}
-use Rattle.cap_audit.specs.Kinds.{AreMembers}
+use Rattle.cap_audit.proofs.Common.{AreMembers, arith, get_or, get_or_default, length, subst, ℕ, ◌≡◌}
 use Rattle.cap_audit.proofs.Kinding.{members_more, members_none}
 use Rattle.cap_audit.proofs.kinds.put_members.Goals as goal
 
@@ -9,7 +7,8 @@ loop-c-init c = members_none c.args.heads.now c.args.members.now c.requires.none
 
 pub loop-c-preserved : goal.loop-c-preserved
 loop-c-preserved c =
-    members_more c.args.heads.now c.loop-c.members c.put_thread.new.rosters c.loop-c.c (get_or c.args.heads.now c.loop-c.c 0) c.loop-c.invariant
+    members_more c.args.heads.now c.loop-c.members c.put_thread.new.rosters c.loop-c.c (get_or c.args.heads.now c.loop-c.c 0)
+    c.loop-c.invariant
     (get_or_default c.args.heads.now c.loop-c.c 0 c.loop-c.c c.loop-c-test.true) c.in_ok-put_thread.ensures
 
 pub returns : goal.returns

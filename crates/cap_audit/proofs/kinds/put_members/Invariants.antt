@@ -1,4 +1,4 @@
-use Rattle.cap_audit.specs.Kinds.{AreMembers}
+use Rattle.cap_audit.proofs.Common.{AreMembers}
 use Rattle.cap_audit.proofs.kinds.put_members.Given as goal
 
 abbrev pub invariant-loop-c : goal.invariant-loop-c

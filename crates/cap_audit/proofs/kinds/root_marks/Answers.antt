@@ -1,5 +1,4 @@
-use Rattle.std.proofs.Common.{List, Option, ℕ, map, ap, ◌∙◌}
-use Rattle.cap_audit.specs.Kinds.{root_mark}
+use Rattle.cap_audit.proofs.Common.{List, Option, ap, map, root_mark, ℕ, ◌∙◌}
 use Rattle.cap_audit.proofs.Kinding.{mark_of_roots}
 use Rattle.cap_audit.proofs.kinds.root_marks.Goals as goal
 

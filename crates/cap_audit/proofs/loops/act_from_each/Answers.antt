@@ -1,18 +1,23 @@
-use Rattle.std.proofs.Common.{get_or, sym, subst, arith}
-use Rattle.std.proofs.lemmas.Option.{slice_get-get_or}
-use Rattle.cap_audit.specs.Gains.{AtPlace, Gains, Made, OfSome}
-use Rattle.cap_audit.specs.Picks.{OfDeed, OwnsFrom}
-use Rattle.cap_audit.specs.declared.picks.Pick.{Pick}
+use Rattle.cap_audit.proofs.Common.{AtPlace, Gains, Made, OfDeed, OfSome, OwnsFrom, Pick, arith, false, get_or, slice_get-get_or, subst, sym}
 use Rattle.cap_audit.proofs.Gaining.{below_none, some_all, some_more}
-use Rattle.std.proofs.Common.{false}
 use Rattle.cap_audit.proofs.loops.act_from_each.Goals as goal
 
 no_pick : Pick
-no_pick = record { number = 0; cap = record { object = 0; rights = record { read = false; write = false; grant = false; reply = false }; badge = 0 } }
+no_pick =
+    record {
+      number = 0;
+      cap = record {
+        object = 0;
+        rights = record { read = false; write = false; grant = false; reply = false };
+        badge = 0;
+      };
+    }
 
 pub loop-from-init : goal.loop-from-init
 loop-from-init c =
-    below_none (AtPlace (λ (from : Pick). OfSome (λ (to : Pick). OfDeed c.args.making.now.spec c.args.making.now.labels c.args.deed from.cap to.cap) c.args.tos.now) c.args.froms.now) c.args.making.now
+    below_none
+    (AtPlace (λ (from : Pick). OfSome (λ (to : Pick). OfDeed c.args.making.now.spec c.args.making.now.labels c.args.deed
+    from.cap to.cap) c.args.tos.now) c.args.froms.now) c.args.making.now
     c.requires.so_far
 
 pub act_to_each-requires-clause-own : goal.act_to_each-requires-clause-own
@@ -20,7 +25,8 @@ unfolding no_pick
 act_to_each-requires-clause-own c =
     let own = c.requires.own in
     let there = slice_get-get_or c.args.froms.now c.loop-from.from-index no_pick c.loop-from-test.true in
-    subst (λ (x : Made). OwnsFrom x.spec x.found c.args.t c.args.deed (get_or c.args.froms.now c.loop-from.from-index no_pick) c.args.tos.now) (sym c.loop-from.invariant.same) (record {
+    subst (λ (x : Made). OwnsFrom x.spec x.found c.args.t c.args.deed (get_or c.args.froms.now c.loop-from.from-index no_pick)
+    c.args.tos.now) (sym c.loop-from.invariant.same) (record {
       node = own.node;
       root = own.root;
       own_from = own.own_from c.loop-from.from-index (get_or c.args.froms.now c.loop-from.from-index no_pick) there;
@@ -34,13 +40,17 @@ unfolding no_pick
 loop-from-preserved c =
     let m : Made = c.args.making.now in
     let from : Pick = get_or c.args.froms.now c.loop-from.from-index no_pick in
-    some_more (λ (from : Pick). OfSome (λ (to : Pick). OfDeed m.spec m.labels c.args.deed from.cap to.cap) c.args.tos.now) c.args.froms.now c.loop-from.from-index from m c.loop-from.making
-    c.act_to_each.new.making (slice_get-get_or c.args.froms.now c.loop-from.from-index no_pick c.loop-from-test.true) c.loop-from.invariant
-    (subst (λ (x : Made). Gains (OfSome (λ (to : Pick). OfDeed x.spec x.labels c.args.deed from.cap to.cap) c.args.tos.now) c.loop-from.making c.act_to_each.new.making) c.loop-from.invariant.same
+    some_more (λ (from : Pick). OfSome (λ (to : Pick). OfDeed m.spec m.labels c.args.deed from.cap to.cap) c.args.tos.now)
+    c.args.froms.now c.loop-from.from-index from m c.loop-from.making
+    c.act_to_each.new.making (slice_get-get_or c.args.froms.now c.loop-from.from-index no_pick c.loop-from-test.true)
+    c.loop-from.invariant
+    (subst (λ (x : Made). Gains (OfSome (λ (to : Pick). OfDeed x.spec x.labels c.args.deed from.cap to.cap) c.args.tos.now)
+    c.loop-from.making c.act_to_each.new.making) c.loop-from.invariant.same
     c.in_ok-act_to_each.ensures)
 
 pub returns : goal.returns
 returns c =
     let m : Made = c.args.making.now in
-    some_all (λ (from : Pick). OfSome (λ (to : Pick). OfDeed m.spec m.labels c.args.deed from.cap to.cap) c.args.tos.now) c.args.froms.now c.loop-from.from-index m c.loop-from.making
+    some_all (λ (from : Pick). OfSome (λ (to : Pick). OfDeed m.spec m.labels c.args.deed from.cap to.cap) c.args.tos.now)
+    c.args.froms.now c.loop-from.from-index m c.loop-from.making
     (let t = c.loop-from-test.false in omega arith) c.loop-from.invariant

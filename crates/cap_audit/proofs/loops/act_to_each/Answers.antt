@@ -1,24 +1,30 @@
-use Rattle.std.proofs.Common.{get_or, sym, subst, arith}
-use Rattle.std.proofs.lemmas.Option.{slice_get-get_or}
-use Rattle.cap_audit.specs.Gains.{AtPlace, Gains, Made}
-use Rattle.cap_audit.specs.Picks.{OfDeed, OwnsBoth}
-use Rattle.cap_audit.specs.declared.picks.Pick.{Pick}
+use Rattle.cap_audit.proofs.Common.{AtPlace, Gains, Made, OfDeed, OwnsBoth, Pick, arith, false, get_or, slice_get-get_or, subst, sym}
 use Rattle.cap_audit.proofs.Gaining.{below_none, some_all, some_more}
-use Rattle.std.proofs.Common.{false}
 use Rattle.cap_audit.proofs.loops.act_to_each.Goals as goal
 
 no_pick : Pick
-no_pick = record { number = 0; cap = record { object = 0; rights = record { read = false; write = false; grant = false; reply = false }; badge = 0 } }
+no_pick =
+    record {
+      number = 0;
+      cap = record {
+        object = 0;
+        rights = record { read = false; write = false; grant = false; reply = false };
+        badge = 0;
+      };
+    }
 
 pub loop-to-init : goal.loop-to-init
-loop-to-init c = below_none (AtPlace (λ (to : Pick). OfDeed c.args.making.now.spec c.args.making.now.labels c.args.deed c.args.from.now.cap to.cap) c.args.tos.now) c.args.making.now c.requires.so_far
+loop-to-init c =
+    below_none (AtPlace (λ (to : Pick). OfDeed c.args.making.now.spec c.args.making.now.labels c.args.deed c.args.from.now.cap
+    to.cap) c.args.tos.now) c.args.making.now c.requires.so_far
 
 pub act-requires-clause-owns : goal.act-requires-clause-owns
 unfolding no_pick
 act-requires-clause-owns c =
     let own = c.requires.own in
     let there = slice_get-get_or c.args.tos.now c.loop-to.to-index no_pick c.loop-to-test.true in
-    subst (λ (x : Made). OwnsBoth x.spec x.found c.args.t c.args.deed c.args.from.now (get_or c.args.tos.now c.loop-to.to-index no_pick)) (sym c.loop-to.invariant.same) (record {
+    subst (λ (x : Made). OwnsBoth x.spec x.found c.args.t c.args.deed c.args.from.now
+    (get_or c.args.tos.now c.loop-to.to-index no_pick)) (sym c.loop-to.invariant.same) (record {
       node = own.node;
       root = own.root;
       own_from = own.own_from;
@@ -32,11 +38,14 @@ unfolding no_pick
 loop-to-preserved c =
     let m : Made = c.args.making.now in
     let to : Pick = get_or c.args.tos.now c.loop-to.to-index no_pick in
-    some_more (λ (to : Pick). OfDeed m.spec m.labels c.args.deed c.args.from.now.cap to.cap) c.args.tos.now c.loop-to.to-index to m c.loop-to.making c.act.new.self
+    some_more (λ (to : Pick). OfDeed m.spec m.labels c.args.deed c.args.from.now.cap to.cap) c.args.tos.now c.loop-to.to-index to
+    m c.loop-to.making c.act.new.self
     (slice_get-get_or c.args.tos.now c.loop-to.to-index no_pick c.loop-to-test.true) c.loop-to.invariant
-    (subst (λ (x : Made). Gains (OfDeed x.spec x.labels c.args.deed c.args.from.now.cap to.cap) c.loop-to.making c.act.new.self) c.loop-to.invariant.same c.in_ok-act.ensures)
+    (subst (λ (x : Made). Gains (OfDeed x.spec x.labels c.args.deed c.args.from.now.cap to.cap) c.loop-to.making c.act.new.self)
+    c.loop-to.invariant.same c.in_ok-act.ensures)
 
 pub returns : goal.returns
 returns c =
     let m : Made = c.args.making.now in
-    some_all (λ (to : Pick). OfDeed m.spec m.labels c.args.deed c.args.from.now.cap to.cap) c.args.tos.now c.loop-to.to-index m c.loop-to.making (let t = c.loop-to-test.false in omega arith) c.loop-to.invariant
+    some_all (λ (to : Pick). OfDeed m.spec m.labels c.args.deed c.args.from.now.cap to.cap) c.args.tos.now c.loop-to.to-index m
+    c.loop-to.making (let t = c.loop-to-test.false in omega arith) c.loop-to.invariant

@@ -1,8 +1,4 @@
-use Rattle.std.proofs.Common.{length, get_or, sym, subst, arith}
-use Rattle.std.proofs.lemmas.Option.{slice_get-get_or}
-use Rattle.cap_audit.specs.Gains.{AtPlace, Gains, Made, OfSome}
-use Rattle.cap_audit.specs.Gates.{AreRosters, Between, Meets}
-use Rattle.cap_audit.specs.declared.gates.Place.{Place}
+use Rattle.cap_audit.proofs.Common.{AreRosters, AtPlace, Between, Gains, Made, Meets, OfSome, Place, arith, get_or, length, slice_get-get_or, subst, sym}
 use Rattle.cap_audit.proofs.Gaining.{below_none, some_all, some_more}
 use Rattle.cap_audit.proofs.loops.call_all.Goals as goal
 
@@ -11,28 +7,37 @@ no_place = record { node = 0; number = 0 }
 
 pub loop-peer-init : goal.loop-peer-init
 loop-peer-init c =
-    below_none (AtPlace (λ (peer : Place). OfSome (λ (at : Place). Between c.args.making.now.labels c.args.rosters.now at.node peer.node) c.args.callers.now) c.args.peers.now) c.args.making.now c.requires.so_far
+    below_none
+    (AtPlace (λ (peer : Place). OfSome (λ (at : Place). Between c.args.making.now.labels c.args.rosters.now at.node peer.node)
+    c.args.callers.now) c.args.peers.now) c.args.making.now c.requires.so_far
 
 pub call_from_gate-requires-clause-rosters : goal.call_from_gate-requires-clause-rosters
-call_from_gate-requires-clause-rosters c = subst (λ (x : Made). AreRosters x.spec c.args.rosters.now (length x.spec.entries)) (sym c.loop-peer.invariant.same) c.requires.rosters
+call_from_gate-requires-clause-rosters c = subst (λ (x : Made). AreRosters x.spec c.args.rosters.now (length x.spec.entries))
+    (sym c.loop-peer.invariant.same) c.requires.rosters
 
 pub call_from_gate-requires-clause-meet : goal.call_from_gate-requires-clause-meet
 unfolding no_place
 call_from_gate-requires-clause-meet c = λ k at there.
-    subst (λ (x : Made). Meets x.spec x.found at (get_or c.args.peers.now c.loop-peer.peer-index no_place)) (sym c.loop-peer.invariant.same)
-    (c.requires.meet c.loop-peer.peer-index k (get_or c.args.peers.now c.loop-peer.peer-index no_place) at (slice_get-get_or c.args.peers.now c.loop-peer.peer-index no_place c.loop-peer-test.true) there)
+    subst (λ (x : Made). Meets x.spec x.found at (get_or c.args.peers.now c.loop-peer.peer-index no_place))
+    (sym c.loop-peer.invariant.same)
+    (c.requires.meet c.loop-peer.peer-index k (get_or c.args.peers.now c.loop-peer.peer-index no_place) at
+    (slice_get-get_or c.args.peers.now c.loop-peer.peer-index no_place c.loop-peer-test.true) there)
 
 pub loop-peer-preserved : goal.loop-peer-preserved
 unfolding no_place
 loop-peer-preserved c =
     let m : Made = c.args.making.now in
     let peer : Place = get_or c.args.peers.now c.loop-peer.peer-index no_place in
-    some_more (λ (peer : Place). OfSome (λ (at : Place). Between m.labels c.args.rosters.now at.node peer.node) c.args.callers.now) c.args.peers.now c.loop-peer.peer-index peer m c.loop-peer.making
-    c.call_from_gate.new.making (slice_get-get_or c.args.peers.now c.loop-peer.peer-index no_place c.loop-peer-test.true) c.loop-peer.invariant
-    (subst (λ (x : Made). Gains (OfSome (λ (at : Place). Between x.labels c.args.rosters.now at.node peer.node) c.args.callers.now) c.loop-peer.making c.call_from_gate.new.making) c.loop-peer.invariant.same
+    some_more (λ (peer : Place). OfSome (λ (at : Place). Between m.labels c.args.rosters.now at.node peer.node)
+    c.args.callers.now) c.args.peers.now c.loop-peer.peer-index peer m c.loop-peer.making
+    c.call_from_gate.new.making (slice_get-get_or c.args.peers.now c.loop-peer.peer-index no_place c.loop-peer-test.true)
+    c.loop-peer.invariant
+    (subst (λ (x : Made). Gains (OfSome (λ (at : Place). Between x.labels c.args.rosters.now at.node peer.node)
+    c.args.callers.now) c.loop-peer.making c.call_from_gate.new.making) c.loop-peer.invariant.same
     c.in_ok-call_from_gate.ensures)
 
 pub returns : goal.returns
 returns c =
-    some_all (λ (peer : Place). OfSome (λ (at : Place). Between c.args.making.now.labels c.args.rosters.now at.node peer.node) c.args.callers.now) c.args.peers.now c.loop-peer.peer-index c.args.making.now
+    some_all (λ (peer : Place). OfSome (λ (at : Place). Between c.args.making.now.labels c.args.rosters.now at.node peer.node)
+    c.args.callers.now) c.args.peers.now c.loop-peer.peer-index c.args.making.now
     c.loop-peer.making (let t = c.loop-peer-test.false in omega arith) c.loop-peer.invariant

@@ -1,8 +1,8 @@
-use Rattle.cap_audit.specs.Gains.{AtPlace, Below, Gains, OfSome}
-use Rattle.cap_audit.specs.Gates.{Between}
-use Rattle.cap_audit.specs.declared.gates.Place.{Place}
+use Rattle.cap_audit.proofs.Common.{AtPlace, Below, Between, Gains, OfSome, Place}
 use Rattle.cap_audit.proofs.loops.call_all.Given as goal
 
 abbrev pub invariant-loop-peer : goal.invariant-loop-peer
 invariant-loop-peer l =
-    Gains (Below (AtPlace (λ (peer : Place). OfSome (λ (at : Place). Between l.initial.making.labels l.rosters at.node peer.node) l.callers) l.peers) l.peer-index) l.initial.making l.making
+    Gains
+    (Below (AtPlace (λ (peer : Place). OfSome (λ (at : Place). Between l.initial.making.labels l.rosters at.node peer.node)
+    l.callers) l.peers) l.peer-index) l.initial.making l.making

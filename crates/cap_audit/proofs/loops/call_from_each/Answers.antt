@@ -1,33 +1,37 @@
-use Rattle.std.proofs.Common.{ℕ, get_or, sym, subst, arith}
-use Rattle.std.proofs.lemmas.Option.{slice_get-get_or}
-use Rattle.cap_audit.specs.Spread.{HasRoot}
-use Rattle.cap_audit.specs.Gains.{AtPlace, Gains, Made}
-use Rattle.cap_audit.specs.Gates.{Meets, OfCall}
+use Rattle.cap_audit.proofs.Common.{AtPlace, Gains, HasRoot, Made, Meets, OfCall, arith, get_or, slice_get-get_or, subst, sym, ℕ}
 use Rattle.cap_audit.proofs.Gaining.{below_none, some_all, some_more}
 use Rattle.cap_audit.proofs.loops.call_from_each.Goals as goal
 
 pub loop-t-init : goal.loop-t-init
-loop-t-init c = below_none (AtPlace (OfCall c.args.making.now.labels c.args.u c.args.peer.node) c.args.threads.now) c.args.making.now c.requires.so_far
+loop-t-init c = below_none (AtPlace (OfCall c.args.making.now.labels c.args.u c.args.peer.node) c.args.threads.now)
+    c.args.making.now c.requires.so_far
 
 pub call-requires-clause-meets : goal.call-requires-clause-meets
-call-requires-clause-meets c = subst (λ (x : Made). Meets x.spec x.found c.args.at c.args.peer) (sym c.loop-t.invariant.same) c.requires.meets
+call-requires-clause-meets c = subst (λ (x : Made). Meets x.spec x.found c.args.at c.args.peer) (sym c.loop-t.invariant.same)
+    c.requires.meets
 
 pub call-requires-clause-root : goal.call-requires-clause-root
 call-requires-clause-root c =
-    subst (λ (x : Made). HasRoot x.spec (get_or c.args.threads.now c.loop-t.t-index 0) c.args.at.node) (sym c.loop-t.invariant.same)
-    (c.requires.roots c.loop-t.t-index (get_or c.args.threads.now c.loop-t.t-index 0) (slice_get-get_or c.args.threads.now c.loop-t.t-index 0 c.loop-t-test.true))
+    subst (λ (x : Made). HasRoot x.spec (get_or c.args.threads.now c.loop-t.t-index 0) c.args.at.node)
+    (sym c.loop-t.invariant.same)
+    (c.requires.roots c.loop-t.t-index (get_or c.args.threads.now c.loop-t.t-index 0)
+    (slice_get-get_or c.args.threads.now c.loop-t.t-index 0 c.loop-t-test.true))
 
 pub call-requires-clause-peer_root : goal.call-requires-clause-peer_root
-call-requires-clause-peer_root c = subst (λ (x : Made). HasRoot x.spec c.args.u c.args.peer.node) (sym c.loop-t.invariant.same) c.requires.peer_root
+call-requires-clause-peer_root c = subst (λ (x : Made). HasRoot x.spec c.args.u c.args.peer.node) (sym c.loop-t.invariant.same)
+    c.requires.peer_root
 
 pub loop-t-preserved : goal.loop-t-preserved
 loop-t-preserved c =
     let m : Made = c.args.making.now in
     let t : ℕ = get_or c.args.threads.now c.loop-t.t-index 0 in
-    some_more (OfCall m.labels c.args.u c.args.peer.node) c.args.threads.now c.loop-t.t-index t m c.loop-t.making c.call.new.making
+    some_more (OfCall m.labels c.args.u c.args.peer.node) c.args.threads.now c.loop-t.t-index t m c.loop-t.making
+    c.call.new.making
     (slice_get-get_or c.args.threads.now c.loop-t.t-index 0 c.loop-t-test.true) c.loop-t.invariant
-    (subst (λ (x : Made). Gains (OfCall x.labels c.args.u c.args.peer.node t) c.loop-t.making c.call.new.making) c.loop-t.invariant.same c.in_ok-call.ensures)
+    (subst (λ (x : Made). Gains (OfCall x.labels c.args.u c.args.peer.node t) c.loop-t.making c.call.new.making)
+    c.loop-t.invariant.same c.in_ok-call.ensures)
 
 pub returns : goal.returns
 returns c =
-    some_all (OfCall c.args.making.now.labels c.args.u c.args.peer.node) c.args.threads.now c.loop-t.t-index c.args.making.now c.loop-t.making (let t = c.loop-t-test.false in omega arith) c.loop-t.invariant
+    some_all (OfCall c.args.making.now.labels c.args.u c.args.peer.node) c.args.threads.now c.loop-t.t-index c.args.making.now
+    c.loop-t.making (let t = c.loop-t-test.false in omega arith) c.loop-t.invariant

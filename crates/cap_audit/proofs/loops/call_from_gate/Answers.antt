@@ -1,8 +1,4 @@
-use Rattle.std.proofs.Common.{length, get_or, sym, subst, arith}
-use Rattle.std.proofs.lemmas.Option.{slice_get-get_or}
-use Rattle.cap_audit.specs.Gains.{AtPlace, Gains, Made}
-use Rattle.cap_audit.specs.Gates.{AreRosters, Between, Meets}
-use Rattle.cap_audit.specs.declared.gates.Place.{Place}
+use Rattle.cap_audit.proofs.Common.{AreRosters, AtPlace, Between, Gains, Made, Meets, Place, arith, get_or, length, slice_get-get_or, subst, sym}
 use Rattle.cap_audit.proofs.Gaining.{below_none, some_all, some_more}
 use Rattle.cap_audit.proofs.loops.call_from_gate.Goals as goal
 
@@ -10,27 +6,35 @@ no_place : Place
 no_place = record { node = 0; number = 0 }
 
 pub loop-at-init : goal.loop-at-init
-loop-at-init c = below_none (AtPlace (λ (at : Place). Between c.args.making.now.labels c.args.rosters.now at.node c.args.peer.node) c.args.gate.now) c.args.making.now c.requires.so_far
+loop-at-init c =
+    below_none (AtPlace (λ (at : Place). Between c.args.making.now.labels c.args.rosters.now at.node c.args.peer.node)
+    c.args.gate.now) c.args.making.now c.requires.so_far
 
 pub call_between-requires-clause-rosters : goal.call_between-requires-clause-rosters
-call_between-requires-clause-rosters c = subst (λ (x : Made). AreRosters x.spec c.args.rosters.now (length x.spec.entries)) (sym c.loop-at.invariant.same) c.requires.rosters
+call_between-requires-clause-rosters c = subst (λ (x : Made). AreRosters x.spec c.args.rosters.now (length x.spec.entries))
+    (sym c.loop-at.invariant.same) c.requires.rosters
 
 pub call_between-requires-clause-meets : goal.call_between-requires-clause-meets
 unfolding no_place
 call_between-requires-clause-meets c =
-    subst (λ (x : Made). Meets x.spec x.found (get_or c.args.gate.now c.loop-at.at-index no_place) c.args.peer) (sym c.loop-at.invariant.same)
-    (c.requires.meet c.loop-at.at-index (get_or c.args.gate.now c.loop-at.at-index no_place) (slice_get-get_or c.args.gate.now c.loop-at.at-index no_place c.loop-at-test.true))
+    subst (λ (x : Made). Meets x.spec x.found (get_or c.args.gate.now c.loop-at.at-index no_place) c.args.peer)
+    (sym c.loop-at.invariant.same)
+    (c.requires.meet c.loop-at.at-index (get_or c.args.gate.now c.loop-at.at-index no_place)
+    (slice_get-get_or c.args.gate.now c.loop-at.at-index no_place c.loop-at-test.true))
 
 pub loop-at-preserved : goal.loop-at-preserved
 unfolding no_place
 loop-at-preserved c =
     let m : Made = c.args.making.now in
     let at : Place = get_or c.args.gate.now c.loop-at.at-index no_place in
-    some_more (λ (at : Place). Between m.labels c.args.rosters.now at.node c.args.peer.node) c.args.gate.now c.loop-at.at-index at m c.loop-at.making c.call_between.new.making
+    some_more (λ (at : Place). Between m.labels c.args.rosters.now at.node c.args.peer.node) c.args.gate.now c.loop-at.at-index at
+    m c.loop-at.making c.call_between.new.making
     (slice_get-get_or c.args.gate.now c.loop-at.at-index no_place c.loop-at-test.true) c.loop-at.invariant
-    (subst (λ (x : Made). Gains (Between x.labels c.args.rosters.now at.node c.args.peer.node) c.loop-at.making c.call_between.new.making) c.loop-at.invariant.same c.in_ok-call_between.ensures)
+    (subst (λ (x : Made). Gains (Between x.labels c.args.rosters.now at.node c.args.peer.node) c.loop-at.making
+    c.call_between.new.making) c.loop-at.invariant.same c.in_ok-call_between.ensures)
 
 pub returns : goal.returns
 returns c =
-    some_all (λ (at : Place). Between c.args.making.now.labels c.args.rosters.now at.node c.args.peer.node) c.args.gate.now c.loop-at.at-index c.args.making.now c.loop-at.making
+    some_all (λ (at : Place). Between c.args.making.now.labels c.args.rosters.now at.node c.args.peer.node) c.args.gate.now
+    c.loop-at.at-index c.args.making.now c.loop-at.making
     (let t = c.loop-at-test.false in omega arith) c.loop-at.invariant

@@ -1,12 +1,11 @@
-use Rattle.std.proofs.Common.{◌≡◌, Some, length, slice_get, sym, ap, subst, arith}
-use Rattle.std.specs.List.{Contains}
-use Rattle.cap_audit.specs.Search.{Found, held_by}
-use Rattle.cap_audit.specs.Gains.{AtPlace, Gains, Made, OfFace}
+use Rattle.cap_audit.proofs.Common.{AtPlace, Contains, Found, Gains, Made, OfFace, Some, ap, arith, held_by, length, slice_get, subst, sym, ◌≡◌}
 use Rattle.cap_audit.proofs.Gaining.{below_none, some_all, some_more}
 use Rattle.cap_audit.proofs.loops.hold_all.Goals as goal
 
 pub loop-place-init : goal.loop-place-init
-loop-place-init c = below_none (AtPlace (OfFace c.args.making.now.spec c.args.making.now.labels c.args.making.now.found c.args.making.now.faces) c.args.making.now.found.queue) c.args.making.now c.requires.so_far
+loop-place-init c =
+    below_none (AtPlace (OfFace c.args.making.now.spec c.args.making.now.labels c.args.making.now.found c.args.making.now.faces)
+    c.args.making.now.found.queue) c.args.making.now c.requires.so_far
 
 pub pair-requires : goal.pair-requires
 pair-requires c =
@@ -16,18 +15,23 @@ pair-requires c =
 pub hold_pair-requires-clause-held : goal.hold_pair-requires-clause-held
 hold_pair-requires-clause-held c =
     let found : c.loop-place.making.found ≡ c.args.making.now.found = ap (λ (x : Made). x.found) c.loop-place.invariant.same in
-    let here : slice_get c.args.making.now.found.queue c.loop-place.place ≡ Some c.pair.result = subst (λ (f : Found). slice_get f.queue c.loop-place.place ≡ Some c.pair.result) found c.pair.ensures in
-    subst (λ (f : Found). Contains (held_by f c.pair.result.node) c.pair.result.held) (sym found) (c.requires.all.queued c.loop-place.place c.pair.result here)
+    let here : slice_get c.args.making.now.found.queue c.loop-place.place ≡ Some c.pair.result =
+    subst (λ (f : Found). slice_get f.queue c.loop-place.place ≡ Some c.pair.result) found c.pair.ensures in
+    subst (λ (f : Found). Contains (held_by f c.pair.result.node) c.pair.result.held) (sym found)
+    (c.requires.all.queued c.loop-place.place c.pair.result here)
 
 pub loop-place-preserved : goal.loop-place-preserved
 loop-place-preserved c =
     let m : Made = c.args.making.now in
     let found : c.loop-place.making.found ≡ m.found = ap (λ (x : Made). x.found) c.loop-place.invariant.same in
-    some_more (OfFace m.spec m.labels m.found m.faces) m.found.queue c.loop-place.place c.pair.result m c.loop-place.making c.hold_pair.new.making
+    some_more (OfFace m.spec m.labels m.found m.faces) m.found.queue c.loop-place.place c.pair.result m c.loop-place.making
+    c.hold_pair.new.making
     (subst (λ (f : Found). slice_get f.queue c.loop-place.place ≡ Some c.pair.result) found c.pair.ensures) c.loop-place.invariant
-    (subst (λ (x : Made). Gains (OfFace x.spec x.labels x.found x.faces c.pair.result) c.loop-place.making c.hold_pair.new.making) c.loop-place.invariant.same c.in_ok-hold_pair.ensures)
+    (subst (λ (x : Made). Gains (OfFace x.spec x.labels x.found x.faces c.pair.result) c.loop-place.making c.hold_pair.new.making)
+    c.loop-place.invariant.same c.in_ok-hold_pair.ensures)
 
 pub returns : goal.returns
 returns c =
     let m : Made = c.args.making.now in
-    some_all (OfFace m.spec m.labels m.found m.faces) m.found.queue c.loop-place.place m c.loop-place.making (omega (arith, c.count-place-end.ensures, c.loop-place-test.false)) c.loop-place.invariant
+    some_all (OfFace m.spec m.labels m.found m.faces) m.found.queue c.loop-place.place m c.loop-place.making
+    (omega (arith, c.count-place-end.ensures, c.loop-place-test.false)) c.loop-place.invariant

@@ -1,8 +1,4 @@
-use Rattle.std.proofs.Common.{◌≡◌, ◌∙◌, None, get_or, drop, length, sym, ap, subst, arith, ℕ}
-use Rattle.std.proofs.Math.Seq.{drop-length}
-use Rattle.std.proofs.lemmas.Bool.{eq-eqb, ne_eqb}
-use Rattle.cap_audit.specs.Picks.{place_in}
-use Rattle.cap_audit.specs.declared.found.Held.{Held}
+use Rattle.cap_audit.proofs.Common.{Held, None, ap, arith, drop, drop-length, eq-eqb, get_or, length, ne_eqb, place_in, subst, sym, ℕ, ◌∙◌, ◌≡◌}
 use Rattle.cap_audit.proofs.Meeting.{place_here, place_past}
 use Rattle.cap_audit.proofs.picks.place_in.Goals as goal
 
@@ -23,7 +19,9 @@ returns-then-held-value c =
 
 pub returns : goal.returns
 returns c =
-    let at_end : c.loop-held.held-index ≡ length c.args.helds.now = omega (arith, c.loop-held-test.false, c.loop-held.auto.held-index-end) in
+    let at_end : c.loop-held.held-index ≡ length c.args.helds.now =
+    omega (arith, c.loop-held-test.false, c.loop-held.auto.held-index-end) in
     let none : place_in c.args.node c.args.value (drop c.loop-held.held-index c.args.helds.now) ≡ None =
-    subst (λ (n : ℕ). place_in c.args.node c.args.value (drop n c.args.helds.now) ≡ None) (sym at_end) (ap (place_in c.args.node c.args.value) (drop-length c.args.helds.now)) in
+    subst (λ (n : ℕ). place_in c.args.node c.args.value (drop n c.args.helds.now) ≡ None) (sym at_end)
+    (ap (place_in c.args.node c.args.value) (drop-length c.args.helds.now)) in
     sym (c.loop-held.invariant ∙ none)

@@ -1,5 +1,4 @@
-use Rattle.std.proofs.Common.{◌≡◌, drop}
-use Rattle.cap_audit.specs.Picks.{place_in}
+use Rattle.cap_audit.proofs.Common.{drop, place_in, ◌≡◌}
 use Rattle.cap_audit.proofs.picks.place_in.Given as goal
 
 abbrev pub invariant-loop-held : goal.invariant-loop-held

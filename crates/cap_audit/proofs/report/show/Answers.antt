@@ -1,5 +1,4 @@
-use Rattle.std.proofs.Common.{subst, sym}
-use Rattle.cap_audit.specs.Gains.{IsAll, Made}
+use Rattle.cap_audit.proofs.Common.{IsAll, Made, subst, sym}
 use Rattle.cap_audit.proofs.Assembling.{all_shown, begun_on}
 use Rattle.cap_audit.proofs.report.show.Goals as goal
 
@@ -10,9 +9,12 @@ pub show_deeds-requires : goal.show_deeds-requires
 show_deeds-requires c = begun_on _ _ _ (begun_on _ _ _ c.requires c.in_ok-show_boot.ensures) c.in_ok-hold_all.ensures
 
 pub show_calls-requires : goal.show_calls-requires
-show_calls-requires c = begun_on _ _ _ (begun_on _ _ _ (begun_on _ _ _ c.requires c.in_ok-show_boot.ensures) c.in_ok-hold_all.ensures) c.in_ok-show_deeds.ensures
+show_calls-requires c =
+    begun_on _ _ _ (begun_on _ _ _ (begun_on _ _ _ c.requires c.in_ok-show_boot.ensures) c.in_ok-hold_all.ensures)
+    c.in_ok-show_deeds.ensures
 
 pub returns : goal.returns
 returns c =
-    all_shown c.args.making.now c.show_boot.new.making c.hold_all.new.making c.show_deeds.new.making c.show_calls.new.making c.requires c.in_ok-show_boot.ensures c.in_ok-hold_all.ensures c.in_ok-show_deeds.ensures
+    all_shown c.args.making.now c.show_boot.new.making c.hold_all.new.making c.show_deeds.new.making c.show_calls.new.making
+    c.requires c.in_ok-show_boot.ensures c.in_ok-hold_all.ensures c.in_ok-show_deeds.ensures
     c.in_ok-show_calls.ensures

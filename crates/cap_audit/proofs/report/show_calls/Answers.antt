@@ -1,7 +1,4 @@
-use Rattle.std.proofs.Common.{◌∙◌, length}
-use Rattle.cap_audit.specs.Gains.{Made, OfSome}
-use Rattle.cap_audit.specs.Gates.{AreReady, OfListening}
-use Rattle.cap_audit.specs.Showing.{OfAllCalls}
+use Rattle.cap_audit.proofs.Common.{AreReady, Made, OfAllCalls, OfListening, OfSome, length, ◌∙◌}
 use Rattle.cap_audit.proofs.Assembling.{of_listeners}
 use Rattle.cap_audit.proofs.Gaining.{gains_by}
 use Rattle.cap_audit.proofs.Meeting.{none_met}
@@ -23,7 +20,8 @@ listen_all-requires-clause-ready c = record {
 
 pub listen_all-requires-clause-are_met : goal.listen_all-requires-clause-are_met
 listen_all-requires-clause-are_met c =
-    none_met c.args.making.now.labels c.in_ok-company.company.rosters.items c.in_ok-company.company.members.items c.as_mut_slice.result.now (length c.args.making.now.spec.entries) c.args.making.now.edges
+    none_met c.args.making.now.labels c.in_ok-company.company.rosters.items c.in_ok-company.company.members.items
+    c.as_mut_slice.result.now (length c.args.making.now.spec.entries) c.args.making.now.edges
     (c.as_mut_slice.ensures.value ∙ c.in_ok-met.ensures)
 
 pub returns : goal.returns
@@ -39,5 +37,7 @@ returns c =
       are_members = c.in_ok-company.ensures.members;
       are_gates = c.in_ok-company.ensures.gates;
     } in
-    gains_by (OfSome (OfListening m.spec m.labels m.found m.heads company.rosters.items company.members.items company.gates.items) m.found.queue) (OfAllCalls m.spec m.labels)
-    (of_listeners m.spec m.labels m.found m.heads company.rosters.items company.members.items company.gates.items ready) m c.listen_all.new.making c.in_ok-listen_all.ensures.gains
+    gains_by (OfSome (OfListening m.spec m.labels m.found m.heads company.rosters.items company.members.items company.gates.items)
+    m.found.queue) (OfAllCalls m.spec m.labels)
+    (of_listeners m.spec m.labels m.found m.heads company.rosters.items company.members.items company.gates.items ready) m
+    c.listen_all.new.making c.in_ok-listen_all.ensures.gains

@@ -1,10 +1,4 @@
-use Rattle.std.proofs.Common.{List, Option, ℕ, subst, sym}
-use Rattle.cap_model.specs.declared.edge.Edge.{Edge}
-use Rattle.cap_model.specs.Kept.{IsKept}
-use Rattle.cap_audit.specs.Kinds.{AreHeadRoots}
-use Rattle.cap_audit.specs.Gains.{Gains, Made}
-use Rattle.cap_audit.specs.Picks.{OfRoots}
-use Rattle.cap_audit.specs.Showing.{OfAllDeeds}
+use Rattle.cap_audit.proofs.Common.{AreHeadRoots, Edge, Gains, IsKept, List, Made, OfAllDeeds, OfRoots, Option, subst, sym, ℕ}
 use Rattle.cap_audit.specs.declared.making.Deed.TheVariants as deeds
 use Rattle.cap_audit.proofs.Assembling.{deeds_parts}
 use Rattle.cap_audit.proofs.Gaining.{gains_by, gains_then}
@@ -12,7 +6,8 @@ use Rattle.cap_audit.proofs.report.show_deeds.Goals as goal
 
 pub act_at_all-requires-clause-roots : goal.act_at_all-requires-clause-roots
 act_at_all-requires-clause-roots c =
-    subst (λ (xs : List (Option ℕ)). AreHeadRoots c.args.making.now.spec c.args.making.now.heads xs) (sym c.as_slice.ensures.value) c.in_ok-roots.ensures
+    subst (λ (xs : List (Option ℕ)). AreHeadRoots c.args.making.now.spec c.args.making.now.heads xs)
+    (sym c.as_slice.ensures.value) c.in_ok-roots.ensures
 
 pub act_at_all-requires-2-clause-kept : goal.act_at_all-requires-2-clause-kept
 act_at_all-requires-2-clause-kept c = subst (λ (x : Made). IsKept x.spec) (sym c.in_ok-act_at_all.ensures.same) c.requires.kept
@@ -20,7 +15,8 @@ act_at_all-requires-2-clause-kept c = subst (λ (x : Made). IsKept x.spec) (sym 
 pub act_at_all-requires-2-clause-roots : goal.act_at_all-requires-2-clause-roots
 act_at_all-requires-2-clause-roots c =
     subst (λ (x : Made). AreHeadRoots x.spec x.heads c.as_slice-2.result.now) (sym c.in_ok-act_at_all.ensures.same)
-    (subst (λ (xs : List (Option ℕ)). AreHeadRoots c.args.making.now.spec c.args.making.now.heads xs) (sym c.as_slice-2.ensures.value) c.in_ok-roots.ensures)
+    (subst (λ (xs : List (Option ℕ)). AreHeadRoots c.args.making.now.spec c.args.making.now.heads xs)
+    (sym c.as_slice-2.ensures.value) c.in_ok-roots.ensures)
 
 pub returns : goal.returns
 returns c =
@@ -28,10 +24,15 @@ returns c =
     let roots : List (Option ℕ) = c.in_ok-roots.roots.items in
     let P : Edge → Type 0 = OfRoots m.spec m.labels m.found deeds.Map roots in
     let Q : Edge → Type 0 = OfRoots m.spec m.labels m.found deeds.Bind roots in
-    let g : Gains P m c.act_at_all.new.making = subst (λ (xs : List (Option ℕ)). Gains (OfRoots m.spec m.labels m.found deeds.Map xs) m c.act_at_all.new.making) c.as_slice.ensures.value c.in_ok-act_at_all.ensures in
+    let g : Gains P m c.act_at_all.new.making =
+    subst (λ (xs : List (Option ℕ)). Gains (OfRoots m.spec m.labels m.found deeds.Map xs) m c.act_at_all.new.making)
+    c.as_slice.ensures.value c.in_ok-act_at_all.ensures in
     let h : Gains Q c.act_at_all.new.making c.act_at_all-2.new.making =
-    subst (λ (x : Made). Gains (OfRoots x.spec x.labels x.found deeds.Bind roots) c.act_at_all.new.making c.act_at_all-2.new.making) g.same
-    (subst (λ (xs : List (Option ℕ)). Gains (OfRoots c.act_at_all.new.making.spec c.act_at_all.new.making.labels c.act_at_all.new.making.found deeds.Bind xs) c.act_at_all.new.making c.act_at_all-2.new.making)
+    subst (λ (x : Made). Gains (OfRoots x.spec x.labels x.found deeds.Bind roots) c.act_at_all.new.making
+    c.act_at_all-2.new.making) g.same
+    (subst (λ (xs : List (Option ℕ)). Gains (OfRoots c.act_at_all.new.making.spec c.act_at_all.new.making.labels
+    c.act_at_all.new.making.found deeds.Bind xs) c.act_at_all.new.making c.act_at_all-2.new.making)
     c.as_slice-2.ensures.value c.in_ok-act_at_all-2.ensures) in
-    gains_by _ (OfAllDeeds m.spec m.labels m.found m.heads) (deeds_parts m.spec m.labels m.found m.heads roots c.requires.all c.requires.kept c.in_ok-roots.ensures) m c.act_at_all-2.new.making
+    gains_by _ (OfAllDeeds m.spec m.labels m.found m.heads) (deeds_parts m.spec m.labels m.found m.heads roots c.requires.all
+    c.requires.kept c.in_ok-roots.ensures) m c.act_at_all-2.new.making
     (gains_then P Q m c.act_at_all.new.making c.act_at_all-2.new.making g h)

@@ -1,10 +1,11 @@
-use Rattle.std.proofs.Common.{◌≤◌, ◌+◌, ◌-◌, length}
-use Rattle.cap_audit.specs.Covering.{GoesOn}
-use Rattle.cap_audit.specs.Search.{unknowns}
+use Rattle.cap_audit.proofs.Common.{GoesOn, length, unknowns, ◌+◌, ◌-◌, ◌≤◌}
 use Rattle.cap_audit.proofs.search.search.Given as goal
 
 abbrev pub invariant-loop-done : goal.invariant-loop-done
-invariant-loop-done l = record { on : GoesOn l.spec l.initial.web.findings l.done l.web.findings l.web.net l.hubs; within : l.done ≤ length l.web.findings.queue }
+invariant-loop-done l = record {
+  on : GoesOn l.spec l.initial.web.findings l.done l.web.findings l.web.net l.hubs;
+  within : l.done ≤ length l.web.findings.queue;
+}
 
 abbrev pub decreases-loop-done : goal.decreases-loop-done
 decreases-loop-done l = (unknowns l.web.findings.known + length l.web.findings.queue) - l.done

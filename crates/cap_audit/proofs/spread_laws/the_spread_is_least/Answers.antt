@@ -1,5 +1,5 @@
+use Rattle.cap_audit.proofs.Common.{true, ◌≡◌}
 use Rattle.cap_audit.proofs.SpreadLeast.{spread_closed, spread_least}
-use Rattle.std.proofs.Common.{◌≡◌, true}
 use Rattle.cap_audit.proofs.spread_laws.the_spread_is_least.Goals as goal
 
 pub returns-clause-closed : goal.returns-clause-closed

@@ -1,12 +1,11 @@
-use Rattle.std.proofs.Common.{List, length, ap, sym, subst, arith, ◌∙◌}
-use Rattle.cap_audit.specs.Ways.{Lanes, AllGo, Connects}
-use Rattle.cap_audit.specs.declared.found.Held.{Held}
+use Rattle.cap_audit.proofs.Common.{AllGo, Connects, Held, Lanes, List, ap, arith, length, subst, sym, ◌∙◌}
 use Rattle.cap_audit.proofs.Paths.{way_connects, lead_connects, connects_back, end_below}
 use Rattle.cap_audit.proofs.ways.connect.Goals as goal
 
 pub returns-then-leads_to : goal.returns-then-leads_to
 returns-then-leads_to c =
-    lead_connects c.args.spec.now c.args.web.now.findings c.args.web.now.net c.args.from c.args.way.to c.requires.found c.requires.ways (c.leads_to.ensures c.if-leads_to.true)
+    lead_connects c.args.spec.now c.args.web.now.findings c.args.web.now.net c.args.from c.args.way.to c.requires.found
+    c.requires.ways (c.leads_to.ensures c.if-leads_to.true)
 
 pub join_back-requires-clause-one : goal.join_back-requires-clause-one
 join_back-requires-clause-one c =
@@ -24,9 +23,14 @@ join_back-requires-clause-other c =
 
 pub returns : goal.returns
 returns c =
-    connects_back c.args.spec.now c.args.web.now.findings c.args.web.now.net c.args.from c.args.way.to c.all_go.new.findings c.add.new.self c.join_back.new.self
-    (subst (λ (n : Lanes). Connects c.args.spec.now c.args.web.now.findings c.args.web.now.net c.args.from c.args.way.to c.all_go.new.findings n) (sym c.in_ok-add.ensures)
-    (way_connects c.args.spec.now c.args.web.now.findings c.args.web.now.net c.args.from c.args.way c.requires.found c.requires.ways c.requires.way c.all_go.new.findings
-    (subst (λ (helds : List Held). AllGo c.args.spec.now c.args.web.now.findings c.args.way helds c.all_go.new.findings) (c.as_slice.ensures.value ∙ c.in_ok-helds.ensures) c.in_ok-all_go.ensures)
+    connects_back c.args.spec.now c.args.web.now.findings c.args.web.now.net c.args.from c.args.way.to c.all_go.new.findings
+    c.add.new.self c.join_back.new.self
+    (subst (λ (n : Lanes). Connects c.args.spec.now c.args.web.now.findings c.args.web.now.net c.args.from c.args.way.to
+    c.all_go.new.findings n) (sym c.in_ok-add.ensures)
+    (way_connects c.args.spec.now c.args.web.now.findings c.args.web.now.net c.args.from c.args.way c.requires.found
+    c.requires.ways c.requires.way c.all_go.new.findings
+    (subst (λ (helds : List Held). AllGo c.args.spec.now c.args.web.now.findings c.args.way helds c.all_go.new.findings)
+    (c.as_slice.ensures.value ∙ c.in_ok-helds.ensures) c.in_ok-all_go.ensures)
     c.requires.from))
-    c.requires.from (end_below c.args.spec.now c.args.web.now.findings c.args.from c.args.way c.requires.found c.requires.way) c.join_back.ensures
+    c.requires.from (end_below c.args.spec.now c.args.web.now.findings c.args.from c.args.way c.requires.found c.requires.way)
+    c.join_back.ensures

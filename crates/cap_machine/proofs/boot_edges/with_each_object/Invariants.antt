@@ -7,4 +7,5 @@ use Rattle.cap_machine.proofs.boot_edges.with_each_object.Given as goal
 
 abbrev pub invariant-loop-place : goal.invariant-loop-place
 invariant-loop-place l =
-    Adds (OfFirst (λ place (entry : Entry). OfObject l.spec l.labels.by_object (label_of l.labels.by_object place) entry.object) l.spec.entries l.place) l.initial.edges.items l.edges.items
+    Adds (OfFirst (λ place (entry : Entry). OfObject l.spec l.labels.by_object (label_of l.labels.by_object place) entry.object)
+    l.spec.entries l.place) l.initial.edges.items l.edges.items

@@ -6,8 +6,10 @@ use Rattle.cap_machine.proofs.edges.with_threads.Goals as goal
 
 pub loop-place-preserved : goal.loop-place-preserved
 loop-place-preserved c =
-    first_more_at (λ t (thread : ThreadState). OfThread c.args.labels.now.by_object (label_of c.args.labels.now.by_object t) thread) c.args.threads.now c.loop-place.place _ _ _ _ c.loop-place-test.true c.loop-place.invariant
+    first_more_at (λ t (thread : ThreadState). OfThread c.args.labels.now.by_object (label_of c.args.labels.now.by_object t)
+    thread) c.args.threads.now c.loop-place.place _ _ _ _ c.loop-place-test.true c.loop-place.invariant
     (rw c.as_slice-from.ensures at c.in_ok-edges.ensures)
 
 pub returns : goal.returns
-returns c = all_first (λ t (thread : ThreadState). OfThread c.args.labels.now.by_object (label_of c.args.labels.now.by_object t) thread) c.args.threads.now c.loop-place.place _ _ c.loop-place-test.false c.loop-place.invariant
+returns c = all_first (λ t (thread : ThreadState). OfThread c.args.labels.now.by_object (label_of c.args.labels.now.by_object t)
+    thread) c.args.threads.now c.loop-place.place _ _ c.loop-place-test.false c.loop-place.invariant

@@ -10,6 +10,7 @@ no_slot = (0, record { object = 0; rights = record { read = false; write = false
 pub loop-slot-preserved : goal.loop-slot-preserved
 unfolding no_slot
 loop-slot-preserved c = (
-  slots_more c.args.slots.now c.loop-slot.slot-index no_slot _ _ c.requires c.loop-slot-test.true c.loop-slot.invariant.0 c.in_ok-insert.ensures.entries,
+  slots_more c.args.slots.now c.loop-slot.slot-index no_slot _ _ c.requires c.loop-slot-test.true c.loop-slot.invariant.0
+      c.in_ok-insert.ensures.entries,
   c.in_ok-insert.ensures.ordered,
 )

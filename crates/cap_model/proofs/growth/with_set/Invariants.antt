@@ -1,7 +1,8 @@
 use Rattle.std.proofs.Common.{◌<◌}
 use Rattle.cap_model.specs.Adds.{Adds, IsOfSet}
-use Rattle.cap_model.specs.Authorities.{number_of}
+use Rattle.authorities.specs.Authorities.{number_of}
 use Rattle.cap_model.proofs.growth.with_set.Given as goal
 
 abbrev pub invariant-loop-number : goal.invariant-loop-number
-invariant-loop-number l = Adds (λ e. IsOfSet l.fn.from l.fn.set.bits l.fn.to e × (number_of e.authority < l.number)) l.fn.edges.items l.edges.items
+invariant-loop-number l = Adds (λ e. IsOfSet l.fn.from l.fn.set.bits l.fn.to e × (number_of e.authority < l.number))
+    l.fn.edges.items l.edges.items

@@ -3,4 +3,7 @@ use Rattle.cap_model.specs.Shared.{AreShared}
 use Rattle.cap_model.proofs.shared.shared_rows.Given as goal
 
 abbrev pub invariant-loop-label : goal.invariant-loop-label
-invariant-loop-label l = record { first : l.first ≡ l.label-index * l.count; rows : AreShared (take l.label-index l.labels) l.count l.rows.items }
+invariant-loop-label l = record {
+  first : l.first ≡ l.label-index * l.count;
+  rows : AreShared (take l.label-index l.labels) l.count l.rows.items;
+}

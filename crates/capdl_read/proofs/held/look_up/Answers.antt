@@ -15,5 +15,6 @@ returns-clause-kind c =
     let holders = flat_map (off_in t.arch known) t.holders in
     let irqs = flat_map (λ (l : IrqLine). irq_off l.object (known l.object.name)) t.irqs in
     noted_then c.lines_held.new.faults.kind c.holders_held.new.faults.kind c.args.faults.now.kind (objects ++ holders) irqs
-    (noted_then c.holders_held.new.faults.kind c.note_objects.new.first c.args.faults.now.kind objects holders (rw c.as_slice.ensures at c.in_ok-note_objects.ensures) (rw c.as_slice-2.ensures at c.in_ok-slots.ensures.kind))
+    (noted_then c.holders_held.new.faults.kind c.note_objects.new.first c.args.faults.now.kind objects holders
+    (rw c.as_slice.ensures at c.in_ok-note_objects.ensures) (rw c.as_slice-2.ensures at c.in_ok-slots.ensures.kind))
     (rw c.as_slice-3.ensures at c.in_ok-irqs.ensures.kind)

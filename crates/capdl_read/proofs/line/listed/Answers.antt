@@ -14,7 +14,9 @@ returns-in_err-item g c =
     let b = c.args.bytes.now in
     let r = g.L.Line.gives in
     let p = err_from_is_err_and c.from_residual-in_err-item.result c.from_residual-in_err-item.ensures.1 in
-    rw (p.1, p.2) (fails token_code cs (behind_one token_code cs r) (behind_eats token_code cs r (g.met.L.Line c.lifetimes (search rules)).eats) c.in_err-item.field-0.0 c.more.items (sees b c.more.rest.now) (list_of token_code comma r (sees b c.args.tokens.now))
+    rw (p.1, p.2) (fails token_code cs (behind_one token_code cs r)
+    (behind_eats token_code cs r (g.met.L.Line c.lifetimes (search rules)).eats) c.in_err-item.field-0.0 c.more.items
+    (sees b c.more.rest.now) (list_of token_code comma r (sees b c.args.tokens.now))
     (sym c.next_is.ensures ∙ c.more-test.true) c.in_err-item.ensures c.more.invariant)
 
 pub more-preserved : goal.more-preserved
@@ -23,7 +25,9 @@ more-preserved g c =
     let cs = comma ∷ [] in
     let b = c.args.bytes.now in
     let r = g.L.Line.gives in
-    rw c.in_ok-push-2.ensures.ok (goes_on token_code cs (behind_one token_code cs r) (behind_eats token_code cs r (g.met.L.Line c.lifetimes (search rules)).eats) c.more.items (sees b c.more.rest.now) c.in_ok-item.item (sees b c.in_ok-item.after.now) (list_of token_code comma r (sees b c.args.tokens.now))
+    rw c.in_ok-push-2.ensures.ok (goes_on token_code cs (behind_one token_code cs r)
+    (behind_eats token_code cs r (g.met.L.Line c.lifetimes (search rules)).eats) c.more.items (sees b c.more.rest.now)
+    c.in_ok-item.item (sees b c.in_ok-item.after.now) (list_of token_code comma r (sees b c.args.tokens.now))
     (sym c.next_is.ensures ∙ c.more-test.true) c.in_ok-item.ensures c.more.invariant)
 
 pub returns : goal.returns
@@ -32,4 +36,6 @@ returns g c =
     let cs = comma ∷ [] in
     let b = c.args.bytes.now in
     let r = g.L.Line.gives in
-    rw c.fitted.ensures (is_done token_code cs (behind_one token_code cs r) (behind_eats token_code cs r (g.met.L.Line c.lifetimes (search rules)).eats) c.more.items (sees b c.more.rest.now) (list_of token_code comma r (sees b c.args.tokens.now)) (sym c.next_is.ensures ∙ c.more-test.false) c.more.invariant)
+    rw c.fitted.ensures (is_done token_code cs (behind_one token_code cs r)
+    (behind_eats token_code cs r (g.met.L.Line c.lifetimes (search rules)).eats) c.more.items (sees b c.more.rest.now)
+    (list_of token_code comma r (sees b c.args.tokens.now)) (sym c.next_is.ensures ∙ c.more-test.false) c.more.invariant)

@@ -11,7 +11,8 @@ abbrev pub invariant-more : goal.invariant-more
 invariant-more g l =
     let c = mark_code marks.Comma in
     let r = g.L.Line.gives in
-    with_front l.items (many token_code (c ∷ []) (behind_one token_code (c ∷ []) r) (sees l.bytes l.rest)) ≡ list_of token_code c r (sees l.bytes l.fn.tokens)
+    with_front l.items (many token_code (c ∷ []) (behind_one token_code (c ∷ []) r) (sees l.bytes l.rest)) ≡ list_of token_code c
+    r (sees l.bytes l.fn.tokens)
 
 abbrev pub decreases-more : goal.decreases-more
 decreases-more g l = length (sees l.bytes l.rest)

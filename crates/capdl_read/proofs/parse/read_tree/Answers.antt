@@ -13,4 +13,5 @@ returns-in_err-lexemes c =
 pub returns : goal.returns
 returns c =
     parsed c.args.bytes.now (tokens_of c.args.bytes.now c.in_ok-lexemes.lexemes) c.parse.result c.in_ok-lexemes.ensures
-    (subst (λ (ls : List Lexeme). IsParsed c.args.bytes.now (tokens_of c.args.bytes.now ls) c.parse.result) c.as_slice.ensures c.parse.ensures)
+    (subst (λ (ls : List Lexeme). IsParsed c.args.bytes.now (tokens_of c.args.bytes.now ls) c.parse.result) c.as_slice.ensures
+    c.parse.ensures)

@@ -9,7 +9,8 @@ use Rattle.capdl_text.proofs.lexer.lex.Given as goal
 -- The tokens so far and those of the rest are those of all bytes, and what is reached from the rest is reached.
 abbrev pub invariant-scan : goal.invariant-scan
 invariant-scan l = record {
-  told : (ts : List Token) → LexesFrom (length l.bytes) l.rest ts → LexesFrom (length l.bytes) l.bytes (tokens_of l.bytes l.lexemes ++ ts);
+  told : (ts : List Token) → LexesFrom (length l.bytes) l.rest ts
+      → LexesFrom (length l.bytes) l.bytes (tokens_of l.bytes l.lexemes ++ ts);
   reached : (x : List ℕ) → Reached l.rest x → Reached l.bytes x;
   tail : IsTail l.bytes l.rest;
   short : length l.rest ≤ length l.bytes;

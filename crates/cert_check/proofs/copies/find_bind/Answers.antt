@@ -1,5 +1,5 @@
 use Rattle.std.proofs.Common.{arith, length}
-use Rattle.cap_model.specs.declared.authority.Authority.TheVariants.{Handle}
+use Rattle.authorities.specs.declared.authority.Authority.TheVariants.{Handle}
 use Rattle.cap_model.proofs.TableMembers.{has_at}
 use Rattle.cert_check.specs.Violations.{BreaksBind}
 use Rattle.cert_check.proofs.FirstFound.{edge_found, edge_none}
@@ -12,16 +12,20 @@ bind_at-requires c = has_at c.args.cert.now c.in-Some.at c.in-Some.edge c.in-Som
 
 pub returns-in-Some-bind_at : goal.returns-in-Some-bind_at
 returns-in-Some-bind_at c =
-    edge_found c.args.cert.now (BreaksBind c.args.cert.now) (λ v p. p.there) c.in-Some.at c.in-Some.edge c.in-Some-bind_at.found c.next_of.ensures.sorted c.in-Some.ensures.found.there
-    (none_on (BreaksBind c.args.cert.now) first_of c.args.cert.now Handle c.loop-at.next c.in-Some.at (λ v p. p.handle) c.in-Some.ensures.found.others c.loop-at.invariant) c.in-Some-bind_at.ensures
+    edge_found c.args.cert.now (BreaksBind c.args.cert.now) (λ v p. p.there) c.in-Some.at c.in-Some.edge c.in-Some-bind_at.found
+    c.next_of.ensures.sorted c.in-Some.ensures.found.there
+    (none_on (BreaksBind c.args.cert.now) first_of c.args.cert.now Handle c.loop-at.next c.in-Some.at (λ v p. p.handle)
+    c.in-Some.ensures.found.others c.loop-at.invariant) c.in-Some-bind_at.ensures
 
 pub loop-at-preserved : goal.loop-at-preserved
 loop-at-preserved c =
     none_more (BreaksBind c.args.cert.now) first_of c.args.cert.now c.in-Some.at c.in-Some.edge
-    (none_on (BreaksBind c.args.cert.now) first_of c.args.cert.now Handle c.loop-at.next c.in-Some.at (λ v p. p.handle) c.in-Some.ensures.found.others c.loop-at.invariant) c.in-Some.ensures.found.there
+    (none_on (BreaksBind c.args.cert.now) first_of c.args.cert.now Handle c.loop-at.next c.in-Some.at (λ v p. p.handle)
+    c.in-Some.ensures.found.others c.loop-at.invariant) c.in-Some.ensures.found.there
     (λ v is p. c.in_default-bind_at.ensures v (p, is))
 
 pub returns : goal.returns
 returns c =
     edge_none c.args.cert.now (BreaksBind c.args.cert.now) (λ v p. p.there) (length c.args.cert.now) (omega arith)
-    (none_on (BreaksBind c.args.cert.now) first_of c.args.cert.now Handle c.loop-at.next (length c.args.cert.now) (λ v p. p.handle) c.in_default.ensures.none c.loop-at.invariant)
+    (none_on (BreaksBind c.args.cert.now) first_of c.args.cert.now Handle c.loop-at.next (length c.args.cert.now)
+    (λ v p. p.handle) c.in_default.ensures.none c.loop-at.invariant)

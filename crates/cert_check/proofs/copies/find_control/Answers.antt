@@ -1,5 +1,5 @@
 use Rattle.std.proofs.Common.{arith, length}
-use Rattle.cap_model.specs.declared.authority.Authority.TheVariants.{Control}
+use Rattle.authorities.specs.declared.authority.Authority.TheVariants.{Control}
 use Rattle.cap_model.proofs.TableMembers.{has_at}
 use Rattle.cert_check.specs.Violations.{BreaksControl}
 use Rattle.cert_check.proofs.FirstFound.{edge_found, edge_none}
@@ -12,16 +12,20 @@ control_at-requires c = has_at c.args.cert.now c.in-Some.at c.in-Some.edge c.in-
 
 pub returns-in-Some-control_at : goal.returns-in-Some-control_at
 returns-in-Some-control_at c =
-    edge_found c.args.cert.now (BreaksControl c.args.cert.now) (λ v p. p.there) c.in-Some.at c.in-Some.edge c.in-Some-control_at.found c.next_of.ensures.sorted c.in-Some.ensures.found.there
-    (none_on (BreaksControl c.args.cert.now) first_of c.args.cert.now Control c.loop-at.next c.in-Some.at (λ v p. p.control) c.in-Some.ensures.found.others c.loop-at.invariant) c.in-Some-control_at.ensures
+    edge_found c.args.cert.now (BreaksControl c.args.cert.now) (λ v p. p.there) c.in-Some.at c.in-Some.edge
+    c.in-Some-control_at.found c.next_of.ensures.sorted c.in-Some.ensures.found.there
+    (none_on (BreaksControl c.args.cert.now) first_of c.args.cert.now Control c.loop-at.next c.in-Some.at (λ v p. p.control)
+    c.in-Some.ensures.found.others c.loop-at.invariant) c.in-Some-control_at.ensures
 
 pub loop-at-preserved : goal.loop-at-preserved
 loop-at-preserved c =
     none_more (BreaksControl c.args.cert.now) first_of c.args.cert.now c.in-Some.at c.in-Some.edge
-    (none_on (BreaksControl c.args.cert.now) first_of c.args.cert.now Control c.loop-at.next c.in-Some.at (λ v p. p.control) c.in-Some.ensures.found.others c.loop-at.invariant) c.in-Some.ensures.found.there
+    (none_on (BreaksControl c.args.cert.now) first_of c.args.cert.now Control c.loop-at.next c.in-Some.at (λ v p. p.control)
+    c.in-Some.ensures.found.others c.loop-at.invariant) c.in-Some.ensures.found.there
     (λ v is p. c.in_default-control_at.ensures v (p, is))
 
 pub returns : goal.returns
 returns c =
     edge_none c.args.cert.now (BreaksControl c.args.cert.now) (λ v p. p.there) (length c.args.cert.now) (omega arith)
-    (none_on (BreaksControl c.args.cert.now) first_of c.args.cert.now Control c.loop-at.next (length c.args.cert.now) (λ v p. p.control) c.in_default.ensures.none c.loop-at.invariant)
+    (none_on (BreaksControl c.args.cert.now) first_of c.args.cert.now Control c.loop-at.next (length c.args.cert.now)
+    (λ v p. p.control) c.in_default.ensures.none c.loop-at.invariant)

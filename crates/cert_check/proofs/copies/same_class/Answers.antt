@@ -13,6 +13,7 @@ same_option (Some a) (Some b) e = ap Some (eqb-true a b e)
 
 pub returns : goal.returns
 returns c h =
-    let same : c.class_near.result ≡ c.class_near-2.result = same_option c.class_near.result c.class_near-2.result (sym c.eq.ensures ∙ h) in
+    let same : c.class_near.result ≡ c.class_near-2.result = same_option c.class_near.result c.class_near-2.result
+    (sym c.eq.ensures ∙ h) in
     class_alike c.args.cert.now c.args.low c.args.high c.class_near.result c.class_near.ensures
     (subst (λ (n : Option ℕ). IsClassOf c.args.cert.now c.args.high n) (sym same) c.class_near-2.ensures)

@@ -8,13 +8,16 @@ middle_below low high less = omega arith
 
 pub loop-low-preserved-then-is_before : goal.loop-low-preserved-then-is_before
 loop-low-preserved-then-is_before c =
-    halved_up c.args.cert.now c.args.edge.now c.loop-low.low c.loop-low.high (c.loop-low.low + (c.loop-low.high - c.loop-low.low) / 2) c.in-Some.other c.requires.sorted c.loop-low.invariant
+    halved_up c.args.cert.now c.args.edge.now c.loop-low.low c.loop-low.high
+    (c.loop-low.low + (c.loop-low.high - c.loop-low.low) / 2) c.in-Some.other c.requires.sorted c.loop-low.invariant
     (middle_below c.loop-low.low c.loop-low.high c.loop-low-test.true) (cc) (c.is_before.ensures.yes c.if-is_before.true)
 
 pub loop-low-preserved-in_default : goal.loop-low-preserved-in_default
 loop-low-preserved-in_default c =
-    halved_down c.args.cert.now c.args.edge.now c.loop-low.low c.loop-low.high (c.loop-low.low + (c.loop-low.high - c.loop-low.low) / 2) c.in-Some.other c.requires.sorted c.loop-low.invariant
-    (omega arith) (middle_below c.loop-low.low c.loop-low.high c.loop-low-test.true) (cc) (c.is_before.ensures.no c.if-is_before.false)
+    halved_down c.args.cert.now c.args.edge.now c.loop-low.low c.loop-low.high
+    (c.loop-low.low + (c.loop-low.high - c.loop-low.low) / 2) c.in-Some.other c.requires.sorted c.loop-low.invariant
+    (omega arith) (middle_below c.loop-low.low c.loop-low.high c.loop-low-test.true) (cc)
+    (c.is_before.ensures.no c.if-is_before.false)
 
 pub loop-low-preserved : goal.loop-low-preserved
 loop-low-preserved c = absurd (

@@ -16,4 +16,5 @@ pub returns-clause-app : goal.returns-clause-app
 returns-clause-app c =
     let before = c.loop-slot.invariant in
     let past : length c.args.slots.now ≤ c.loop-slot.slot-index = c.loop-slot-test.false in
-    before.0 ∙ ap (λ (xs : List (Bor (List ℕ))). record { top = leaf c.args.name.now (map (λ s. s.now) xs); subs = [] }) (take_all _ c.args.slots.now past)
+    before.0 ∙ ap (λ (xs : List (Bor (List ℕ))). record { top = leaf c.args.name.now (map (λ s. s.now) xs); subs = [] })
+    (take_all _ c.args.slots.now past)

@@ -6,7 +6,8 @@ use Rattle.command_words.specs.Words.{count_of}
 use Rattle.command_words.proofs.reading.count_of.Goals as goal
 
 pub returns-in_default : goal.returns-in_default
-returns-in_default c = ap (option_and_then count_of) (sym (c.in_default.ensures ∙ first_value-rows (found_of c.args.matches.now) c.args.id.now))
+returns-in_default c =
+    ap (option_and_then count_of) (sym (c.in_default.ensures ∙ first_value-rows (found_of c.args.matches.now) c.args.id.now))
 
 pub returns-in-Some-count_in : goal.returns-in-Some-count_in
 returns-in-Some-count_in c =

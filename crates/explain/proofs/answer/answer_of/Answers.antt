@@ -1,4 +1,4 @@
-use Rattle.arch_policy.specs.Tables.{tables_of}
+use Rattle.explain.proofs.Common.{tables_of}
 use Rattle.explain.proofs.Asking.{asked_is}
 use Rattle.explain.proofs.answer.answer_of.Goals as goal
 

@@ -1,7 +1,4 @@
-use Rattle.std.proofs.Common.{subst}
-use Rattle.arch_policy.specs.Tables.{told}
-use Rattle.explain.specs.declared.search.Sought.TheVariants.{Handler, Signaller}
-use Rattle.explain.specs.Sought.{IsFirstEnd}
+use Rattle.explain.proofs.Common.{Handler, IsFirstEnd, Signaller, subst, told}
 use Rattle.explain.proofs.Stages.{bind_first, bind_none, signalled}
 use Rattle.explain.proofs.first.bind_reason.Goals as goal
 

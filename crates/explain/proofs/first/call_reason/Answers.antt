@@ -1,7 +1,4 @@
-use Rattle.std.proofs.Common.{subst}
-use Rattle.arch_policy.specs.Tables.{told}
-use Rattle.explain.specs.declared.search.Sought.TheVariants.{Caller, Server}
-use Rattle.explain.specs.Sought.{IsFirstEnd}
+use Rattle.explain.proofs.Common.{Caller, IsFirstEnd, Server, subst, told}
 use Rattle.explain.proofs.Stages.{call_first, call_none, served}
 use Rattle.explain.proofs.first.call_reason.Goals as goal
 

@@ -1,7 +1,4 @@
-use Rattle.std.proofs.Common.{subst}
-use Rattle.arch_policy.specs.Tables.{told}
-use Rattle.explain.specs.declared.search.Sought.TheVariants.{Given}
-use Rattle.explain.specs.Sought.{IsFirstEnd}
+use Rattle.explain.proofs.Common.{Given, IsFirstEnd, subst, told}
 use Rattle.explain.proofs.Stages.{direct_first, direct_none}
 use Rattle.explain.proofs.first.direct_reason.Goals as goal
 

@@ -1,9 +1,7 @@
-use Rattle.std.proofs.Common.{◌≡◌, ◌∙◌, ◌<◌, ◌^◌, length, sym, subst, Some}
+use Rattle.explain.proofs.Common.{IsAsked, IsFirstReason, Some, Tables, length, subst, sym, ◌<◌, ◌^◌, ◌∙◌, ◌≡◌}
 use Rattle.arch_policy.specs.declared.numbers.LabelNumbers.{LabelNumbers}
 use Rattle.arch_policy.specs.Labels.{label_texts}
-use Rattle.arch_policy.specs.Tables.{Tables}
 use Rattle.arch_policy.proofs.Labelled.{few_texts}
-use Rattle.explain.specs.Explained.{IsAsked, IsFirstReason}
 use Rattle.explain.proofs.first.explain.Goals as goal
 
 pub asked_edge-requires : goal.asked_edge-requires

@@ -1,8 +1,5 @@
-use Rattle.std.proofs.Common.{Option, subst}
-use Rattle.arch_policy.specs.Reasons.{BindReason, CallReason, DirectReason, by_bind, by_call, by_direct}
-use Rattle.arch_policy.specs.Tables.{told}
+use Rattle.explain.proofs.Common.{BindReason, CallReason, DirectReason, IsFirstOf, Option, by_bind, by_call, by_direct, subst, told, told_of}
 use Rattle.explain.specs.declared.reason.Reason.{Reason as Told}
-use Rattle.explain.specs.Explained.{IsFirstOf, told_of}
 use Rattle.explain.proofs.Stages.{bind_all, call_all, direct_all, lock_all}
 use Rattle.explain.proofs.first.first_reason.Goals as goal
 

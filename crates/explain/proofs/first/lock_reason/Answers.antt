@@ -1,7 +1,4 @@
-use Rattle.std.proofs.Common.{subst}
-use Rattle.arch_policy.specs.Tables.{told}
-use Rattle.explain.specs.declared.search.Sought.TheVariants.{LockHandler}
-use Rattle.explain.specs.Sought.{IsFirstEnd}
+use Rattle.explain.proofs.Common.{IsFirstEnd, LockHandler, subst, told}
 use Rattle.explain.proofs.Stages.{lock_first, lock_none}
 use Rattle.explain.proofs.first.lock_reason.Goals as goal
 

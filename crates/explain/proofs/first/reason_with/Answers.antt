@@ -1,4 +1,4 @@
-use Rattle.arch_policy.specs.Tables.{told}
+use Rattle.explain.proofs.Common.{told}
 use Rattle.explain.proofs.Stages.{reasoned_first}
 use Rattle.explain.proofs.first.reason_with.Goals as goal
 

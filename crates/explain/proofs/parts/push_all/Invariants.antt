@@ -1,5 +1,4 @@
-use Rattle.std.proofs.Common.{◌≡◌, ◌++◌, take}
-use Rattle.std.specs.List.{flat_map}
+use Rattle.explain.proofs.Common.{flat_map, take, ◌++◌, ◌≡◌}
 use Rattle.explain.proofs.parts.push_all.Given as goal
 
 abbrev pub invariant-loop-part : goal.invariant-loop-part

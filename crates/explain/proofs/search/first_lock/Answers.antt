@@ -1,6 +1,4 @@
-use Rattle.std.proofs.Common.{ap, arith, length}
-use Rattle.arch_policy.specs.Tables.{told}
-use Rattle.cam_base.proofs.NumberedLists.{read_place}
+use Rattle.explain.proofs.Common.{ap, arith, length, read_place, told}
 use Rattle.explain.proofs.Searching.{lock_least, lock_more, lock_none}
 use Rattle.explain.proofs.search.first_lock.Goals as goal
 

@@ -1,6 +1,4 @@
-use Rattle.std.proofs.Common.{◌≡◌, ◌<◌}
-use Rattle.arch_policy.specs.Ends.{LockAt}
-use Rattle.arch_policy.specs.Tables.{domain_label, told}
+use Rattle.explain.proofs.Common.{LockAt, domain_label, told, ◌<◌, ◌≡◌}
 use Rattle.explain.proofs.search.first_lock.Given as goal
 
 abbrev pub invariant-loop-number : goal.invariant-loop-number

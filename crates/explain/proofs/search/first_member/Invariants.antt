@@ -1,7 +1,5 @@
-use Rattle.std.proofs.Common.{◌≡◌, ◌<◌, ℕ, true, Some}
-use Rattle.std.specs.List.{slice_get}
+use Rattle.explain.proofs.Common.{Some, is_lock, slice_get, true, ℕ, ◌<◌, ◌≡◌}
 use Rattle.adl_ast.specs.declared.component.Member.{Member}
-use Rattle.cspace_layout.specs.Members.{is_lock}
 use Rattle.explain.proofs.search.first_member.Given as goal
 
 abbrev pub invariant-loop-place : goal.invariant-loop-place

@@ -1,5 +1,4 @@
-use Rattle.cert_check.proofs.Keeps.{runs_stay}
-use Rattle.flow_model.proofs.Reached.{world_reached}
+use Rattle.flow_laws.proofs.Common.{runs_stay, world_reached}
 use Rattle.flow_laws.proofs.ActsLet.{act_let}
 use Rattle.flow_laws.proofs.integrity_laws.acts_keep_to_the_policy.Goals as goal
 

@@ -1,5 +1,4 @@
-use Rattle.cert_check.proofs.Keeps.{runs_stay}
-use Rattle.flow_model.proofs.Reached.{steps_reached}
+use Rattle.flow_laws.proofs.Common.{runs_stay, steps_reached}
 use Rattle.flow_laws.proofs.integrity_laws.policies_stay_kept.Goals as goal
 
 pub returns : goal.returns

@@ -1,8 +1,7 @@
-use Rattle.flat_laws.proofs.ShortTrees.{short_few}
+use Rattle.front_end.proofs.Common.{first_front_fault, short_few}
 use Rattle.front_end.proofs.LoadedFew.{loaded_few}
 use Rattle.front_end.proofs.LoadedShort.{loaded_short}
 use Rattle.front_end.proofs.Refusing.{meant_meaning, unloaded_refuses}
-use Rattle.front_end.specs.First.{first_front_fault}
 use Rattle.front_end.proofs.phases.meaning_of.Goals as goal
 
 pub with_parts-requires-clause-members : goal.with_parts-requires-clause-members

@@ -1,9 +1,4 @@
-use Rattle.adl_meaning.proofs.SoundNames.{names_sound}
-use Rattle.adl_meaning.specs.Prelude.{first_flat_fault, first_name_fault}
-use Rattle.adl_meaning.specs.declared.flat.Flat.{Flat}
-use Rattle.adl_meaning.specs.declared.settled.Settled.{Settled}
-use Rattle.adl_settings.specs.SettingFaults.{first_setting_fault}
-use Rattle.adl_types.specs.TypeFaults.{first_type_fault}
+use Rattle.front_end.proofs.Common.{Flat, Settled, first_flat_fault, first_name_fault, first_setting_fault, first_type_fault, names_sound}
 use Rattle.front_end.proofs.Passing.{third_told, fourth_told}
 use Rattle.front_end.proofs.phases.parts_of.Goals as goal
 

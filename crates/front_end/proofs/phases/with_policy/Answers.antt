@@ -1,4 +1,4 @@
-use Rattle.std.proofs.Common.{refl}
+use Rattle.front_end.proofs.Common.{refl}
 use Rattle.front_end.proofs.Refusing.{no_edge_fault, policy_assigned, policy_refuses}
 use Rattle.front_end.proofs.Within.{few_labels, sound_within}
 use Rattle.front_end.proofs.phases.with_policy.Goals as goal

@@ -1,6 +1,4 @@
-use Rattle.std.proofs.Common.{subst, sym}
-use Rattle.adl_meaning.specs.Prelude.{Fault, IsIn}
-use Rattle.adl_meaning.specs.Unknown.{scope_of_held, unknown_in_setting}
+use Rattle.front_laws.proofs.Common.{Fault, IsIn, scope_of_held, subst, sym, unknown_in_setting}
 use Rattle.front_laws.proofs.UnknownWords.{from_setting, in_setting}
 use Rattle.front_laws.proofs.laws.unknown_words_lead_nowhere.Goals as goal
 

@@ -1,8 +1,6 @@
-use Rattle.std.proofs.Common.{◌≡◌, ◌<◌, ◌∙◌, Some, length, slice_get, sym, subst, arith}
-use Rattle.std.proofs.lemmas.Option.{slice_get_within, get_or_from_slice_get}
+use Rattle.label_flow.proofs.Common.{Found, Some, arith, get_or_from_slice_get, length, slice_get, slice_get_within, subst, sym, ◌<◌, ◌∙◌, ◌≡◌}
 use Rattle.label_flow.proofs.Passed.{at_contains}
 use Rattle.label_flow.proofs.Searching.{ends_apart, ends_shortest, place_read}
-use Rattle.label_flow.specs.declared.search.Found.{Found}
 use Rattle.label_flow.proofs.chain.flow_by.Goals as goal
 
 pub returns-in-None : goal.returns-in-None

@@ -1,7 +1,5 @@
-use Rattle.std.proofs.Common.{◌≡◌, ◌++◌, ◌∷◌, [], codes, decimal, length, take}
-use Rattle.std.specs.List.{flat_map}
+use Rattle.label_flow.proofs.Common.{[], codes, decimal, edge_line, flat_map, length, take, ◌++◌, ◌∷◌, ◌≡◌}
 use Rattle.cam_base.specs.Texts.{together}
-use Rattle.policy_text.specs.EdgeLines.{edge_line}
 use Rattle.label_flow.proofs.chains.chain_text.Given as goal
 
 abbrev pub invariant-loop-edge : goal.invariant-loop-edge

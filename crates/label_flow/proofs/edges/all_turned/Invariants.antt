@@ -1,5 +1,4 @@
-use Rattle.std.proofs.Common.{◌≡◌, take, map}
-use Rattle.label_flow.specs.Edges.{turned}
+use Rattle.label_flow.proofs.Common.{map, take, turned, ◌≡◌}
 use Rattle.label_flow.proofs.edges.all_turned.Given as goal
 
 abbrev pub invariant-loop-at : goal.invariant-loop-at

@@ -1,6 +1,4 @@
-use Rattle.std.proofs.Common.{arith}
-use Rattle.cap_model.specs.declared.authority.Authority.TheVariants.{Receive}
-use Rattle.cap_model.specs.declared.edge.Edge.{Edge}
+use Rattle.label_flow.proofs.Common.{Edge, Receive, arith}
 use Rattle.label_flow.proofs.Listing.{below_more}
 use Rattle.label_flow.proofs.edges.count_of.Goals as goal
 

@@ -1,5 +1,4 @@
-use Rattle.std.proofs.Common.{◌<◌, take}
-use Rattle.label_flow.specs.Edges.{AreBelow}
+use Rattle.label_flow.proofs.Common.{AreBelow, take, ◌<◌}
 use Rattle.label_flow.proofs.edges.count_of.Given as goal
 
 abbrev pub invariant-loop-edge : goal.invariant-loop-edge

@@ -1,6 +1,4 @@
-use Rattle.std.proofs.Common.{◌∙◌, sym, arith}
-use Rattle.std.proofs.lemmas.Option.{slice_get-get_or}
-use Rattle.cap_model.specs.declared.authority.Authority.TheVariants.{Receive}
+use Rattle.label_flow.proofs.Common.{Receive, arith, slice_get-get_or, sym, ◌∙◌}
 use Rattle.label_flow.proofs.Listing.{one_more}
 use Rattle.label_flow.proofs.edges.listed.Goals as goal
 use Rattle.label_flow.proofs.edges.listed.Goals.{in-Some+in_ok-push, in_default}

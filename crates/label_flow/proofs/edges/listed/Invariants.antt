@@ -1,4 +1,4 @@
-use Rattle.std.proofs.Common.{◌≡◌, take}
+use Rattle.label_flow.proofs.Common.{take, ◌≡◌}
 use Rattle.label_flow.proofs.edges.listed.Given as goal
 
 abbrev pub invariant-loop-at : goal.invariant-loop-at

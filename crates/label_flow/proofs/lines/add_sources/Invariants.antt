@@ -1,7 +1,4 @@
-use Rattle.std.proofs.Common.{◌≡◌, ◌++◌, take}
-use Rattle.std.specs.List.{flat_map}
-use Rattle.label_flow.specs.Told.{source_word}
-use Rattle.label_flow.specs.Search.{is_source}
+use Rattle.label_flow.proofs.Common.{flat_map, is_source, source_word, take, ◌++◌, ◌≡◌}
 use Rattle.label_flow.proofs.lines.add_sources.Given as goal
 
 abbrev pub invariant-loop-label : goal.invariant-loop-label

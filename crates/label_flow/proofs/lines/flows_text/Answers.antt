@@ -1,7 +1,5 @@
-use Rattle.std.proofs.Common.{◌≡◌, ◌∙◌, ◌+◌, ◌++◌, ◌∷◌, [], ℕ, List, take, get_or, sym, ap, subst}
-use Rattle.std.proofs.lemmas.List.{take_more}
+use Rattle.label_flow.proofs.Common.{AreLines, IsLine, List, [], ap, get_or, subst, sym, take, take_more, ℕ, ◌++◌, ◌+◌, ◌∙◌, ◌∷◌, ◌≡◌}
 use Rattle.label_flow.proofs.Growing.{one_more, line_more}
-use Rattle.label_flow.specs.Told.{AreLines, IsLine}
 use Rattle.label_flow.proofs.lines.flows_text.Goals as goal
 
 pub loop-label-preserved : goal.loop-label-preserved

@@ -1,5 +1,4 @@
-use Rattle.std.proofs.Common.{take}
-use Rattle.label_flow.specs.Told.{AreLines}
+use Rattle.label_flow.proofs.Common.{AreLines, take}
 use Rattle.label_flow.proofs.lines.flows_text.Given as goal
 
 abbrev pub invariant-loop-label : goal.invariant-loop-label

@@ -1,4 +1,4 @@
-use Rattle.label_flow.specs.Search.{is_source}
+use Rattle.label_flow.proofs.Common.{is_source}
 use Rattle.label_flow.proofs.lines.line_of.Goals as goal
 
 pub returns : goal.returns

@@ -1,10 +1,5 @@
-use Rattle.std.proofs.Common.{◌+◌, ◌∙◌, ℕ, length, get_or, refl, sym, subst, arith}
-use Rattle.std.proofs.lemmas.Option.{slice_get-get_or, slice_get_read}
-use Rattle.cap_model.specs.declared.authority.Authority.TheVariants.{Receive}
+use Rattle.label_flow.proofs.Common.{AreBelow, Looks, Receive, Search, arith, get_or, length, refl, slice_get-get_or, slice_get_read, subst, sym, ℕ, ◌+◌, ◌∙◌}
 use Rattle.label_flow.proofs.Searching.{head_below, looks_first, looks_last, looks_met, looks_past, passed_below, row_inside, row_is}
-use Rattle.label_flow.specs.Edges.{AreBelow}
-use Rattle.label_flow.specs.Search.{Looks}
-use Rattle.label_flow.specs.declared.search.Search.{Search}
 use Rattle.label_flow.proofs.search.look.Goals as goal
 use Rattle.label_flow.proofs.search.look.Goals.{in-Some+in_ok-meet-in-Some, in-None}
 

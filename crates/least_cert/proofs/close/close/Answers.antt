@@ -11,7 +11,9 @@ look-requires-clause-known c = has_at c.loop-done.closing.queue c.loop-done.done
 
 pub loop-done-preserved : goal.loop-done-preserved
 loop-done-preserved c =
-    looks_more c.loop-done.done c.edge.result c.args.closing.now c.loop-done.closing c.look.new.closing c.loop-done.invariant (omega (arith, c.count.ensures, c.loop-done-test.true)) c.edge.ensures c.in_ok-look.ensures.looked
+    looks_more c.loop-done.done c.edge.result c.args.closing.now c.loop-done.closing c.look.new.closing c.loop-done.invariant
+    (omega (arith, c.count.ensures, c.loop-done-test.true)) c.edge.ensures c.in_ok-look.ensures.looked
 
 pub returns-clause-closed : goal.returns-clause-closed
-returns-clause-closed c = looks_all c.loop-done.done c.args.closing.now c.loop-done.closing c.loop-done.invariant (omega (arith, c.count.ensures, c.loop-done-test.false))
+returns-clause-closed c = looks_all c.loop-done.done c.args.closing.now c.loop-done.closing c.loop-done.invariant
+    (omega (arith, c.count.ensures, c.loop-done-test.false))

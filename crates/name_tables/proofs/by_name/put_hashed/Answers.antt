@@ -23,6 +23,7 @@ returns-clause-found g c =
     let es = c.args.entries.now.entries in
     let key = c.args.bytes.now in
     let middle = c.insert.new.self.entries in
-    found_again (found es) (found middle) (found c.insert-2.new.self.entries) key c.args.value c.in-Some.first (found-entries es key ∙ sym c.in_ok-first.ensures.old ∙ c.in-Some.is)
+    found_again (found es) (found middle) (found c.insert-2.new.self.entries) key c.args.value c.in-Some.first
+    (found-entries es key ∙ sym c.in_ok-first.ensures.old ∙ c.in-Some.is)
     (entries_put es middle key c.args.value (λ q. c.in_ok-first.ensures.updates.0 q))
     (entries_put middle c.insert-2.new.self.entries key c.in-Some.first (λ q. c.in_ok-insert.ensures.updates.0 q))

@@ -6,4 +6,5 @@ pub loop-region-preserved : goal.loop-region-preserved
 loop-region-preserved c =
     let zeros : Region = record { key = (0, 0); first = 0; count = 0 } in
     rw c.in_ok-push-2.ensures.items
-    (reaches_to_more c.args.regions.now c.loop-region.region-index zeros c.loop-region.reach c.with-reach.result c.loop-region.found.items c.loop-region-test.true c.loop-region.invariant c.with-reach.ensures)
+    (reaches_to_more c.args.regions.now c.loop-region.region-index zeros c.loop-region.reach c.with-reach.result
+    c.loop-region.found.items c.loop-region-test.true c.loop-region.invariant c.with-reach.ensures)

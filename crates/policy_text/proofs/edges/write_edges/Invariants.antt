@@ -1,7 +1,4 @@
-use Rattle.std.proofs.Common.{take}
-use Rattle.std.specs.List.{flat_map}
-use Rattle.cam_io.proofs.Lines.{Wrote}
-use Rattle.policy_text.specs.EdgeLines.{apart_line}
+use Rattle.policy_text.proofs.Common.{Wrote, apart_line, flat_map, take}
 use Rattle.policy_text.proofs.edges.write_edges.Given as goal
 
 abbrev pub invariant-loop-at : goal.invariant-loop-at

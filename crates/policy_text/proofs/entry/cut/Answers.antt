@@ -1,4 +1,4 @@
-use Rattle.std.proofs.Common.{sym}
+use Rattle.policy_text.proofs.Common.{sym}
 use Rattle.policy_text.proofs.Cutting.{cut_some, cut_none}
 use Rattle.policy_text.proofs.entry.cut.Goals as goal
 

@@ -1,6 +1,5 @@
-use Rattle.std.proofs.Common.{◌∙◌, ap, sym, List, ℕ, ◌∷◌}
+use Rattle.policy_text.proofs.Common.{List, ap, entry_of, sym, ℕ, ◌∙◌, ◌∷◌}
 use Rattle.policy_text.proofs.Cutting.{five_fields}
-use Rattle.policy_text.specs.Entries.{entry_of}
 use Rattle.policy_text.proofs.entry.read_long.Goals as goal
 
 pub returns-in-Some : goal.returns-in-Some

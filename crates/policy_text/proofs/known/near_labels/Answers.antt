@@ -1,5 +1,4 @@
-use Rattle.std.proofs.Common.{◌≡◌, ◌+◌, ◌||◌, ◌==◌, ℕ, arith, is_some, subst, take}
-use Rattle.cap_model.specs.Policies.{label_name}
+use Rattle.policy_text.proofs.Common.{arith, is_some, label_name, subst, take, ℕ, ◌+◌, ◌==◌, ◌||◌, ◌≡◌}
 use Rattle.policy_text.proofs.KnownLabels.{named_more, near_more, near_kept}
 use Rattle.policy_text.proofs.known.near_labels.Goals as goal
 use Rattle.policy_text.proofs.known.near_labels.Goals.{then-from-near, else-from-near}

@@ -1,5 +1,4 @@
-use Rattle.std.proofs.Common.{◌≡◌, ◌<◌, ℕ, true, take, is_some}
-use Rattle.cap_model.specs.Policies.{label_name}
+use Rattle.policy_text.proofs.Common.{is_some, label_name, take, true, ℕ, ◌<◌, ◌≡◌}
 use Rattle.policy_text.proofs.known.near_labels.Given as goal
 
 abbrev pub invariant-loop-label : goal.invariant-loop-label

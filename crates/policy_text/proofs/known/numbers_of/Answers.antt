@@ -1,5 +1,4 @@
-use Rattle.std.proofs.Common.{◌∙◌, ap, sym, ℕ, Bool, ◌==◌, ◌||◌, ◌<◌, ◌^◌, take, is_some, arith}
-use Rattle.cap_model.specs.Policies.{label_name}
+use Rattle.policy_text.proofs.Common.{Bool, ap, arith, is_some, label_name, sym, take, ℕ, ◌<◌, ◌==◌, ◌^◌, ◌||◌, ◌∙◌}
 use Rattle.policy_text.proofs.KnownLabels.{named_more, has_more, small_more}
 use Rattle.policy_text.proofs.known.numbers_of.Goals as goal
 

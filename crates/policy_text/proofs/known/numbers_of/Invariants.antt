@@ -1,8 +1,4 @@
-use Rattle.std.proofs.Common.{◌≡◌, ℕ, take, is_some}
-use Rattle.std.specs.BTreeSet.{contains}
-use Rattle.std.specs.Ordering.{nat_cmp}
-use Rattle.cap_model.specs.Policies.{label_name}
-use Rattle.policy_text.specs.KnownNumbers.{IsSmall}
+use Rattle.policy_text.proofs.Common.{IsSmall, contains, is_some, label_name, nat_cmp, take, ℕ, ◌≡◌}
 use Rattle.policy_text.proofs.known.numbers_of.Given as goal
 
 abbrev pub invariant-loop-label : goal.invariant-loop-label

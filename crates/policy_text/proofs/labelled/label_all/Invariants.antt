@@ -1,7 +1,5 @@
-use Rattle.std.proofs.Common.{◌≡◌, ℕ, map, take, drop, Some}
+use Rattle.policy_text.proofs.Common.{Some, drop, first_unlabelled, map, spread_found, take, ℕ, ◌≡◌}
 use Rattle.cap_model.specs.declared.spec.Entry.{Entry}
-use Rattle.name_tables.specs.Naming.{spread_found}
-use Rattle.policy_text.specs.Labelled.{first_unlabelled}
 use Rattle.policy_text.proofs.labelled.label_all.Given as goal
 
 abbrev pub invariant-loop-entry : goal.invariant-loop-entry

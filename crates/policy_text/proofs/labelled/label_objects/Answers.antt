@@ -1,4 +1,4 @@
-use Rattle.name_tables.specs.Naming.{spread_found}
+use Rattle.policy_text.proofs.Common.{spread_found}
 use Rattle.policy_text.proofs.Labelling.{labelling_fails}
 use Rattle.policy_text.proofs.labelled.label_objects.Goals as goal
 

@@ -1,11 +1,4 @@
-use Rattle.std.proofs.Common.{◌∙◌, ap, sym, ℕ, List, None, Some, cond}
-use Rattle.std.proofs.lemmas.List.{drop_all}
-use Rattle.std.specs.Option.{option_or}
-use Rattle.std.specs.Str.{bytes_eq}
-use Rattle.cam_base.proofs.Bytes.{bytes_eq-sym}
-use Rattle.cam_base.proofs.Options.{option_or-none}
-use Rattle.name_tables.specs.Naming.{spread_found}
-use Rattle.policy_text.specs.Labelled.{object_label}
+use Rattle.policy_text.proofs.Common.{List, None, Some, ap, bytes_eq, bytes_eq-sym, cond, drop_all, object_label, option_or, option_or-none, spread_found, sym, ℕ, ◌∙◌}
 use Rattle.policy_text.proofs.Labelling.{label_more}
 use Rattle.policy_text.proofs.labelled.labels_of.Goals as goal
 

@@ -1,7 +1,4 @@
-use Rattle.std.proofs.Common.{◌≡◌, ℕ, List, drop}
-use Rattle.std.specs.Option.{option_or}
-use Rattle.name_tables.specs.Naming.{spread_found}
-use Rattle.policy_text.specs.Labelled.{object_label}
+use Rattle.policy_text.proofs.Common.{List, drop, object_label, option_or, spread_found, ℕ, ◌≡◌}
 use Rattle.policy_text.proofs.labelled.labels_of.Given as goal
 
 abbrev pub invariant-loop-object : goal.invariant-loop-object

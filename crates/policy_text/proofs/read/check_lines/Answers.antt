@@ -1,8 +1,4 @@
-use Rattle.std.proofs.Common.{◌∙◌, [], arith, subst, sym, take}
-use Rattle.policy_text.specs.EntriesRead.{told_lines}
-use Rattle.policy_text.specs.KnownNumbers.{knows}
-use Rattle.policy_text.specs.LinesSeen.{IsSeen}
-use Rattle.policy_text.specs.PolicyFaults.{first_wrong}
+use Rattle.policy_text.proofs.Common.{IsSeen, [], arith, first_wrong, knows, subst, sym, take, told_lines, ◌∙◌}
 use Rattle.policy_text.proofs.Judging.{passed, told_more, check_step, check_fails, few_front}
 use Rattle.policy_text.proofs.read.check_lines.Goals as goal
 

@@ -1,9 +1,4 @@
-use Rattle.std.proofs.Common.{◌≡◌, true, [], take, drop}
-use Rattle.std.specs.Option.{is_none}
-use Rattle.policy_text.specs.EntriesRead.{told_lines}
-use Rattle.policy_text.specs.KnownNumbers.{knows}
-use Rattle.policy_text.specs.LinesSeen.{HasFewEdges, IsSeen}
-use Rattle.policy_text.specs.PolicyFaults.{first_wrong}
+use Rattle.policy_text.proofs.Common.{HasFewEdges, IsSeen, [], drop, first_wrong, is_none, knows, take, told_lines, true, ◌≡◌}
 use Rattle.policy_text.proofs.read.check_lines.Given as goal
 
 abbrev pub invariant-loop-line : goal.invariant-loop-line

@@ -1,6 +1,4 @@
-use Rattle.std.proofs.Common.{◌∙◌, ap, sym}
-use Rattle.std.specs.Option.{option_map}
-use Rattle.policy_text.specs.EntriesRead.{meant}
+use Rattle.policy_text.proofs.Common.{ap, meant, option_map, sym, ◌∙◌}
 use Rattle.policy_text.proofs.read.note_line.Goals as goal
 
 pub returns-in_ok-add-in-Some : goal.returns-in_ok-add-in-Some

@@ -1,10 +1,6 @@
-use Rattle.std.proofs.Common.{◌∙◌, ◌++◌, ap, count_by}
-use Rattle.policy_text.specs.EntriesRead.{told_lines}
-use Rattle.policy_text.specs.PolicyFaults.{is_edge}
-use Rattle.policy_text.specs.PolicyTexts.{body, told, form_fault, has_label}
+use Rattle.policy_text.proofs.Common.{ap, body, count_by, form_fault, has_label, is_edge, line_of, lines_left, told, told_lines, ◌++◌, ◌∙◌}
 use Rattle.policy_text.proofs.Judging.{edges_step, form_some, forms_step, forms_fail, noted_edges, noted_numbers, numbers_step, notes_refused, told_on}
 use Rattle.policy_text.proofs.read.note_lines.Goals as goal
-use Rattle.cam_base.specs.LinesLeft.{line_of, lines_left}
 
 pub loop-line-preserved : goal.loop-line-preserved
 loop-line-preserved c =

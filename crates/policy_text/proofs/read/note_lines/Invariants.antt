@@ -1,11 +1,5 @@
-use Rattle.std.proofs.Common.{◌≡◌, ◌||◌, ◌≤◌, ◌+◌, ◌++◌, ℕ, List, count_by}
-use Rattle.policy_text.specs.EntriesRead.{told_lines}
-use Rattle.policy_text.specs.KnownNumbers.{IsNear}
-use Rattle.policy_text.specs.PolicyFaults.{edges_limit, is_edge}
-use Rattle.policy_text.specs.PolicyTexts.{body, told, form_fault, has_label}
-use Rattle.policy_text.specs.WordSets.{has}
+use Rattle.policy_text.proofs.Common.{IsNear, List, body, count_by, edges_limit, form_fault, has, has_label, is_edge, lines_left, told, told_lines, ℕ, ◌++◌, ◌+◌, ◌||◌, ◌≡◌, ◌≤◌}
 use Rattle.policy_text.proofs.read.note_lines.Given as goal
-use Rattle.cam_base.specs.LinesLeft.{lines_left}
 
 abbrev pub invariant-loop-line : goal.invariant-loop-line
 invariant-loop-line l = record {

@@ -1,7 +1,4 @@
-use Rattle.std.proofs.Common.{◌∙◌, ap, subst, sym}
-use Rattle.policy_text.specs.EntriesRead.{told_lines}
-use Rattle.policy_text.specs.LinesSeen.{HasFewEdges}
-use Rattle.policy_text.specs.PolicyTexts.{body, told}
+use Rattle.policy_text.proofs.Common.{HasFewEdges, ap, body, subst, sym, told, told_lines, ◌∙◌}
 use Rattle.policy_text.specs.declared.kind.Kind.TheVariants as kinds
 use Rattle.policy_text.proofs.Judging.{few_noted}
 use Rattle.policy_text.proofs.Reading.{cert_wrong, cert_read}

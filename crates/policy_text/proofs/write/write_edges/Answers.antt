@@ -1,9 +1,4 @@
-use Rattle.std.proofs.Common.{◌∙◌, sym, arith}
-use Rattle.std.proofs.lemmas.Option.{get_or_from_slice_get, slice_get-get_or}
-use Rattle.cap_model.specs.declared.authority.Authority.TheVariants.{Receive}
-use Rattle.cam_io.proofs.Lines.{lines_begin, lines_end, lines_fail, lines_step}
-use Rattle.cam_io.proofs.Sequence.{writes_exit}
-use Rattle.policy_text.specs.PolicyLines.{edge_line}
+use Rattle.policy_text.proofs.Common.{Receive, arith, edge_line, get_or_from_slice_get, lines_begin, lines_end, lines_fail, lines_step, slice_get-get_or, sym, writes_exit, ◌∙◌}
 use Rattle.policy_text.proofs.write.write_edges.Goals as goal
 use Rattle.policy_text.proofs.write.write_edges.Goals.{in-Some+in_ok-write_edge, in_default}
 

@@ -1,7 +1,4 @@
-use Rattle.std.proofs.Common.{arith}
-use Rattle.cam_io.proofs.Lines.{lines_begin, lines_end, lines_fail, lines_step}
-use Rattle.cam_io.proofs.Sequence.{writes_exit}
-use Rattle.policy_text.specs.PolicyLines.{label_line}
+use Rattle.policy_text.proofs.Common.{arith, label_line, lines_begin, lines_end, lines_fail, lines_step, writes_exit}
 use Rattle.policy_text.proofs.write.write_labels.Goals as goal
 
 pub loop-label-init : goal.loop-label-init

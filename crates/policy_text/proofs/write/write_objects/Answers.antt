@@ -1,7 +1,4 @@
-use Rattle.std.proofs.Common.{arith}
-use Rattle.cam_io.proofs.Lines.{lines_begin, lines_end, lines_fail, lines_step}
-use Rattle.cam_io.proofs.Sequence.{writes_exit}
-use Rattle.policy_text.specs.PolicyLines.{object_line}
+use Rattle.policy_text.proofs.Common.{arith, lines_begin, lines_end, lines_fail, lines_step, object_line, writes_exit}
 use Rattle.policy_text.proofs.write.write_objects.Goals as goal
 
 pub loop-object-init : goal.loop-object-init

@@ -1,7 +1,4 @@
-use Rattle.std.proofs.Common.{take}
-use Rattle.std.specs.List.{flat_map}
-use Rattle.cam_io.proofs.Lines.{Wrote}
-use Rattle.policy_text.specs.PolicyLines.{object_line}
+use Rattle.policy_text.proofs.Common.{Wrote, flat_map, object_line, take}
 use Rattle.policy_text.proofs.write.write_objects.Given as goal
 
 abbrev pub invariant-loop-object : goal.invariant-loop-object

@@ -1,4 +1,4 @@
-use Rattle.cam_io.proofs.Sequence.{writes_after, writes_first, writes_exit, open_still}
+use Rattle.policy_text.proofs.Common.{open_still, writes_after, writes_exit, writes_first}
 use Rattle.policy_text.specs.PolicyLines.{policy_text}
 use Rattle.policy_text.proofs.write.write_policy.Goals as goal
 

@@ -1,4 +1,4 @@
-use Rattle.std.proofs.Common.{length}
+use Rattle.sect_table.proofs.Common.{length}
 use Rattle.sect_table.proofs.field.+little.Given as goal
 
 abbrev pub decreases-little : goal.decreases-little

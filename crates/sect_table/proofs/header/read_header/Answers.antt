@@ -1,4 +1,4 @@
-use Rattle.std.proofs.Common.{sym}
+use Rattle.sect_table.proofs.Common.{sym}
 use Rattle.sect_table.proofs.FewFields.{no_header}
 use Rattle.sect_table.proofs.header.read_header.Goals as goal
 

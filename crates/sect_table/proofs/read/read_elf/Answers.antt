@@ -1,7 +1,4 @@
-use Rattle.std.proofs.Common.{◌≡◌, ◌∙◌, sym, ap, refl, length, None}
-use Rattle.sect_table.specs.Faults.{headers_fault, limit_fault}
-use Rattle.sect_table.specs.HeadersLeft.{headers_left}
-use Rattle.sect_table.specs.ElfSections.{sections_of_all}
+use Rattle.sect_table.proofs.Common.{None, ap, headers_fault, headers_left, length, limit_fault, refl, sections_of_all, sym, ◌∙◌, ◌≡◌}
 use Rattle.sect_table.proofs.Reading.{elf_from, fault_of, sections_refused, sound_of}
 use Rattle.sect_table.proofs.ElfTables.{fields_fit}
 use Rattle.sect_table.proofs.read.read_elf.Goals as goal
@@ -19,7 +16,8 @@ sections_of-requires c =
     ∙ (sound_of c.args.bytes.now c.in-Ok.class c.in-Ok.ensures).headers
 
 pub returns-in_err-sections : goal.returns-in_err-sections
-returns-in_err-sections c = sections_refused c.args.name.now c.args.bytes.now c.in-Ok.class _ c.from_residual.result c.in_err-sections.field-0.0 c.in-Ok.ensures c.of.ensures.headers c.in_err-sections.ensures c.from_residual.ensures.1
+returns-in_err-sections c = sections_refused c.args.name.now c.args.bytes.now c.in-Ok.class _ c.from_residual.result
+    c.in_err-sections.field-0.0 c.in-Ok.ensures c.of.ensures.headers c.in_err-sections.ensures c.from_residual.ensures.1
 
 pub of-requires-2 : goal.of-requires-2
 of-requires-2 c = fields_fit c.in-Ok.class c.args.bytes.now (sound_of c.args.bytes.now c.in-Ok.class c.in-Ok.ensures).table
@@ -30,4 +28,5 @@ returns c =
     let a = c.arch.ensures in
     let f = c.of-2.ensures.header in
     let s = c.in_ok-sections.ensures.1 ∙ ap sections_of_all c.of.ensures.headers in
-    elf_from c.args.name.now c.args.bytes.now c.in-Ok.class _ c.in-Ok.ensures (ap limit_fault (sym c.of.ensures.headers) ∙ c.in_ok-sections.ensures.0) (rw (n, a, f, s) refl)
+    elf_from c.args.name.now c.args.bytes.now c.in-Ok.class _ c.in-Ok.ensures (ap limit_fault (sym c.of.ensures.headers)
+    ∙ c.in_ok-sections.ensures.0) (rw (n, a, f, s) refl)

@@ -1,7 +1,4 @@
-use Rattle.std.proofs.Common.{◌≡◌, ◌≤◌, ◌++◌, length, None}
-use Rattle.sect_table.specs.Faults.{headers_fault}
-use Rattle.sect_table.specs.HeadersLeft.{headers_left}
-use Rattle.sect_table.specs.ElfSections.{sections_of_all}
+use Rattle.sect_table.proofs.Common.{None, headers_fault, headers_left, length, sections_of_all, ◌++◌, ◌≡◌, ◌≤◌}
 use Rattle.sect_table.proofs.read.sections_of.Given as goal
 
 abbrev pub invariant-loop-header : goal.invariant-loop-header

@@ -1,5 +1,4 @@
-use Rattle.std.proofs.Common.{◌≡◌, ◌++◌, length}
-use Rattle.sect_table.specs.Tables.{first_bad, sections_of}
+use Rattle.sect_table.proofs.Common.{first_bad, length, sections_of, ◌++◌, ◌≡◌}
 use Rattle.cam_base.specs.LinesLeft.{lines_left}
 use Rattle.sect_table.proofs.reader.read_all.Given as goal
 

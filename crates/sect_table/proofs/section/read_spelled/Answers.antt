@@ -1,4 +1,4 @@
-use Rattle.std.proofs.Common.{sym, arith}
+use Rattle.sect_table.proofs.Common.{arith, sym}
 use Rattle.sect_table.proofs.FewFields.{no_section}
 use Rattle.sect_table.proofs.section.read_spelled.Goals.{in_default-via-then-fields-lt5, in_default-via-else-fields-lt5+else-fields-lt6}
 use Rattle.sect_table.proofs.section.read_spelled.Goals as goal

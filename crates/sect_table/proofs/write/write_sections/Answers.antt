@@ -1,4 +1,4 @@
-use Rattle.cam_io.proofs.Sequence.{writes_after, writes_first, writes_exit, open_still}
+use Rattle.sect_table.proofs.Common.{open_still, writes_after, writes_exit, writes_first}
 use Rattle.sect_table.specs.Texts.{table_text}
 use Rattle.sect_table.proofs.write.write_sections.Goals as goal
 

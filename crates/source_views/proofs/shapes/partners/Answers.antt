@@ -1,6 +1,6 @@
 use Rattle.std.proofs.Common.{◌∙◌, ◌∷◌, [], ◌++◌, sym, ap, refl, arith}
 use Rattle.std.proofs.lemmas.Option.{get_or_from_slice_get, slice_get-get_or}
-use Rattle.cap_model.specs.declared.authority.Authority.TheVariants.{Receive}
+use Rattle.authorities.specs.declared.authority.Authority.TheVariants.{Receive}
 use Rattle.cap_model.specs.declared.edge.Edge.{Edge}
 use Rattle.cam_base.proofs.Gathered.{gather_turn}
 use Rattle.source_views.specs.Shapes.{partner}

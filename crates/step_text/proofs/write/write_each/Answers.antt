@@ -1,10 +1,6 @@
-use Rattle.std.proofs.Common.{arith, false, get_or}
-use Rattle.std.proofs.lemmas.List.{get_or_default}
-use Rattle.cam_io.proofs.Lines.{lines_begin, lines_end, lines_fail, lines_step}
+use Rattle.step_text.proofs.Common.{Step, arith, false, get_or, get_or_default, lines_begin, lines_end, lines_fail, lines_step, step_line}
 use Rattle.cam_io.proofs.Sequence.{writes_exit}
-use Rattle.cap_machine.specs.declared.step.Step.{Step}
 use Rattle.cap_machine.specs.declared.step.Step.TheVariants as steps
-use Rattle.step_text.specs.StepLines.{step_line}
 use Rattle.step_text.proofs.write.write_each.Goals as goal
 
 no_step : Step
@@ -17,13 +13,16 @@ pub returns-in_err-write_step : goal.returns-in_err-write_step
 unfolding no_step
 returns-in_err-write_step g c =
     writes_exit c.from_residual.ensures.0
-    (lines_fail (step_line c.args.spec.now) c.args.steps.now c.loop-step.step-index (get_or c.args.steps.now c.loop-step.step-index no_step) (omega arith) (get_or_default c.args.steps.now c.loop-step.step-index _ _ (omega arith))
+    (lines_fail (step_line c.args.spec.now) c.args.steps.now c.loop-step.step-index
+    (get_or c.args.steps.now c.loop-step.step-index no_step) (omega arith)
+    (get_or_default c.args.steps.now c.loop-step.step-index _ _ (omega arith))
     c.loop-step.invariant c.in_err-write_step.ensures)
 
 pub loop-step-preserved : goal.loop-step-preserved
 unfolding no_step
 loop-step-preserved g c =
-    lines_step (step_line c.args.spec.now) c.args.steps.now c.loop-step.step-index (get_or c.args.steps.now c.loop-step.step-index no_step) (omega arith) (get_or_default c.args.steps.now c.loop-step.step-index _ _ (omega arith))
+    lines_step (step_line c.args.spec.now) c.args.steps.now c.loop-step.step-index (get_or c.args.steps.now c.loop-step.step-index
+    no_step) (omega arith) (get_or_default c.args.steps.now c.loop-step.step-index _ _ (omega arith))
     c.loop-step.invariant c.in_ok-write_step.ensures
 
 pub returns : goal.returns

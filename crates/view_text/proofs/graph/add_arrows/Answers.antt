@@ -1,6 +1,6 @@
 use Rattle.std.proofs.Common.{◌≡◌, ◌∙◌, sym, refl, ap, arith, take_all, ◌++◌}
 use Rattle.std.proofs.lemmas.Option.{get_or_from_slice_get, slice_get-get_or}
-use Rattle.cap_model.specs.declared.authority.Authority.TheVariants.{Receive}
+use Rattle.authorities.specs.declared.authority.Authority.TheVariants.{Receive}
 use Rattle.cam_base.specs.Gather.{gather}
 use Rattle.cam_base.proofs.Gathered.{gather_turn}
 use Rattle.view_text.specs.Graphs.{arrow_line, note_at}

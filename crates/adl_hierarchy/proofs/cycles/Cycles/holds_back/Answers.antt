@@ -24,8 +24,11 @@ returns-in_ok-held-in-None c =
     let e : has (inner_of g c.args.component) c.args.inner ≡ true = rw c.self.view_is c.requires.inner in
     let there : c.as_slice.result.now ≡ g = c.as_slice.ensures in
     let yes : c.in_ok-held-in-None.held ≡ true → Holds g c.args.inner c.args.component =
-    let P : List (List ℕ) → Type 0 = λ h. c.in_ok-held-in-None.held ≡ true → Holds h c.args.inner c.args.component in subst P there c.in_ok-held-in-None.ensures.yes in
+    let P : List (List ℕ) → Type 0 = λ h. c.in_ok-held-in-None.held ≡ true → Holds h c.args.inner c.args.component in
+    subst P there c.in_ok-held-in-None.ensures.yes in
     let no : c.in_ok-held-in-None.held ≡ false → Holds g c.args.inner c.args.component → ⊥ =
-    let P : List (List ℕ) → Type 0 = λ h. c.in_ok-held-in-None.held ≡ false → Holds h c.args.inner c.args.component → ⊥ in subst P there c.in_ok-held-in-None.ensures.no in
-    held_test g c.self.invariant.range c.args.inner c.args.component (c.self.invariant.range c.args.component c.args.inner l e) c.in_ok-held-in-None.held yes no
+    let P : List (List ℕ) → Type 0 = λ h. c.in_ok-held-in-None.held ≡ false → Holds h c.args.inner c.args.component → ⊥ in
+    subst P there c.in_ok-held-in-None.ensures.no in
+    held_test g c.self.invariant.range c.args.inner c.args.component (c.self.invariant.range c.args.component c.args.inner l e)
+    c.in_ok-held-in-None.held yes no
     ∙ ap (λ (h : List (List ℕ)). is_held h c.args.inner c.args.component) c.self.view_is

@@ -11,12 +11,14 @@ pub loop-component-init : goal.loop-component-init
 loop-component-init c = record { placing = c.requires.placing; settles = settles_none _ _ _ (λ x e. false≢true e) }
 
 pub settle-requires-clause-component : goal.settle-requires-clause-component
-settle-requires-clause-component c = c.requires.components _ (has_at c.args.components.now c.loop-component.component-index (omega arith))
+settle-requires-clause-component c = c.requires.components _ (has_at c.args.components.now c.loop-component.component-index
+    (omega arith))
 
 pub loop-component-preserved : goal.loop-component-preserved
 loop-component-preserved c = record {
   placing = c.in_ok-settle.ensures.placing;
-  settles = settles_more _ _ _ _ c.args.components.now c.loop-component.component-index (omega arith) c.loop-component.invariant.settles c.in_ok-settle.ensures.settles;
+  settles = settles_more _ _ _ _ c.args.components.now c.loop-component.component-index (omega arith)
+      c.loop-component.invariant.settles c.in_ok-settle.ensures.settles;
 }
 
 pub returns-clause-settles : goal.returns-clause-settles

@@ -6,7 +6,8 @@ pub invariant_of-result : goal.invariant_of-result
 invariant_of-result c =
     rw c.source.ensures (record {
       items_are = c.in_ok-bodies.ensures.bodies;
-      components = λ n. ap (component_at (map (λ (x : ItemAt × Item). x.1) (items_of c.args.items.now))) (c.in_ok-components.ensures.numbers n) ∙ component_numbered c.args.items.now n;
+      components = λ n. ap (component_at (map (λ (x : ItemAt × Item). x.1) (items_of c.args.items.now)))
+          (c.in_ok-components.ensures.numbers n) ∙ component_numbered c.args.items.now n;
       are_procedures = λ n. grind (arith, common_steps, c.loop-x.invariant.procedures n);
     })
 

@@ -9,5 +9,7 @@ lead-requires c =
       finite = c.self.invariant.finite;
       number = low;
       length_is = ap length c.as_slice.ensures.value ∙ all.length_is;
-      each = λ x t m. rw c.as_slice.ensures.value (all.each x.kind t (kind_in c.self.inside.bodies c.self.invariant.finite c.args.number x low m));
+      each =
+          λ x t m. rw c.as_slice.ensures.value
+          (all.each x.kind t (kind_in c.self.inside.bodies c.self.invariant.finite c.args.number x low m));
     }

@@ -1,4 +1,4 @@
-use Rattle.cap_audit.specs.Gains.{Notes}
+use Rattle.cap_audit.proofs.Common.{Notes}
 use Rattle.cap_audit.proofs.Gaining.{IsBefore}
 use Rattle.cap_audit.proofs.making.Making.note_table.Given as goal
 

@@ -1,6 +1,4 @@
-use Rattle.std.proofs.Common.{subst}
-use Rattle.cap_audit.specs.Gains.{Made}
-use Rattle.cap_audit.specs.Gates.{ArePlaces}
+use Rattle.cap_audit.proofs.Common.{ArePlaces, Made, subst}
 use Rattle.cap_audit.proofs.Meeting.{places_are}
 use Rattle.cap_audit.proofs.making.Making.places.Goals as goal
 

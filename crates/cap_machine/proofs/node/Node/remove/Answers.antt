@@ -5,7 +5,8 @@ use Rattle.cap_machine.proofs.node.Node.remove.Goals as goal
 pub invariant_of-self : goal.invariant_of-self
 invariant_of-self c = record {
   rising = c.remove.ensures.ordered;
-  below = rw (c.remove.ensures.entries, remove-filter _ c.args.i c.self.invariant.rising) (below_filter _ _ _ c.self.invariant.below);
+  below = rw (c.remove.ensures.entries, remove-filter _ c.args.i c.self.invariant.rising)
+      (below_filter _ _ _ c.self.invariant.below);
 }
 
 pub returns : goal.returns

@@ -6,4 +6,5 @@ use Rattle.cap_machine.specs.StateSources.{OfContent}
 use Rattle.cap_machine.proofs.node.Node.with_edges.Given as goal
 
 abbrev pub invariant-loop-content : goal.invariant-loop-content
-invariant-loop-content l = Adds (OfFirst (λ place (slot : ℕ × Content). OfContent l.spec l.labels.by_object l.from slot.1) l.self.slots (length l.yielded)) l.initial.edges.items l.edges.items
+invariant-loop-content l = Adds (OfFirst (λ place (slot : ℕ × Content). OfContent l.spec l.labels.by_object l.from slot.1)
+    l.self.slots (length l.yielded)) l.initial.edges.items l.edges.items

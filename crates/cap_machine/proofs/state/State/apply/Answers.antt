@@ -23,12 +23,15 @@ invariant_of-self c =
 
 pub returns-in-Ok-perform-clause-ok : goal.returns-in-Ok-perform-clause-ok
 returns-in-Ok-perform-clause-ok c =
-    let s : State = parts c.self.inside.nodes.items c.self.inside.threads.items c.self.inside.irqs.items c.self.inside.mapped.items in
+    let s : State = parts c.self.inside.nodes.items c.self.inside.threads.items c.self.inside.irqs.items
+    c.self.inside.mapped.items in
     let made = turned s c.in-Ok.change _ _ _ _ c.in-Ok-perform.ensures.ok in
     let before : s ≡ c.args.self.now.state = ap (λ (p : Progress). p.state) c.self.view_is in
     let goes : decide c.args.spec.now s c.args.step.now ≡ Ok c.in-Ok.change = rw before (sym c.in-Ok.ensures.step) in
-    subst (λ (x : State). StepTo c.args.spec.now x c.args.step.now (parts c.perform.new.nodes.items c.perform.new.threads.items c.perform.new.irqs.items c.perform.new.mapped.items)) before
-    (subst (λ (x : State). StepTo c.args.spec.now s c.args.step.now x) (sym made) (decided c.args.spec.now s c.args.step.now c.in-Ok.change goes))
+    subst (λ (x : State). StepTo c.args.spec.now x c.args.step.now (parts c.perform.new.nodes.items c.perform.new.threads.items
+    c.perform.new.irqs.items c.perform.new.mapped.items)) before
+    (subst (λ (x : State). StepTo c.args.spec.now s c.args.step.now x) (sym made) (decided c.args.spec.now s c.args.step.now
+    c.in-Ok.change goes))
 
 pub returns-in-Ok-perform-clause-fits : goal.returns-in-Ok-perform-clause-fits
 returns-in-Ok-perform-clause-fits c = λ f. step_fits c.args.spec.now _ _ c.args.step.now f (returns-in-Ok-perform-clause-ok c)

@@ -12,5 +12,7 @@ returns-clause-has c = λ e.
 
 pub returns-clause-len : goal.returns-clause-len
 returns-clause-len c = λ none.
-    inserted_length c.self.inside.edges.keys c.insert.new.self.keys c.args.edge c.in_ok-insert.field-0 (ap (λ (es : List Edge). has es c.args.edge) c.self.view_is ∙ none) c.in_ok-insert.ensures.added c.in_ok-insert.ensures.len
+    inserted_length c.self.inside.edges.keys c.insert.new.self.keys c.args.edge c.in_ok-insert.field-0
+    (ap (λ (es : List Edge). has es c.args.edge) c.self.view_is ∙ none) c.in_ok-insert.ensures.added
+    c.in_ok-insert.ensures.len
     ∙ ap (λ (es : List Edge). length es + 1) c.self.view_is

@@ -10,16 +10,22 @@ use Rattle.cap_model.proofs.table.EdgeTable.behind.Goals as goal
 pub returns-in-Some : goal.returns-in-Some
 returns-in-Some c =
     let h = c.in-Some.ensures.lookup in
-    let there = slice_get_read c.deref.result.now (length c.deref.result.now) c.rows_behind.result c.in-Some.row.now refl h.3.0 h.1 in
+    let there = slice_get_read c.deref.result.now (length c.deref.result.now) c.rows_behind.result c.in-Some.row.now
+    refl h.3.0 h.1 in
     subst (λ (es : List Edge). IsFirstFrom es (c.args.label + 1) c.in-Some.row.now.first) c.self.view_is
-    (place_from c.self.inside.classes.items c.self.inside.rows.items (c.args.label + 1) c.rows_behind.result c.in-Some.row.now c.self.invariant.0.places
-    (subst (λ (rs : List Row). IsRowFrom rs (c.args.label + 1) c.rows_behind.result) c.as_slice.ensures.value c.rows_behind.ensures)
+    (place_from c.self.inside.classes.items c.self.inside.rows.items (c.args.label + 1) c.rows_behind.result c.in-Some.row.now
+    c.self.invariant.0.places
+    (subst (λ (rs : List Row). IsRowFrom rs (c.args.label + 1) c.rows_behind.result) c.as_slice.ensures.value
+    c.rows_behind.ensures)
     (subst (λ (rs : List Row). slice_get rs c.rows_behind.result ≡ Some c.in-Some.row.now) c.deref.ensures.value there))
 
 pub returns-in-None : goal.returns-in-None
 returns-in-None c =
-    let past : length c.self.inside.rows.items ≤ c.rows_behind.result = subst (λ (rs : List Row). length rs ≤ c.rows_behind.result) c.deref.ensures.value c.in-None.ensures.lookup.3 in
+    let past : length c.self.inside.rows.items ≤ c.rows_behind.result =
+    subst (λ (rs : List Row). length rs ≤ c.rows_behind.result) c.deref.ensures.value c.in-None.ensures.lookup.3 in
     subst (λ (es : List Edge). IsFirstFrom es (c.args.label + 1) c.self.inside.len) c.self.view_is
-    (subst (λ (n : ℕ). IsFirstFrom (table_edges c.self.inside.classes.items c.self.inside.rows.items) (c.args.label + 1) n) (sym c.self.invariant.1)
+    (subst (λ (n : ℕ). IsFirstFrom (table_edges c.self.inside.classes.items c.self.inside.rows.items) (c.args.label + 1) n)
+    (sym c.self.invariant.1)
     (place_past c.self.inside.classes.items c.self.inside.rows.items (c.args.label + 1) c.rows_behind.result
-    (subst (λ (rs : List Row). IsRowFrom rs (c.args.label + 1) c.rows_behind.result) c.as_slice.ensures.value c.rows_behind.ensures) past))
+    (subst (λ (rs : List Row). IsRowFrom rs (c.args.label + 1) c.rows_behind.result) c.as_slice.ensures.value
+    c.rows_behind.ensures) past))

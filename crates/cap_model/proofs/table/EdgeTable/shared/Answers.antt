@@ -16,8 +16,11 @@ of_rows-requires-clause-table c =
     let rows = c.in_ok-rows.rows.items in
     let class = c.in_ok-class.class in
     let some : 0 < length labels = some_labels c.is_empty.result labels c.is_empty.ensures c.if-is_empty.false in
-    let one : c.push.new.self.items ≡ class ∷ [] = c.in_ok-push.ensures.items ∙ ap (λ (cs : List Class). cs ++ class ∷ []) c.new-classes.ensures.items in
-    subst (λ (cs : List Class). IsTable cs rows) (sym one) (table_shared labels pairs rows class c.requires.labels c.requires.pairs c.in_ok-rows.ensures c.in_ok-class.ensures.pairs c.in_ok-class.ensures.class some c.in_ok-class.ensures.label)
+    let one : c.push.new.self.items ≡ class ∷ [] = c.in_ok-push.ensures.items ∙ ap (λ (cs : List Class). cs ++ class ∷ [])
+    c.new-classes.ensures.items in
+    subst (λ (cs : List Class). IsTable cs rows) (sym one) (table_shared labels pairs rows class c.requires.labels
+    c.requires.pairs c.in_ok-rows.ensures c.in_ok-class.ensures.pairs c.in_ok-class.ensures.class some
+    c.in_ok-class.ensures.label)
 
 pub of_rows-requires-clause-len : goal.of_rows-requires-clause-len
 of_rows-requires-clause-len c =
@@ -26,8 +29,11 @@ of_rows-requires-clause-len c =
     let rows = c.in_ok-rows.rows.items in
     let class = c.in_ok-class.class in
     let some : 0 < length labels = some_labels c.is_empty.result labels c.is_empty.ensures c.if-is_empty.false in
-    let one : c.push.new.self.items ≡ class ∷ [] = c.in_ok-push.ensures.items ∙ ap (λ (cs : List Class). cs ++ class ∷ []) c.new-classes.ensures.items in
-    subst (λ (cs : List Class). length labels * length pairs ≡ length (table_edges cs rows)) (sym one) (shared_long labels pairs rows class c.requires.labels c.requires.pairs c.in_ok-rows.ensures c.in_ok-class.ensures.pairs c.in_ok-class.ensures.class some c.in_ok-class.ensures.label)
+    let one : c.push.new.self.items ≡ class ∷ [] = c.in_ok-push.ensures.items ∙ ap (λ (cs : List Class). cs ++ class ∷ [])
+    c.new-classes.ensures.items in
+    subst (λ (cs : List Class). length labels * length pairs ≡ length (table_edges cs rows)) (sym one)
+    (shared_long labels pairs rows class c.requires.labels c.requires.pairs c.in_ok-rows.ensures c.in_ok-class.ensures.pairs
+    c.in_ok-class.ensures.class some c.in_ok-class.ensures.label)
 
 pub returns-clause-edges : goal.returns-clause-edges
 returns-clause-edges c =
@@ -36,8 +42,11 @@ returns-clause-edges c =
     let rows = c.in_ok-rows.rows.items in
     let class = c.in_ok-class.class in
     let some : 0 < length labels = some_labels c.is_empty.result labels c.is_empty.ensures c.if-is_empty.false in
-    let one : c.push.new.self.items ≡ class ∷ [] = c.in_ok-push.ensures.items ∙ ap (λ (cs : List Class). cs ++ class ∷ []) c.new-classes.ensures.items in
-    c.of_rows.ensures ∙ ap (λ (cs : List Class). table_edges cs rows) one ∙ edges_shared labels pairs rows class c.requires.labels c.requires.pairs c.in_ok-rows.ensures c.in_ok-class.ensures.pairs c.in_ok-class.ensures.class some c.in_ok-class.ensures.label
+    let one : c.push.new.self.items ≡ class ∷ [] = c.in_ok-push.ensures.items ∙ ap (λ (cs : List Class). cs ++ class ∷ [])
+    c.new-classes.ensures.items in
+    c.of_rows.ensures ∙ ap (λ (cs : List Class). table_edges cs rows) one ∙ edges_shared labels pairs rows class c.requires.labels
+    c.requires.pairs c.in_ok-rows.ensures c.in_ok-class.ensures.pairs c.in_ok-class.ensures.class some
+    c.in_ok-class.ensures.label
 
 pub returns-clause-sorted : goal.returns-clause-sorted
 returns-clause-sorted c =
@@ -46,5 +55,8 @@ returns-clause-sorted c =
     let rows = c.in_ok-rows.rows.items in
     let class = c.in_ok-class.class in
     let some : 0 < length labels = some_labels c.is_empty.result labels c.is_empty.ensures c.if-is_empty.false in
-    let one : c.push.new.self.items ≡ class ∷ [] = c.in_ok-push.ensures.items ∙ ap (λ (cs : List Class). cs ++ class ∷ []) c.new-classes.ensures.items in
-    subst IsSorted (sym (c.of_rows.ensures ∙ ap (λ (cs : List Class). table_edges cs rows) one ∙ edges_shared labels pairs rows class c.requires.labels c.requires.pairs c.in_ok-rows.ensures c.in_ok-class.ensures.pairs c.in_ok-class.ensures.class some c.in_ok-class.ensures.label)) (shared_sorted labels pairs c.requires.labels c.requires.pairs)
+    let one : c.push.new.self.items ≡ class ∷ [] = c.in_ok-push.ensures.items ∙ ap (λ (cs : List Class). cs ++ class ∷ [])
+    c.new-classes.ensures.items in
+    subst IsSorted (sym (c.of_rows.ensures ∙ ap (λ (cs : List Class). table_edges cs rows) one ∙ edges_shared labels pairs rows
+    class c.requires.labels c.requires.pairs c.in_ok-rows.ensures c.in_ok-class.ensures.pairs c.in_ok-class.ensures.class
+    some c.in_ok-class.ensures.label)) (shared_sorted labels pairs c.requires.labels c.requires.pairs)

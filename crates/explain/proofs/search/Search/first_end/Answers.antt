@@ -1,7 +1,4 @@
-use Rattle.std.proofs.Common.{ap, arith, length, subst}
-use Rattle.arch_policy.specs.Tables.{told}
-use Rattle.cam_base.proofs.NumberedLists.{read_place}
-use Rattle.explain.specs.Sought.{IsFirstAt}
+use Rattle.explain.proofs.Common.{IsFirstAt, ap, arith, length, read_place, subst, told}
 use Rattle.explain.proofs.Searching.{least_at, none_all, none_more}
 use Rattle.explain.proofs.search.Search.first_end.Goals as goal
 

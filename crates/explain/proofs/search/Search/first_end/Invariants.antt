@@ -1,7 +1,4 @@
-use Rattle.std.proofs.Common.{◌<◌}
-use Rattle.arch_policy.specs.Ends.{EndAt}
-use Rattle.arch_policy.specs.Tables.{told}
-use Rattle.explain.specs.Sought.{IsSought}
+use Rattle.explain.proofs.Common.{EndAt, IsSought, told, ◌<◌}
 use Rattle.explain.proofs.search.Search.first_end.Given as goal
 
 abbrev pub invariant-loop-place : goal.invariant-loop-place

@@ -1,8 +1,4 @@
-use Rattle.std.proofs.Common.{◌≡◌, ◌<◌, ℕ, true, Some}
-use Rattle.std.specs.List.{slice_get}
-use Rattle.adl_meaning.specs.declared.flat.FlatEnd.{FlatEnd}
-use Rattle.arch_policy.specs.Tables.{told}
-use Rattle.explain.specs.Sought.{fits}
+use Rattle.explain.proofs.Common.{FlatEnd, Some, fits, slice_get, told, true, ℕ, ◌<◌, ◌≡◌}
 use Rattle.explain.proofs.search.Search.first_on.Given as goal
 
 abbrev pub invariant-loop-number : goal.invariant-loop-number

@@ -1,7 +1,5 @@
-use Rattle.std.proofs.Common.{◌∙◌, map, List, ap}
-use Rattle.cap_model.specs.declared.edge.Edge.{Edge}
+use Rattle.label_flow.proofs.Common.{Edge, List, ap, map, turned, ◌∙◌}
 use Rattle.label_flow.proofs.Turning.{turned_twice}
-use Rattle.label_flow.specs.Edges.{turned}
 use Rattle.label_flow.proofs.sources.Upstream.of.Goals as goal
 
 pub returns : goal.returns

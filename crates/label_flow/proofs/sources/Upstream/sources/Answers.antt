@@ -1,9 +1,5 @@
-use Rattle.std.proofs.Common.{◌≡◌, ℕ, List, Option, length, map, sym, subst, arith}
-use Rattle.cap_model.specs.declared.edge.Edge.{Edge}
+use Rattle.label_flow.proofs.Common.{AreSources, Edge, List, Option, Searches, arith, length, map, subst, sym, turned, ℕ, ◌≡◌}
 use Rattle.label_flow.proofs.Turning.{is_placed, far_sources, finds_sources}
-use Rattle.label_flow.specs.Chain.{AreSources}
-use Rattle.label_flow.specs.Edges.{turned}
-use Rattle.label_flow.specs.Search.{Searches}
 use Rattle.label_flow.proofs.sources.Upstream.sources.Goals as goal
 
 pub returns-then-to-self : goal.returns-then-to-self

@@ -7,4 +7,5 @@ use Rattle.least_cert.proofs.Spreading.{copy_at}
 use Rattle.least_cert.proofs.closing.Closing.spread.Given as goal
 
 abbrev pub invariant-loop-label : goal.invariant-loop-label
-invariant-loop-label l = Adds (OfFirst (copy_at l.self) l.self.leaders l.label) (filter_map (stays (length l.self.leaders)) l.self.queue) l.edges.items
+invariant-loop-label l = Adds (OfFirst (copy_at l.self) l.self.leaders l.label) (filter_map (stays (length l.self.leaders))
+    l.self.queue) l.edges.items

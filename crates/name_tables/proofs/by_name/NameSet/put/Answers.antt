@@ -6,7 +6,8 @@ use Rattle.name_tables.proofs.NameLookups.{among_found}
 use Rattle.name_tables.proofs.by_name.NameSet.put.Goals as goal
 
 pub returns-clause-met : goal.returns-clause-met
-returns-clause-met c = c.in_ok-met.ensures.met ∙ sym (among_found c.self.inside.names c.args.name.now) ∙ ap (λ s. is_among s c.args.name.now) c.self.view_is
+returns-clause-met c = c.in_ok-met.ensures.met ∙ sym (among_found c.self.inside.names c.args.name.now)
+    ∙ ap (λ s. is_among s c.args.name.now) c.self.view_is
 
 pub returns-clause-names : goal.returns-clause-names
 returns-clause-names c = λ n.

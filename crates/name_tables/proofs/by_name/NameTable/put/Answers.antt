@@ -7,7 +7,8 @@ use Rattle.name_tables.proofs.NameLookups.{found_kept, met_few, met_many, put_fe
 use Rattle.name_tables.proofs.by_name.NameTable.put.Goals as goal
 
 -- the first of a list, if there is one, and after it is changed
-first_there : {X : Type 0} (xs : List X) (x : X) → true ≡ nat_lt 0 (length xs) → x ≡ slice_index_or xs 0 x → slice_get xs 0 ≡ Some x
+first_there : {X : Type 0} (xs : List X) (x : X) → true ≡ nat_lt 0 (length xs) → x ≡ slice_index_or xs 0 x
+    → slice_get xs 0 ≡ Some x
 first_there [] x e i = cc
 first_there (y ∷ xs) x e i = ap Some (sym i)
 
@@ -27,7 +28,8 @@ pub returns-then-is_few-clause-met : goal.returns-then-is_few-clause-met
 returns-then-is_few-clause-met g c =
     let key = c.as_bytes-bytes.result.now in
     let there = sym (ap (λ s. is_some (found s key)) c.as_slice.ensures.value) ∙ sym c.is_few.ensures ∙ c.if-is_few.true in
-    sym (ap (λ k. is_some (found c.args.self.now k)) (sym c.as_bytes-bytes.ensures.bytes) ∙ met_few c.self.inside.few.items _ c.args.self.now c.self.view_is key there)
+    sym (ap (λ k. is_some (found c.args.self.now k)) (sym c.as_bytes-bytes.ensures.bytes) ∙ met_few c.self.inside.few.items _
+    c.args.self.now c.self.view_is key there)
 
 pub returns-then-is_few-clause-found : goal.returns-then-is_few-clause-found
 returns-then-is_few-clause-found g c =
@@ -37,22 +39,29 @@ pub returns-in-Some-clause-met : goal.returns-in-Some-clause-met
 returns-in-Some-clause-met g c =
     let key = c.as_bytes-bytes.result.now in
     let absent = sym (ap (λ s. is_some (found s key)) c.as_slice.ensures.value) ∙ sym c.is_few.ensures ∙ c.if-is_few.false in
-    c.in_ok-met.ensures.met ∙ ap (λ o. is_some (found (option_map_or (λ m. m.entries) o []) key)) (sym (first_there c.self.inside.many.items c.in-Some.many.now c.in-Some.ensures.item.0 c.in-Some.ensures.value))
-    ∙ sym (met_many c.self.inside.few.items _ c.args.self.now c.self.view_is key absent) ∙ ap (λ k. is_some (found c.args.self.now k)) c.as_bytes-bytes.ensures.bytes
+    c.in_ok-met.ensures.met ∙ ap (λ o. is_some (found (option_map_or (λ m. m.entries) o []) key))
+    (sym (first_there c.self.inside.many.items c.in-Some.many.now c.in-Some.ensures.item.0 c.in-Some.ensures.value))
+    ∙ sym (met_many c.self.inside.few.items _ c.args.self.now c.self.view_is key absent)
+    ∙ ap (λ k. is_some (found c.args.self.now k)) c.as_bytes-bytes.ensures.bytes
 
 pub returns-in-Some-clause-found : goal.returns-in-Some-clause-found
 returns-in-Some-clause-found g c = λ n.
     let key = c.as_bytes-bytes.result.now in
     let here = first_there c.self.inside.many.items c.in-Some.many.now c.in-Some.ensures.item.0 c.in-Some.ensures.value in
-    ap (λ o. found (c.self.inside.few.items ++ option_map_or (λ m. m.entries) o []) n) (first_changed c.self.inside.many.items c.in-Some.many.now c.put_hashed.new.entries here)
+    ap (λ o. found (c.self.inside.few.items ++ option_map_or (λ m. m.entries) o []) n)
+    (first_changed c.self.inside.many.items c.in-Some.many.now c.put_hashed.new.entries here)
     ∙ put_many c.self.inside.few.items _ c.args.self.now c.self.view_is c.put_hashed.new.entries.entries (key, c.args.value)
-    (λ q. c.in_ok-met.ensures.found q ∙ ap (λ o. option_or (found (option_map_or (λ m. m.entries) o []) q) (found ((key, c.args.value) ∷ []) q)) (sym here)) n
+    (λ q. c.in_ok-met.ensures.found q
+    ∙ ap (λ o. option_or (found (option_map_or (λ m. m.entries) o []) q) (found ((key, c.args.value) ∷ []) q)) (sym here)) n
     ∙ ap (λ k. option_or (found c.args.self.now n) (found ((k, c.args.value) ∷ []) n)) c.as_bytes-bytes.ensures.bytes
 
 pub returns-then-len-lt-FEW-clause-found : goal.returns-then-len-lt-FEW-clause-found
 returns-then-len-lt-FEW-clause-found g c = λ n.
     let none = first_lacks c.self.inside.many.items c.in_default.ensures.item.0 in
-    put_few c.self.inside.few.items _ c.args.self.now c.self.view_is c.push.new.self.items (c.as_bytes-bytes.result.now, c.args.value) c.in_ok-push.ensures.items
+    put_few c.self.inside.few.items _ c.args.self.now c.self.view_is c.push.new.self.items (
+      c.as_bytes-bytes.result.now,
+      c.args.value,
+    ) c.in_ok-push.ensures.items
     (ap (λ o. length (option_map_or (λ m. m.entries) o [])) none) n
     ∙ ap (λ k. option_or (found c.args.self.now n) (found ((k, c.args.value) ∷ []) n)) c.as_bytes-bytes.ensures.bytes
 
@@ -60,8 +69,10 @@ pub returns-clause-found : goal.returns-clause-found
 returns-clause-found g c = λ n.
     let key = c.as_bytes-bytes.result.now in
     let none = first_lacks c.self.inside.many.items c.in_default.ensures.item.0 in
-    ap (λ o. found (c.self.inside.few.items ++ option_map_or (λ m. m.entries) o []) n) (first_pushed c.self.inside.many.items c.push-2.new.self.items _ none c.in_ok-push-2.ensures.items)
+    ap (λ o. found (c.self.inside.few.items ++ option_map_or (λ m. m.entries) o []) n)
+    (first_pushed c.self.inside.many.items c.push-2.new.self.items _ none c.in_ok-push-2.ensures.items)
     ∙ put_many c.self.inside.few.items _ c.args.self.now c.self.view_is c.put_hashed-2.new.entries.entries (key, c.args.value)
-    (λ q. c.in_ok-put_hashed.ensures.found q ∙ ap (λ es. option_or (found es q) (found ((key, c.args.value) ∷ []) q)) c.new-many.ensures.empty
+    (λ q. c.in_ok-put_hashed.ensures.found q ∙ ap (λ es. option_or (found es q) (found ((key, c.args.value) ∷ []) q))
+    c.new-many.ensures.empty
     ∙ ap (λ o. option_or (found (option_map_or (λ m. m.entries) o []) q) (found ((key, c.args.value) ∷ []) q)) (sym none)) n
     ∙ ap (λ k. option_or (found c.args.self.now n) (found ((k, c.args.value) ∷ []) n)) c.as_bytes-bytes.ensures.bytes

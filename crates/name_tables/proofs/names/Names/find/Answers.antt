@@ -5,4 +5,5 @@ use Rattle.name_tables.proofs.names.Names.find.Goals as goal
 
 pub returns : goal.returns
 returns g c =
-    c.get.ensures.value ∙ found_entry c.self.inside.entries.entries (c.args.number, c.args.name) c.self.invariant (fits c.args.number c.args.name.now c.requires) ∙ ap (λ s. found s c.args.name.now) c.self.view_is
+    c.get.ensures.value ∙ found_entry c.self.inside.entries.entries (c.args.number, c.args.name) c.self.invariant
+    (fits c.args.number c.args.name.now c.requires) ∙ ap (λ s. found s c.args.name.now) c.self.view_is

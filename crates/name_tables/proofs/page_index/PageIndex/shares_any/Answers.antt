@@ -14,8 +14,11 @@ returns c =
     let k = c.partition_point-before.result in
     let e = c.end-end.result in
     let point : IsPartitionPoint (λ r. nat_lt r.first e ≡ true) (λ r. nat_lt r.first e ≡ false) rs k =
-    rw (← c.deref.ensures.value) (IsPartitionPoint-from_clause (λ r. nat_lt r.first e) c.deref.result.now k c.partition_point-before.ensures.partitioned
+    rw (← c.deref.ensures.value) (IsPartitionPoint-from_clause (λ r. nat_lt r.first e) c.deref.result.now k
+    c.partition_point-before.ensures.partitioned
     (rw c.deref.ensures.value (IsPartitionedBy-ltb (λ r. r.first) rs e c.self.invariant.order)) (λ b r f h. search rules)) in
     let bound : k ≤ length rs = rw (← c.deref.ensures.value) c.partition_point-before.ensures.bound in
-    let reach : IsReach (take k rs) c.index.result.now = rw c.index.ensures (c.self.invariant.reaches.reach k c.index.result.now bound) in
-    c.is_behind.ensures (take k rs) reach ∙ sym (any-shares a e c.end-end.ensures rs k bound point) ∙ ap (list_any (shares a)) c.self.view_is
+    let reach : IsReach (take k rs) c.index.result.now =
+    rw c.index.ensures (c.self.invariant.reaches.reach k c.index.result.now bound) in
+    c.is_behind.ensures (take k rs) reach ∙ sym (any-shares a e c.end-end.ensures rs k bound point)
+    ∙ ap (list_any (shares a)) c.self.view_is

@@ -1,4 +1,4 @@
-use Rattle.std.proofs.Common.{refl}
+use Rattle.policy_text.proofs.Common.{refl}
 use Rattle.policy_text.proofs.Building.{built_edge_more}
 use Rattle.policy_text.proofs.parts.Parts.add_edge.Goals as goal
 

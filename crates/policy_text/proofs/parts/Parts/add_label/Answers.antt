@@ -1,4 +1,4 @@
-use Rattle.std.proofs.Common.{refl}
+use Rattle.policy_text.proofs.Common.{refl}
 use Rattle.policy_text.proofs.Building.{built_label_more}
 use Rattle.policy_text.proofs.parts.Parts.add_label.Goals as goal
 

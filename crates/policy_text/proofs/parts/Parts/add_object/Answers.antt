@@ -1,4 +1,4 @@
-use Rattle.std.proofs.Common.{sym}
+use Rattle.policy_text.proofs.Common.{sym}
 use Rattle.policy_text.proofs.Building.{built_object_none, builds_object}
 use Rattle.policy_text.proofs.parts.Parts.add_object.Goals as goal
 

@@ -1,9 +1,6 @@
-use Rattle.std.proofs.Common.{subst, sym, take, arith}
-use Rattle.policy_text.specs.EntriesRead.{told_lines}
-use Rattle.policy_text.specs.PartsBuilt.{IsBuilt}
+use Rattle.policy_text.proofs.Common.{IsBuilt, arith, line_of, subst, sym, take, told_lines}
 use Rattle.policy_text.proofs.Judging.{told_more}
 use Rattle.policy_text.proofs.parts.Parts.of.Goals as goal
-use Rattle.cam_base.specs.LinesLeft.{line_of}
 
 pub loop-line-preserved : goal.loop-line-preserved
 loop-line-preserved c =

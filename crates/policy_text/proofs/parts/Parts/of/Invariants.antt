@@ -1,6 +1,4 @@
-use Rattle.std.proofs.Common.{take}
-use Rattle.policy_text.specs.EntriesRead.{told_lines}
-use Rattle.policy_text.specs.PartsBuilt.{IsBuilt}
+use Rattle.policy_text.proofs.Common.{IsBuilt, take, told_lines}
 use Rattle.policy_text.proofs.parts.Parts.of.Given as goal
 
 abbrev pub invariant-loop-line : goal.invariant-loop-line

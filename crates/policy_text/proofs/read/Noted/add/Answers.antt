@@ -1,5 +1,4 @@
-use Rattle.std.proofs.Common.{◌∙◌, ap, refl}
-use Rattle.policy_text.specs.EntriesRead.{meant}
+use Rattle.policy_text.proofs.Common.{ap, meant, refl, ◌∙◌}
 use Rattle.policy_text.proofs.Judging.{notes_label, notes_object, notes_edge}
 use Rattle.policy_text.proofs.read.Noted.add.Goals as goal
 

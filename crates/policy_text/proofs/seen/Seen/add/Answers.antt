@@ -1,5 +1,4 @@
-use Rattle.std.proofs.Common.{ap, Some}
-use Rattle.policy_text.specs.EntriesRead.{meant}
+use Rattle.policy_text.proofs.Common.{Some, ap, meant}
 use Rattle.policy_text.proofs.Taking.{adds_some, takes_label, takes_object, takes_edge}
 use Rattle.policy_text.proofs.seen.Seen.add.Goals as goal
 

@@ -1,5 +1,4 @@
-use Rattle.std.proofs.Common.{ap, sym}
-use Rattle.std.specs.Option.{is_none}
+use Rattle.policy_text.proofs.Common.{ap, is_none, sym}
 use Rattle.policy_text.proofs.Taking.{none_past}
 use Rattle.policy_text.proofs.seen.Seen.is_past_edges.Goals as goal
 

@@ -1,10 +1,6 @@
-use Rattle.std.proofs.Common.{◌∙◌, ap, sym, refl}
-use Rattle.policy_text.specs.EntriesRead.{told_line}
-use Rattle.policy_text.specs.KnownNumbers.{knows}
-use Rattle.policy_text.specs.LinesSeen.{what}
+use Rattle.policy_text.proofs.Common.{ap, knows, line_of, refl, sym, told_line, what, ◌∙◌}
 use Rattle.policy_text.proofs.Judging.{judged_right}
 use Rattle.policy_text.proofs.seen.Seen.read_line.Goals as goal
-use Rattle.cam_base.specs.LinesLeft.{line_of}
 
 pub returns-clause-judged : goal.returns-clause-judged
 returns-clause-judged c = λ before seen few.

@@ -1,8 +1,4 @@
-use Rattle.std.proofs.Common.{◌∙◌, ◌∷◌, ◌++◌, [], ap, subst, sym}
-use Rattle.policy_text.specs.EntriesRead.{meant}
-use Rattle.policy_text.specs.KnownNumbers.{knows}
-use Rattle.policy_text.specs.PolicyFaults.{wrong_entry}
-use Rattle.policy_text.specs.LinesSeen.{HasFewEdges}
+use Rattle.policy_text.proofs.Common.{HasFewEdges, [], ap, knows, meant, subst, sym, wrong_entry, ◌++◌, ◌∙◌, ◌∷◌}
 use Rattle.policy_text.proofs.Taking.{room_for}
 use Rattle.policy_text.proofs.seen.Seen.wrong.Goals as goal
 

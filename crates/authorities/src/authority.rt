@@ -1,4 +1,4 @@
-ghost use Rattle.cap_model.specs.Authorities.{authority_of, number_of, text_of};
+ghost use Rattle.authorities.specs.Authorities.{authority_of, number_of, text_of};
 ghost use Rattle.std.specs.Prelude.{◌≡◌, ◌≤◌, Some, IfSome, IfNone};
 
 /// What one label may do to another. Comparisons are those of the numbers.

@@ -1,8 +1,8 @@
 -- The word of an authority reads as it.
 use Rattle.std.proofs.Common.{◌≡◌, refl, Some}
-use Rattle.cap_model.specs.Authorities.{authority_of, text_of}
-use Rattle.cap_model.specs.declared.authority.Authority.{Authority}
-use Rattle.cap_model.specs.declared.authority.Authority.TheVariants.{Receive, SyncSend, AsyncSend, Reset, Grant, Read, Write, Control, Call, Reply, GrantBack, Handle}
+use Rattle.authorities.specs.Authorities.{authority_of, text_of}
+use Rattle.authorities.specs.declared.authority.Authority.{Authority}
+use Rattle.authorities.specs.declared.authority.Authority.TheVariants.{Receive, SyncSend, AsyncSend, Reset, Grant, Read, Write, Control, Call, Reply, GrantBack, Handle}
 
 pub its_word : (a : Authority) → authority_of (text_of a) ≡ Some a
 its_word Receive = refl

@@ -1,5 +1,5 @@
-ghost use Rattle.cap_model.specs.Authorities.{number_of};
-ghost use Rattle.cap_model.specs.AuthoritySets.{set_has};
+ghost use Rattle.authorities.specs.Authorities.{number_of};
+ghost use Rattle.authorities.specs.AuthoritySets.{set_has};
 ghost use Rattle.std.specs.Prelude.{◌≡◌, ◌==◌, ◌<◌, ◌^◌, ◌||◌, ◌&&◌, false};
 
 use crate::Authority;

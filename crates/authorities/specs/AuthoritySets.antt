@@ -1,8 +1,8 @@
 -- Sets of authorities, as bits: the authority of number n is in the set exactly where bit n is 1.
 use Rattle.std.specs.Prelude.{◌≡◌, ◌<◌, ◌^◌, ℕ, ◌==◌, Bool}
 use Rattle.std.specs.Int.{bit_at}
-use Rattle.cap_model.specs.Authorities.{number_of}
-use Rattle.cap_model.specs.declared.authority.Authority.{Authority}
+use Rattle.authorities.specs.Authorities.{number_of}
+use Rattle.authorities.specs.declared.authority.Authority.{Authority}
 
 abbrev pub set_has : ℕ → Authority → Bool
 set_has bits a = bit_at bits (number_of a) == 1

@@ -1,0 +1,2 @@
+pub mod AuthorityBits
+pub mod Words
