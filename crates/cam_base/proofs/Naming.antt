@@ -1,13 +1,8 @@
 -- A word and a number are a name.
-use Rattle.std.proofs.Common.{◌≡◌, ℕ, zero, suc, ◌+◌, ◌^◌, ◌<◌, ◌≤◌, true, ◌&&◌, leb, List, [], ◌∷◌, ◌++◌, length, map, decimal, refl, arith, ◌∙◌}
-use Rattle.std.specs.List.{list_all, AllByRecursion}
+use Rattle.cam_base.proofs.Common.{AllByRecursion, List, [], all_below_base_digits_of, and_from, and_parts, arith, decimal, decimal-digits_of, decimal_digit, is_letter, is_name, is_word_byte, le-leb, leb, leb-true, length, length-append, length-decimal-le}
+use Rattle.cam_base.proofs.Common.{list_all, list_all-append, map, or_right, refl, suc, true, zero, ℕ, ◌++◌, ◌+◌, ◌<◌, ◌^◌, ◌∙◌, ◌∷◌, ◌≡◌, ◌≤◌}
+use Rattle.std.proofs.Common.{◌&&◌}
 use Rattle.std.specs.Int.Digits.{digits_of}
-use Rattle.std.proofs.lemmas.Bool.{and_parts, and_from, or_right, le-leb}
-use Rattle.std.proofs.lemmas.Fmt.{decimal_digit, decimal-digits_of, length-decimal-le}
-use Rattle.std.proofs.lemmas.Int.Digits.{all_below_base_digits_of}
-use Rattle.std.proofs.lemmas.List.{length-append}
-use Rattle.std.proofs.lemmas.List.Folds.{list_all-append}
-use Rattle.cam_base.specs.Names.{is_letter, is_word_byte, is_name}
 
 digit : (d : ℕ) → d < 10 → is_word_byte (48 + d) ≡ true
 digit d h = or_right (is_letter (48 + d)) (leb 48 (48 + d) && leb (48 + d) 57) (and_from (leb 48 (48 + d)) (leb (48 + d) 57)
@@ -22,6 +17,12 @@ pub list_all-decimal : (n : ℕ) → n < 2 ^ 64 → list_all is_word_byte (decim
 list_all-decimal zero h = rw (decimal_digit 0 (omega arith)) refl
 list_all-decimal (suc n) h = rw (decimal-digits_of (suc n) (omega arith) h)
     (all_digits (digits_of 10 (suc n)) (all_below_base_digits_of 10 (suc n) (omega arith)))
+
+pub name_short : (text : List ℕ) → is_name text ≡ true → length text ≤ 127
+name_short [] h = omega arith
+name_short (b ∷ bs) h =
+    let l = leb-true (length bs) 126 (and_parts (leb (length bs) 126) (is_letter b && list_all is_word_byte bs) h).0 in
+    omega (arith, l)
 
 pub is_name-append : (word more : List ℕ) → is_name word ≡ true → list_all is_word_byte more ≡ true
     → length word + length more ≤ 127 → is_name (word ++ more) ≡ true

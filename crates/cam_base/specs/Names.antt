@@ -16,8 +16,3 @@ is_name (b ∷ bs) = leb (length bs) 126 && (is_letter b && list_all is_word_byt
 abbrev pub is_word : List ℕ → Bool
 is_word [] = false
 is_word (b ∷ bs) = is_letter b && list_all is_word_byte bs
-
--- the bytes that a name shows: a name that keeps no bytes stands for _
-abbrev pub shown : List ℕ → List ℕ
-shown [] = 95 ∷ []
-shown (b ∷ bs) = b ∷ bs

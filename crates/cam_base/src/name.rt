@@ -10,8 +10,8 @@ ghost use Rattle.std.specs.Ordering.{nat_cmp, as_partial_cmp};
 ghost use Rattle.std.specs.Prelude.{◌≡◌, false, IfOk, IsErrOf, ◌↔◌, IsTrue};
 ghost use Rattle.std.specs.Str.{bytes_eq};
 
+use crate::name_bytes::{NameBytes, Packed};
 use crate::{NoMemory, Refused};
-use smallvec::SmallVec;
 use std::alloc::Global;
 use std::cmp::Ordering;
 use std::default::MadeWith;
@@ -24,22 +24,23 @@ use thiserror::Error;
 #[error("not a name")]
 pub struct BadName;
 
-/// An identifier of 1 to 127 bytes, keywords included; up to 16 bytes take no memory of their own. Contracts see it as the list of
+/// An identifier of 1 to 127 bytes, keywords included; up to 14 bytes take no memory of their own. Contracts see it as the list of
 /// its bytes.
 #[derive(Drop)]
 pub struct Name {
-    bytes: SmallVec<u8, 16>,
+    bytes: NameBytes,
 }
 
 impl Model for Name {
-    ghost use Rattle.cam_base.specs.Names.{is_name, shown};
+    ghost use Rattle.cam_base.specs.NameBytes.{bytes_of};
+    ghost use Rattle.cam_base.specs.Names.{is_name};
     ghost use Rattle.std.specs.Prelude.{List, ℕ, IsTrue};
 
     ghost Value = { List ℕ };
 
-    ghost view = { λ n. shown n.bytes.items };
+    ghost view = { λ n. bytes_of n.bytes };
 
-    ghost invariant = { λ n. IsTrue (is_name (shown n.bytes.items)) };
+    ghost invariant = { λ n. IsTrue (is_name (bytes_of n.bytes)) };
 }
 
 fn is_letter(byte: u8) -> bool
@@ -95,16 +96,15 @@ pub fn is_name(bytes: &[u8]) -> bool
     }
 }
 
-/// The blank name that fills the unused places of a path: it takes no memory, and shows as `_`.
+/// The name `_`, which fills the unused places of a path. Takes no memory.
 impl MadeWith<Global> for Name {
-    ghost use Rattle.cam_base.specs.Names.{shown};
-    ghost use Rattle.std.specs.Prelude.{◌≡◌, []};
+    ghost use Rattle.std.specs.Prelude.{◌≡◌, ◌∷◌, []};
 
-    ghost is_made_with = { λ name. name ≡ shown [] };
+    ghost is_made_with = { λ name. name ≡ 95 ∷ [] };
 
-    fn made_with(alloc: Global) -> Name {
+    fn made_with(_: Global) -> Name {
         Name {
-            bytes: SmallVec::new(alloc),
+            bytes: NameBytes::Short(Packed::of(b"_")),
         }
     }
 }
@@ -118,18 +118,17 @@ impl Name {
         if !is_name(bytes) {
             return Err(Refused::Fault(BadName));
         }
-        Ok(Name {
-            bytes: SmallVec::from_slice(alloc, bytes)?,
-        })
+        Ok(Name::of_identifier(alloc, bytes)?)
     }
 
     /// A copy of the bytes, which are known to be an identifier of 1 to 127 bytes.
+    #[tactic(auto, using(crate::proofs::Naming::name_short))]
     pub fn of_identifier(alloc: Global, bytes: &[u8]) -> Result<Name, NoMemory>
         requires { IsTrue (is_name bytes.now) }
         ensures { IfOk result (λ name. name ≡ bytes.now) }
     {
         Ok(Name {
-            bytes: SmallVec::from_slice(alloc, bytes)?,
+            bytes: NameBytes::of(alloc, bytes)?,
         })
     }
 
@@ -138,17 +137,14 @@ impl Name {
         ensures bytes { result.now ≡ self.now }
         ensures name { IsTrue (is_name self.now) }
     {
-        let bytes = self.bytes.as_slice();
-        if bytes.is_empty() { b"_" } else { bytes }
+        self.bytes.as_slice()
     }
 
     /// An equal name.
     pub fn copy(&self, alloc: Global) -> Result<Name, NoMemory>
         ensures { IfOk result (λ name. name ≡ self.now) }
     {
-        Ok(Name {
-            bytes: SmallVec::from_slice(alloc, self.bytes.as_slice())?,
-        })
+        Name::of_identifier(alloc, self.as_bytes())
     }
 }
 
