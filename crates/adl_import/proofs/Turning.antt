@@ -24,8 +24,8 @@ use Rattle.adl_import.specs.Imports.{imports_of, is_built_in, name_given}
 use Rattle.adl_import.specs.Sources.{Meeting, IsFileOf, is_known, root_place, file_limit, files_limit}
 use Rattle.adl_import.specs.Taking.{AlikeInNext, Each, AreUtf8, IsParsed, IsRead, IsTakenIn, IsTurn}
 use Rattle.adl_import.specs.Turns.{and_then, fault_at, meet, meet_given, take_import, take_imports, met_in, Turns, first, next, IsReadFault, absent, too_long, lexing, parsing, IsTurnFault, reading, importing}
-use Rattle.adl_import.specs.declared.error.LoadError.{LoadError}
-use Rattle.adl_import.specs.declared.error.LoadError.TheVariants as error
+use Rattle.cam_base.specs.Unread.{SourceError}
+use Rattle.cam_base.specs.declared.error.Unread.TheVariants as error
 use Rattle.adl_import.specs.Loaded.{AlikeInTurns, IsClean, IsFirst, IsLoadedFrom}
 use Rattle.adl_import.proofs.Firsts.{turns_within, turns_make}
 use Rattle.adl_import.proofs.Utf8Names.{name_given_utf8}
@@ -41,7 +41,7 @@ fault_in m files name in_file place bytes f e l (inr s) h = subst (IsReadFault m
 
 -- a file that is read and not too long
 pub read_ok : (m : Contents) (files : List SourceFile) (name : List ℕ) (place : Place) (bytes : List ℕ)
-    (r : Result SourceFile LoadError)
+    (r : Result SourceFile SourceError)
     → get m name ≡ Some bytes → length bytes ≤ file_limit → IsParsed (length files) name bytes r → IsRead m files name place r
 read_ok m files name place bytes (Ok file) h l p = (
   p.0,
@@ -57,24 +57,24 @@ read_ok m files name place bytes (Err (error.Fault f in_file)) h l p = fault_in 
 read_ok m files name place bytes (Err (error.ReadFault in_file)) h l p = absurd p
 read_ok m files name place bytes (Err error.NoMemory) h l p = tt
 
-pub read_absent : (m : Contents) (files : List SourceFile) (name : List ℕ) (place : Place) (e : LoadError)
+pub read_absent : (m : Contents) (files : List SourceFile) (name : List ℕ) (place : Place) (e : SourceError)
     → e ≡ error.Fault (fault_at NoFile place name) (met_in files name place) → get m name ≡ None
     → IsRead m files name place (Err e)
-read_absent m files name place e is h = subst (λ (x : LoadError). IsRead m files name place (Err x)) (sym is) (absent h)
+read_absent m files name place e is h = subst (λ (x : SourceError). IsRead m files name place (Err x)) (sym is) (absent h)
 
-pub read_too_long : (m : Contents) (files : List SourceFile) (name : List ℕ) (place : Place) (e : LoadError)
+pub read_too_long : (m : Contents) (files : List SourceFile) (name : List ℕ) (place : Place) (e : SourceError)
     → e ≡ error.Fault (fault_at Limit place (codes "file size")) (met_in files name place)
     → (bytes : List ℕ) × (get m name ≡ Some bytes) × (file_limit < length bytes) → IsRead m files name place (Err e)
-read_too_long m files name place e is h = subst (λ (x : LoadError). IsRead m files name place (Err x)) (sym is) (too_long h.1 h.2)
+read_too_long m files name place e is h = subst (λ (x : SourceError). IsRead m files name place (Err x)) (sym is) (too_long h.1 h.2)
 
 -- an error that is passed on
-pub err_is : {X : Type 0} (r : Result X LoadError) (e : LoadError) → IsErr r → IsErrAnd r (λ x. x ≡ e) → r ≡ Err e
+pub err_is : {X : Type 0} (r : Result X SourceError) (e : SourceError) → IsErr r → IsErrAnd r (λ x. x ≡ e) → r ≡ Err e
 err_is (Ok x) e is h = absurd h
 err_is (Err x) e is h = ap Err h
 
 -- a turn that stops at its reading
 pub turn_unread : (m : Contents) (root : List ℕ) (files : List SourceFile) (known : List Meeting) (name : List ℕ) (place : Place)
-    (e : LoadError)
+    (e : SourceError)
     → slice_get known (length files) ≡ Some (name, place) → IsRead m files name place (Err e)
     → IsTurn m root files known known (Err e)
 turn_unread m root files known name place (error.Fault f in_file) n h = (name, place, n, reading h)
@@ -88,7 +88,7 @@ named_next known i name own place n e = n ∙ ap (λ (l : List ℕ). Some (l, pl
 
 -- a turn that stops at an import
 pub turn_stopped : (m : Contents) (root : List ℕ) (files : List SourceFile) (known after : List Meeting) (file : SourceFile)
-    (name : List ℕ) (place : Place) (e : LoadError)
+    (name : List ℕ) (place : Place) (e : SourceError)
     → slice_get known (length files) ≡ Some (name, place) → IsRead m files name place (Ok file)
     → IsTakenIn (take_imports root file.name known (imports_of file.tree)) file.name after (Err e)
     → IsTurn m root files known after (Err e)
@@ -207,7 +207,7 @@ loaded_clean m root files known turns e =
     omega_all m n h k = omega arith
 
 -- when a turn stops
-pub loaded_err : (m : Contents) (root : List ℕ) (files : List SourceFile) (known after : List Meeting) (e : LoadError)
+pub loaded_err : (m : Contents) (root : List ℕ) (files : List SourceFile) (known after : List Meeting) (e : SourceError)
     → Turns m root files known
     → IsTurn m root files known after (Err e) → IsLoadedFrom m root (Err e)
 loaded_err m root files known after (error.Fault f in_file) turns h =
@@ -231,7 +231,7 @@ turns_first m root top files known e f k =
 
 -- a turn of the files that are done
 pub turn_of : (m : Contents) (root : List ℕ) (files seen : List SourceFile) (known after : List Meeting)
-    (r : Result (Option SourceFile) LoadError) → seen ≡ files
+    (r : Result (Option SourceFile) SourceError) → seen ≡ files
     → IsTurn m root seen known after r → IsTurn m root files known after r
 turn_of m root files seen known after r s h = subst (λ (l : List SourceFile). IsTurn m root l known after r) s h
 

@@ -36,11 +36,11 @@ use Rattle.adl_lexer.proofs.Unique.{one_list, one_fault, no_fault_reached}
 use Rattle.adl_parse.specs.Files.{IsFileIn}
 use Rattle.adl_import.specs.Folding.{root_name}
 use Rattle.adl_import.specs.Imports.{imports_of}
-use Rattle.adl_import.specs.Loaded.{IsClean, IsTurnOf, IsFirst, IsLoadedFrom, IsRefusedRoot, IsLoadedBy, IsLoaded, yields}
+use Rattle.adl_import.specs.Loaded.{IsClean, IsTurnOf, IsFirst, IsLoadedFrom, IsRefusedRoot, IsLoadedBy, IsLoaded}
 use Rattle.adl_import.specs.Sources.{Meeting, IsFileOf, AreFilesOf, IsSource, is_known, root_place, file_limit, meetings_of, firsts, met, names}
 use Rattle.adl_import.specs.Turns.{take_imports, Turns, first, next, IsReadFault, absent, too_long, lexing, parsing, IsTurnFault, reading, importing}
-use Rattle.adl_import.specs.declared.error.LoadError.{LoadError}
-use Rattle.adl_import.specs.declared.error.LoadError.TheVariants as error
+use Rattle.cam_base.specs.Unread.{SourceError, yields}
+use Rattle.cam_base.specs.declared.error.Unread.TheVariants as error
 use Rattle.adl_import.proofs.Firsts.{others, bytes_eq-sym, known_others, known_sub, firsts_more, file_names, snoc_view, turns_meet, Extends}
 
 abbrev made : List ℕ → List ℕ → File → SourceFile
@@ -530,7 +530,7 @@ fault_same f g a b e = ap (λ (x : Fault). error.Fault x a) e.0 ∙ ap (λ (x : 
 source_same : (x y : Source) → x.files ≡ y.files → x ≡ y
 source_same x y e = ap (λ (l : List SourceFile). let s : Source = record { files = l } in s) e
 
-from_one : (m : Contents) (root : List ℕ) (a b : Result Source LoadError) → yields a ≡ false → yields b ≡ false
+from_one : (m : Contents) (root : List ℕ) (a b : Result Source SourceError) → yields a ≡ false → yields b ≡ false
     → IsLoadedFrom m root a → IsLoadedFrom m root b → a ≡ b
 from_one m root (Ok x) (Ok y) ya yb p q = ap Ok (source_same x y (clean_is_one m root x.files y.files p q))
 from_one m root (Ok x) (Err (error.Fault g b)) ya yb p q = fault_or_clean m root g b x.files q p
@@ -544,7 +544,7 @@ from_one m root (Err (error.Fault f a)) (Err error.NoMemory) ya yb p q = absurd 
 from_one m root (Err (error.ReadFault n)) b ya yb p q = absurd (true≢false ya)
 from_one m root (Err error.NoMemory) b ya yb p q = absurd (true≢false ya)
 
-refused_one : (root : List ℕ) (a b : Result Source LoadError) → yields a ≡ false → yields b ≡ false → IsRefusedRoot root a
+refused_one : (root : List ℕ) (a b : Result Source SourceError) → yields a ≡ false → yields b ≡ false → IsRefusedRoot root a
     → IsRefusedRoot root b → a ≡ b
 refused_one root (Ok x) b ya yb p q = absurd p
 refused_one root (Err (error.Fault f a)) (Ok y) ya yb p q = absurd q
@@ -555,12 +555,12 @@ refused_one root (Err (error.Fault f a)) (Err error.NoMemory) ya yb p q = absurd
 refused_one root (Err (error.ReadFault n)) b ya yb p q = absurd (true≢false ya)
 refused_one root (Err error.NoMemory) b ya yb p q = absurd (true≢false ya)
 
-loaded_by_one : (m : Contents) (root : List ℕ) (name : Option (List ℕ)) (a b : Result Source LoadError) → yields a ≡ false
+loaded_by_one : (m : Contents) (root : List ℕ) (name : Option (List ℕ)) (a b : Result Source SourceError) → yields a ≡ false
     → yields b ≡ false → IsLoadedBy m root name a → IsLoadedBy m root name b → a ≡ b
 loaded_by_one m root None a b ya yb p q = refused_one root a b ya yb p q
 loaded_by_one m root (Some name) a b ya yb p q = from_one m name a b ya yb p q
 
 -- there is one answer that doesn't yield
-pub loaded_one : (m : Contents) (root : List ℕ) (a b : Result Source LoadError) → yields a ≡ false → yields b ≡ false
+pub loaded_one : (m : Contents) (root : List ℕ) (a b : Result Source SourceError) → yields a ≡ false → yields b ≡ false
     → IsLoaded m root a → IsLoaded m root b → a ≡ b
 loaded_one m root a b ya yb p q = loaded_by_one m root (root_name root) a b ya yb p q

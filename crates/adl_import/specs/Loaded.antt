@@ -10,8 +10,8 @@ use Rattle.adl_ast.specs.declared.source.SourceFile.{SourceFile}
 use Rattle.adl_import.specs.Folding.{root_name}
 use Rattle.adl_import.specs.Sources.{Meeting, AlikeAsRead, IsSource, root_place}
 use Rattle.adl_import.specs.Turns.{Turns, IsTurnFault, fault_at}
-use Rattle.adl_import.specs.declared.error.LoadError.{LoadError}
-use Rattle.adl_import.specs.declared.error.LoadError.TheVariants as error
+use Rattle.cam_base.specs.Unread.{SourceError}
+use Rattle.cam_base.specs.declared.error.Unread.TheVariants as error
 
 -- The files are the source of the root: each has had its turn, none with a fault, and no file is left.
 pub record IsClean (m : Contents) (root : List ℕ) (files : List SourceFile) : Type 0 where
@@ -39,34 +39,27 @@ pub record IsFirst (m : Contents) (root : List ℕ) (fault : Fault) (in_file : L
   pub stands : IsTurnFault m root turn.files turn.known name turn.place fault in_file
 
 -- the answer for a root of this name
-abbrev pub IsLoadedFrom : Contents → List ℕ → Result Source LoadError → Type 0
+abbrev pub IsLoadedFrom : Contents → List ℕ → Result Source SourceError → Type 0
 IsLoadedFrom m root (Ok source) = IsClean m root source.files
 IsLoadedFrom m root (Err (error.Fault fault in_file)) = IsFirst m root fault in_file
 IsLoadedFrom m root (Err (error.ReadFault name)) = IsTurnOf m root name
 IsLoadedFrom m root (Err error.NoMemory) = Unit {0}
 
 -- the answer for a root, as it is written, whose name is refused
-abbrev pub IsRefusedRoot : List ℕ → Result Source LoadError → Type 0
+abbrev pub IsRefusedRoot : List ℕ → Result Source SourceError → Type 0
 IsRefusedRoot root (Ok source) = ⊥
 IsRefusedRoot root (Err (error.Fault fault in_file)) = (fault ≡ fault_at BadPath root_place []) × (in_file ≡ root)
 IsRefusedRoot root (Err (error.ReadFault name)) = ⊥
 IsRefusedRoot root (Err error.NoMemory) = Unit {0}
 
-abbrev pub IsLoadedBy : Contents → List ℕ → Option (List ℕ) → Result Source LoadError → Type 0
+abbrev pub IsLoadedBy : Contents → List ℕ → Option (List ℕ) → Result Source SourceError → Type 0
 IsLoadedBy m root None result = IsRefusedRoot root result
 IsLoadedBy m root (Some name) result = IsLoadedFrom m name result
 
 -- the answer for a root, as it is written
-abbrev pub IsLoaded : Contents → List ℕ → Result Source LoadError → Type 0
+abbrev pub IsLoaded : Contents → List ℕ → Result Source SourceError → Type 0
 IsLoaded m root result = IsLoadedBy m root (root_name root) result
 
 -- the same for a root, as it is written
 abbrev pub AlikeInSource : List ℕ → Contents → Contents → Type 0
 AlikeInSource root m n = (name : List ℕ) → root_name root ≡ Some name → AlikeInTurns name m n
-
--- the answers that may come in place of another
-abbrev pub yields : Result Source LoadError → Bool
-yields (Ok source) = false
-yields (Err (error.Fault fault in_file)) = false
-yields (Err (error.ReadFault name)) = true
-yields (Err error.NoMemory) = true

@@ -16,8 +16,8 @@ use Rattle.adl_parse.specs.Files.{IsFileIn}
 use Rattle.adl_import.specs.Imports.{imports_of}
 use Rattle.adl_import.specs.Sources.{Meeting, AlikeAsRead, IsFileOf}
 use Rattle.adl_import.specs.Turns.{take_imports, IsReadFault, IsTurnFault}
-use Rattle.adl_import.specs.declared.error.LoadError.{LoadError}
-use Rattle.adl_import.specs.declared.error.LoadError.TheVariants as error
+use Rattle.cam_base.specs.Unread.{SourceError}
+use Rattle.cam_base.specs.declared.error.Unread.TheVariants as error
 
 -- P holds of each item
 abbrev pub Each : {X : Type 0} → (X → Type 0) → List X → Type 0
@@ -35,7 +35,7 @@ IsTaken want known (Err (refused.Fault f)) = want ≡ Err f
 IsTaken want known (Err refused.NoMemory) = Unit {0}
 
 -- the same, with the fault in the file of this name
-abbrev pub IsTakenIn : Result (List Meeting) Fault → List ℕ → List Meeting → Result (Unit {0}) LoadError → Type 0
+abbrev pub IsTakenIn : Result (List Meeting) Fault → List ℕ → List Meeting → Result (Unit {0}) SourceError → Type 0
 IsTakenIn want name known (Ok u) = want ≡ Ok known
 IsTakenIn want name known (Err (error.Fault f in_file)) = (want ≡ Err f) × (in_file ≡ name)
 IsTakenIn want name known (Err (error.ReadFault in_file)) = ⊥
@@ -50,7 +50,7 @@ IsTreeOf number bytes (Err (refused.Fault f)) =
 IsTreeOf number bytes (Err refused.NoMemory) = Unit {0}
 
 -- the file of this name and these bytes, or a fault in it
-abbrev pub IsParsed : ℕ → List ℕ → List ℕ → Result SourceFile LoadError → Type 0
+abbrev pub IsParsed : ℕ → List ℕ → List ℕ → Result SourceFile SourceError → Type 0
 IsParsed number name bytes (Ok file) =
     (file.name ≡ name) × (file.bytes ≡ bytes) × ((tokens : List Token) × Lexes number bytes tokens
     × IsFileSpelled file.tree (see bytes tokens))
@@ -61,7 +61,7 @@ IsParsed number name bytes (Err (error.ReadFault in_file)) = ⊥
 IsParsed number name bytes (Err error.NoMemory) = Unit {0}
 
 -- the next file after these, or the fault of its reading, lexing and parsing
-abbrev pub IsRead : Contents → List SourceFile → List ℕ → Place → Result SourceFile LoadError → Type 0
+abbrev pub IsRead : Contents → List SourceFile → List ℕ → Place → Result SourceFile SourceError → Type 0
 IsRead m files name place (Ok file) = (file.name ≡ name) × IsFileOf m (length files) file
 IsRead m files name place (Err (error.Fault f in_file)) = IsReadFault m files name place f in_file
 IsRead m files name place (Err (error.ReadFault in_file)) = in_file ≡ name
@@ -74,7 +74,7 @@ AlikeInNext files known m n =
 
 -- The turn after these files: none is left; or the next file, and what is known after its imports; or the turn's fault.
 abbrev pub IsTurn : Contents → List ℕ → List SourceFile → List Meeting → List Meeting
-    → Result (Option SourceFile) LoadError → Type 0
+    → Result (Option SourceFile) SourceError → Type 0
 IsTurn m root files known after (Ok None) = (slice_get known (length files) ≡ None) × (after ≡ known)
 IsTurn m root files known after (Ok (Some file)) =
     (place : Place) × (slice_get known (length files) ≡ Some (file.name, place)) × IsFileOf m (length files) file

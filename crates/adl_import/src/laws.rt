@@ -2,9 +2,9 @@
 
 ghost use Rattle.adl_ast.specs.declared.source.Source.{Source as Files};
 ghost use Rattle.adl_ast.specs.declared.source.SourceFile.{SourceFile as OneFile};
-ghost use Rattle.adl_import.specs.Loaded.{IsClean, IsLoaded, yields};
+ghost use Rattle.adl_import.specs.Loaded.{IsClean, IsLoaded};
 ghost use Rattle.adl_import.specs.Sources.{AreFilesOf, IsSource, files_limit};
-ghost use Rattle.adl_import.specs.declared.error.LoadError.{LoadError as Refusal};
+ghost use Rattle.cam_base.specs.Unread.{SourceError as Refusal, yields};
 ghost use Rattle.cam_io.specs.Contents.{Contents};
 ghost use Rattle.std.specs.Prelude.{◌≡◌, ◌<◌, ◌≤◌, ℕ, false, length, List as Seq, Result};
 

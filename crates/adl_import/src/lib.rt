@@ -6,14 +6,13 @@
 //! `specs/Loaded.antt`.
 #![tactic(auto)]
 
-mod error;
 mod folding;
 mod imports;
 mod laws;
 mod loading;
 mod turn;
 
-pub use error::LoadError;
+pub use cam_base::SourceError as LoadError;
 pub use folding::{BadPath, fold, fold_root};
 pub use laws::{answers_are_one, loaded_sources_are_whole, sources_are_one};
 pub use loading::load;

@@ -8,9 +8,9 @@ ghost use Rattle.std.specs.Str.{IsUtf8};
 
 use crate::imports::fault_at;
 use crate::turn::take_turn;
-use crate::{BadPath, LoadError, fold_root};
+use crate::{BadPath, fold_root};
 use adl_ast::Source;
-use cam_base::{Code, List, NoMemory, Place, Refused, Text};
+use cam_base::{Code, List, NoMemory, Place, Refused, SourceError, Text, Unread};
 use cam_io::Files;
 use indexmap::IndexMap;
 use std::alloc::Global;
@@ -30,10 +30,10 @@ fn met_root(alloc: Global, root: &Text) -> Result<IndexMap<Text, Place>, NoMemor
     Ok(known)
 }
 
-fn load_from<F: Files>(alloc: Global, files: &mut F, root: &Text) -> Result<Source, LoadError>
+fn load_from<F: Files>(alloc: Global, files: &mut F, root: &Text) -> Result<Source, SourceError>
     requires { IsUtf8 root.now }
     ensures kept { KeepsFiles F.told F.faults files.old files.new }
-    ensures rose { (read : Items ℕ) → result ≡ Err (LoadError.ReadFault read)
+    ensures rose { (read : Items ℕ) → result ≡ Err (Unread.ReadFault read)
         → Rose (F.faults files.old read) (F.faults files.new read) }
     ensures learned { LearnsOnly F.told (AlikeInTurns root.now) files.old files.new }
     ensures loaded { InAll (F.told files.new) (λ m. IsLoadedFrom m root.now result) }
@@ -48,19 +48,19 @@ fn load_from<F: Files>(alloc: Global, files: &mut F, root: &Text) -> Result<Sour
     Ok(Source { files: done })
 }
 
-fn refused_root(alloc: Global, root: &str) -> Result<Source, LoadError>
+fn refused_root(alloc: Global, root: &str) -> Result<Source, SourceError>
     ensures { IsRefusedRoot root.now result }
 {
     let fault = fault_at(alloc, Code::BadPath, ROOT_PLACE, b"")?;
-    Err(LoadError::Fault(fault, Text::new(alloc, root.as_bytes())?))
+    Err(Unread::Fault(fault, Text::new(alloc, root.as_bytes())?))
 }
 
 /// The source of a root: its file, and the files that it and they import, each read once. Refused exactly where a turn
 /// has a fault, by the first fault of the first such turn: `specs/Loaded.antt`. `ReadFault` only where the count of the
 /// name that it gives rose. It looks at no file but those whose turns come, and at no more of one than the limit and a byte.
-pub fn load<F: Files>(alloc: Global, files: &mut F, root: &str) -> Result<Source, LoadError>
+pub fn load<F: Files>(alloc: Global, files: &mut F, root: &str) -> Result<Source, SourceError>
     ensures kept { KeepsFiles F.told F.faults files.old files.new }
-    ensures rose { (read : Items ℕ) → result ≡ Err (LoadError.ReadFault read)
+    ensures rose { (read : Items ℕ) → result ≡ Err (Unread.ReadFault read)
         → Rose (F.faults files.old read) (F.faults files.new read) }
     ensures learned { LearnsOnly F.told (AlikeInSource root.now) files.old files.new }
     ensures loaded { InAll (F.told files.new) (λ m. IsLoaded m root.now result) }
@@ -68,6 +68,6 @@ pub fn load<F: Files>(alloc: Global, files: &mut F, root: &str) -> Result<Source
     match fold_root(alloc, root.as_bytes()) {
         Ok(name) => load_from(alloc, files, &name),
         Err(Refused::Fault(BadPath)) => refused_root(alloc, root),
-        Err(Refused::NoMemory) => Err(LoadError::NoMemory),
+        Err(Refused::NoMemory) => Err(Unread::NoMemory),
     }
 }

@@ -1,18 +1,16 @@
 -- What the parts of a compilation answer is what the whole answers.
-use Rattle.arch_compile.proofs.Common.{AreImagesOf, AreImagesRead, AreNumbered, Assigns, Build, BuildError, Builds, Completes, Contents, Err, Fault, Finishes, Flat, Found, HasMeaning, IfOk, Images, IsAssigned, IsBuildOf, IsBuiltOf, IsCompiled}
+use Rattle.arch_compile.proofs.Common.{AreImagesOf, AreImagesRead, AreNumbered, Assigns, Build, SourceError, Builds, Completes, Contents, Err, Fault, Finishes, Flat, Found, HasMeaning, IfOk, Images, IsAssigned, IsBuildOf, IsBuiltOf, IsCompiled}
 use Rattle.arch_compile.proofs.Common.{IsImaged, IsLaid, IsMade, IsMeaningOf, IsMeant, IsRefusal, IsRefused, Layout, Lays, List, None, NoneFell, Ok, Option, Refuses, Result, Rose, Settled, Some, Source, Tells, ap, file_of, first_edge_fault}
 use Rattle.arch_compile.proofs.Common.{first_fault, first_front_fault, first_imaged_fault, first_laid_fault, first_layout_fault, first_page_limit, first_slot_fault, first_space_fault, first_table_fault, flat_of, found_beside, found_count, found_of}
-use Rattle.arch_compile.proofs.Common.{given, if◌then◌else◌, images_beside, images_from, images_numbered, images_sound, inl, inr, is_some, label_numbers, name_of_file, not_imaged, option_or, refl, refused_tells, root_of, rose_after, second_is}
+use Rattle.arch_compile.proofs.Common.{given, if◌then◌else◌, images_beside, images_from, images_numbered, images_sound, inl, inr, is_some, label_numbers, name_of_file, option_or, refl, refused_tells, root_of, rose_after, second_is}
 use Rattle.arch_compile.proofs.Common.{slice_get, source_tables, spaced, subst, sym, table_names, tables_beside, types, ℕ, ◌∙◌, ◌≡◌}
 use Rattle.adl_meaning.specs.Faults.{Refuses as RefusesAs}
 use Rattle.cam_base.specs.declared.error.Refused.{Refused}
-use Rattle.front_end.specs.declared.error.BuildError.TheVariants as error
+use Rattle.cam_base.specs.declared.error.Unread.TheVariants as error
 use Rattle.front_end.specs.declared.phases.FrontEnd.{FrontEnd}
 use Rattle.front_end.specs.declared.phases.Meaning.{Meaning}
 use Rattle.cspace_layout.specs.Within.{IsWithin}
 use Rattle.source_images.specs.TableFaults.{name_of_file as name_with_tables}
-use Rattle.source_images.specs.declared.error.ImagesError.{ImagesError}
-use Rattle.source_images.specs.declared.error.ImagesError.TheVariants as imaging
 
 -- ---- of a front
 
@@ -44,7 +42,7 @@ meaning_is m f a =
     ∙ ap (λ z. let n : Meaning = record { source = m.source; flat = z; settled = f.settled } in n) a.1
     ∙ ap (λ z. let n : Meaning = record { source = m.source; flat = m.flat; settled = z } in n) a.2
 
-pub finished : (m : Meaning) (f : FrontEnd) (images : Images) (r : Result Build BuildError) → Assigns m (Ok f)
+pub finished : (m : Meaning) (f : FrontEnd) (images : Images) (r : Result Build SourceError) → Assigns m (Ok f)
     → Finishes f images r → Completes m images r
 finished m f images (Ok b) a h = (h.0 ∙ meaning_is m f a, a.3, subst (λ z. IsMade z images b.spec b.policy b.cert b.map) a.0 h.1)
 finished m f images (Err e) a h = subst (λ z. Tells m.source (first_edge_fault (source_tables m.source)) z) (sym h) tt
@@ -77,12 +75,12 @@ module _ (m : Meaning) (images : Images) (meant : IsMeant m.source m.flat m.sett
       (first_page_limit (spaced m.source images)) (first_edge_fault (source_tables m.source))
       (sym (laid_same m images meant) ∙ none)
 
-  pub completed : (r : Result Build BuildError) → first_laid_fault (given m.source m.flat m.settled images) ≡ None
+  pub completed : (r : Result Build SourceError) → first_laid_fault (given m.source m.flat m.settled images) ≡ None
       → Completes m images r → Lays m images r
   completed (Ok b) none h = (h.0, edges_left none ∙ h.1, h.2)
   completed (Err e) none h = subst (λ z. Tells m.source z e) (sym (edges_left none)) h
 
-  laid_tells : (e : BuildError) → Tells m.source (first_laid_fault (spaced m.source images)) e
+  laid_tells : (e : SourceError) → Tells m.source (first_laid_fault (spaced m.source images)) e
       → Tells m.source (first_imaged_fault m.source images) e
   laid_tells (error.Fault fault file) t = (
     imaged_stays (first_space_fault (flat_of m.source) images) (first_slot_fault m.source (flat_of m.source))
@@ -92,7 +90,7 @@ module _ (m : Meaning) (images : Images) (meant : IsMeant m.source m.flat m.sett
   laid_tells (error.ReadFault file) t = absurd t
   laid_tells error.NoMemory t = tt
 
-  pub laid_refused : (r : Refused Fault) (e : BuildError)
+  pub laid_refused : (r : Refused Fault) (e : SourceError)
       → RefusesAs {T = Layout} (Err r) (first_laid_fault (given m.source m.flat m.settled images)) → IsRefused m.source r e
       → Lays m images (Err e)
   laid_refused r e h n =
@@ -102,7 +100,7 @@ module _ (m : Meaning) (images : Images) (meant : IsMeant m.source m.flat m.sett
 -- ---- of a meaning
 
 -- what was read of its tables, by the root's own name and the flat system that is meant
-read_of : (contents : Contents) (m : Meaning) (root : List ℕ) (r : Result Images ImagesError) → IsMeant m.source m.flat m.settled
+read_of : (contents : Contents) (m : Meaning) (root : List ℕ) (r : Result Images SourceError) → IsMeant m.source m.flat m.settled
     → root ≡ root_of m.source
     → AreImagesRead contents root m.source m.flat r → AreImagesRead contents (root_of m.source) m.source (flat_of m.source) r
 read_of contents m root r meant e h =
@@ -144,7 +142,7 @@ in_tables s found n f some = ap (λ (o : Option Fault). if is_some o then name_w
 
 module _ (contents : Contents) (before now : List ℕ → ℕ) (m : Meaning) (images : Images)
     (is : AreImagesOf contents (root_of m.source) m.source (flat_of m.source) images) where
-  laid_builds : (r : Result Build BuildError) → Lays m images r → Builds m contents before now r
+  laid_builds : (r : Result Build SourceError) → Lays m images r → Builds m contents before now r
   laid_builds (Ok b) h = record {
     same = h.0;
     clean = clean_is m.source (found_beside contents m.source) images None is.clean is.images h.1;
@@ -158,31 +156,29 @@ module _ (contents : Contents) (before now : List ℕ → ℕ) (m : Meaning) (im
   laid_builds (Err error.NoMemory) t = tt
 
 pub built_of_images : (contents : Contents) (before now : List ℕ → ℕ) (m : Meaning) (root : List ℕ) (images : Images)
-    (r : Result Build BuildError) → IsMeant m.source m.flat m.settled → root ≡ root_of m.source
+    (r : Result Build SourceError) → IsMeant m.source m.flat m.settled → root ≡ root_of m.source
     → AreImagesOf contents root m.source m.flat images → Lays m images r → Builds m contents before now r
 built_of_images contents before now m root images r meant e h lays =
     laid_builds contents before now m images (read_of contents m root (Ok images) meant e h) r lays
 
-unread_builds : (contents : Contents) (before now : List ℕ → ℕ) (m : Meaning) (e : ImagesError)
+unread_builds : (contents : Contents) (before now : List ℕ → ℕ) (m : Meaning) (e : SourceError)
     → AreImagesRead contents (root_of m.source) m.source (flat_of m.source) (Err e)
-    → ((file : List ℕ) → ◌≡◌ {A = Result Images ImagesError} (Err e) (Err (imaging.ReadFault file))
-    → Rose (before file) (now file)) → Builds m contents before now (Err (not_imaged e))
-unread_builds contents before now m (imaging.Fault fault file) h rose = record {
+    → ((file : List ℕ) → ◌≡◌ {A = Result Images SourceError} (Err e) (Err (error.ReadFault file))
+    → Rose (before file) (now file)) → Builds m contents before now (Err e)
+unread_builds contents before now m (error.Fault fault file) h rose = record {
   first = ap (λ o. option_or o (first_imaged_fault m.source (images_beside contents m.source))) h.first;
   named = h.named ∙ sym (in_tables m.source (found_beside contents m.source) fault.place.file fault h.first);
 }
-unread_builds contents before now m (imaging.ReadFault file) h rose = (h, rose file refl)
-unread_builds contents before now m imaging.NoMemory h rose = tt
+unread_builds contents before now m (error.ReadFault file) h rose = (h, rose file refl)
+unread_builds contents before now m error.NoMemory h rose = tt
 
-pub built_unread : (contents : Contents) (before now : List ℕ → ℕ) (m : Meaning) (root : List ℕ) (e : ImagesError)
-    (r : BuildError) → IsMeant m.source m.flat m.settled → root ≡ root_of m.source
+pub built_unread : (contents : Contents) (before now : List ℕ → ℕ) (m : Meaning) (root : List ℕ) (e : SourceError)
+    → IsMeant m.source m.flat m.settled → root ≡ root_of m.source
     → AreImagesRead contents root m.source m.flat (Err e)
-    → ((file : List ℕ) → ◌≡◌ {A = Result Images ImagesError} (Err e) (Err (imaging.ReadFault file))
-    → Rose (before file) (now file))
-    → r ≡ not_imaged e → Builds m contents before now (Err r)
-built_unread contents before now m root e r meant same h rose is =
-    subst (λ z. Builds m contents before now (Err z)) (sym is)
-    (unread_builds contents before now m e (read_of contents m root (Err e) meant same h) rose)
+    → ((file : List ℕ) → ◌≡◌ {A = Result Images SourceError} (Err e) (Err (error.ReadFault file))
+    → Rose (before file) (now file)) → Builds m contents before now (Err e)
+built_unread contents before now m root e meant same h rose =
+    unread_builds contents before now m e (read_of contents m root (Err e) meant same h) rose
 
 -- ---- of a root
 
@@ -204,11 +200,11 @@ module _ (root : List ℕ) (contents : Contents) (m : Meaning) (is : IsMeaningOf
 
   -- what every build has is so of what is built
   pub built_so : (P : Build → Type 0) → ((b : Build) → IsBuildOf root contents b → P b)
-      → (before now : List ℕ → ℕ) (r : Result Build BuildError) → Builds m contents before now r → IfOk r P
+      → (before now : List ℕ → ℕ) (r : Result Build SourceError) → Builds m contents before now r → IfOk r P
   built_so P so before now (Ok b) h = so b (build_of b h)
   built_so P so before now (Err e) h = tt
 
-  pub built_compiled : (old mid now : List ℕ → ℕ) (r : Result Build BuildError) → NoneFell old mid → Builds m contents mid now r
+  pub built_compiled : (old mid now : List ℕ → ℕ) (r : Result Build SourceError) → NoneFell old mid → Builds m contents mid now r
       → IsCompiled root contents old now r
   built_compiled old mid now (Ok b) later h = build_of b h
   built_compiled old mid now (Err (error.Fault fault file)) later h =
@@ -220,7 +216,7 @@ module _ (root : List ℕ) (contents : Contents) (m : Meaning) (is : IsMeaningOf
   )
   built_compiled old mid now (Err error.NoMemory) later h = tt
 
-pub refused_compiled : (root : List ℕ) (contents : Contents) (before now : List ℕ → ℕ) (e : BuildError)
+pub refused_compiled : (root : List ℕ) (contents : Contents) (before now : List ℕ → ℕ) (e : SourceError)
     → Refuses first_front_fault root contents before now e → IsRefusal root contents before now e
 refused_compiled root contents before now (error.Fault fault file) h = inl h
 refused_compiled root contents before now (error.ReadFault file) h = (inl h.0, h.1)

@@ -1,10 +1,10 @@
 -- In given contents there is one answer of `compile`, aside from failed reads and want of memory.
-use Rattle.arch_compile.proofs.Common.{Build, BuildError, Contents, Edge, Err, Fault, Images, IsBuildOf, IsCompiled, IsFirstFault, IsMade, IsSorted, List, None, Ok, Option, Policy, Result, Some, Source, Spec, ap, false, file_of, first_fault}
+use Rattle.arch_compile.proofs.Common.{Build, SourceError, Contents, Edge, Err, Fault, Images, IsBuildOf, IsCompiled, IsFirstFault, IsMade, IsSorted, List, None, Ok, Option, Policy, Result, Some, Source, Spec, ap, false, file_of, first_fault}
 use Rattle.arch_compile.proofs.Common.{first_front_fault, first_layout_fault, found_beside, has, images_beside, inl, inr, no_first, no_second, subst, sym, true, yields, ℕ, ◌↔◌, ◌∙◌, ◌≡◌}
 use Rattle.adl_import.specs.Loaded.{IsLoaded}
 use Rattle.cap_model.proofs.TableMembers.{one_table}
 use Rattle.front_end.proofs.OneAnswer.{both, faults_same, meanings_same, none_faulted, one_fault, one_loaded}
-use Rattle.front_end.specs.declared.error.BuildError.TheVariants as error
+use Rattle.cam_base.specs.declared.error.Unread.TheVariants as error
 use Rattle.system_spec.specs.declared.map_line.MapLine.{MapLine}
 
 -- ---- what is made is one
@@ -77,7 +77,7 @@ module _ (m : Contents) (root : List ℕ) where
 
 -- ---- answers
 
-pub one_build : (m : Contents) (root : List ℕ) (old new later last : List ℕ → ℕ) (a b : Result Build BuildError)
+pub one_build : (m : Contents) (root : List ℕ) (old new later last : List ℕ → ℕ) (a b : Result Build SourceError)
     → yields a ≡ false → yields b ≡ false
     → IsCompiled root m old new a → IsCompiled root m later last b → a ≡ b
 one_build m root old new later last (Ok f) (Ok g) p q x y = ap Ok (builds_same m root f g x y)

@@ -3,7 +3,6 @@
 use Rattle.std.specs.Prelude.{◌≡◌, ◌⊎◌, ℕ, List, Some, None, Result, Ok, Err}
 use Rattle.adl_ast.specs.declared.source.Source.{Source}
 use Rattle.adl_import.specs.Loaded.{AlikeInSource, IsLoaded}
-use Rattle.adl_import.specs.declared.error.LoadError.TheVariants as load
 use Rattle.arch_compile.specs.Built.{IsBuildOf}
 use Rattle.arch_compile.specs.LayoutFaults.{file_of, first_layout_fault, found_beside, tables_beside}
 use Rattle.arch_compile.specs.declared.building.Build.{Build}
@@ -12,8 +11,8 @@ use Rattle.cam_io.specs.Causes.{Rose}
 use Rattle.cam_io.specs.Contents.{Contents}
 use Rattle.front_end.specs.First.{first_front_fault}
 use Rattle.front_end.specs.Refusals.{IsFaulted}
-use Rattle.front_end.specs.declared.error.BuildError.{BuildError}
-use Rattle.front_end.specs.declared.error.BuildError.TheVariants as error
+use Rattle.cam_base.specs.Unread.{SourceError}
+use Rattle.cam_base.specs.declared.error.Unread.TheVariants as error
 use Rattle.cam_base.specs.Gather.{IsIn}
 use Rattle.source_images.specs.Found.{AlikeInTables}
 
@@ -43,14 +42,14 @@ IsFirstFault root contents fault file =
 -- the file is one of the source, or a section table of a source without a fault up to the settings
 abbrev pub IsUnread : List ℕ → Contents → List ℕ → Type 0
 IsUnread root contents file =
-    IsLoaded contents root (Err (load.ReadFault file))
+    IsLoaded contents root (Err (error.ReadFault file))
     ⊎ ((source : Source) × IsClean root contents source × IsIn file (tables_beside source))
 
-abbrev pub IsRefusal : List ℕ → Contents → (List ℕ → ℕ) → (List ℕ → ℕ) → BuildError → Type 0
+abbrev pub IsRefusal : List ℕ → Contents → (List ℕ → ℕ) → (List ℕ → ℕ) → SourceError → Type 0
 IsRefusal root contents before now (error.Fault fault file) = IsFirstFault root contents fault file
 IsRefusal root contents before now (error.ReadFault file) = IsUnread root contents file × Rose (before file) (now file)
 IsRefusal root contents before now error.NoMemory = Unit {0}
 
-abbrev pub IsCompiled : List ℕ → Contents → (List ℕ → ℕ) → (List ℕ → ℕ) → Result Build BuildError → Type 0
+abbrev pub IsCompiled : List ℕ → Contents → (List ℕ → ℕ) → (List ℕ → ℕ) → Result Build SourceError → Type 0
 IsCompiled root contents before now (Ok b) = IsBuildOf root contents b
 IsCompiled root contents before now (Err e) = IsRefusal root contents before now e

@@ -23,16 +23,14 @@ use Rattle.cspace_layout.specs.SlotFaults.{first_slot_fault}
 use Rattle.cspace_layout.specs.Uses.{slots_of}
 use Rattle.front_end.specs.First.{source_tables}
 use Rattle.front_end.specs.Steps.{Tells}
-use Rattle.front_end.specs.declared.error.BuildError.{BuildError}
-use Rattle.front_end.specs.declared.error.BuildError.TheVariants as error
+use Rattle.cam_base.specs.Unread.{SourceError}
+use Rattle.cam_base.specs.declared.error.Unread.TheVariants as error
 use Rattle.front_end.specs.declared.phases.FrontEnd.{FrontEnd}
 use Rattle.front_end.specs.declared.phases.Meaning.{Meaning}
 use Rattle.cam_base.specs.Gather.{IsIn}
 use Rattle.source_images.specs.Numbered.{AreNumbered, AreSound}
 use Rattle.source_images.specs.SpaceFaults.{first_space_fault}
 use Rattle.source_images.specs.declared.images.Images.{Images}
-use Rattle.source_images.specs.declared.error.ImagesError.{ImagesError}
-use Rattle.source_images.specs.declared.error.ImagesError.TheVariants as imaging
 use Rattle.system_spec.specs.Buildable.{IsBuildable}
 use Rattle.system_spec.specs.Made.{labels_of, spec_of}
 use Rattle.system_spec.specs.MapLines.{map_lines}
@@ -44,12 +42,6 @@ use Rattle.vspace_layout.specs.Laid.{spaces_of}
 use Rattle.vspace_layout.specs.PageLimits.{first_page_limit}
 
 -- ---- images
-
--- why images weren't read, as a refusal to compile
-abbrev pub not_imaged : ImagesError → BuildError
-not_imaged (imaging.Fault fault file) = error.Fault fault file
-not_imaged (imaging.ReadFault file) = error.ReadFault file
-not_imaged imaging.NoMemory = error.NoMemory
 
 pub record IsImaged (flat : Flat) (images : Images) : Type 0 where
   pub numbered : AreNumbered flat images
@@ -89,21 +81,21 @@ pub record IsMadeOf (t : Tables) (policy : Policy) (m : Made) : Type 0 where
 -- ---- builds, from the last step to the first
 
 -- of a front, with these images
-abbrev pub Finishes : FrontEnd → Images → Result Build BuildError → Type 0
+abbrev pub Finishes : FrontEnd → Images → Result Build SourceError → Type 0
 Finishes f images (Ok b) =
     (b.meaning ≡ record { source = f.source; flat = f.flat; settled = f.settled })
     × IsMade f.source images b.spec b.policy b.cert b.map
 Finishes f images (Err e) = e ≡ error.NoMemory
 
 -- of a meaning, with these images, whose layout is known
-abbrev pub Completes : Meaning → Images → Result Build BuildError → Type 0
+abbrev pub Completes : Meaning → Images → Result Build SourceError → Type 0
 Completes m images (Ok b) =
     (b.meaning ≡ m) × (first_edge_fault (source_tables m.source) ≡ None)
     × IsMade m.source images b.spec b.policy b.cert b.map
 Completes m images (Err e) = Tells m.source (first_edge_fault (source_tables m.source)) e
 
 -- of a meaning, with these images
-abbrev pub Lays : Meaning → Images → Result Build BuildError → Type 0
+abbrev pub Lays : Meaning → Images → Result Build SourceError → Type 0
 Lays m images (Ok b) =
     (b.meaning ≡ m) × (first_imaged_fault m.source images ≡ None)
     × IsMade m.source images b.spec b.policy b.cert b.map
@@ -115,7 +107,7 @@ pub record IsBuiltOf (m : Meaning) (contents : Contents) (b : Build) : Type 0 wh
   pub clean : first_layout_fault m.source (found_beside contents m.source) ≡ None
   pub made : IsMade m.source (images_beside contents m.source) b.spec b.policy b.cert b.map
 
-abbrev pub Builds : Meaning → Contents → (List ℕ → ℕ) → (List ℕ → ℕ) → Result Build BuildError → Type 0
+abbrev pub Builds : Meaning → Contents → (List ℕ → ℕ) → (List ℕ → ℕ) → Result Build SourceError → Type 0
 Builds m contents before now (Ok b) = IsBuiltOf m contents b
 Builds m contents before now (Err (error.Fault fault file)) = IsLayoutFault contents m.source fault file
 Builds m contents before now (Err (error.ReadFault file)) = IsIn file (tables_beside m.source) × Rose (before file) (now file)

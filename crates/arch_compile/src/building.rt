@@ -12,13 +12,13 @@ ghost use Rattle.front_end.specs.Steps.{HasMeaning};
 ghost use Rattle.source_images.specs.Found.{AlikeInTables};
 ghost use Rattle.std.specs.Prelude.{◌≡◌, IfOk};
 
-use crate::imaging::{not_imaged, root_of};
+use crate::imaging::root_of;
 use crate::laying::{Layout, lay_out};
 use crate::making::{Made, made_of};
-use cam_base::{List, NoMemory};
+use cam_base::{List, NoMemory, SourceError, Unread};
 use cam_io::Files;
 use cap_model::{EdgeTable, Policy, Spec};
-use front_end::{BuildError, FrontEnd, Meaning, in_file, meaning_of, with_policy};
+use front_end::{FrontEnd, Meaning, in_file, meaning_of, with_policy};
 use source_images::{Images, read_images};
 use std::alloc::Global;
 use system_spec::{MapLine, Tables};
@@ -43,7 +43,7 @@ pub struct Build {
 ///
 /// The first fault of all phases, with the name of its file; a failed read, only where the count of the name that it gives
 /// rose; want of memory.
-pub fn compile<F: Files>(alloc: Global, files: &mut F, root: &str) -> Result<Build, BuildError>
+pub fn compile<F: Files>(alloc: Global, files: &mut F, root: &str) -> Result<Build, SourceError>
     ensures kept { KeepsFiles F.told F.faults files.old files.new }
     ensures learned { LearnsOnly F.told (AlikeInBuild root.now) files.old files.new }
     ensures compiled { InAll (F.told files.new) (λ m. IsCompiled root.now m (F.faults files.old) (F.faults files.new) result) }
@@ -60,7 +60,7 @@ fn with_images<F: Files>(
     alloc: Global,
     files: &mut F,
     meaning: Meaning,
-) -> Result<Build, BuildError>
+) -> Result<Build, SourceError>
     requires { HasMeaning meaning.source meaning.flat meaning.settled }
     ensures kept { KeepsFiles F.told F.faults files.old files.new }
     ensures learned { LearnsOnly F.told (AlikeInTables (tables_beside meaning.source)) files.old files.new }
@@ -69,11 +69,11 @@ fn with_images<F: Files>(
     let root = root_of(&meaning.source);
     match read_images(alloc, files, root, &meaning.source, &meaning.flat) {
         Ok(images) => with_layout(alloc, meaning, &images),
-        Err(error) => Err(not_imaged(error)),
+        Err(error) => Err(error),
     }
 }
 
-fn with_layout(alloc: Global, meaning: Meaning, images: &Images) -> Result<Build, BuildError>
+fn with_layout(alloc: Global, meaning: Meaning, images: &Images) -> Result<Build, SourceError>
     requires sound { HasMeaning meaning.source meaning.flat meaning.settled }
     requires imaged { IsImaged meaning.flat images.now }
     ensures { Lays meaning images.now result }
@@ -89,7 +89,7 @@ fn with_front(
     meaning: Meaning,
     images: &Images,
     layout: &Layout,
-) -> Result<Build, BuildError>
+) -> Result<Build, SourceError>
     requires sound { HasMeaning meaning.source meaning.flat meaning.settled }
     requires laid { IsLaid meaning.source meaning.flat meaning.settled images.now layout.now }
     ensures { Completes meaning images.now result }
@@ -105,7 +105,7 @@ fn with_made(
     front: FrontEnd,
     images: &Images,
     layout: &Layout,
-) -> Result<Build, BuildError>
+) -> Result<Build, SourceError>
     requires sound { HasMeaning front.source front.flat front.settled }
     requires assigned { IsAssigned front.source front.policy }
     requires numbered { front.numbers ≡ label_numbers front.flat }
@@ -147,6 +147,6 @@ fn with_made(
             cert,
             map,
         }),
-        Err(NoMemory) => Err(BuildError::NoMemory),
+        Err(NoMemory) => Err(Unread::NoMemory),
     }
 }

@@ -1,13 +1,10 @@
 //! The images of a source's programs.
 
-ghost use Rattle.arch_compile.specs.Steps.{not_imaged};
 ghost use Rattle.front_end.specs.First.{name_of_file};
 ghost use Rattle.std.specs.Prelude.{◌≡◌};
 ghost use Rattle.std.specs.Str.{IsUtf8};
 
 use adl_ast::Source;
-use front_end::BuildError;
-use source_images::ImagesError;
 use std::str::from_utf8;
 
 fn as_text(name: &[u8]) -> &str
@@ -28,16 +25,5 @@ pub fn root_of(source: &Source) -> &str
     match source.files.as_slice().get(0) {
         Some(file) => as_text(file.name.as_bytes()),
         None => "",
-    }
-}
-
-/// The same refusal, of a source whose images weren't read.
-pub fn not_imaged(error: ImagesError) -> BuildError
-    ensures { result ≡ not_imaged error }
-{
-    match error {
-        ImagesError::Fault(fault, file) => BuildError::Fault(fault, file),
-        ImagesError::ReadFault(file) => BuildError::ReadFault(file),
-        ImagesError::NoMemory => BuildError::NoMemory,
     }
 }

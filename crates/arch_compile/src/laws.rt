@@ -3,8 +3,7 @@
 ghost use Rattle.arch_compile.specs.Compiled.{IsCompiled};
 ghost use Rattle.arch_compile.specs.declared.building.Build.{Build};
 ghost use Rattle.cam_io.specs.Contents.{Contents};
-ghost use Rattle.front_end.specs.Refusals.{yields};
-ghost use Rattle.front_end.specs.declared.error.BuildError.{BuildError as Refusal};
+ghost use Rattle.cam_base.specs.Unread.{SourceError as Refusal, yields};
 ghost use Rattle.std.specs.Prelude.{◌≡◌, ℕ, false, List as Seq, Some, Result};
 
 /// In given contents there is one answer of `compile`, aside from failed reads and want of memory.

@@ -1,6 +1,7 @@
 pub mod Codes
 pub mod Hex
 pub mod Names
+pub mod NameBytes
 pub mod Numbers
 pub mod Paths
 pub mod TextCodes
@@ -25,3 +26,4 @@ pub mod Lines
 pub mod LinesLeft
 pub mod Parts
 pub mod LineTexts
+pub mod Unread

@@ -18,6 +18,7 @@ mod line;
 mod line_fault;
 mod list;
 mod name;
+mod name_bytes;
 mod number;
 mod part;
 mod path;
@@ -28,7 +29,7 @@ mod text_fault;
 mod token;
 
 pub use code::Code;
-pub use error::{NoMemory, Refused};
+pub use error::{NoMemory, Refused, SourceError, Unread};
 pub use field::{fields, spaced_fields};
 pub use gather_laws::{numbers_are_sums, what_is_gathered_comes_from_an_element};
 pub use grammar_error::{ReadError, Stop, Why};

@@ -1,16 +1,15 @@
 -- In given contents there is one answer, aside from failed reads and want of memory.
-use Rattle.front_end.proofs.Common.{Bool, BuildError, Contents, Err, Fault, FrontEnd, IsAssigned, IsFaulted, IsFront, IsFrontOf, IsLoaded, IsMeaning, IsMeaningOf, IsMeant, List, LoadError, Meaning, None, Ok, Option, Policy, Result, Some, Source, ap}
+use Rattle.front_end.proofs.Common.{Bool, SourceError, Contents, Err, Fault, FrontEnd, IsAssigned, IsFaulted, IsFront, IsFrontOf, IsLoaded, IsMeaning, IsMeaningOf, IsMeant, List, Meaning, None, Ok, Option, Policy, Result, Some, Source, ap}
 use Rattle.front_end.proofs.Common.{false, first_front_fault, first_list_fault, flat_of, has, inl, inr, label_numbers, name_of_file, refl, settled_of, subst, sym, true, true≢false, yields, ℕ, ◌↔◌, ◌∙◌, ◌≡◌}
-use Rattle.adl_import.specs.declared.error.LoadError.TheVariants as load
 use Rattle.adl_import.proofs.Unique.{loaded_one}
 use Rattle.cap_model.proofs.TableMembers.{one_table}
-use Rattle.front_end.specs.declared.error.BuildError.TheVariants as error
+use Rattle.cam_base.specs.declared.error.Unread.TheVariants as error
 
 -- ---- sources and faults
 
 pub one_loaded : (m : Contents) (root : List ℕ) (s t : Source) → IsLoaded m root (Ok s) → IsLoaded m root (Ok t) → s ≡ t
 one_loaded m root s t a b =
-    let same : ◌≡◌ {A = Result Source LoadError} (Ok s) (Ok t) = loaded_one m root (Ok s) (Ok t) refl refl a b in
+    let same : ◌≡◌ {A = Result Source SourceError} (Ok s) (Ok t) = loaded_one m root (Ok s) (Ok t) refl refl a b in
     cc
 
 module _ (first : Source → Option Fault) (m : Contents) (root : List ℕ) where
@@ -18,8 +17,8 @@ module _ (first : Source → Option Fault) (m : Contents) (root : List ℕ) wher
   pub none_faulted : (s : Source) (fault : Fault) (file : List ℕ) → IsLoaded m root (Ok s) → first s ≡ None
       → IsFaulted first root m fault file → ⊥
   none_faulted s fault file loaded none (inl x) =
-      let same : ◌≡◌ {A = Result Source LoadError} (Ok s) (Err (load.Fault fault file)) =
-      loaded_one m root (Ok s) (Err (load.Fault fault file)) refl refl loaded x in
+      let same : ◌≡◌ {A = Result Source SourceError} (Ok s) (Err (error.Fault fault file)) =
+      loaded_one m root (Ok s) (Err (error.Fault fault file)) refl refl loaded x in
       cc
   none_faulted s fault file loaded none (inr x) =
       let same : ◌≡◌ {A = Option Fault} None (Some fault) = sym none ∙ ap first (one_loaded m root s x.0 loaded x.1) ∙ x.2 in
@@ -27,16 +26,16 @@ module _ (first : Source → Option Fault) (m : Contents) (root : List ℕ) wher
 
   pub one_fault : (f g : Fault) (a b : List ℕ) → IsFaulted first root m f a → IsFaulted first root m g b → (f ≡ g) × (a ≡ b)
   one_fault f g a b (inl x) (inl y) =
-      let same : ◌≡◌ {A = Result Source LoadError} (Err (load.Fault f a)) (Err (load.Fault g b)) =
-      loaded_one m root (Err (load.Fault f a)) (Err (load.Fault g b)) refl refl x y in
+      let same : ◌≡◌ {A = Result Source SourceError} (Err (error.Fault f a)) (Err (error.Fault g b)) =
+      loaded_one m root (Err (error.Fault f a)) (Err (error.Fault g b)) refl refl x y in
       (cc, cc)
   one_fault f g a b (inl x) (inr y) =
-      let same : ◌≡◌ {A = Result Source LoadError} (Err (load.Fault f a)) (Ok y.0) =
-      loaded_one m root (Err (load.Fault f a)) (Ok y.0) refl refl x y.1 in
+      let same : ◌≡◌ {A = Result Source SourceError} (Err (error.Fault f a)) (Ok y.0) =
+      loaded_one m root (Err (error.Fault f a)) (Ok y.0) refl refl x y.1 in
       absurd cc
   one_fault f g a b (inr x) (inl y) =
-      let same : ◌≡◌ {A = Result Source LoadError} (Ok x.0) (Err (load.Fault g b)) =
-      loaded_one m root (Ok x.0) (Err (load.Fault g b)) refl refl x.1 y in
+      let same : ◌≡◌ {A = Result Source SourceError} (Ok x.0) (Err (error.Fault g b)) =
+      loaded_one m root (Ok x.0) (Err (error.Fault g b)) refl refl x.1 y in
       absurd cc
   one_fault f g a b (inr x) (inr y) =
       let source = one_loaded m root x.0 y.0 x.1 y.1 in
@@ -108,10 +107,10 @@ is_front_from f meant numbered =
     } in g) meant.is_settled
 
 pub faults_same : {T : Type 0} (f g : Fault) (a b : List ℕ) → (f ≡ g) × (a ≡ b)
-    → ◌≡◌ {A = Result T BuildError} (Err (error.Fault f a)) (Err (error.Fault g b))
+    → ◌≡◌ {A = Result T SourceError} (Err (error.Fault f a)) (Err (error.Fault g b))
 faults_same f g a b e = ap (λ z. Err (error.Fault z a)) e.0 ∙ ap (λ z. Err (error.Fault g z)) e.1
 
-pub one_meaning : (m : Contents) (root : List ℕ) (old new later last : List ℕ → ℕ) (a b : Result Meaning BuildError)
+pub one_meaning : (m : Contents) (root : List ℕ) (old new later last : List ℕ → ℕ) (a b : Result Meaning SourceError)
     → yields a ≡ false → yields b ≡ false
     → IsMeaning root m old new a → IsMeaning root m later last b → a ≡ b
 one_meaning m root old new later last (Ok f) (Ok g) p q x y = ap Ok (meanings_same m root f g x y)
@@ -137,7 +136,7 @@ front_one m root f g x y =
     is_front_from f x.meant x.numbered ∙ ap (λ z. front_from z f.policy) same ∙ ap (front_from g.source) policy
     ∙ sym (is_front_from g y.meant y.numbered)
 
-pub one_front : (m : Contents) (root : List ℕ) (old new later last : List ℕ → ℕ) (a b : Result FrontEnd BuildError)
+pub one_front : (m : Contents) (root : List ℕ) (old new later last : List ℕ → ℕ) (a b : Result FrontEnd SourceError)
     → yields a ≡ false → yields b ≡ false
     → IsFront root m old new a → IsFront root m later last b → a ≡ b
 one_front m root old new later last (Ok f) (Ok g) p q x y = ap Ok (front_one m root f g x y)

@@ -13,7 +13,7 @@ use Rattle.cap_model.specs.declared.policy.Policy.{Policy}
 use Rattle.cam_io.specs.Contents.{Contents}
 use Rattle.front_end.specs.First.{first_front_fault, first_list_fault, source_tables}
 use Rattle.front_end.specs.Refusals.{Refuses}
-use Rattle.front_end.specs.declared.error.BuildError.{BuildError}
+use Rattle.cam_base.specs.Unread.{SourceError}
 use Rattle.front_end.specs.declared.phases.FrontEnd.{FrontEnd}
 use Rattle.front_end.specs.declared.phases.Meaning.{Meaning}
 
@@ -28,7 +28,7 @@ pub record IsMeaningOf (root : List ℕ) (contents : Contents) (m : Meaning) : T
   pub none : first_front_fault m.source ≡ None
   pub meant : IsMeant m.source m.flat m.settled
 
-abbrev pub IsMeaning : List ℕ → Contents → (List ℕ → ℕ) → (List ℕ → ℕ) → Result Meaning BuildError → Type 0
+abbrev pub IsMeaning : List ℕ → Contents → (List ℕ → ℕ) → (List ℕ → ℕ) → Result Meaning SourceError → Type 0
 IsMeaning root contents before now (Ok m) = IsMeaningOf root contents m
 IsMeaning root contents before now (Err e) = Refuses first_front_fault root contents before now e
 
@@ -48,6 +48,6 @@ pub record IsFrontOf (root : List ℕ) (contents : Contents) (f : FrontEnd) : Ty
   pub assigned : IsAssigned f.source f.policy
   pub numbered : f.numbers ≡ label_numbers f.flat
 
-abbrev pub IsFront : List ℕ → Contents → (List ℕ → ℕ) → (List ℕ → ℕ) → Result FrontEnd BuildError → Type 0
+abbrev pub IsFront : List ℕ → Contents → (List ℕ → ℕ) → (List ℕ → ℕ) → Result FrontEnd SourceError → Type 0
 IsFront root contents before now (Ok f) = IsFrontOf root contents f
 IsFront root contents before now (Err e) = Refuses first_list_fault root contents before now e

@@ -10,8 +10,8 @@ use Rattle.flat_laws.specs.ShortFiles.{AreFilesShort}
 use Rattle.front_end.specs.First.{first_front_fault, name_of_file, source_tables}
 use Rattle.front_end.specs.Fronts.{IsAssigned, IsMeant}
 use Rattle.front_end.specs.Refusals.{IsNamed}
-use Rattle.front_end.specs.declared.error.BuildError.{BuildError}
-use Rattle.front_end.specs.declared.error.BuildError.TheVariants as error
+use Rattle.cam_base.specs.Unread.{SourceError}
+use Rattle.cam_base.specs.declared.error.Unread.TheVariants as error
 use Rattle.front_end.specs.declared.phases.FrontEnd.{FrontEnd}
 use Rattle.front_end.specs.declared.phases.Meaning.{Meaning}
 
@@ -28,18 +28,18 @@ pub record HasMeaning (source : Source) (flat : Flat) (settled : Settled) : Type
   pub meant : IsMeant source flat settled
 
 -- a first fault is told, with the name of its file
-abbrev pub Tells : Source → Option Fault → BuildError → Type 0
+abbrev pub Tells : Source → Option Fault → SourceError → Type 0
 Tells source first (error.Fault fault file) = (first ≡ Some fault) × IsNamed source fault (error.Fault fault file)
 Tells source first (error.ReadFault file) = ⊥
 Tells source first error.NoMemory = Unit {0}
 
 -- what the phases up to the settings answer
-abbrev pub Means : Source → Result Meaning BuildError → Type 0
+abbrev pub Means : Source → Result Meaning SourceError → Type 0
 Means source (Ok m) = (m.source ≡ source) × (first_front_fault source ≡ None) × IsMeant m.source m.flat m.settled
 Means source (Err e) = Tells source (first_front_fault source) e
 
 -- what the policy's phase answers
-abbrev pub Assigns : Meaning → Result FrontEnd BuildError → Type 0
+abbrev pub Assigns : Meaning → Result FrontEnd SourceError → Type 0
 Assigns m (Ok f) =
     (f.source ≡ m.source) × (f.flat ≡ m.flat) × (f.settled ≡ m.settled) × (first_edge_fault (source_tables m.source) ≡ None)
     × IsAssigned m.source f.policy × (f.numbers ≡ label_numbers m.flat)

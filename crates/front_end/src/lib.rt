@@ -4,10 +4,9 @@
 //! refused in `specs/Refusals.antt`, and what each call answers in `specs/Fronts.antt`.
 #![tactic(auto)]
 
-mod error;
 mod laws;
 mod phases;
 
-pub use error::BuildError;
+pub use cam_base::SourceError as BuildError;
 pub use laws::{answers_are_one, loaded_sources_are_whole, meanings_are_within};
 pub use phases::{FrontEnd, Meaning, front, in_file, meaning_of, with_policy};

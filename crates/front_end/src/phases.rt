@@ -11,8 +11,6 @@ ghost use Rattle.front_end.specs.Refusals.{IsRefused};
 ghost use Rattle.front_end.specs.Steps.{Assigns, HasMeaning, Means};
 ghost use Rattle.std.specs.Prelude.{◌≡◌, IfOk};
 
-use crate::BuildError;
-use crate::error::not_loaded;
 use adl_ast::Source;
 use adl_flatten::flatten_program;
 use adl_import::load;
@@ -22,7 +20,7 @@ use adl_program::{Program, program_of};
 use adl_settings::settle_program;
 use adl_types::type_fault;
 use arch_policy::{LabelNumbers, policy_of};
-use cam_base::{Fault, NoMemory, Refused, Text};
+use cam_base::{Fault, NoMemory, Refused, SourceError, Text, Unread};
 use cam_io::Files;
 use cap_model::Policy;
 use std::alloc::Global;
@@ -59,14 +57,18 @@ struct Parts {
 /// # Errors
 ///
 /// The first fault of the phases up to the settings, with the name of its file; a failed read; want of memory.
-pub fn meaning_of<F: Files>(alloc: Global, files: &mut F, root: &str) -> Result<Meaning, BuildError>
+pub fn meaning_of<F: Files>(
+    alloc: Global,
+    files: &mut F,
+    root: &str,
+) -> Result<Meaning, SourceError>
     ensures kept { KeepsFiles F.told F.faults files.old files.new }
     ensures learned { LearnsOnly F.told (AlikeInSource root.now) files.old files.new }
     ensures meaning { InAll (F.told files.new) (λ m. IsMeaning root.now m (F.faults files.old) (F.faults files.new) result) }
 {
     match load(alloc, files, root) {
         Ok(source) => with_parts(alloc, source),
-        Err(error) => Err(not_loaded(error)),
+        Err(error) => Err(error),
     }
 }
 
@@ -76,7 +78,7 @@ pub fn meaning_of<F: Files>(alloc: Global, files: &mut F, root: &str) -> Result<
 ///
 /// The first fault of the phases up to the settings, and where there is none the limit on edges, with the name of its file; a
 /// failed read; want of memory.
-pub fn front<F: Files>(alloc: Global, files: &mut F, root: &str) -> Result<FrontEnd, BuildError>
+pub fn front<F: Files>(alloc: Global, files: &mut F, root: &str) -> Result<FrontEnd, SourceError>
     ensures kept { KeepsFiles F.told F.faults files.old files.new }
     ensures learned { LearnsOnly F.told (AlikeInSource root.now) files.old files.new }
     ensures front { InAll (F.told files.new) (λ m. IsFront root.now m (F.faults files.old) (F.faults files.new) result) }
@@ -92,7 +94,7 @@ pub fn front<F: Files>(alloc: Global, files: &mut F, root: &str) -> Result<Front
 /// # Errors
 ///
 /// The limit on edges, where it is passed, with the name of its file; want of memory.
-pub fn with_policy(alloc: Global, meaning: Meaning) -> Result<FrontEnd, BuildError>
+pub fn with_policy(alloc: Global, meaning: Meaning) -> Result<FrontEnd, SourceError>
     requires { HasMeaning meaning.source meaning.flat meaning.settled }
     ensures { Assigns meaning result }
 {
@@ -113,7 +115,7 @@ pub fn with_policy(alloc: Global, meaning: Meaning) -> Result<FrontEnd, BuildErr
     }
 }
 
-fn with_parts(alloc: Global, source: Source) -> Result<Meaning, BuildError>
+fn with_parts(alloc: Global, source: Source) -> Result<Meaning, SourceError>
     requires few { AreFew source }
     requires members { HaveFewMembers source }
     ensures { Means source result }
@@ -161,14 +163,14 @@ fn parts_of(alloc: Global, source: &Source) -> Result<Parts, Refused<Fault>>
 }
 
 /// The refusal, with the name of the file in which the fault stands.
-pub fn in_file(alloc: Global, source: &Source, refused: Refused<Fault>) -> BuildError
+pub fn in_file(alloc: Global, source: &Source, refused: Refused<Fault>) -> SourceError
     ensures { IsRefused source.now refused result }
 {
     match refused {
-        Refused::NoMemory => BuildError::NoMemory,
+        Refused::NoMemory => Unread::NoMemory,
         Refused::Fault(fault) => match name_of_file(alloc, source, fault.place.file) {
-            Ok(file) => BuildError::Fault(fault, file),
-            Err(NoMemory) => BuildError::NoMemory,
+            Ok(file) => Unread::Fault(fault, file),
+            Err(NoMemory) => Unread::NoMemory,
         },
     }
 }

@@ -6,8 +6,8 @@ ghost use Rattle.cam_io.specs.Contents.{Contents};
 ghost use Rattle.cspace_layout.specs.Within.{IsWithin};
 ghost use Rattle.source_images.specs.Numbered.{AreNumbered, AreSound};
 ghost use Rattle.source_images.specs.declared.images.Images.{Images};
-ghost use Rattle.source_images.specs.ImagesRead.{AreImagesOf, AreImagesRead, yields};
-ghost use Rattle.source_images.specs.declared.error.ImagesError.{ImagesError as Refusal};
+ghost use Rattle.source_images.specs.ImagesRead.{AreImagesOf, AreImagesRead};
+ghost use Rattle.cam_base.specs.Unread.{SourceError as Refusal, yields};
 ghost use Rattle.std.specs.Prelude.{◌≡◌, ℕ, false, List as Seq, Option, Some, Result};
 
 /// In given contents there is one answer, aside from failed reads and want of memory: the images, or the first fault.

@@ -7,7 +7,6 @@
 #![tactic(auto)]
 
 mod clashes;
-mod error;
 mod faults;
 mod images;
 mod laws;
@@ -21,7 +20,6 @@ mod sections;
 mod tables;
 mod types;
 
-pub use error::ImagesError;
 pub use faults::first_space_fault;
 pub use images::{Images, sections_end};
 pub use laws::{answers_are_one, images_are_numbered, images_are_sound};

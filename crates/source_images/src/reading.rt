@@ -10,9 +10,8 @@ ghost use Rattle.std.specs.FinMap as map;
 ghost use Rattle.std.specs.Prelude.{◌≡◌, ◌+◌, ◌<◌, ◌≤◌, ◌^◌, ℕ, length, string_bytes, List as Items, Err, IfOk, IsErrOf};
 ghost use Rattle.cam_base.specs.Lines.{lines};
 
-use crate::ImagesError;
 use crate::tables::Table;
-use cam_base::{Fault, Lines, List, NoMemory, Place, Refused, Text};
+use cam_base::{Fault, Lines, List, NoMemory, Place, Refused, SourceError, Text, Unread};
 use cam_io::{FileBytes, Files, WholeError, see_whole};
 use sect_table::{Image, read_sections};
 use std::alloc::Global;
@@ -90,9 +89,9 @@ pub fn read_table<F: Files>(
     files: &mut F,
     file: u32,
     table: &Table<'_>,
-) -> Result<Reading, ImagesError>
+) -> Result<Reading, SourceError>
     ensures kept { KeepsFiles F.told F.faults files.old files.new }
-    ensures rose { (read : Items ℕ) → result ≡ Err (ImagesError.ReadFault read)
+    ensures rose { (read : Items ℕ) → result ≡ Err (Unread.ReadFault read)
         → Rose (F.faults files.old read) (F.faults files.new read) }
     ensures learned { LearnsOnly F.told (AlikeAsRead (string_bytes table.now.file)) files.old files.new }
     ensures read { InAll (F.told files.new) (λ m. IsTableRead m file (table_told table.now) result) }
@@ -101,11 +100,11 @@ pub fn read_table<F: Files>(
         Ok(bytes) => Ok(reading_of(alloc, file, table, bytes.lend(files, table.file.as_str()))?),
         Err(WholeError::Absent) => Ok(Reading::Absent(Text::new(alloc, table.file.as_bytes())?)),
         Err(WholeError::TooLong) => Ok(Reading::TooLong),
-        Err(WholeError::ReadFault) => Err(ImagesError::ReadFault(Text::new(
+        Err(WholeError::ReadFault) => Err(Unread::ReadFault(Text::new(
             alloc,
             table.file.as_bytes(),
         )?)),
-        Err(WholeError::NoMemory) => Err(ImagesError::NoMemory),
+        Err(WholeError::NoMemory) => Err(Unread::NoMemory),
     }
 }
 
@@ -115,10 +114,10 @@ pub fn read_tables<F: Files>(
     files: &mut F,
     file: u32,
     tables: &[Table<'_>],
-) -> Result<List<Reading>, ImagesError>
+) -> Result<List<Reading>, SourceError>
     requires { file + length tables.now < 2 ^ 32 }
     ensures kept { KeepsFiles F.told F.faults files.old files.new }
-    ensures rose { (read : Items ℕ) → result ≡ Err (ImagesError.ReadFault read)
+    ensures rose { (read : Items ℕ) → result ≡ Err (Unread.ReadFault read)
         → Rose (F.faults files.old read) (F.faults files.new read) }
     ensures learned { LearnsOnly F.told (AlikeInTables (files_told tables.now)) files.old files.new }
     ensures read { InAll (F.told files.new) (λ m. AreTablesRead m file (tables_told tables.now) result) }

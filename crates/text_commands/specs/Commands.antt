@@ -20,7 +20,7 @@ use Rattle.text_commands.specs.Codes.{tell_elf, tell_text, tell_untyped}
 use Rattle.text_commands.specs.Decisions.{IsAudit, IsCertificateOf, IsPlan}
 use Rattle.text_commands.specs.Inputs.{Answers, IsTold, Then, Turn}
 use Rattle.text_commands.specs.Replays.{IsReplayed}
-use Rattle.text_commands.specs.declared.fault.InputError.{InputError}
+use Rattle.text_commands.specs.InputErrors.{InputError}
 use Rattle.text_commands.specs.declared.outcome.Outcome.{Outcome}
 use Rattle.text_commands.specs.declared.outcome.Outcome.TheVariants.{Checked, Ran, Tabled}
 use Rattle.text_commands.specs.declared.replay.Replayed.{Replayed}

@@ -25,7 +25,7 @@ use Rattle.text_commands.specs.Inputs.{Decided}
 use Rattle.text_commands.specs.declared.code.Hindrance.{Hindrance}
 use Rattle.text_commands.specs.declared.code.Hindrance.TheVariants as hindrances
 use Rattle.text_commands.specs.declared.code.InputCode.TheVariants.{Hindered}
-use Rattle.text_commands.specs.declared.fault.InputError.{InputError}
+use Rattle.text_commands.specs.InputErrors.{InputError}
 use Rattle.text_commands.specs.declared.fault.InputFault.{InputFault}
 use Rattle.text_commands.specs.declared.outcome.Outcome.{Outcome}
 use Rattle.text_commands.specs.declared.outcome.Outcome.TheVariants.{Audited, Certified, Planned}

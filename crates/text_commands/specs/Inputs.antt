@@ -14,8 +14,8 @@ use Rattle.cam_io.specs.Reading.{HaveSameFront}
 use Rattle.cam_base.specs.Gather.{IsIn}
 use Rattle.text_commands.specs.declared.code.InputCode.TheVariants.{Text}
 use Rattle.text_commands.specs.declared.fault.InputFault.{InputFault}
-use Rattle.text_commands.specs.declared.fault.InputError.{InputError}
-use Rattle.text_commands.specs.declared.fault.InputError.TheVariants.{Fault, ReadFault, NoMemory}
+use Rattle.text_commands.specs.InputErrors.{InputError}
+use Rattle.cam_base.specs.declared.error.Unread.TheVariants.{Fault, ReadFault, NoMemory}
 
 -- the greatest number of bytes of an input
 abbrev pub most_bytes : ℕ

@@ -8,3 +8,4 @@ pub mod Outcomes
 pub mod Replays
 pub use Rattle.cam_io.specs.Contents
 pub use Rattle.cam_io.specs.Reading
+pub mod InputErrors

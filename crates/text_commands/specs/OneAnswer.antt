@@ -1,7 +1,7 @@
 -- That a command has one answer: whatever fits the same contents is the same, aside from read faults and want of memory.
 use Rattle.std.specs.Prelude.{◌≡◌, [], Result, Ok, Err}
-use Rattle.text_commands.specs.declared.fault.InputError.{InputError}
-use Rattle.text_commands.specs.declared.fault.InputError.TheVariants.{Fault, ReadFault, NoMemory}
+use Rattle.text_commands.specs.InputErrors.{InputError}
+use Rattle.cam_base.specs.declared.error.Unread.TheVariants.{Fault, ReadFault, NoMemory}
 use Rattle.text_commands.specs.declared.outcome.Outcome.{Outcome}
 use Rattle.text_commands.specs.declared.outcome.Outcome.TheVariants.{Audited, Certified, Checked, Planned, Ran, Tabled}
 

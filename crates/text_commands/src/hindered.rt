@@ -4,12 +4,12 @@ ghost use Rattle.cam_base.specs.Hex.{hex_text};
 ghost use Rattle.std.specs.Prelude.{◌≡◌, IfErr, IfOk, decimal};
 ghost use Rattle.text_commands.specs.Decisions.{hindered, tell_audit, tell_close, tell_plan, words};
 ghost use Rattle.text_commands.specs.Inputs.{IsErrorFor, IsErrorOf};
-ghost use Rattle.text_commands.specs.declared.fault.InputError.TheVariants.{NoMemory as InputNoMemory};
+ghost use Rattle.cam_base.specs.declared.error.Unread.TheVariants.{NoMemory as InputNoMemory};
 
 use crate::input::in_file;
 use crate::{Hindrance, InputCode, InputError, InputFault};
 use boot_plan::PlanRefusal;
-use cam_base::{NoMemory, Text, hex};
+use cam_base::{NoMemory, Text, Unread, hex};
 use cap_audit::AuditRefusal;
 use cap_model::Spec;
 use itoa::Buffer;
@@ -77,7 +77,7 @@ fn hindered(
                 name,
             },
         ),
-        Err(NoMemory) => InputError::NoMemory,
+        Err(NoMemory) => Unread::NoMemory,
     }
 }
 
@@ -116,7 +116,7 @@ pub fn refuse_plan(
             Hindrance::NoRoom,
             three_numbers(alloc, bits, need, have),
         ),
-        PlanRefusal::NoMemory => InputError::NoMemory,
+        PlanRefusal::NoMemory => Unread::NoMemory,
     }
 }
 
@@ -137,7 +137,7 @@ pub fn refuse_audit(alloc: Global, cdl: &str, spec: &Spec, refusal: AuditRefusal
             Hindrance::AuditLimit,
             numbers(alloc, cnodes, caps),
         ),
-        AuditRefusal::NoMemory => InputError::NoMemory,
+        AuditRefusal::NoMemory => Unread::NoMemory,
     }
 }
 
@@ -152,6 +152,6 @@ pub fn refuse_close(alloc: Global, cdl: &str, error: CloseError) -> InputError
             Hindrance::CertificateLimit,
             Ok(Text::empty(alloc)),
         ),
-        CloseError::NoMemory => InputError::NoMemory,
+        CloseError::NoMemory => Unread::NoMemory,
     }
 }

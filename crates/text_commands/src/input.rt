@@ -5,7 +5,7 @@ ghost use Rattle.text_commands.specs.Inputs.{AlikeAsRead, IsErrorOf, IsInput, Is
 
 use crate::{InputCode, InputError, InputFault};
 use boot_plan::UntypedFault;
-use cam_base::{NoMemory, Refused, Text, TextCode, TextFault};
+use cam_base::{NoMemory, Refused, Text, TextCode, TextFault, Unread};
 use cam_io::{FileBytes, Files, WholeError, see_whole};
 use sect_table::ElfFault;
 use std::alloc::Global;
@@ -33,7 +33,7 @@ pub fn see_input<F: Files>(
         Err(WholeError::Absent) => Err(of_file(alloc, TextCode::NoFile, name)),
         Err(WholeError::TooLong) => Err(of_file(alloc, TextCode::TooLong, name)),
         Err(WholeError::ReadFault) => Err(read_fault(alloc, name)),
-        Err(WholeError::NoMemory) => Err(InputError::NoMemory),
+        Err(WholeError::NoMemory) => Err(Unread::NoMemory),
     }
 }
 
@@ -52,7 +52,7 @@ fn of_file(alloc: Global, code: TextCode, file: &str) -> InputError
                 name,
             },
         ),
-        Err(NoMemory) => InputError::NoMemory,
+        Err(NoMemory) => Unread::NoMemory,
     }
 }
 
@@ -61,8 +61,8 @@ pub fn in_file(alloc: Global, file: &str, fault: InputFault) -> InputError
     ensures { IsErrorOf fault file.now result }
 {
     match Text::new(alloc, file.as_bytes()) {
-        Ok(file) => InputError::Fault { fault, file },
-        Err(NoMemory) => InputError::NoMemory,
+        Ok(file) => Unread::Fault(fault, file),
+        Err(NoMemory) => Unread::NoMemory,
     }
 }
 
@@ -70,8 +70,8 @@ fn read_fault(alloc: Global, file: &str) -> InputError
     ensures { IsReadFaultOf file.now result }
 {
     match Text::new(alloc, file.as_bytes()) {
-        Ok(file) => InputError::ReadFault { file },
-        Err(NoMemory) => InputError::NoMemory,
+        Ok(file) => Unread::ReadFault(file),
+        Err(NoMemory) => Unread::NoMemory,
     }
 }
 
@@ -90,7 +90,7 @@ pub fn refuse_text(alloc: Global, file: &str, refusal: Refused<TextFault>) -> In
                 name: fault.name,
             },
         ),
-        Refused::NoMemory => InputError::NoMemory,
+        Refused::NoMemory => Unread::NoMemory,
     }
 }
 
@@ -109,7 +109,7 @@ pub fn refuse_elf(alloc: Global, file: &str, refusal: Refused<ElfFault>) -> Inpu
                 name: Text::empty(alloc),
             },
         ),
-        Refused::NoMemory => InputError::NoMemory,
+        Refused::NoMemory => Unread::NoMemory,
     }
 }
 
@@ -128,6 +128,6 @@ pub fn refuse_untyped(alloc: Global, file: &str, refusal: Refused<UntypedFault>)
                 name: Text::empty(alloc),
             },
         ),
-        Refused::NoMemory => InputError::NoMemory,
+        Refused::NoMemory => Unread::NoMemory,
     }
 }

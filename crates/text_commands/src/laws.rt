@@ -24,7 +24,7 @@ ghost use Rattle.text_commands.specs.Commands.{IsAudited, IsCert, IsCertified, I
 ghost use Rattle.text_commands.specs.Inputs.{Holds};
 ghost use Rattle.text_commands.specs.OneAnswer.{AreOne, AreOneButChoice, IsAnswer};
 ghost use Rattle.text_commands.specs.Outcomes.{text_of};
-ghost use Rattle.text_commands.specs.declared.fault.InputError.{InputError};
+ghost use Rattle.text_commands.specs.InputErrors.{InputError};
 ghost use Rattle.text_commands.specs.declared.outcome.Outcome.{Outcome};
 ghost use Rattle.text_commands.specs.declared.outcome.Outcome.TheVariants.{Audited, Certified, Checked, Ran, Tabled};
 ghost use Rattle.text_commands.specs.declared.replay.Replayed.TheVariants.{Done};

@@ -13,7 +13,7 @@ ghost use Rattle.text_commands.specs.Inputs.{AlikeAsRead, IsTold};
 use crate::InputError;
 use crate::input::{refuse_elf, refuse_text, refuse_untyped, see_input};
 use boot_plan::{Untyped, read_untypeds};
-use cam_base::{List, Name};
+use cam_base::{List, Name, Unread};
 use cam_io::Files;
 use cap_machine::Step;
 use cap_model::{EdgeTable, Labels, Policy, Spec};
@@ -100,7 +100,7 @@ pub fn read_image<F: Files>(alloc: Global, files: &mut F, file: &str) -> Result<
     let bytes = see_input(alloc, files, file)?;
     let name = match Name::new(alloc, b"image") {
         Ok(name) => name,
-        Err(_) => return Err(InputError::NoMemory),
+        Err(_) => return Err(Unread::NoMemory),
     };
     match read_elf(alloc, &name, bytes.lend(files, file)) {
         Ok(image) => Ok(image),

@@ -28,8 +28,8 @@ returns-in-Ok-clause-builds g c contents told =
 pub returns-in-Err-clause-builds : goal.returns-in-Err-clause-builds
 returns-in-Err-clause-builds g c contents told =
     built_unread contents (g.F.Files.faults c.args.files.now) (g.F.Files.faults c.read_images.new.files) c.args.meaning
-    c.root_of-root.result.now c.in-Err.error c.not_imaged.result c.requires.meant c.root_of-root.ensures
-    (c.in-Err.ensures.read contents told) c.in-Err.ensures.rose c.not_imaged.ensures
+    c.root_of-root.result.now c.in-Err.error c.requires.meant c.root_of-root.ensures
+    (c.in-Err.ensures.read contents told) c.in-Err.ensures.rose
 
 pub returns-in-Ok-clause-learned : goal.returns-in-Ok-clause-learned
 returns-in-Ok-clause-learned g c m n now old alike =

@@ -22,4 +22,4 @@ returns-in-Ok-clause-meaning g c m told =
 pub returns-in-Err-clause-meaning : goal.returns-in-Err-clause-meaning
 returns-in-Err-clause-meaning g c m told =
     unloaded_refuses first_front_fault c.args.root.now m (g.F.Files.faults c.args.files.now) (g.F.Files.faults c.load.new.files)
-    c.in-Err.error c.not_loaded.result (c.in-Err.ensures.loaded m told) c.in-Err.ensures.rose c.not_loaded.ensures
+    c.in-Err.error (c.in-Err.ensures.loaded m told) c.in-Err.ensures.rose
