@@ -1,4 +1,4 @@
-use crate::{Composition, Configuration, Id, Import, Value, Words};
+use crate::{Boxed, Composition, Configuration, Id, Import, Value, Words};
 use cam_base::{List, Place};
 
 /// A component: what its instances offer and need.
@@ -52,7 +52,7 @@ pub struct Attribute {
     pub id: Id,
     /// `[]` stands behind the name.
     pub array: bool,
-    pub value: Option<Value>,
+    pub value: Option<Boxed<Value>>,
 }
 
 /// A kind of lock.

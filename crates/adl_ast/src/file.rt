@@ -2,7 +2,7 @@ ghost use Rattle.adl_ast.specs.Counts.{is_item, is_import, is_procedure, is_comp
 ghost use Rattle.std.specs.List.{count_by};
 ghost use Rattle.std.specs.Prelude.{◌≡◌};
 
-use crate::{Assembly, Component, Procedure};
+use crate::{Assembly, Boxed, Component, Procedure};
 use cam_base::{List, Place, Text};
 
 /// A file: its items in order.
@@ -24,7 +24,7 @@ pub enum Item {
     Import(Import),
     Procedure(Procedure),
     Component(Component),
-    Assembly(Assembly),
+    Assembly(Boxed<Assembly>),
 }
 
 /// An import or an include. The path stands without its quotes or angle brackets; the place is that of the whole token.

@@ -5,6 +5,8 @@
 //! usually written in `specs/Written.antt`.
 #![tactic(auto)]
 
+mod boxed;
+mod byte_count;
 mod component;
 mod composition;
 mod configuration;
@@ -18,6 +20,8 @@ mod value;
 mod words;
 mod written;
 
+pub use boxed::Boxed;
+pub use byte_count::ByteCount;
 pub use component::{Attribute, Component, Interface, InterfaceKind, Lock, LockKind, Member};
 pub use composition::{
     Assembly, Composition, Connection, End, Export, Group, Instance, Line, Role,

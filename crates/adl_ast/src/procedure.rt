@@ -39,9 +39,9 @@ pub enum Direction {
 #[derive(Drop)]
 pub struct Param {
     pub direction: Option<Direction>,
+    /// `[]` stands behind the name.
+    pub array: bool,
     /// The words of its type, one to three.
     pub words: Words,
     pub id: Id,
-    /// `[]` stands behind the name.
-    pub array: bool,
 }

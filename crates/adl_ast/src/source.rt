@@ -1,11 +1,11 @@
-use crate::File;
+use crate::{ByteCount, File};
 use cam_base::{List, Text};
 
 /// A file of a source: its folded name, its bytes and its tree.
 #[derive(Drop)]
 pub struct SourceFile {
     pub name: Text,
-    pub bytes: List<u8>,
+    pub bytes: ByteCount,
     pub tree: File,
 }
 

@@ -11,12 +11,11 @@ ghost use Rattle.std.specs.FinMap as map;
 ghost use Rattle.std.specs.Prelude.{◌≡◌, ◌<◌, ◌≤◌, ℕ, List as Items, Err, length, IfOk, IsErrOf};
 ghost use Rattle.std.specs.Str.{IsUtf8};
 
-use crate::LoadError;
 use crate::imports::{fault_at, take_imports};
-use adl_ast::{File, SourceFile};
+use adl_ast::{ByteCount, File, SourceFile};
 use adl_lexer::lex_within;
 use adl_parse::parse_file;
-use cam_base::{Code, Fault, List, NoMemory, Place, Refused, Text, Token};
+use cam_base::{Code, Fault, List, NoMemory, Place, Refused, SourceError, Text, Token, Unread};
 use cam_io::{Files, WholeError, read_whole};
 use indexmap::IndexMap;
 use std::alloc::Global;
@@ -59,16 +58,17 @@ fn parsed(
     name: &Text,
     bytes: List<u8>,
     room: &mut Vec<Token>,
-) -> Result<SourceFile, LoadError>
+) -> Result<SourceFile, SourceError>
     ensures { IsParsed number name.now bytes result }
 {
     match tree_of(alloc, number, bytes.as_slice(), room) {
         Ok(tree) => {
             let name = name.copy(alloc)?;
+            let bytes = ByteCount::of(&bytes);
             Ok(SourceFile { name, bytes, tree })
         }
-        Err(Refused::Fault(fault)) => Err(LoadError::Fault(fault, name.copy(alloc)?)),
-        Err(Refused::NoMemory) => Err(LoadError::NoMemory),
+        Err(Refused::Fault(fault)) => Err(Unread::Fault(fault, name.copy(alloc)?)),
+        Err(Refused::NoMemory) => Err(Unread::NoMemory),
     }
 }
 
@@ -89,11 +89,11 @@ fn fault_where_met(
     place: Place,
     name: &[u8],
     in_file: &Text,
-) -> Result<LoadError, NoMemory>
-    ensures { IfOk result (λ e. e ≡ LoadError.Fault (fault_at code place name.now) in_file.now) }
+) -> Result<SourceError, NoMemory>
+    ensures { IfOk result (λ e. e ≡ Unread.Fault (fault_at code place name.now) in_file.now) }
 {
     let fault = fault_at(alloc, code, place, name)?;
-    Ok(LoadError::Fault(fault, in_file.copy(alloc)?))
+    Ok(Unread::Fault(fault, in_file.copy(alloc)?))
 }
 
 /// The bytes of a file.
@@ -116,11 +116,11 @@ fn read_file<F: Files>(
     name: &Text,
     place: Place,
     room: &mut Vec<Token>,
-) -> Result<SourceFile, LoadError>
+) -> Result<SourceFile, SourceError>
     requires few { length done.now < files_limit }
     requires utf8 { IsUtf8 name.now }
     ensures kept { KeepsFiles F.told F.faults files.old files.new }
-    ensures rose { (read : Items ℕ) → result ≡ Err (LoadError.ReadFault read)
+    ensures rose { (read : Items ℕ) → result ≡ Err (Unread.ReadFault read)
         → Rose (F.faults files.old read) (F.faults files.new read) }
     ensures learned { LearnsOnly F.told (AlikeAsRead name.now) files.old files.new }
     ensures read { InAll (F.told files.new) (λ m. IsRead m done.now name.now place result) }
@@ -141,8 +141,8 @@ fn read_file<F: Files>(
             b"file size",
             met_in(done, name, place),
         )?),
-        Err(WholeError::ReadFault) => Err(LoadError::ReadFault(name.copy(alloc)?)),
-        Err(WholeError::NoMemory) => Err(LoadError::NoMemory),
+        Err(WholeError::ReadFault) => Err(Unread::ReadFault(name.copy(alloc)?)),
+        Err(WholeError::NoMemory) => Err(Unread::NoMemory),
     }
 }
 
@@ -152,15 +152,15 @@ fn take_imports_of(
     root: &[u8],
     file: &SourceFile,
     known: &mut IndexMap<Text, Place>,
-) -> Result<(), LoadError>
+) -> Result<(), SourceError>
     ensures { IsTakenIn (take_imports root.now file.now.name known.old.entries (imports_of file.now.tree)) file.now.name
         known.new.entries result }
 {
     let own = file.name.as_bytes();
     match take_imports(alloc, root, own, file.tree.items.as_slice(), known) {
         Ok(()) => Ok(()),
-        Err(Refused::Fault(fault)) => Err(LoadError::Fault(fault, file.name.copy(alloc)?)),
-        Err(Refused::NoMemory) => Err(LoadError::NoMemory),
+        Err(Refused::Fault(fault)) => Err(Unread::Fault(fault, file.name.copy(alloc)?)),
+        Err(Refused::NoMemory) => Err(Unread::NoMemory),
     }
 }
 
@@ -172,11 +172,11 @@ pub(crate) fn take_turn<F: Files>(
     done: &[SourceFile],
     known: &mut IndexMap<Text, Place>,
     room: &mut Vec<Token>,
-) -> Result<Option<SourceFile>, LoadError>
+) -> Result<Option<SourceFile>, SourceError>
     requires few { length known.old.entries ≤ files_limit }
     requires utf8 { AreUtf8 known.old.entries }
     ensures kept { KeepsFiles F.told F.faults files.old files.new }
-    ensures rose { (read : Items ℕ) → result ≡ Err (LoadError.ReadFault read)
+    ensures rose { (read : Items ℕ) → result ≡ Err (Unread.ReadFault read)
         → Rose (F.faults files.old read) (F.faults files.new read) }
     ensures learned { LearnsOnly F.told (AlikeInNext done.now known.old.entries) files.old files.new }
     ensures turn { InAll (F.told files.new) (λ m. IsTurn m root.now done.now known.old.entries known.new.entries result) }

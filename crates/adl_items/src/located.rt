@@ -92,7 +92,8 @@ fn assemblies<'a>(
 {
     let mut found = Vec::new(alloc);
     for x in items {
-        if let Item::Assembly(item) = x.item {
+        if let Item::Assembly(assembly) = x.item {
+            let item = assembly.get();
             found.push(Located { at: x.at, item })?;
         }
     }
@@ -104,7 +105,8 @@ pub fn first_assembly<'a>(items: &[Located<'a, Item>]) -> Option<Located<'a, Ass
     ensures { option_map located result ≡ slice_get (filter_map as_assembly (map located items.now)) 0 }
 {
     for x in items {
-        if let Item::Assembly(item) = x.item {
+        if let Item::Assembly(assembly) = x.item {
+            let item = assembly.get();
             return Some(Located { at: x.at, item });
         }
     }

@@ -68,8 +68,9 @@ fn body_of<'a>(
         }
         Item::Component(it) => Ok(Body::Component(ComponentTable::of(alloc, it, first)?)),
         Item::Assembly(it) => {
-            let holding = Holding::of(alloc, &it.composition, first)?;
-            Ok(Body::Assembly(it, holding))
+            let assembly = it.get();
+            let holding = Holding::of(alloc, &assembly.composition, first)?;
+            Ok(Body::Assembly(assembly, holding))
         }
     }
 }

@@ -18,7 +18,9 @@ use crate::{
     Adl, WordKind, id_of, next_has, next_is, number_of, read_composition, read_configuration,
     read_value, take, take_of, word,
 };
-use adl_ast::{Attribute, Component, Id, Interface, InterfaceKind, Lock, LockKind, Member, Value};
+use adl_ast::{
+    Attribute, Boxed, Component, Id, Interface, InterfaceKind, Lock, LockKind, Member, Value,
+};
 use cam_base::{Keyword, Kind, Mark, Place, ReadError, Repeated, Token, read_all};
 use std::alloc::Global;
 
@@ -183,7 +185,7 @@ fn maybe_value<'a>(
     alloc: Global,
     bytes: &[u8],
     tokens: &'a [Token],
-) -> Result<(Option<Value>, &'a [Token]), ReadError>
+) -> Result<(Option<Boxed<Value>>, &'a [Token]), ReadError>
     ensures { Gives (λ x. (x.0, see bytes.now x.1.now)) result (reads (maybe (behind (mark_code marks.Equals) value_form))
         (see bytes.now tokens.now)) }
 {
@@ -192,7 +194,7 @@ fn maybe_value<'a>(
     }
     let (_equals, rest) = take(bytes, tokens, Kind::Mark(Mark::Equals))?;
     let (value, rest) = read_value(alloc, bytes, rest)?;
-    Ok((Some(value), rest))
+    Ok((Some(Boxed::new(alloc, value)?), rest))
 }
 
 #[tactic(auto, unfolding(adl_ast::specs::Forms::attribute_line))]

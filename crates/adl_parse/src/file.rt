@@ -12,7 +12,7 @@ use crate::component::read_component;
 use crate::import::read_import;
 use crate::procedure::read_procedure;
 use crate::{Adl, next_is, read_assembly, refusal_of, take};
-use adl_ast::{Ended, File, Item};
+use adl_ast::{Boxed, Ended, File, Item};
 use cam_base::{
     Fault, Keyword, Kind, Mark, ReadError, Refused, Repeated, Stop, Token, Tokens, Why, read_all,
 };
@@ -37,7 +37,7 @@ fn item<'a>(
         Ok((Item::Component(component), rest))
     } else {
         let (assembly, rest) = read_assembly(alloc, bytes, tokens)?;
-        Ok((Item::Assembly(assembly), rest))
+        Ok((Item::Assembly(Boxed::new(alloc, assembly)?), rest))
     }
 }
 

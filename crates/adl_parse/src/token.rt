@@ -105,8 +105,8 @@ fn is_key(kind: Kind, key: Keyword) -> bool
 
 /// Whether a token is of this kind; for words, a plain word. Only of words the bytes are looked at.
 #[tactic(auto, using(crate::proofs::Words::of_sign, crate::proofs::Words::of_word, crate::proofs::Words::word_or_sign))]
-fn is_other(bytes: &[u8], token: Token, kind: Kind) -> bool
-    ensures { result ≡ (token_code (seen_at bytes.now token) == kind_code kind []) }
+fn is_other(bytes: &[u8], token: &Token, kind: Kind) -> bool
+    ensures { result ≡ (token_code (seen_at bytes.now token.now) == kind_code kind []) }
 {
     if !is_word(token.kind) {
         kind_code(token.kind, b"") == kind_code(kind, b"")
@@ -119,8 +119,8 @@ fn is_other(bytes: &[u8], token: Token, kind: Kind) -> bool
 
 /// Whether a token is of this kind; for words, a plain word. Of marks and keywords the kind alone is looked at.
 #[inline(always)]
-fn is_of(bytes: &[u8], token: Token, kind: Kind) -> bool
-    ensures { result ≡ (token_code (seen_at bytes.now token) == kind_code kind []) }
+fn is_of(bytes: &[u8], token: &Token, kind: Kind) -> bool
+    ensures { result ≡ (token_code (seen_at bytes.now token.now) == kind_code kind []) }
 {
     match kind {
         Kind::Mark(mark) => is_mark(token.kind, mark),
@@ -136,7 +136,7 @@ pub fn next_is(bytes: &[u8], tokens: &[Token], kind: Kind) -> bool
 {
     match tokens {
         [] => false,
-        [token, ..] => is_of(bytes, *token, kind),
+        [token, ..] => is_of(bytes, token, kind),
     }
 }
 
@@ -151,7 +151,7 @@ pub fn take<'a>(
         (see bytes.now tokens.now)) }
 {
     match tokens {
-        [token, rest @ ..] if is_of(bytes, *token, kind) => Ok((*token, rest)),
+        [token, rest @ ..] if is_of(bytes, token, kind) => Ok((*token, rest)),
         _ => Err(ReadError::Stop(Stop {
             why: Why::Unexpected,
             left: tokens.len(),
@@ -236,8 +236,8 @@ fn has_code(words: WordKind, code: u8) -> bool
 /// Whether a token is a word of this kind.
 #[tactic(auto, using(crate::proofs::Words::of_word, crate::proofs::Words::no_sign_has))]
 #[inline]
-fn has(bytes: &[u8], token: Token, words: WordKind) -> bool
-    ensures { result ≡ among (codes_of words) (token_code (seen_at bytes.now token)) }
+fn has(bytes: &[u8], token: &Token, words: WordKind) -> bool
+    ensures { result ≡ among (codes_of words) (token_code (seen_at bytes.now token.now)) }
 {
     is_word(token.kind) && has_code(words, word_code(text_at(bytes, token.place)))
 }
@@ -249,7 +249,7 @@ pub fn next_has(bytes: &[u8], tokens: &[Token], words: WordKind) -> bool
 {
     match tokens {
         [] => false,
-        [token, ..] => has(bytes, *token, words),
+        [token, ..] => has(bytes, token, words),
     }
 }
 
@@ -264,7 +264,7 @@ pub fn take_of<'a>(
         (one token_code (codes_of words) (see bytes.now tokens.now)) }
 {
     match tokens {
-        [token, rest @ ..] if has(bytes, *token, words) => Ok((*token, rest)),
+        [token, rest @ ..] if has(bytes, token, words) => Ok((*token, rest)),
         _ => Err(ReadError::Stop(Stop {
             why: Why::Unexpected,
             left: tokens.len(),

@@ -9,7 +9,7 @@ fn keyword_of(item: &Item) -> Option<Place>
     ensures { result ≡ keyword_of item.now }
 {
     match item {
-        Item::Assembly(assembly) => Some(assembly.place),
+        Item::Assembly(assembly) => Some(assembly.get().place),
         _ => None,
     }
 }
