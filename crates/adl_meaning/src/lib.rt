@@ -7,7 +7,6 @@
 
 mod connector;
 mod earliest;
-mod first;
 mod flat;
 mod item_at;
 mod laws;
@@ -15,8 +14,7 @@ mod path;
 mod settled;
 
 pub use connector::Connector;
-pub use earliest::{Earliest, Wrong};
-pub use first::First;
+pub use earliest::{Earliest, Wrong, is_before};
 pub use flat::{Domain, Flat, FlatConnection, FlatEnd, Leaf, same_end};
 pub use item_at::ItemAt;
 pub use laws::{

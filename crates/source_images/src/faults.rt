@@ -10,7 +10,7 @@ ghost use Rattle.std.specs.Prelude.{◌≡◌, ◌<◌, ℕ, false, length, slic
 use crate::clashes::clashing;
 use crate::images::{Images, sections_end};
 use crate::sections::{is_inside, sections_of};
-use adl_meaning::{First, Flat};
+use adl_meaning::{Earliest, Flat};
 use cam_base::{Code, Fault, NoMemory, Place};
 use sect_table::Image;
 use std::alloc::Global;
@@ -27,78 +27,67 @@ fn is_outside(image: &Image, end: u64) -> bool
 }
 
 /// Notes what is wrong with an image that a leaf at this place runs.
-fn note_image(
-    alloc: Global,
-    image: &Image,
+#[tactic(auto, using(adl_meaning::proofs::Noting::noting))]
+fn note_image<'a>(
+    image: &'a Image,
     clashing: bool,
     end: u64,
     place: Place,
-    first: &mut First,
-) -> Result<(), NoMemory>
-    ensures { OnOk result (first.new ≡ noted first.old (image_faults end place clashing image.now)) }
+    first: &mut Earliest<'a>,
+)
+    ensures { first.new ≡ noted first.old (image_faults end place clashing image.now) }
 {
     let name = image.name.as_bytes();
-    if clashing {
-        first.note(alloc, Code::SectionOverlap, place, name)?;
-    }
-    if is_outside(image, end) {
-        first.note(alloc, Code::Window, place, name)?;
-    }
-    Ok(())
+    first.note(clashing, Code::SectionOverlap, place, name);
+    first.note(is_outside(image, end), Code::Window, place, name);
 }
 
 /// Notes what is wrong with the program of a leaf, where it is known which images clash.
-fn note_leaf(
-    alloc: Global,
+fn note_leaf<'a>(
     flat: &Flat,
-    images: &Images,
+    images: &'a Images,
     clashing: &[bool],
     leaf: u32,
-    first: &mut First,
-) -> Result<(), NoMemory>
+    first: &mut Earliest<'a>,
+)
     requires numbered { AreNumbered flat.now images.now }
     requires clashing { length clashing.now ≡ length images.now.images }
     requires leaf { leaf < length flat.now.leaves }
-    ensures { OnOk result
-        (first.new ≡ noted first.old (leaf_faults flat.now images.now (λ m. slice_index_or clashing.now m false) leaf)) }
+    ensures { first.new ≡ noted first.old (leaf_faults flat.now images.now (λ m. slice_index_or clashing.now m false) leaf) }
 {
     let Some(number) = images.number_of(leaf) else {
-        return Ok(());
+        return;
     };
     let image = &images.images.as_slice()[number as usize];
     let place = flat.leaves.as_slice()[leaf as usize].place;
     let end = sections_end(images.arch());
-    note_image(alloc, image, clashing[number as usize], end, place, first)
+    note_image(image, clashing[number as usize], end, place, first);
 }
 
-fn note_leaves(
-    alloc: Global,
+fn note_leaves<'a>(
     flat: &Flat,
-    images: &Images,
+    images: &'a Images,
     clashing: &[bool],
     leaves: &[u32],
-    first: &mut First,
-) -> Result<(), NoMemory>
+    first: &mut Earliest<'a>,
+)
     requires numbered { AreNumbered flat.now images.now }
     requires clashing { length clashing.now ≡ length images.now.images }
     requires leaves { (leaf : ℕ) → IsIn leaf leaves.now → leaf < length flat.now.leaves }
-    ensures { OnOk result
-        (first.new
-        ≡ noted first.old
-        (flat_map (leaf_faults flat.now images.now (λ m. slice_index_or clashing.now m false)) leaves.now)) }
+    ensures { first.new ≡ noted first.old
+        (flat_map (leaf_faults flat.now images.now (λ m. slice_index_or clashing.now m false)) leaves.now) }
 {
     for leaf in leaves {
-        note_leaf(alloc, flat, images, clashing, *leaf, first)?;
+        note_leaf(flat, images, clashing, *leaf, first);
     }
-    Ok(())
 }
 
-fn note_domain(
+fn note_domain<'a>(
     alloc: Global,
     flat: &Flat,
-    images: &Images,
+    images: &'a Images,
     leaves: &[u32],
-    first: &mut First,
+    first: &mut Earliest<'a>,
 ) -> Result<(), NoMemory>
     requires numbered { AreNumbered flat.now images.now }
     requires leaves { (leaf : ℕ) → IsIn leaf leaves.now → leaf < length flat.now.leaves }
@@ -106,7 +95,8 @@ fn note_domain(
 {
     let sections = sections_of(alloc, images, leaves)?;
     let clashing = clashing(alloc, sections.as_slice(), images.images.len())?;
-    note_leaves(alloc, flat, images, clashing.as_slice(), leaves, first)
+    note_leaves(flat, images, clashing.as_slice(), leaves, first);
+    Ok(())
 }
 
 /// The first fault of address spaces, none exactly where none stands: `specs/SpaceFaults.antt`.
@@ -118,9 +108,9 @@ pub fn first_space_fault(
     requires { AreNumbered flat.now images.now }
     ensures { IfOk result (λ f. f ≡ first_space_fault flat.now images.now) }
 {
-    let mut first = First::none();
+    let mut first = Earliest::none();
     for domain in flat.domains.as_slice() {
         note_domain(alloc, flat, images, domain.leaves.as_slice(), &mut first)?;
     }
-    Ok(first.fault())
+    first.into_fault(alloc)
 }

@@ -10,27 +10,34 @@ ghost use Rattle.name_tables.specs.ByName.{found};
 ghost use Rattle.std.specs.Prelude.{◌≡◌, ◌+◌, ◌<◌, ◌^◌, ℕ, length, position, List as Items, Err, IfOk};
 ghost use Rattle.std.specs.Str.{bytes_eq};
 
+use crate::Images;
 use crate::merge::{Merged, merge};
 use crate::missing::first_missing;
 use crate::reading::{Reading, read_tables};
 use crate::tables::{Table, folder_of, tables_of};
 use crate::types::{numbers_of, types_of};
-use crate::{Images, ImagesError};
 use adl_ast::Source;
-use adl_meaning::{First, Flat};
-use cam_base::{Fault, List, NoMemory, Text};
+use adl_meaning::{Flat, is_before};
+use cam_base::{Fault, List, NoMemory, SourceError, Text, Unread};
 use cam_io::Files;
 use name_tables::NameTable;
 use std::alloc::Global;
 
 /// The first fault, where these are the first of tables that are missing and of lines.
-fn first_of(alloc: Global, mut first: First, line: Option<Fault>) -> Result<Option<Fault>, NoMemory>
-    ensures { IfOk result (λ f. f ≡ first_of first line) }
+fn first_of(missing: Option<Fault>, line: Option<Fault>) -> Option<Fault>
+    ensures { result ≡ first_of missing line }
 {
-    if let Some(fault) = line {
-        first.note(alloc, fault.code, fault.place, fault.name.as_bytes())?;
+    match (missing, line) {
+        (Some(missing), Some(line)) => {
+            if is_before(line.code, line.place, missing.code, missing.place) {
+                Some(line)
+            } else {
+                Some(missing)
+            }
+        }
+        (None, line) => line,
+        (missing, None) => missing,
     }
-    Ok(first.fault())
 }
 
 /// The name of the file of this number.
@@ -62,20 +69,20 @@ fn answer(
     numbers: &NameTable<'_, u32>,
     tables: &[Table<'_>],
     readings: List<Reading>,
-) -> Result<Images, ImagesError>
+) -> Result<Images, SourceError>
     requires { (n : Items ℕ) → found numbers.now n ≡ position (bytes_eq n) (types source.now flat.now) }
     ensures { IsAnswer source.now flat.now (tables_told tables.now) readings result }
 {
-    let missing = first_missing(alloc, source, flat, numbers, readings.as_slice())?;
+    let missing = first_missing(source, flat, numbers, readings.as_slice()).into_fault(alloc)?;
     let Merged {
         fault,
         arch: _,
         images,
     } = merge(alloc, readings)?;
-    match first_of(alloc, missing, fault)? {
+    match first_of(missing, fault) {
         Some(fault) => {
             let file = file_name(alloc, source, tables, fault.place.file)?;
-            Err(ImagesError::Fault(fault, file))
+            Err(Unread::Fault(fault, file))
         }
         None => {
             let of_leaf = numbers_of(alloc, source, flat, numbers)?;
@@ -97,10 +104,10 @@ pub fn read_images<F: Files>(
     root: &str,
     source: &Source,
     flat: &Flat,
-) -> Result<Images, ImagesError>
+) -> Result<Images, SourceError>
     requires { length source.now.files + length flat.now.leaves < 2 ^ 32 }
     ensures kept { KeepsFiles F.told F.faults files.old files.new }
-    ensures rose { (read : Items ℕ) → result ≡ Err (ImagesError.ReadFault read)
+    ensures rose { (read : Items ℕ) → result ≡ Err (Unread.ReadFault read)
         → Rose (F.faults files.old read) (F.faults files.new read) }
     ensures learned { LearnsOnly F.told (AlikeInTables (table_names root.now source.now flat.now)) files.old files.new }
     ensures read { InAll (F.told files.new) (λ m. AreImagesRead m root.now source.now flat.now result) }

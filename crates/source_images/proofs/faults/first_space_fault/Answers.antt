@@ -1,4 +1,5 @@
 use Rattle.source_images.proofs.Common.{IsIn, ap, at_drop_all, domain_faults, flat_map, get_or, in_place, length, noted, noted-none, read_place, space_faults, subst, sym, ◌<◌, ◌∙◌, ◌≡◌, ◌≤◌}
+use Rattle.std.proofs.lemmas.Result.{IfOk-weaker}
 use Rattle.adl_meaning.proofs.Noting.{noted_each}
 use Rattle.source_images.proofs.faults.first_space_fault.Goals as goal
 
@@ -31,6 +32,7 @@ returns c =
     let all = space_faults flat images in
     let behind : length flat.domains ≤ c.loop-domain.domain-index = subst (λ z. length z ≤ c.loop-domain.domain-index)
     c.as_slice-domain-items.ensures c.loop-domain-test.false in
-    c.fault.ensures ∙ sym (at_drop_all (λ z. noted c.loop-domain.first (flat_map (λ d. domain_faults flat images d.leaves) z))
+    IfOk-weaker c.into_fault.result _ _ (λ f e. e ∙ sym (at_drop_all
+    (λ z. noted c.loop-domain.first (flat_map (λ d. domain_faults flat images d.leaves) z))
     flat.domains c.loop-domain.domain-index behind)
-    ∙ c.loop-domain.invariant ∙ noted-none all
+    ∙ c.loop-domain.invariant ∙ noted-none all) c.into_fault.ensures

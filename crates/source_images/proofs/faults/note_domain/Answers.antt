@@ -1,4 +1,4 @@
-use Rattle.source_images.proofs.Common.{IsIn, OnOk, ap, below, clashes, false, flat_map, get_or, leaf_faults, noted, sections_of, sections_told, subst, sym, ◌<◌, ◌∙◌, ◌≡◌}
+use Rattle.source_images.proofs.Common.{IsIn, ap, below, clashes, false, flat_map, get_or, leaf_faults, noted, sections_of, sections_told, subst, sym, ◌<◌, ◌∙◌, ◌≡◌}
 use Rattle.source_images.proofs.Leaves.{same_tests}
 use Rattle.source_images.proofs.SectionsTold.{comes_from}
 use Rattle.source_images.proofs.faults.note_domain.Goals as goal
@@ -18,8 +18,7 @@ returns c =
     let all = sections_of images leaves in
     let told : sections_told c.as_slice.result.now ≡ all = ap sections_told c.as_slice.ensures.value ∙ c.in_ok-sections.ensures in
     subst
-    (λ p. OnOk c.note_leaves.result (c.note_leaves.new.first ≡ noted c.args.first.now
-    (flat_map (leaf_faults c.args.flat.now images p) leaves)))
+    (λ p. c.note_leaves.new.first ≡ noted c.args.first.now (flat_map (leaf_faults c.args.flat.now images p) leaves))
     (same_tests (λ m. get_or c.as_slice-2.result.now m false) (clashes all)
     (λ m. ap (λ z. get_or z m false) c.as_slice-2.ensures.value ∙ c.in_ok-clashing.ensures.marks m ∙ ap (λ z. clashes z m) told))
     c.note_leaves.ensures

@@ -10,4 +10,4 @@ loop-leaf-preserved c =
     c.as_slice-leaf-items.result.now c.loop-leaf.leaf-index c.leaf-item.result
     c.loop-leaf.first c.note_missing.new.first (missing_by c.args.readings.now c.leaf-item.result.place c.number_of-number.result)
     c.loop-leaf-test.true c.leaf-item.is
-    c.loop-leaf.invariant (ap (missing_by c.args.readings.now c.leaf-item.result.place) number) c.in_ok-note_missing.ensures
+    c.loop-leaf.invariant (ap (missing_by c.args.readings.now c.leaf-item.result.place) number) c.note_missing.ensures
