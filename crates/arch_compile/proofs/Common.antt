@@ -9,7 +9,7 @@ pub use Rattle.arch_compile.specs.Compiled.{IsCompiled, IsFirstFault, IsRefusal}
 pub use Rattle.arch_compile.specs.LayoutFaults.{file_of, first_fault, first_imaged_fault, first_layout_fault, found_beside, images_beside, images_from, root_of, spaced, tables_beside}
 pub use Rattle.arch_compile.specs.OfSource.{HasLabel, IsOfSource, IsProgramOf}
 pub use Rattle.arch_compile.specs.Sound.{BootsText, HasText, IsSound, ReachesText, object_labels}
-pub use Rattle.arch_compile.specs.Steps.{Builds, Completes, Finishes, IsBuiltOf, IsImaged, IsLaid, IsMadeOf, Lays, first_laid_fault, not_imaged, policy_tables, with_objects}
+pub use Rattle.arch_compile.specs.Steps.{Builds, Completes, Finishes, IsBuiltOf, IsImaged, IsLaid, IsMadeOf, Lays, first_laid_fault, policy_tables, with_objects}
 pub use Rattle.arch_compile.specs.Summary.{cap_count, capped, is_thread}
 pub use Rattle.arch_compile.specs.declared.building.Build.{Build}
 pub use Rattle.arch_compile.specs.declared.laying.Layout.{Layout}
@@ -40,9 +40,9 @@ pub use Rattle.front_end.proofs.Sound.{IsFaultless, faultless, no_second}
 pub use Rattle.front_end.proofs.Within.{sound_small, sound_within}
 pub use Rattle.front_end.specs.First.{first_front_fault, name_of_file, source_tables}
 pub use Rattle.front_end.specs.Fronts.{IsAssigned, IsMeaningOf, IsMeant}
-pub use Rattle.front_end.specs.Refusals.{IsRefused, Refuses, yields}
+pub use Rattle.front_end.specs.Refusals.{IsRefused, Refuses}
 pub use Rattle.front_end.specs.Steps.{Assigns, HasMeaning, IsWhole, Tells}
-pub use Rattle.front_end.specs.declared.error.BuildError.{BuildError}
+pub use Rattle.cam_base.specs.Unread.{SourceError, yields}
 pub use Rattle.source_images.proofs.ImageNumbers.{each_named, images_numbered, in_filter}
 pub use Rattle.source_images.proofs.Soundness.{images_sound}
 pub use Rattle.source_images.proofs.TableReads.{found_count}

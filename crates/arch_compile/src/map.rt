@@ -4,14 +4,11 @@ ghost use Rattle.arch_compile.specs.Maps.{build_map};
 ghost use Rattle.cam_io.specs.Sinks.{IsOpen, Writes};
 
 use crate::Build;
-use cam_io::{Failed, Outputs};
+use cam_io::{Failed, Outputs, Writer};
 use system_spec::{MapNames, write_map as write_lines};
 
-/// Writes the map of a build to an open channel, by the names of its source. Takes no memory.
-///
-/// # Errors
-///
-/// A failed write.
+/// Writes the map of a build to an open channel, by the names of its source. After a failure the channel has a front of it. Takes
+/// no memory.
 pub fn write_map<O: Outputs>(build: &Build, out: &mut O, channel: u8) -> Result<(), Failed>
     requires { IsOpen (O.sink out.old) channel }
     ensures { Writes result channel (build_map build.now) (O.sink out.old) (O.sink out.new) (O.faults out.old)
@@ -22,5 +19,7 @@ pub fn write_map<O: Outputs>(build: &Build, out: &mut O, channel: u8) -> Result<
         flat: &build.meaning.flat,
         spec: &build.spec,
     };
-    write_lines(&names, build.map.as_slice(), out, channel)
+    let mut to = Writer::new(out, channel);
+    write_lines(&names, build.map.as_slice(), &mut to);
+    to.close()
 }

@@ -3,7 +3,7 @@ ghost use Rattle.cam_io.specs.Scripts.{Acts};
 ghost use Rattle.std.specs.Prelude.{◌≡◌, false};
 
 use crate::{Build, Summary, TextNames, write_map, write_summary};
-use cam_io::{Failed, Outputs};
+use cam_io::{Failed, Outputs, Writer};
 use cap_model::{EdgeTable, Policy, Spec};
 use capdl_write::write_spec;
 use policy_text::{write_cert, write_policy};
@@ -19,11 +19,10 @@ pub fn write_texts<O: Outputs>(names: &TextNames, build: &Build, out: &mut O) ->
     write_rules(names.policy.as_str(), &build.policy, out)?;
     write_certificate(names.certificate.as_str(), &build.cert, out)?;
     write_places(names.map.as_str(), build, out)?;
-    write_summary(
-        Summary::of(&build.meaning.flat, &build.spec, &build.policy.edges),
-        out,
-        0,
-    )
+    let summary = Summary::of(&build.meaning.flat, &build.spec, &build.policy.edges);
+    let mut to = Writer::new(out, 0);
+    write_summary(summary, &mut to);
+    to.close()
 }
 
 fn write_capdl<O: Outputs>(name: &str, spec: &Spec, out: &mut O) -> Result<(), Failed>

@@ -16,8 +16,8 @@ pub use Rattle.boot_plan.specs.declared.plan_refusal.PlanRefusal.{PlanRefusal}
 pub use Rattle.boot_plan.specs.declared.plan_refusal.PlanRefusal.TheVariants.{NoDevice, NoMemory, NoRoom, Overlap, SharedFrame}
 pub use Rattle.boot_plan.specs.declared.untyped.Untyped.{Untyped}
 pub use Rattle.cam_base.specs.LinesLeft.{line_of, lines_left}
-pub use Rattle.cam_io.proofs.Lines.{Wrote, lines_begin, lines_end, lines_fail, lines_step}
-pub use Rattle.cam_io.proofs.Sequence.{open_still, writes_after, writes_exit, writes_first, wrote_none}
+pub use Rattle.cam_io.proofs.Saying.{said_all, says_line, says_lines, says_nothing, says_then}
+pub use Rattle.cam_io.specs.Saying.{Says}
 pub use Rattle.cap_model.specs.Kept.{IsKept, fits, if_any, keeps, keeps_fill, keeps_slots}
 pub use Rattle.cap_model.specs.declared.object.Object.{Object}
 pub use Rattle.cap_model.specs.declared.object.Object.TheVariants.{CNode, Endpoint, Frame, Irq, Notification, Pages, Thread}

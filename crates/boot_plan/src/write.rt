@@ -1,8 +1,8 @@
-//! The writer of plans. After a failure the channel has a front of the text.
+//! The writer of plans.
 
 ghost use Rattle.boot_plan.specs.Needs.{has_few_bits};
-ghost use Rattle.boot_plan.specs.Texts.{bytes_placed, entry_bits, one_placed, place_line, place_lines, plan_text, planned_line};
-ghost use Rattle.cam_base.specs.Hex.{hex_text};
+ghost use Rattle.boot_plan.specs.Texts.{bytes_placed, entry_bits, one_placed, place_line, place_lines, plan_text};
+ghost use Rattle.cam_io.specs.Saying.{Says};
 ghost use Rattle.cam_io.specs.Sinks.{IsOpen, Writes};
 ghost use Rattle.cap_model.specs.Kept.{IsKept};
 ghost use Rattle.std.specs.List.{sum_by, zip};
@@ -10,18 +10,9 @@ ghost use Rattle.std.specs.Prelude.{◌≡◌, true};
 
 use crate::need::Need;
 use crate::plan_refusal::BootPlan;
-use cam_base::hex;
-use cam_io::{Failed, Outputs, write_parts};
+use cam_io::{Failed, Outputs, Writer, hexadecimal};
 use cap_model::{Arch, Entry, Spec};
 use itoa::Buffer;
-
-/// The hexadecimal text of a number, which stands in the buffer.
-fn hexadecimal(n: u64, buf: &mut [u8; 18]) -> &[u8]
-    ensures { result.now ≡ hex_text n }
-{
-    let end = hex(n, buf);
-    &buf[..end]
-}
 
 /// The bits that an object has in memory.
 fn entry_bits(arch: Arch, entry: &Entry) -> u8
@@ -80,83 +71,43 @@ pub fn write_plan<O: Outputs>(
         (O.faults out.new) }
 {
     let places = plan.places.as_slice();
-    write_planned(
-        objects_placed(spec, places),
-        bytes_placed(spec, places),
-        out,
-        channel,
-    )?;
-    write_places(spec, places, out, channel)
+    let (mut objects, mut bytes) = (Buffer::new(), Buffer::new());
+    let mut to = Writer::new(out, channel);
+    to.texts(&[
+        b"planned ",
+        objects.format(objects_placed(spec, places)).as_bytes(),
+        b" objects ",
+        bytes.format(bytes_placed(spec, places)).as_bytes(),
+        b" bytes\n",
+    ]);
+    write_places(spec, places, &mut to);
+    to.close()
 }
 
-fn write_planned<O: Outputs>(
-    objects: u64,
-    bytes: u64,
-    out: &mut O,
-    channel: u8,
-) -> Result<(), Failed>
-    requires { IsOpen (O.sink out.old) channel }
-    ensures { Writes result channel (planned_line objects bytes) (O.sink out.old) (O.sink out.new) (O.faults out.old)
-        (O.faults out.new) }
-{
-    let (mut object_digits, mut byte_digits) = (Buffer::new(), Buffer::new());
-    write_parts(
-        out,
-        channel,
-        &[
-            b"planned ",
-            object_digits.format(objects).as_bytes(),
-            b" objects ",
-            byte_digits.format(bytes).as_bytes(),
-            b" bytes\n",
-        ],
-    )
-}
-
-fn write_places<O: Outputs>(
-    spec: &Spec,
-    places: &[Option<u64>],
-    out: &mut O,
-    channel: u8,
-) -> Result<(), Failed>
-    requires open { IsOpen (O.sink out.old) channel }
-    requires kept { IsKept spec.now }
-    ensures { Writes result channel (place_lines spec.now places.now) (O.sink out.old) (O.sink out.new) (O.faults out.old)
-        (O.faults out.new) }
+fn write_places<O: Outputs>(spec: &Spec, places: &[Option<u64>], to: &mut Writer<O>)
+    requires { IsKept spec.now }
+    ensures { Says to.old (place_lines spec.now places.now) to.new }
 {
     for (entry, place) in spec.entries.as_slice().iter().zip(places) {
-        write_place(spec.arch, entry, *place, out, channel)?;
+        write_place(spec.arch, entry, *place, to);
     }
-    Ok(())
 }
 
-fn write_place<O: Outputs>(
-    arch: Arch,
-    entry: &Entry,
-    place: Option<u64>,
-    out: &mut O,
-    channel: u8,
-) -> Result<(), Failed>
-    requires open { IsOpen (O.sink out.old) channel }
-    requires few { has_few_bits entry.now.object ≡ true }
-    ensures { Writes result channel (place_line arch (entry.now, place)) (O.sink out.old) (O.sink out.new) (O.faults out.old)
-        (O.faults out.new) }
+fn write_place<O: Outputs>(arch: Arch, entry: &Entry, place: Option<u64>, to: &mut Writer<O>)
+    requires { has_few_bits entry.now.object ≡ true }
+    ensures { Says to.old (place_line arch (entry.now, place)) to.new }
 {
     let Some(first) = place else {
-        return Ok(());
+        return;
     };
     let (mut hex_digits, mut digits) = ([0; 18], Buffer::new());
-    write_parts(
-        out,
-        channel,
-        &[
-            b"place ",
-            entry.name.as_bytes(),
-            b" ",
-            hexadecimal(first, &mut hex_digits),
-            b" ",
-            digits.format(entry_bits(arch, entry)).as_bytes(),
-            b"\n",
-        ],
-    )
+    to.texts(&[
+        b"place ",
+        entry.name.as_bytes(),
+        b" ",
+        hexadecimal(first, &mut hex_digits),
+        b" ",
+        digits.format(entry_bits(arch, entry)).as_bytes(),
+        b"\n",
+    ]);
 }

@@ -7,6 +7,7 @@ pub mod Learning
 pub mod Lines
 pub mod Lookups
 pub mod Puts
+pub mod Saying
 pub mod Scripted
 pub mod Seeing
 pub mod Sequence

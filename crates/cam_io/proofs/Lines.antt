@@ -1,11 +1,16 @@
 -- A loop that writes the line of each item of a list: its invariant, and what its function cites as the loop begins, goes
 -- on, fails and ends.
-use Rattle.std.proofs.Common.{◌≡◌, ℕ, ◌+◌, ◌<◌, ◌≤◌, List, take, get_or, length, arith, Ok, Err}
+use Rattle.std.proofs.Common.{◌≡◌, ℕ, ◌+◌, ◌<◌, ◌≤◌, List, take, get_or, length, arith, sym, Bor, Ok, Err}
+use Rattle.std.proofs.lemmas.Option.{get_or_from_slice_get, slice_get-get_or}
 use Rattle.std.specs.List.{flat_map}
 use Rattle.cam_io.specs.Sinks.{Sink, IsOpen, Writes, appended}
 use Rattle.cam_io.proofs.Counts.{rose_after}
 use Rattle.cam_io.proofs.Sequence.{open_still}
 use Rattle.cam_io.proofs.Writing.{line_cut, line_more, lines_all, no_line}
+
+-- a piece that is read with a default is itself the default
+pub read_is : (xs : List (Bor (List ℕ))) (i : ℕ) (d : Bor (List ℕ)) → i < length xs → get_or xs i d ≡ get_or xs i (get_or xs i d)
+read_is xs i d h = sym (get_or_from_slice_get xs i (get_or xs i d) (get_or xs i d) (slice_get-get_or xs i d h))
 
 -- so far this text is written, the channel is open, and no count fell
 pub record Wrote (channel : ℕ) (text : List ℕ) (old new : Sink) (before now : ℕ) : Type 0 where

@@ -9,6 +9,7 @@ pub mod MemFiles
 pub mod MemOutputs
 pub mod NamedFiles
 pub mod Reading
+pub mod Saying
 pub mod Scripts
 pub mod Seen
 pub mod Sinks

@@ -33,7 +33,7 @@ IsFailure (Err refused.NoMemory) = ⊥
 abbrev pub InAll : (Contents → Type 0) → (Contents → Type 0) → Type 0
 InAll told holds = (m : Contents) → told m → holds m
 
--- what was told stays told, and no count falls
+-- contents that are told now were told before, so all that held of what was told still holds; and no count falls
 pub record KeepsFiles {F : Type 0} (told : F → Contents → Type 0) (faults : F → List ℕ → ℕ) (before now : F) : Type 0 where
   pub told_still : InAll (told now) (told before)
   pub later : NoneFell (faults before) (faults now)

@@ -2,17 +2,18 @@
 //!
 //! `Files` tells what its files hold and how often reads of a name have failed; `Outputs` tells which channels are
 //! begun, under which names, and what each holds. `see_whole`, `read_whole`, `write_all` and `write_parts` are the loops over
-//! them, and `FileBytes` lends what the files keep.
+//! them, `Writer` says a text to one open channel, and `FileBytes` lends what the files keep.
 //! There are files and outputs in memory, whose faults are stated beforehand, and those of the host: its files keep what
 //! they have answered, and tell the contents that have it; its outputs tell only which channels are begun. That a read of
 //! the host gives a file's bytes, and that a write puts them there, is trusted.
 //!
 //! Nothing here knows what a file means, and nothing that writes takes memory. The definitions that the contracts cite
-//! stand in `specs/`; the lemmas for writers in a row and for scripts stand in `proofs/Sequence.antt` and
-//! `proofs/Scripted.antt`.
+//! stand in `specs/`; the lemmas for what is said piece by piece, for writes in a row and for scripts stand in
+//! `proofs/Saying.antt`, `proofs/Sequence.antt` and `proofs/Scripted.antt`.
 #![tactic(auto)]
 
 mod buffered;
+mod digits;
 mod file_bytes;
 mod files;
 mod fixed_files;
@@ -26,8 +27,10 @@ mod outputs;
 mod seen;
 mod whole;
 mod write;
+mod writer;
 
 pub use buffered::Buffered;
+pub use digits::hexadecimal;
 pub use file_bytes::FileBytes;
 pub use files::{Failed, Files, Got};
 pub use fixed_files::FixedFiles;
@@ -38,3 +41,4 @@ pub use mem_outputs::MemOutputs;
 pub use outputs::Outputs;
 pub use whole::{WholeError, read_whole, see_whole};
 pub use write::{write_all, write_parts};
+pub use writer::Writer;

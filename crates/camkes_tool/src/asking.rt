@@ -12,9 +12,9 @@ ghost use Rattle.text_commands.specs.Commands.{IsAudited, IsCertified, IsChecked
 ghost use Rattle.text_commands.specs.Inputs.{AlikeAsRead, AlikeInInputs};
 
 use crate::{Answer, generate};
+use cam_base::{SourceError, Unread};
 use cam_io::Files;
 use explain::Question;
-use front_end::BuildError;
 use source_commands::{explain, list};
 use std::alloc::Global;
 use text_commands::{
@@ -65,13 +65,13 @@ pub fn generated(alloc: Global, count: u64) -> Answer
 }
 
 /// The answer where a source is refused.
-pub fn refused(error: BuildError) -> Answer
+pub fn refused(error: SourceError) -> Answer
     ensures { result ≡ refused error }
 {
     match error {
-        BuildError::Fault(fault, file) => Answer::Faulted { file, fault },
-        BuildError::ReadFault(file) => Answer::ReadFault { file },
-        BuildError::NoMemory => Answer::NoMemory,
+        Unread::Fault(fault, file) => Answer::Faulted { file, fault },
+        Unread::ReadFault(file) => Answer::ReadFault { file },
+        Unread::NoMemory => Answer::NoMemory,
     }
 }
 
@@ -153,8 +153,8 @@ fn told(found: Result<Outcome, InputError>) -> Answer
 {
     match found {
         Ok(outcome) => Answer::Told { outcome },
-        Err(InputError::Fault { fault, file }) => Answer::Refused { file, fault },
-        Err(InputError::ReadFault { file }) => Answer::ReadFault { file },
-        Err(InputError::NoMemory) => Answer::NoMemory,
+        Err(Unread::Fault(fault, file)) => Answer::Refused { file, fault },
+        Err(Unread::ReadFault(file)) => Answer::ReadFault { file },
+        Err(Unread::NoMemory) => Answer::NoMemory,
     }
 }

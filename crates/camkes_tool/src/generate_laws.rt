@@ -1,8 +1,7 @@
 //! What the definitions promise together, as a function that does nothing.
 
 ghost use Rattle.arch_compile.specs.declared.summary.Summary.{Summary as Numbers};
-ghost use Rattle.front_end.specs.Refusals.{yields};
-ghost use Rattle.front_end.specs.declared.error.BuildError.{BuildError as Refusal};
+ghost use Rattle.cam_base.specs.Unread.{SourceError as Refusal, yields};
 ghost use Rattle.camkes_tool.specs.Generated.{IsGenerated};
 ghost use Rattle.std.specs.Prelude.{◌≡◌, ℕ, false, Result};
 

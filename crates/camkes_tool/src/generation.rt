@@ -9,10 +9,9 @@ ghost use Rattle.std.specs.Prelude.{◌≡◌, length, map, IfOk, Ok};
 
 use crate::{ROOT, generated};
 use arch_compile::{Build, Summary, compile};
-use cam_base::{List, Name, NoMemory};
+use cam_base::{List, Name, NoMemory, SourceError, Unread};
 use cap_model::Labels;
 use cert_check::{Verdict, check};
-use front_end::BuildError;
 use std::alloc::Global;
 
 /// What is compiled of the source that is generated for so many clients, in numbers. The checker accepts it.
@@ -20,24 +19,24 @@ use std::alloc::Global;
 /// # Errors
 ///
 /// The first fault of the generated files, with the name of the file in which it stands; want of memory.
-pub fn generate(alloc: Global, count: u64) -> Result<Summary, BuildError>
+pub fn generate(alloc: Global, count: u64) -> Result<Summary, SourceError>
     ensures { IsGenerated count result }
 {
     match compiled(alloc, count) {
         Ok(build) => match accepted(alloc, &build) {
             Ok(summary) => Ok(summary),
-            Err(NoMemory) => Err(BuildError::NoMemory),
+            Err(NoMemory) => Err(Unread::NoMemory),
         },
         Err(error) => Err(error),
     }
 }
 
 /// The source that is generated for so many clients, compiled from memory, where no read fails.
-fn compiled(alloc: Global, count: u64) -> Result<Build, BuildError>
+fn compiled(alloc: Global, count: u64) -> Result<Build, SourceError>
     ensures { IsCompiled root_name (generated count) (λ name. 0) (λ name. 0) result }
 {
     let Ok(mut files) = generated(alloc, count) else {
-        return Err(BuildError::NoMemory);
+        return Err(Unread::NoMemory);
     };
     compile(alloc, &mut files, ROOT)
 }

@@ -7,7 +7,7 @@ ghost use Rattle.camkes_tool.specs.Lines.{fault_line, read_fault_line};
 use crate::{Answer, write_generated};
 use arch_compile::write_texts;
 use cam_base::Fault;
-use cam_io::{Failed, Outputs, write_all, write_parts};
+use cam_io::{Failed, Outputs, Writer, write_all, write_parts};
 use command_words::usage_line;
 use itoa::Buffer;
 use source_commands::write_listing;
@@ -21,7 +21,7 @@ pub fn perform<O: Outputs>(answer: &Answer, out: &mut O) -> Result<(), Failed>
     match answer {
         Answer::Compiled { names, build } => write_texts(names, build, out),
         Answer::Listed { listing } => write_listing(listing, out, 0),
-        Answer::Explained { answer } => answer.write(out, 0),
+        Answer::Explained { answer } => write_all(out, 0, answer.text()),
         Answer::Generated { summary } => write_generated(*summary, out, 0),
         Answer::Told { outcome } => outcome.write(out, 0),
         Answer::Faulted { file, fault } => write_fault(out, file.as_bytes(), fault),
@@ -37,12 +37,14 @@ fn write_fault<O: Outputs>(out: &mut O, file: &[u8], fault: &Fault) -> Result<()
     ensures { Writes result 1 (fault_line file.now fault.now)
         (O.sink out.old) (O.sink out.new) (O.faults out.old) (O.faults out.new) }
 {
-    write_place(file, fault.place.first, fault.place.end, out, 1)?;
-    write_all(out, 1, b"E")?;
     let mut digits = Buffer::new();
     let number = digits.format(fault.code.number()).as_bytes();
     let title = fault.code.title().as_bytes();
-    write_code(number, title, fault.name.as_bytes(), out, 1)
+    let mut to = Writer::new(out, 1);
+    write_place(file, fault.place.first, fault.place.end, &mut to);
+    to.text(b"E");
+    write_code(number, title, fault.name.as_bytes(), &mut to);
+    to.close()
 }
 
 fn write_read_fault<O: Outputs>(out: &mut O, file: &[u8]) -> Result<(), Failed>

@@ -8,9 +8,6 @@ pub use Rattle.cam_base.specs.Hex.{hex_text}
 pub use Rattle.cam_base.specs.Names.{is_letter, is_name, is_word_byte}
 pub use Rattle.cam_base.specs.Numbers.{is_decimal, is_digit, is_hexadecimal, number_value}
 pub use Rattle.cam_base.specs.Reading.{many, starts, whole}
-pub use Rattle.cam_io.proofs.Lines.{Wrote, lines_begin, lines_end, lines_fail, lines_step}
-pub use Rattle.cam_io.proofs.Sequence.{open_still, writes_after, writes_exit, writes_first, wrote_none}
-pub use Rattle.cam_io.specs.Sinks.{Sink, Writes}
 pub use Rattle.cap_model.proofs.Eaches.{Each, each_then}
 pub use Rattle.cap_model.proofs.Kept.{none_is_root, rise_tail}
 pub use Rattle.cap_model.specs.Canonical.{arch_word, buffer_line, canonical, cap_end, elf_field, entry_line, entry_text, fill_field, frame_line, has_slot, holder_text, irq_line, irq_text, level_word, named_line, object_line, paddr_field, params}

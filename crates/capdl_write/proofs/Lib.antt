@@ -1,7 +1,6 @@
 pub mod Common
 pub mod CapEnds
 pub mod Items
-pub mod Nothing
 pub mod Laying
 pub mod Shown
 pub mod Lines

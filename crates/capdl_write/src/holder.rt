@@ -1,117 +1,71 @@
 ghost use Rattle.cam_base.specs.Texts.{◌⊹◌, together};
-ghost use Rattle.cam_io.specs.Sinks.{IsOpen, Writes};
+ghost use Rattle.cam_io.specs.Saying.{Says};
 ghost use Rattle.cap_model.specs.Canonical.{cap_end, slot_line, slots_text, named_line, buffer_line, has_slot, tcb_text, irq_text, entry_text, params};
 ghost use Rattle.cap_model.specs.RightsWord.{has_rights, rights_word};
 ghost use Rattle.std.specs.List.{flat_map};
 ghost use Rattle.std.specs.Prelude.{◌≡◌, [], ◌∷◌, codes, true, false};
 
-use crate::digits::hexadecimal;
-use cam_io::{Failed, Outputs, write_all, write_parts};
+use cam_io::{Outputs, Writer, hexadecimal};
 use cap_model::{Cap, Entry, Object, Rights, Spec, Tcb};
 use itoa::Buffer;
 
 /// Writes the slots of those of the objects that have a slot, in order.
-pub fn write_holders<O: Outputs>(
-    spec: &Spec,
-    entries: &[Entry],
-    out: &mut O,
-    channel: u8,
-) -> Result<(), Failed>
-    requires { IsOpen (O.sink out.old) channel }
-    ensures { Writes result channel (flat_map (entry_text spec.now) entries.now) (O.sink out.old) (O.sink out.new)
-        (O.faults out.old) (O.faults out.new) }
+pub fn write_holders<O: Outputs>(spec: &Spec, entries: &[Entry], to: &mut Writer<O>)
+    ensures { Says to.old (flat_map (entry_text spec.now) entries.now) to.new }
 {
     for entry in entries {
-        write_holder(spec, entry, out, channel)?;
+        write_holder(spec, entry, to);
     }
-    Ok(())
 }
 
-fn write_holder<O: Outputs>(
-    spec: &Spec,
-    entry: &Entry,
-    out: &mut O,
-    channel: u8,
-) -> Result<(), Failed>
-    requires { IsOpen (O.sink out.old) channel }
-    ensures { Writes result channel (entry_text spec.now entry.now) (O.sink out.old) (O.sink out.new) (O.faults out.old)
-        (O.faults out.new) }
+fn write_holder<O: Outputs>(spec: &Spec, entry: &Entry, to: &mut Writer<O>)
+    ensures { Says to.old (entry_text spec.now entry.now) to.new }
 {
     let name = entry.name.as_bytes();
     match &entry.object {
         Object::CNode { slots, .. } | Object::Pages { slots, .. } => {
-            write_slots(spec, name, slots.as_slice(), out, channel)
+            write_slots(spec, name, slots.as_slice(), to)
         }
-        Object::Thread(tcb) => write_tcb_slots(spec, name, tcb, out, channel),
-        Object::Irq { notification } => write_irq_slot(spec, name, *notification, out, channel),
-        Object::Endpoint => Ok(()),
-        Object::Notification => Ok(()),
-        Object::Frame { .. } => Ok(()),
+        Object::Thread(tcb) => write_tcb_slots(spec, name, tcb, to),
+        Object::Irq { notification } => write_irq_slot(spec, name, *notification, to),
+        Object::Endpoint => {}
+        Object::Notification => {}
+        Object::Frame { .. } => {}
     }
 }
 
-fn write_slots<O: Outputs>(
-    spec: &Spec,
-    name: &[u8],
-    slots: &[(u64, Cap)],
-    out: &mut O,
-    channel: u8,
-) -> Result<(), Failed>
-    requires { IsOpen (O.sink out.old) channel }
-    ensures { Writes result channel (slots_text spec.now name.now slots.now) (O.sink out.old) (O.sink out.new)
-        (O.faults out.old) (O.faults out.new) }
+fn write_slots<O: Outputs>(spec: &Spec, name: &[u8], slots: &[(u64, Cap)], to: &mut Writer<O>)
+    ensures { Says to.old (slots_text spec.now name.now slots.now) to.new }
 {
     if slots.is_empty() {
-        return Ok(());
+        return;
     }
-    write_some_slots(spec, name, slots, out, channel)
+    write_some_slots(spec, name, slots, to);
 }
 
-fn write_some_slots<O: Outputs>(
-    spec: &Spec,
-    name: &[u8],
-    slots: &[(u64, Cap)],
-    out: &mut O,
-    channel: u8,
-) -> Result<(), Failed>
-    requires { IsOpen (O.sink out.old) channel }
-    ensures { Writes result channel (together (name.now ∷ codes " {\n" ∷ []) ⊹ flat_map (slot_line spec.now) slots.now
-        ⊹ codes "}\n") (O.sink out.old) (O.sink out.new) (O.faults out.old) (O.faults out.new) }
+fn write_some_slots<O: Outputs>(spec: &Spec, name: &[u8], slots: &[(u64, Cap)], to: &mut Writer<O>)
+    ensures { Says to.old (together (name.now ∷ codes " {\n" ∷ []) ⊹ flat_map (slot_line spec.now) slots.now
+        ⊹ codes "}\n") to.new }
 {
-    write_parts(out, channel, &[name, b" {\n"])?;
-    write_slot_lines(spec, slots, out, channel)?;
-    write_all(out, channel, b"}\n")
+    to.texts(&[name, b" {\n"]);
+    write_slot_lines(spec, slots, to);
+    to.text(b"}\n");
 }
 
-fn write_slot_lines<O: Outputs>(
-    spec: &Spec,
-    slots: &[(u64, Cap)],
-    out: &mut O,
-    channel: u8,
-) -> Result<(), Failed>
-    requires { IsOpen (O.sink out.old) channel }
-    ensures { Writes result channel (flat_map (slot_line spec.now) slots.now) (O.sink out.old) (O.sink out.new)
-        (O.faults out.old) (O.faults out.new) }
+fn write_slot_lines<O: Outputs>(spec: &Spec, slots: &[(u64, Cap)], to: &mut Writer<O>)
+    ensures { Says to.old (flat_map (slot_line spec.now) slots.now) to.new }
 {
     for slot in slots {
-        write_slot(spec, slot, out, channel)?;
+        write_slot(spec, slot, to);
     }
-    Ok(())
 }
 
-fn write_slot<O: Outputs>(
-    spec: &Spec,
-    slot: &(u64, Cap),
-    out: &mut O,
-    channel: u8,
-) -> Result<(), Failed>
-    requires { IsOpen (O.sink out.old) channel }
-    ensures { Writes result channel (slot_line spec.now slot.now) (O.sink out.old) (O.sink out.new)
-        (O.faults out.old) (O.faults out.new) }
+fn write_slot<O: Outputs>(spec: &Spec, slot: &(u64, Cap), to: &mut Writer<O>)
+    ensures { Says to.old (slot_line spec.now slot.now) to.new }
 {
     let mut digits = [0; 18];
     let number = hexadecimal(slot.0, &mut digits);
-    write_cap(spec, number, b": ", &slot.1, out, channel)
+    write_cap(spec, number, b": ", &slot.1, to);
 }
 
 /// Writes a capability behind a word and a mark, and the end of the line.
@@ -120,32 +74,22 @@ fn write_cap<'a, O: Outputs>(
     word: &'a [u8],
     mark: &'a [u8],
     cap: &'a Cap,
-    out: &mut O,
-    channel: u8,
-) -> Result<(), Failed>
-    requires { IsOpen (O.sink out.old) channel }
-    ensures { Writes result channel (together (word.now ∷ mark.now ∷ []) ⊹ cap_end spec.now cap.now)
-        (O.sink out.old) (O.sink out.new) (O.faults out.old) (O.faults out.new) }
+    to: &mut Writer<O>,
+)
+    ensures { Says to.old (together (word.now ∷ mark.now ∷ []) ⊹ cap_end spec.now cap.now) to.new }
 {
     let name = spec.name(cap.object);
     if cap.badge == 0 {
-        return write_parts(out, channel, &[word, mark, name, end_word(&cap.rights)]);
+        to.texts(&[word, mark, name, end_word(&cap.rights)]);
+        return;
     }
     let rights = rights_word(&cap.rights);
     let mut digits = Buffer::new();
     let badge = digits.format(cap.badge).as_bytes();
     if cap.rights.any() {
-        write_parts(
-            out,
-            channel,
-            &[word, mark, name, b" (", rights, b", badge: ", badge, b")\n"],
-        )
+        to.texts(&[word, mark, name, b" (", rights, b", badge: ", badge, b")\n"]);
     } else {
-        write_parts(
-            out,
-            channel,
-            &[word, mark, name, b" (badge: ", badge, b")\n"],
-        )
+        to.texts(&[word, mark, name, b" (badge: ", badge, b")\n"]);
     }
 }
 
@@ -179,21 +123,11 @@ fn rights_word(rights: &Rights) -> &[u8]
     rights.word()
 }
 
-fn write_tcb_slots<O: Outputs>(
-    spec: &Spec,
-    name: &[u8],
-    tcb: &Tcb,
-    out: &mut O,
-    channel: u8,
-) -> Result<(), Failed>
-    requires { IsOpen (O.sink out.old) channel }
-    ensures { Writes result channel (tcb_text spec.now name.now tcb.now (has_slot tcb.now)) (O.sink out.old) (O.sink out.new)
-        (O.faults out.old) (O.faults out.new) }
+fn write_tcb_slots<O: Outputs>(spec: &Spec, name: &[u8], tcb: &Tcb, to: &mut Writer<O>)
+    ensures { Says to.old (tcb_text spec.now name.now tcb.now (has_slot tcb.now)) to.new }
 {
     if has_slot(tcb) {
-        write_some_tcb_slots(spec, name, tcb, out, channel)
-    } else {
-        Ok(())
+        write_some_tcb_slots(spec, name, tcb, to);
     }
 }
 
@@ -203,54 +137,31 @@ fn has_slot(tcb: &Tcb) -> bool
     tcb.cspace.is_some() || tcb.vspace.is_some() || tcb.buffer.is_some()
 }
 
-fn write_some_tcb_slots<O: Outputs>(
-    spec: &Spec,
-    name: &[u8],
-    tcb: &Tcb,
-    out: &mut O,
-    channel: u8,
-) -> Result<(), Failed>
-    requires { IsOpen (O.sink out.old) channel }
-    ensures { Writes result channel (tcb_text spec.now name.now tcb.now true) (O.sink out.old) (O.sink out.new)
-        (O.faults out.old) (O.faults out.new) }
+fn write_some_tcb_slots<O: Outputs>(spec: &Spec, name: &[u8], tcb: &Tcb, to: &mut Writer<O>)
+    ensures { Says to.old (tcb_text spec.now name.now tcb.now true) to.new }
 {
-    write_parts(out, channel, &[name, b" {\n"])?;
-    write_named(spec, b"cspace: ", tcb.cspace, out, channel)?;
-    write_named(spec, b"vspace: ", tcb.vspace, out, channel)?;
-    write_buffer(spec, tcb.buffer, out, channel)?;
-    write_all(out, channel, b"}\n")
+    to.texts(&[name, b" {\n"]);
+    write_named(spec, b"cspace: ", tcb.cspace, to);
+    write_named(spec, b"vspace: ", tcb.vspace, to);
+    write_buffer(spec, tcb.buffer, to);
+    to.text(b"}\n");
 }
 
-fn write_named<O: Outputs>(
-    spec: &Spec,
-    word: &[u8],
-    object: Option<u32>,
-    out: &mut O,
-    channel: u8,
-) -> Result<(), Failed>
-    requires { IsOpen (O.sink out.old) channel }
-    ensures { Writes result channel (named_line spec.now word.now object) (O.sink out.old) (O.sink out.new) (O.faults out.old)
-        (O.faults out.new) }
+fn write_named<O: Outputs>(spec: &Spec, word: &[u8], object: Option<u32>, to: &mut Writer<O>)
+    ensures { Says to.old (named_line spec.now word.now object) to.new }
 {
     match object {
-        None => Ok(()),
-        Some(object) => write_parts(out, channel, &[word, spec.name(object), b"\n"]),
+        None => {}
+        Some(object) => to.texts(&[word, spec.name(object), b"\n"]),
     }
 }
 
-fn write_buffer<O: Outputs>(
-    spec: &Spec,
-    buffer: Option<Cap>,
-    out: &mut O,
-    channel: u8,
-) -> Result<(), Failed>
-    requires { IsOpen (O.sink out.old) channel }
-    ensures { Writes result channel (buffer_line spec.now buffer) (O.sink out.old) (O.sink out.new) (O.faults out.old)
-        (O.faults out.new) }
+fn write_buffer<O: Outputs>(spec: &Spec, buffer: Option<Cap>, to: &mut Writer<O>)
+    ensures { Says to.old (buffer_line spec.now buffer) to.new }
 {
     match buffer {
-        None => Ok(()),
-        Some(cap) => write_cap(spec, b"ipc_buffer_slot", b": ", &cap, out, channel),
+        None => {}
+        Some(cap) => write_cap(spec, b"ipc_buffer_slot", b": ", &cap, to),
     }
 }
 
@@ -258,19 +169,12 @@ fn write_irq_slot<O: Outputs>(
     spec: &Spec,
     name: &[u8],
     notification: Option<u32>,
-    out: &mut O,
-    channel: u8,
-) -> Result<(), Failed>
-    requires { IsOpen (O.sink out.old) channel }
-    ensures { Writes result channel (irq_text spec.now name.now notification) (O.sink out.old) (O.sink out.new)
-        (O.faults out.old) (O.faults out.new) }
+    to: &mut Writer<O>,
+)
+    ensures { Says to.old (irq_text spec.now name.now notification) to.new }
 {
     match notification {
-        None => Ok(()),
-        Some(notification) => write_parts(
-            out,
-            channel,
-            &[name, b" {\n0x0: ", spec.name(notification), b"\n}\n"],
-        ),
+        None => {}
+        Some(notification) => to.texts(&[name, b" {\n0x0: ", spec.name(notification), b"\n}\n"]),
     }
 }

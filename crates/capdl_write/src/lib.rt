@@ -5,7 +5,6 @@
 //! a canonical text in `specs/Canon.antt`, and texts that are laid out piece by piece in `specs/Pieces.antt`.
 #![tactic(auto)]
 
-mod digits;
 mod holder;
 mod laws;
 mod object;

@@ -1,7 +1,6 @@
 //! What there is to say of a triple.
 
 ghost use Rattle.arch_policy.specs.Tables.{tables_of};
-ghost use Rattle.cam_io.specs.Sinks.{IsOpen, Writes};
 ghost use Rattle.cspace_layout.specs.Within.{IsWithin};
 ghost use Rattle.explain.specs.Answers.{IsAnswer, answer_text, explanation, is_assigned};
 ghost use Rattle.explain.specs.declared.answer.Answer.TheVariants.{Assigned as Told};
@@ -11,7 +10,6 @@ use crate::{ExplainError, Reason, explain, reason_text, together};
 use adl_ast::Source;
 use adl_meaning::{Flat, Settled};
 use cam_base::{NoMemory, Text};
-use cam_io::{Failed, Outputs, write_all};
 use cap_model::Authority;
 use std::alloc::Global;
 
@@ -40,15 +38,13 @@ impl Answer {
         matches!(self, Answer::Assigned(_))
     }
 
-    /// Writes what there is to say to an open channel. Takes no memory.
-    pub fn write<O: Outputs>(&self, out: &mut O, channel: u8) -> Result<(), Failed>
-        requires { IsOpen (O.sink out.old) channel }
-        ensures { Writes result channel (answer_text self.now) (O.sink out.old) (O.sink out.new) (O.faults out.old)
-            (O.faults out.new) }
+    /// What there is to say, as lines.
+    pub fn text(&self) -> &[u8]
+        ensures { result.now ≡ answer_text self.now }
     {
         match self {
-            Answer::Assigned(text) => write_all(out, channel, text.as_bytes()),
-            Answer::NotAssigned => write_all(out, channel, b"not assigned\n"),
+            Answer::Assigned(text) => text.as_bytes(),
+            Answer::NotAssigned => b"not assigned\n",
         }
     }
 }

@@ -15,8 +15,6 @@ pub use Rattle.cam_base.specs.declared.error.NoMemory.{NoMemory}
 pub use Rattle.cam_base.specs.declared.error.Refused.{Refused}
 pub use Rattle.cam_base.specs.declared.text_fault.TextCode.TheVariants.{PolicyLimit, PolicySyntax}
 pub use Rattle.cam_base.specs.declared.text_fault.TextFault.{TextFault}
-pub use Rattle.cam_io.proofs.Lines.{Wrote, lines_begin, lines_end, lines_fail, lines_step}
-pub use Rattle.cam_io.proofs.Sequence.{open_still, writes_after, writes_exit, writes_first}
 pub use Rattle.cap_model.proofs.EdgeOrder.{same_edge_self, same_edge_true}
 pub use Rattle.cap_model.proofs.TableMembers.{has_at, one_table}
 pub use Rattle.cap_model.specs.Edges.{same_edge}

@@ -1,23 +1,15 @@
-//! The writers. After a failure the channel has a front of the text. They take no memory.
+//! Edges by the names of labels.
 
-ghost use Rattle.cam_io.specs.Sinks.{IsOpen, Writes};
+ghost use Rattle.cam_io.specs.Saying.{Says};
 ghost use Rattle.policy_text.specs.EdgeLines.{apart_line, apart_lines, edge_line, words_line};
 
 use crate::Names;
-use cam_io::{Failed, Outputs, write_all, write_parts};
+use cam_io::{Outputs, Writer};
 use cap_model::{Edge, EdgeTable, Hint};
 
 /// Writes an edge behind a word.
-pub fn write_edge<O: Outputs>(
-    word: &[u8],
-    edge: &Edge,
-    names: &Names,
-    out: &mut O,
-    channel: u8,
-) -> Result<(), Failed>
-    requires { IsOpen (O.sink out.old) channel }
-    ensures { Writes result channel (edge_line word.now names.now edge.now) (O.sink out.old) (O.sink out.new)
-        (O.faults out.old) (O.faults out.new) }
+pub fn write_edge<O: Outputs>(word: &[u8], edge: &Edge, names: &Names, to: &mut Writer<O>)
+    ensures { Says to.old (edge_line word.now names.now edge.now) to.new }
 {
     let authority = edge.authority.text().as_bytes();
     write_words(
@@ -25,62 +17,40 @@ pub fn write_edge<O: Outputs>(
         names.name(edge.from),
         authority,
         names.name(edge.to),
-        out,
-        channel,
-    )
+        to,
+    );
 }
 
 fn write_words<O: Outputs>(
     word: &[u8],
     from: &[u8],
     authority: &[u8],
-    to: &[u8],
-    out: &mut O,
-    channel: u8,
-) -> Result<(), Failed>
-    requires { IsOpen (O.sink out.old) channel }
-    ensures { Writes result channel (words_line word.now from.now authority.now to.now) (O.sink out.old) (O.sink out.new)
-        (O.faults out.old) (O.faults out.new) }
+    end: &[u8],
+    to: &mut Writer<O>,
+)
+    ensures { Says to.old (words_line word.now from.now authority.now end.now) to.new }
 {
-    write_parts(
-        out,
-        channel,
-        &[word, from, b" ", authority, b" ", to, b"\n"],
-    )
+    to.texts(&[word, from, b" ", authority, b" ", end, b"\n"]);
 }
 
-fn write_apart<O: Outputs>(
-    edge: &Edge,
-    names: &Names,
-    out: &mut O,
-    channel: u8,
-) -> Result<(), Failed>
-    requires { IsOpen (O.sink out.old) channel }
-    ensures { Writes result channel (apart_line names.now edge.now) (O.sink out.old) (O.sink out.new) (O.faults out.old)
-        (O.faults out.new) }
+fn write_apart<O: Outputs>(edge: &Edge, names: &Names, to: &mut Writer<O>)
+    ensures { Says to.old (apart_line names.now edge.now) to.new }
 {
     if edge.from == edge.to {
-        return write_all(out, channel, b"");
+        to.text(b"");
+    } else {
+        write_edge(b"", edge, names, to);
     }
-    write_edge(b"", edge, names, out, channel)
 }
 
 /// Writes the edges between different labels.
-pub fn write_edges<O: Outputs>(
-    edges: &EdgeTable,
-    names: &Names,
-    out: &mut O,
-    channel: u8,
-) -> Result<(), Failed>
-    requires { IsOpen (O.sink out.old) channel }
-    ensures { Writes result channel (apart_lines names.now edges.now) (O.sink out.old) (O.sink out.new) (O.faults out.old)
-        (O.faults out.new) }
+pub fn write_edges<O: Outputs>(edges: &EdgeTable, names: &Names, to: &mut Writer<O>)
+    ensures { Says to.old (apart_lines names.now edges.now) to.new }
 {
     let mut hint = Hint::first();
     for at in 0..edges.len() {
         if let Some(edge) = edges.get_near(at, &mut hint) {
-            write_apart(&edge, names, out, channel)?;
+            write_apart(&edge, names, to);
         }
     }
-    Ok(())
 }

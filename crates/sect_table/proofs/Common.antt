@@ -5,8 +5,8 @@ pub use Rattle.cam_base.specs.Lines.{Line, is_silent, lines, placed, telling}
 pub use Rattle.cam_base.specs.Numbers.{is_hex_digit, is_hexadecimal, number_value}
 pub use Rattle.cam_base.specs.Parts.{parts}
 pub use Rattle.cam_base.specs.declared.error.Refused.{Refused}
-pub use Rattle.cam_io.proofs.Lines.{Wrote, lines_begin, lines_end, lines_fail, lines_step}
-pub use Rattle.cam_io.proofs.Sequence.{open_still, writes_after, writes_exit, writes_first}
+pub use Rattle.cam_io.proofs.Saying.{said_all, says_line, says_lines, says_nothing, says_then}
+pub use Rattle.cam_io.specs.Saying.{Says}
 pub use Rattle.sect_table.specs.Classes.{fields_end, header_length, length_at}
 pub use Rattle.sect_table.specs.Elf.{Elf, image_of}
 pub use Rattle.sect_table.specs.ElfHeaders.{file_header, headers, headers_from, program_header}

@@ -5,10 +5,10 @@ ghost use Rattle.cam_io.specs.Reading.{InAll, KeepsFiles, LearnsOnly};
 ghost use Rattle.source_commands.specs.Explained.{IsExplained, told};
 ghost use Rattle.std.specs.Prelude.{◌≡◌};
 
-use cam_base::NoMemory;
+use cam_base::{NoMemory, SourceError, Unread};
 use cam_io::Files;
 use explain::{Answer, Question, answer_of};
-use front_end::{BuildError, front};
+use front_end::front;
 use std::alloc::Global;
 
 /// Whether the authority is assigned in the root's source, and the first reason.
@@ -22,7 +22,7 @@ pub fn explain<F: Files>(
     files: &mut F,
     root: &str,
     question: &Question<'_>,
-) -> Result<Answer, BuildError>
+) -> Result<Answer, SourceError>
     ensures kept { KeepsFiles F.told F.faults files.old files.new }
     ensures learned { LearnsOnly F.told (AlikeInSource root.now) files.old files.new }
     ensures explained { InAll (F.told files.new) (λ m. IsExplained question.now.from.now question.now.authority.now
@@ -36,11 +36,11 @@ pub fn explain<F: Files>(
     }
 }
 
-fn told(answer: Result<Answer, NoMemory>) -> Result<Answer, BuildError>
+fn told(answer: Result<Answer, NoMemory>) -> Result<Answer, SourceError>
     ensures { result ≡ told answer }
 {
     match answer {
         Ok(answer) => Ok(answer),
-        Err(NoMemory) => Err(BuildError::NoMemory),
+        Err(NoMemory) => Err(Unread::NoMemory),
     }
 }

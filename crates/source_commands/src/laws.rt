@@ -1,8 +1,7 @@
 //! What is answered, by what the source assigns over its hierarchy of instances: laws, as functions that do nothing.
 
 ghost use Rattle.cam_io.specs.Contents.{Contents};
-ghost use Rattle.front_end.specs.Refusals.{yields};
-ghost use Rattle.front_end.specs.declared.error.BuildError.{BuildError as Refusal};
+ghost use Rattle.cam_base.specs.Unread.{SourceError as Refusal, yields};
 ghost use Rattle.explain.specs.Answers.{is_assigned};
 ghost use Rattle.explain.specs.declared.answer.Answer.{Answer};
 ghost use Rattle.source_commands.specs.Assigned.{AnswersWhether, ListsAssigned};

@@ -7,9 +7,10 @@ ghost use Rattle.cam_io.specs.Sinks.{IsOpen, Writes};
 ghost use Rattle.source_commands.specs.Listed.{IsListed, listing_text};
 ghost use Rattle.std.specs.Prelude.{◌≡◌};
 
-use cam_io::{Failed, Files, Outputs};
+use cam_base::SourceError;
+use cam_io::{Failed, Files, Outputs, Writer};
 use cap_model::{EdgeTable, Policy};
-use front_end::{BuildError, front};
+use front_end::front;
 use policy_text::{Names, write_edges};
 use std::alloc::Global;
 
@@ -47,7 +48,7 @@ impl Listing {
 ///
 /// The first fault of the phases up to the settings, and where there is none the limit on edges, with the name of its file; a
 /// failed read; want of memory.
-pub fn list<F: Files>(alloc: Global, files: &mut F, root: &str) -> Result<Listing, BuildError>
+pub fn list<F: Files>(alloc: Global, files: &mut F, root: &str) -> Result<Listing, SourceError>
     ensures kept { KeepsFiles F.told F.faults files.old files.new }
     ensures learned { LearnsOnly F.told (AlikeInSource root.now) files.old files.new }
     ensures listed { InAll (F.told files.new) (λ m. IsListed root.now m (F.faults files.old) (F.faults files.new) result) }
@@ -64,5 +65,7 @@ pub fn write_listing<O: Outputs>(listing: &Listing, out: &mut O, channel: u8) ->
     ensures { Writes result channel (listing_text listing.now) (O.sink out.old) (O.sink out.new) (O.faults out.old)
         (O.faults out.new) }
 {
-    write_edges(&listing.edges, &listing.names, out, channel)
+    let mut to = Writer::new(out, channel);
+    write_edges(&listing.edges, &listing.names, &mut to);
+    to.close()
 }

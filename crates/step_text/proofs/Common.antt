@@ -8,7 +8,8 @@ pub use Rattle.cam_base.specs.LinesLeft.{line_of, lines_left}
 pub use Rattle.cam_base.specs.Names.{is_letter, is_name, is_word_byte}
 pub use Rattle.cam_base.specs.Numbers.{is_digit, number_value}
 pub use Rattle.cam_base.specs.Parts.{parts}
-pub use Rattle.cam_io.proofs.Lines.{Wrote, lines_begin, lines_end, lines_fail, lines_step}
+pub use Rattle.cam_io.proofs.Saying.{said_all, says_line, says_lines, says_nothing}
+pub use Rattle.cam_io.specs.Saying.{Says}
 pub use Rattle.cap_machine.specs.declared.step.Step.{Step}
 pub use Rattle.cap_model.proofs.Kept.{all_at, kind_is}
 pub use Rattle.cap_model.specs.Lookup.{name_at, object_at}

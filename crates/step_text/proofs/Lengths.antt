@@ -1,37 +1,13 @@
 -- How long the text of steps is, where names are names and numbers fit 64 bits.
-use Rattle.step_text.proofs.Common.{All, All-head, All-tail, Bool, Entry, IsReadable, List, None, Option, Rights, Some, Spec, Step, [], all_at, and_parts, arith, call_line, codes, copy_line, decimal, false, flat_map, grant_line, is_letter, is_name}
-use Rattle.step_text.proofs.Common.{is_word_byte, leb, leb-true, length, length-append, list_all, name_at, number_line, numbers_line, refl, reply_line, rights_field, slice_get, step_line, steps_text, thread_line, true, ℕ, ◌&&◌, ◌*◌, ◌+◌, ◌<◌, ◌^◌}
+use Rattle.step_text.proofs.Common.{All, All-head, All-tail, Bool, Entry, IsReadable, List, None, Option, Rights, Some, Spec, Step, [], all_at, arith, call_line, codes, copy_line, decimal, false, grant_line, is_name}
+use Rattle.step_text.proofs.Common.{length, length-append, list_all, name_at, number_line, numbers_line, refl, reply_line, rights_field, slice_get, step_line, steps_text, thread_line, true, ℕ, ◌*◌, ◌<◌, ◌^◌}
 use Rattle.step_text.proofs.Common.{◌∷◌, ◌≡◌, ◌≤◌}
 use Rattle.std.proofs.Math.Nat.{mul-suc}
-use Rattle.std.proofs.lemmas.Fmt.{length-decimal-le}
-use Rattle.cam_base.specs.Texts.{together}
 use Rattle.cap_machine.specs.declared.step.Step.TheVariants as steps
+use Rattle.cam_base.proofs.Naming.{name_short}
+use Rattle.cam_base.proofs.ShortTexts.{all_short, decimal_short}
 
--- ---- texts in parts
-
-abbrev sum : List ℕ → ℕ
-sum [] = 0
-sum (n ∷ ns) = n + sum ns
-
-abbrev AreShort : List ℕ → List (List ℕ) → Type 0
-AreShort [] [] = Unit {0}
-AreShort [] (x ∷ xs) = ⊥
-AreShort (n ∷ ns) [] = ⊥
-AreShort (n ∷ ns) (x ∷ xs) = (length x ≤ n) × AreShort ns xs
-
-all_short : (ns : List ℕ) (xs : List (List ℕ)) → AreShort ns xs → length (together xs) ≤ sum ns
-unfolding together
-all_short [] [] h = omega arith
-all_short [] (x ∷ xs) h = absurd h
-all_short (n ∷ ns) [] h = absurd h
-all_short (n ∷ ns) (x ∷ xs) h =
-    let a = length-append x (flat_map (λ z. z) xs) in
-    let ih : length (flat_map (λ z. z) xs) ≤ sum ns = all_short ns xs h.1 in
-    let b = h.0 in
-    omega (arith, a, ih, b)
-
-number_short : (n : ℕ) → n < 2 ^ 64 → length (decimal n) ≤ 20
-number_short n l = length-decimal-le 20 n (omega arith) (omega arith) l
+-- ---- fields
 
 rights_short : (r : Rights) → length (rights_field r) ≤ 4
 rights_short r = go r.read r.write r.grant r.reply
@@ -56,12 +32,6 @@ rights_short r = go r.read r.write r.grant r.reply
 
 -- ---- lines
 
-name_short : (name : List ℕ) → is_name name ≡ true → length name ≤ 127
-name_short [] is = omega arith
-name_short (b ∷ bs) is = let few =
-    leb-true (length bs) 126 (and_parts (leb (length bs) 126) (is_letter b && list_all is_word_byte bs) is).0 in
-    omega (arith, few)
-
 module _ (spec : Spec) (named : list_all (λ entry. is_name entry.name) spec.entries ≡ true) where
   at_short : (t : ℕ) → length (name_at spec t) ≤ 127
   at_short t = go (slice_get spec.entries t) refl
@@ -77,7 +47,7 @@ module _ (spec : Spec) (named : list_all (λ entry. is_name entry.name) spec.ent
   of_number : (word : List ℕ) (t i : ℕ) → length word ≤ 10 → i < 2 ^ 64 → length (number_line word (name_at spec t) i) ≤ 330
   of_number word t i w f =
       let s = all_short (10 ∷ 127 ∷ 1 ∷ 20 ∷ 1 ∷ []) (word ∷ name_at spec t ∷ codes " " ∷ decimal i ∷ codes "\n" ∷ [])
-      (w, (at_short t, (omega arith, (number_short i f, (omega arith, tt))))) in
+      (w, (at_short t, (omega arith, (decimal_short i f, (omega arith, tt))))) in
       omega (arith, s)
 
   of_numbers : (word : List ℕ) (t i j : ℕ) → length word ≤ 10 → i < 2 ^ 64 → j < 2 ^ 64
@@ -85,7 +55,7 @@ module _ (spec : Spec) (named : list_all (λ entry. is_name entry.name) spec.ent
   of_numbers word t i j w f g =
       let s = all_short (10 ∷ 127 ∷ 1 ∷ 20 ∷ 1 ∷ 20 ∷ 1 ∷ []) (word ∷ name_at spec t ∷ codes " " ∷ decimal i ∷ codes " "
       ∷ decimal j ∷ codes "\n" ∷ [])
-      (w, (at_short t, (omega arith, (number_short i f, (omega arith, (number_short j g, (omega arith, tt))))))) in
+      (w, (at_short t, (omega arith, (decimal_short i f, (omega arith, (decimal_short j g, (omega arith, tt))))))) in
       omega (arith, s)
 
   of_copy : (word : List ℕ) (t i j : ℕ) (r : Rights) → length word ≤ 10 → i < 2 ^ 64 → j < 2 ^ 64
@@ -98,7 +68,7 @@ module _ (spec : Spec) (named : list_all (λ entry. is_name entry.name) spec.ent
           at_short t,
           (
             omega arith,
-            (number_short i f, (omega arith, (number_short j g, (omega arith, (rights_short r, (omega arith, tt)))))),
+            (decimal_short i f, (omega arith, (decimal_short j g, (omega arith, (rights_short r, (omega arith, tt)))))),
           ),
         ),
       ) in
@@ -108,7 +78,7 @@ module _ (spec : Spec) (named : list_all (λ entry. is_name entry.name) spec.ent
   of_reply t k r f =
       let s = all_short (6 ∷ 127 ∷ 1 ∷ 20 ∷ 1 ∷ 4 ∷ 1 ∷ []) (codes "reply " ∷ name_at spec t ∷ codes " " ∷ decimal k ∷ codes " "
       ∷ rights_field r ∷ codes "\n" ∷ [])
-      (omega arith, (at_short t, (omega arith, (number_short k f, (omega arith, (rights_short r, (omega arith, tt))))))) in
+      (omega arith, (at_short t, (omega arith, (decimal_short k f, (omega arith, (rights_short r, (omega arith, tt))))))) in
       omega (arith, s)
 
   of_call : (t i u j : ℕ) → i < 2 ^ 64 → j < 2 ^ 64 → length (call_line (name_at spec t) i (name_at spec u) j) ≤ 330
@@ -120,7 +90,7 @@ module _ (spec : Spec) (named : list_all (λ entry. is_name entry.name) spec.ent
           at_short t,
           (
             omega arith,
-            (number_short i f, (omega arith, (at_short u, (omega arith, (number_short j g, (omega arith, tt)))))),
+            (decimal_short i f, (omega arith, (at_short u, (omega arith, (decimal_short j g, (omega arith, tt)))))),
           ),
         ),
       ) in
@@ -138,7 +108,7 @@ module _ (spec : Spec) (named : list_all (λ entry. is_name entry.name) spec.ent
           (
             omega arith,
             (
-              number_short i f,
+              decimal_short i f,
               (
                 omega arith,
                 (
@@ -146,8 +116,8 @@ module _ (spec : Spec) (named : list_all (λ entry. is_name entry.name) spec.ent
                   (
                     omega arith,
                     (
-                      number_short j g,
-                      (omega arith, (number_short k h, (omega arith, (rights_short r, (omega arith, tt))))),
+                      decimal_short j g,
+                      (omega arith, (decimal_short k h, (omega arith, (rights_short r, (omega arith, tt))))),
                     ),
                   ),
                 ),

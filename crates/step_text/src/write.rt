@@ -1,5 +1,6 @@
 //! The text of steps.
 
+ghost use Rattle.cam_io.specs.Saying.{Says};
 ghost use Rattle.cam_io.specs.Sinks.{IsOpen, Writes};
 ghost use Rattle.step_text.specs.StepLines.{step_line, steps_text};
 
@@ -7,7 +8,7 @@ use crate::line::{
     write_call, write_copy, write_grant, write_number, write_numbers, write_reply, write_thread,
 };
 use cam_base::List;
-use cam_io::{Failed, Outputs};
+use cam_io::{Failed, Outputs, Writer};
 use cap_machine::Step;
 use cap_model::Spec;
 
@@ -22,59 +23,44 @@ pub fn write_steps<O: Outputs>(
     ensures { Writes result channel (steps_text spec.now steps.now) (O.sink out.old) (O.sink out.new) (O.faults out.old)
         (O.faults out.new) }
 {
-    write_each(spec, steps.as_slice(), out, channel)
+    let mut to = Writer::new(out, channel);
+    write_step_lines(spec, steps.as_slice(), &mut to);
+    to.close()
 }
 
-fn write_each<O: Outputs>(
-    spec: &Spec,
-    steps: &[Step],
-    out: &mut O,
-    channel: u8,
-) -> Result<(), Failed>
-    requires { IsOpen (O.sink out.old) channel }
-    ensures { Writes result channel (steps_text spec.now steps.now) (O.sink out.old) (O.sink out.new) (O.faults out.old)
-        (O.faults out.new) }
+/// Writes steps, a line for each.
+pub fn write_step_lines<O: Outputs>(spec: &Spec, steps: &[Step], to: &mut Writer<O>)
+    ensures { Says to.old (steps_text spec.now steps.now) to.new }
 {
     for step in steps {
-        write_step(spec, *step, out, channel)?;
+        write_step(spec, *step, to);
     }
-    Ok(())
 }
 
-fn write_step<O: Outputs>(spec: &Spec, step: Step, out: &mut O, channel: u8) -> Result<(), Failed>
-    requires { IsOpen (O.sink out.old) channel }
-    ensures { Writes result channel (step_line spec.now step) (O.sink out.old) (O.sink out.new) (O.faults out.old)
-        (O.faults out.new) }
+fn write_step<O: Outputs>(spec: &Spec, step: Step, to: &mut Writer<O>)
+    ensures { Says to.old (step_line spec.now step) to.new }
 {
     match step {
-        Step::Take { t, i, j, r } => write_copy(b"take ", spec.name(t), (i, j), r, out, channel),
-        Step::Put { t, i, j, r } => write_copy(b"put ", spec.name(t), (i, j), r, out, channel),
-        Step::Map { t, i, j, r } => write_copy(b"map ", spec.name(t), (i, j), r, out, channel),
-        Step::Grant { t, i, u, j, k, r } => {
-            write_grant(spec, (t, i), (u, j), (k, r), out, channel)
-        }
-        Step::Call { t, i, u, j } => write_call(spec, (t, i), (u, j), out, channel),
-        Step::Reply { t, copy: None } => write_thread(b"reply ", spec.name(t), out, channel),
+        Step::Take { t, i, j, r } => write_copy(b"take ", spec.name(t), (i, j), r, to),
+        Step::Put { t, i, j, r } => write_copy(b"put ", spec.name(t), (i, j), r, to),
+        Step::Map { t, i, j, r } => write_copy(b"map ", spec.name(t), (i, j), r, to),
+        Step::Grant { t, i, u, j, k, r } => write_grant(spec, (t, i), (u, j), (k, r), to),
+        Step::Call { t, i, u, j } => write_call(spec, (t, i), (u, j), to),
+        Step::Reply { t, copy: None } => write_thread(b"reply ", spec.name(t), to),
         Step::Reply {
             t,
             copy: Some(copy),
-        } => write_reply(spec.name(t), copy, out, channel),
-        Step::SetCspace { t, i, j } => {
-            write_numbers(b"setcspace ", spec.name(t), i, j, out, channel)
-        }
-        Step::SetVspace { t, i, j } => {
-            write_numbers(b"setvspace ", spec.name(t), i, j, out, channel)
-        }
-        Step::Bind { t, i, j } => write_numbers(b"bind ", spec.name(t), i, j, out, channel),
-        Step::Drop { t, i } => write_number(b"drop ", spec.name(t), i, out, channel),
-        Step::Save { t } => write_thread(b"save ", spec.name(t), out, channel),
-        Step::ReplyTo { t, i, copy: None } => {
-            write_number(b"replyto ", spec.name(t), i, out, channel)
-        }
+        } => write_reply(spec.name(t), copy, to),
+        Step::SetCspace { t, i, j } => write_numbers(b"setcspace ", spec.name(t), i, j, to),
+        Step::SetVspace { t, i, j } => write_numbers(b"setvspace ", spec.name(t), i, j, to),
+        Step::Bind { t, i, j } => write_numbers(b"bind ", spec.name(t), i, j, to),
+        Step::Drop { t, i } => write_number(b"drop ", spec.name(t), i, to),
+        Step::Save { t } => write_thread(b"save ", spec.name(t), to),
+        Step::ReplyTo { t, i, copy: None } => write_number(b"replyto ", spec.name(t), i, to),
         Step::ReplyTo {
             t,
             i,
             copy: Some(copy),
-        } => { write_copy(b"replyto ", spec.name(t), (i, copy.0), copy.1, out, channel) }
+        } => write_copy(b"replyto ", spec.name(t), (i, copy.0), copy.1, to),
     }
 }

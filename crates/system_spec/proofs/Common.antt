@@ -8,9 +8,6 @@ pub use Rattle.arch_policy.specs.declared.owner.Owner.TheVariants.{OfConnection,
 pub use Rattle.cam_base.proofs.Gathered.{from_gather, from_ones, from_place, gather_more, gather_ones, gather_same, gather_turn, get_behind, get_front, get_ones, in_append, in_gather, in_left, in_place, in_right, length_append, place_of, split_get}
 pub use Rattle.cam_base.proofs.NumberedLists.{at_place, from_map, get_map, length-gather, read_in, read_place, single, taken_le}
 pub use Rattle.cam_base.specs.Gather.{IsIn, before, gather}
-pub use Rattle.cam_base.specs.Paths.{joined}
-pub use Rattle.cam_io.proofs.Lines.{Wrote, lines_begin, lines_end, lines_fail, lines_step}
-pub use Rattle.cam_io.proofs.Sequence.{open_still, writes_after, writes_exit, writes_first, wrote_none}
 pub use Rattle.cap_model.specs.Lookup.{entry_name, entry_object, object_at}
 pub use Rattle.cap_model.specs.declared.cap.Cap.{Cap}
 pub use Rattle.cap_model.specs.declared.level.Level.{Level}
@@ -25,7 +22,7 @@ pub use Rattle.page_tables.proofs.Leveled.{as_many}
 pub use Rattle.page_tables.specs.Levels.{layers, sizes, table_of}
 pub use Rattle.page_tables.specs.Runs.{Rises}
 pub use Rattle.page_tables.specs.Shapes.{shapes}
-pub use Rattle.std.proofs.Common.{Bool, List, None, Option, Result, Some, [], add-one, ap, append-nil, append_assoc, arith, codes, cond, drop, false, filter, get_or, inl, inr, is_lt, length, map, nat_cmp, refl, rules, subst, suc, suc-le-suc, sym}
+pub use Rattle.std.proofs.Common.{Bool, List, None, Option, Some, [], add-one, ap, append_assoc, arith, cond, drop, false, filter, get_or, inl, inr, is_lt, length, map, nat_cmp, refl, rules, subst, suc, suc-le-suc, sym}
 pub use Rattle.std.proofs.Common.{take, true, zero, zero-le, ℕ, ◌*◌, ◌++◌, ◌+◌, ◌-◌, ◌<◌, ◌==◌, ◌^◌, ◌∙◌, ◌∷◌, ◌≡◌, ◌≤◌, ◌⊎◌}
 pub use Rattle.std.proofs.Math.Dec.{ltb}
 pub use Rattle.std.proofs.lemmas.Bool.{cases_Bool, cases_eq, cond-false, cond-true, le-ltb, leb-false, leb-true, lt-ltb, ltb-false, ltb-true, ne_eqb}
@@ -43,7 +40,7 @@ pub use Rattle.system_spec.specs.Landmarks.{IsThere, all_spaces, copied, objects
 pub use Rattle.system_spec.specs.LevelNumbers.{counted, counts, counts_in, one_more}
 pub use Rattle.system_spec.specs.Made.{entry, part_label, spec_of}
 pub use Rattle.system_spec.specs.MapLines.{domain_lines, domain_slots, domain_threads, domain_windows, slot_line, slot_lines, thread_lines, thread_lines_from, window_line, window_lines}
-pub use Rattle.system_spec.specs.MapText.{Named, end_text, joined_text, line_text, named}
+pub use Rattle.system_spec.specs.MapText.{line_text, named}
 pub use Rattle.system_spec.specs.Objects.{buffer_cap, by_number, cap, frame_at, joint, joint_by, line, line_by, object, put_line, rights_at, tcb, use_cap, use_cap_at}
 pub use Rattle.system_spec.specs.Parts.{all_tables, cnodes, domain_locks, domain_tables, domain_tcbs, endpoint, endpoint_by, endpoints, first_of, frame_parts, irq, irq_by, irqs, is_of, level_of, lock, locks, notification, notification_by}
 pub use Rattle.system_spec.specs.Parts.{notifications, numbered, owned, page_mapping, page_table, part, parts, place, sections, table_part, table_parts, tables_at, tcbs, threads_of, together}

@@ -6,7 +6,6 @@ pub mod Finding
 pub mod LeastBits
 pub mod LevelCounting
 pub mod MapPlaces
-pub mod Mapping
 pub mod Objects
 pub mod Placing
 pub mod Sizes

@@ -70,7 +70,7 @@ impl Series {
 }
 
 /// Puts a piece behind so many bytes, and answers where it ends.
-pub(crate) fn put_behind(bytes: &mut [u8], end: usize, piece: &[u8]) -> usize
+fn put_behind(bytes: &mut [u8], end: usize, piece: &[u8]) -> usize
     requires { end + length piece.now ≤ length bytes.old }
     ensures same { length bytes.new ≡ length bytes.old }
     ensures past { result ≡ end + length piece.now }

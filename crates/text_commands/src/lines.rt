@@ -1,18 +1,19 @@
-//! The lines that commands print. After a failure the channel has a front of the text. Nothing here takes memory.
+//! The lines that commands print. Nothing here takes memory.
 
+ghost use Rattle.cam_io.specs.Saying.{Says};
 ghost use Rattle.cam_io.specs.Sinks.{IsOpen, Writes};
 ghost use Rattle.std.specs.Prelude.{◌≡◌};
 ghost use Rattle.std.specs.List.{flat_map};
-ghost use Rattle.text_commands.specs.Lines.{code_text, count_line, fault_line, have_line, illegal_text, number_text, place_text, reach_line, refusal_text, report_text, rule_line, run_text, space_before, why_of};
+ghost use Rattle.text_commands.specs.Lines.{code_text, fault_line, have_line, illegal_text, number_text, place_text, refusal_text, report_text, run_text, space_before, why_of};
 
 use crate::InputFault;
-use cam_io::{Failed, Outputs, write_all, write_parts};
+use cam_io::{Failed, Outputs, Writer, write_parts};
 use cap_audit::AuditReport;
 use cap_machine::Why;
 use cap_model::{Edge, EdgeTable, Spec};
 use itoa::Buffer;
 use policy_text::{Names, write_edge, write_edges};
-use step_text::write_steps;
+use step_text::write_step_lines;
 
 fn space_before(name: &[u8]) -> &[u8]
     ensures { result.now ≡ space_before name.now }
@@ -20,7 +21,7 @@ fn space_before(name: &[u8]) -> &[u8]
     if name.is_empty() { b"" } else { b" " }
 }
 
-/// Writes the line of a fault.
+/// Writes the line of a fault to an open channel. After a failure the channel has a front of it.
 pub fn write_fault<O: Outputs>(
     file: &[u8],
     fault: &InputFault,
@@ -31,84 +32,45 @@ pub fn write_fault<O: Outputs>(
     ensures { Writes result channel (fault_line file.now fault.now) (O.sink out.old) (O.sink out.new) (O.faults out.old)
         (O.faults out.new) }
 {
-    write_place(file, fault.first, fault.end, out, channel)?;
     let (word, title) = (fault.code.word().as_bytes(), fault.code.title().as_bytes());
-    write_code(word, title, fault.name.as_bytes(), out, channel)
+    let mut to = Writer::new(out, channel);
+    write_place(file, fault.first, fault.end, &mut to);
+    write_code(word, title, fault.name.as_bytes(), &mut to);
+    to.close()
 }
 
 /// Writes the place of a fault in a file, and a colon behind it.
-pub fn write_place<O: Outputs>(
-    file: &[u8],
-    first: u64,
-    end: u64,
-    out: &mut O,
-    channel: u8,
-) -> Result<(), Failed>
-    requires { IsOpen (O.sink out.old) channel }
-    ensures { Writes result channel (place_text file.now first end) (O.sink out.old) (O.sink out.new) (O.faults out.old)
-        (O.faults out.new) }
+pub fn write_place<O: Outputs>(file: &[u8], first: u64, end: u64, to: &mut Writer<O>)
+    ensures { Says to.old (place_text file.now first end) to.new }
 {
     let (mut front, mut back) = (Buffer::new(), Buffer::new());
     let first = front.format(first).as_bytes();
     let end = back.format(end).as_bytes();
-    write_parts(out, channel, &[file, b":", first, b"-", end, b": "])
+    to.texts(&[file, b":", first, b"-", end, b": "]);
 }
 
 /// Writes the word and the title of a fault's code, the name that it speaks of, and a line feed.
-pub fn write_code<O: Outputs>(
-    word: &[u8],
-    title: &[u8],
-    name: &[u8],
-    out: &mut O,
-    channel: u8,
-) -> Result<(), Failed>
-    requires { IsOpen (O.sink out.old) channel }
-    ensures { Writes result channel (code_text word.now title.now name.now) (O.sink out.old) (O.sink out.new)
-        (O.faults out.old) (O.faults out.new) }
+pub fn write_code<O: Outputs>(word: &[u8], title: &[u8], name: &[u8], to: &mut Writer<O>)
+    ensures { Says to.old (code_text word.now title.now name.now) to.new }
 {
     let space = space_before(name);
-    write_parts(out, channel, &[word, b" ", title, space, name, b"\n"])
+    to.texts(&[word, b" ", title, space, name, b"\n"]);
 }
 
-fn write_have<O: Outputs>(
-    edge: &Option<Edge>,
-    names: &Names,
-    out: &mut O,
-    channel: u8,
-) -> Result<(), Failed>
-    requires { IsOpen (O.sink out.old) channel }
-    ensures { Writes result channel (have_line names.now edge.now) (O.sink out.old) (O.sink out.new) (O.faults out.old)
-        (O.faults out.new) }
+fn write_have<O: Outputs>(edge: &Option<Edge>, names: &Names, to: &mut Writer<O>)
+    ensures { Says to.old (have_line names.now edge.now) to.new }
 {
-    match edge {
-        Some(edge) => write_edge(b"have ", edge, names, out, channel),
-        None => write_all(out, channel, b""),
+    if let Some(edge) = edge {
+        write_edge(b"have ", edge, names, to);
     }
 }
 
-fn write_haves<O: Outputs>(
-    have: &[Option<Edge>],
-    names: &Names,
-    out: &mut O,
-    channel: u8,
-) -> Result<(), Failed>
-    requires { IsOpen (O.sink out.old) channel }
-    ensures { Writes result channel (flat_map (have_line names.now) have.now) (O.sink out.old) (O.sink out.new)
-        (O.faults out.old) (O.faults out.new) }
+fn write_haves<O: Outputs>(have: &[Option<Edge>], names: &Names, to: &mut Writer<O>)
+    ensures { Says to.old (flat_map (have_line names.now) have.now) to.new }
 {
     for edge in have {
-        write_have(edge, names, out, channel)?;
+        write_have(edge, names, to);
     }
-    Ok(())
-}
-
-fn write_rule<O: Outputs>(rule: u8, out: &mut O, channel: u8) -> Result<(), Failed>
-    requires { IsOpen (O.sink out.old) channel }
-    ensures { Writes result channel (rule_line rule) (O.sink out.old) (O.sink out.new) (O.faults out.old) (O.faults out.new) }
-{
-    let mut digits = Buffer::new();
-    let rule = digits.format(rule).as_bytes();
-    write_parts(out, channel, &[b"no V", rule, b"\n"])
 }
 
 /// Writes that a rule fails, and the edges that show it.
@@ -124,18 +86,12 @@ pub fn write_refusal<O: Outputs>(
     ensures { Writes result channel (refusal_text names.now rule have.now lack.now) (O.sink out.old) (O.sink out.new)
         (O.faults out.old) (O.faults out.new) }
 {
-    write_rule(rule, out, channel)?;
-    write_haves(have, names, out, channel)?;
-    write_edge(b"lack ", lack, names, out, channel)
-}
-
-fn write_count<O: Outputs>(count: usize, out: &mut O, channel: u8) -> Result<(), Failed>
-    requires { IsOpen (O.sink out.old) channel }
-    ensures { Writes result channel (count_line count) (O.sink out.old) (O.sink out.new) (O.faults out.old) (O.faults out.new) }
-{
     let mut digits = Buffer::new();
-    let count = digits.format(count).as_bytes();
-    write_parts(out, channel, &[b"ok ", count, b" steps\n"])
+    let mut to = Writer::new(out, channel);
+    to.texts(&[b"no V", digits.format(rule).as_bytes(), b"\n"]);
+    write_haves(have, names, &mut to);
+    write_edge(b"lack ", lack, names, &mut to);
+    to.close()
 }
 
 /// Writes how many steps were made, and the edges of the last state.
@@ -150,8 +106,11 @@ pub fn write_run<O: Outputs>(
     ensures { Writes result channel (run_text names.now count edges.now) (O.sink out.old) (O.sink out.new) (O.faults out.old)
         (O.faults out.new) }
 {
-    write_count(count, out, channel)?;
-    write_edges(edges, names, out, channel)
+    let mut digits = Buffer::new();
+    let mut to = Writer::new(out, channel);
+    to.texts(&[b"ok ", digits.format(count).as_bytes(), b" steps\n"]);
+    write_edges(edges, names, &mut to);
+    to.close()
 }
 
 /// The word of an answer of the table, with a space behind it where a number follows, and the number.
@@ -214,26 +173,6 @@ pub fn write_illegal<O: Outputs>(
     )
 }
 
-fn write_reach<O: Outputs>(
-    edges: usize,
-    steps: usize,
-    out: &mut O,
-    channel: u8,
-) -> Result<(), Failed>
-    requires { IsOpen (O.sink out.old) channel }
-    ensures { Writes result channel (reach_line edges steps) (O.sink out.old) (O.sink out.new) (O.faults out.old)
-        (O.faults out.new) }
-{
-    let (mut front, mut back) = (Buffer::new(), Buffer::new());
-    let edges = front.format(edges).as_bytes();
-    let steps = back.format(steps).as_bytes();
-    write_parts(
-        out,
-        channel,
-        &[b"reach ", edges, b" edges ", steps, b" steps\n"],
-    )
-}
-
 /// Writes how many edges runs reach and how many steps show them, the edges, and the steps.
 pub fn write_report<O: Outputs>(
     report: &AuditReport,
@@ -246,7 +185,16 @@ pub fn write_report<O: Outputs>(
     ensures { Writes result channel (report_text names.now spec.now report.now) (O.sink out.old) (O.sink out.new)
         (O.faults out.old) (O.faults out.new) }
 {
-    write_reach(report.edges.len(), report.steps.len(), out, channel)?;
-    write_edges(&report.edges, names, out, channel)?;
-    write_steps(spec, &report.steps, out, channel)
+    let (mut edges, mut steps) = (Buffer::new(), Buffer::new());
+    let mut to = Writer::new(out, channel);
+    to.texts(&[
+        b"reach ",
+        edges.format(report.edges.len()).as_bytes(),
+        b" edges ",
+        steps.format(report.steps.len()).as_bytes(),
+        b" steps\n",
+    ]);
+    write_edges(&report.edges, names, &mut to);
+    write_step_lines(spec, report.steps.as_slice(), &mut to);
+    to.close()
 }

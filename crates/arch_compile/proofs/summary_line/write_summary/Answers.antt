@@ -15,4 +15,4 @@ returns g c =
       c.format-5.ensures.text,
       c.as_bytes-6.ensures.value,
       c.format-6.ensures.text,
-    ) at c.write_parts.ensures
+    ) at c.texts.ensures

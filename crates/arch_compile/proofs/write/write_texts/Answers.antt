@@ -1,3 +1,5 @@
+use Rattle.std.proofs.Common.{rules}
+use Rattle.cam_io.proofs.Saying.{said_all}
 use Rattle.arch_compile.proofs.Common.{acts_one, arith, refl}
 use Rattle.arch_compile.proofs.Scripts.{acts_failed, acts_then, still_fresh}
 use Rattle.arch_compile.proofs.write.write_texts.Goals as goal
@@ -22,5 +24,6 @@ returns g c =
     let policy = rw c.as_str-2.ensures.value at c.in_ok-write_rules.ensures in
     let cert = rw c.as_str-3.ensures.value at c.in_ok-write_certificate.ensures in
     let map = rw c.as_str-4.ensures.value at c.in_ok-write_places.ensures in
-    let summary = rw c.of.ensures at c.write_summary.ensures in
+    let line = rw c.of-summary.ensures at c.write_summary.ensures in
+    let summary = said_all c.new-to.ensures.channel c.new-to.ensures.said line c.close.ensures.result (search rules) in
     acts_then capdl (acts_then policy (acts_then cert (acts_then map (acts_one summary))))

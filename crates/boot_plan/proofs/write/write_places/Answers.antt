@@ -1,29 +1,18 @@
-use Rattle.boot_plan.proofs.Common.{length, length_push, lines_begin, lines_end, lines_fail, lines_step, place_line, rules, writes_exit, zip, zip_end, zip_turn}
+use Rattle.boot_plan.proofs.Common.{length, length_push, place_line, rules, says_line, says_lines, says_nothing, zip, zip_end, zip_turn}
 use Rattle.boot_plan.proofs.Zipping.{few_turn, turn, turned}
 use Rattle.boot_plan.proofs.write.write_places.Goals as goal
 
 pub loop-entry-init : goal.loop-entry-init
-loop-entry-init g c = lines_begin (place_line c.args.spec.now.arch) (zip c.args.spec.now.entries c.args.places.now)
-    c.requires.open
+loop-entry-init g c = says_nothing
 
-pub write_place-requires-clause-few : goal.write_place-requires-clause-few
-write_place-requires-clause-few g c =
+pub write_place-requires : goal.write_place-requires
+write_place-requires g c =
     let t = turn c.args.spec.now.entries c.args.places.now (length c.loop-entry.yielded) c.in-Some.entry.now c.in-Some.place.now
     (zip_turn c.args.spec.now.entries c.args.places.now c.loop-entry.yielded c.into_iter-entry-iterator.result
     c.loop-entry.entry-iterator c.next.new.self c.next.result (search rules) (search rules) c.loop-entry.yielded_by
     (c.in-Some.entry, c.in-Some.place) c.in-Some.is c.next.ensures.steps) in
     few_turn c.args.spec.now c.args.places.now (length c.loop-entry.yielded) c.in-Some.entry.now c.in-Some.place.now
-    c.requires.kept t
-
-pub returns-in_err-write_place : goal.returns-in_err-write_place
-returns-in_err-write_place g c =
-    let t = turn c.args.spec.now.entries c.args.places.now (length c.loop-entry.yielded) c.in-Some.entry.now c.in-Some.place.now
-    (zip_turn c.args.spec.now.entries c.args.places.now c.loop-entry.yielded c.into_iter-entry-iterator.result
-    c.loop-entry.entry-iterator c.next.new.self c.next.result (search rules) (search rules) c.loop-entry.yielded_by
-    (c.in-Some.entry, c.in-Some.place) c.in-Some.is c.next.ensures.steps) in
-    writes_exit c.from_residual.ensures.0 (lines_fail (place_line c.args.spec.now.arch)
-    (zip c.args.spec.now.entries c.args.places.now) (length c.loop-entry.yielded) (c.in-Some.entry.now, c.in-Some.place.now)
-    t.within t.is c.loop-entry.invariant c.in_err-write_place.ensures)
+    c.requires t
 
 pub loop-entry-preserved : goal.loop-entry-preserved
 loop-entry-preserved g c =
@@ -31,12 +20,12 @@ loop-entry-preserved g c =
     (zip_turn c.args.spec.now.entries c.args.places.now c.loop-entry.yielded c.into_iter-entry-iterator.result
     c.loop-entry.entry-iterator c.next.new.self c.next.result (search rules) (search rules) c.loop-entry.yielded_by
     (c.in-Some.entry, c.in-Some.place) c.in-Some.is c.next.ensures.steps) in
-    rw length_push (lines_step (place_line c.args.spec.now.arch) (zip c.args.spec.now.entries c.args.places.now)
+    rw length_push (says_line (place_line c.args.spec.now.arch) (zip c.args.spec.now.entries c.args.places.now)
     (length c.loop-entry.yielded) (c.in-Some.entry.now, c.in-Some.place.now) t.within t.is c.loop-entry.invariant
-    c.in_ok-write_place.ensures)
+    c.write_place.ensures)
 
 pub returns : goal.returns
-returns g c = lines_end (place_line c.args.spec.now.arch) (zip c.args.spec.now.entries c.args.places.now)
+returns g c = says_lines (place_line c.args.spec.now.arch) (zip c.args.spec.now.entries c.args.places.now)
     (length c.loop-entry.yielded)
     (turned c.args.spec.now.entries c.args.places.now (length c.loop-entry.yielded)
     (zip_end c.args.spec.now.entries c.args.places.now c.loop-entry.yielded c.into_iter-entry-iterator.result

@@ -1,13 +1,8 @@
-use Rattle.std.proofs.Common.{◌≡◌, ◌<◌, ℕ, List, [], sym, length, get_or, arith, Bor}
-use Rattle.std.proofs.lemmas.Option.{get_or_from_slice_get, slice_get-get_or}
+use Rattle.std.proofs.Common.{[], get_or, arith}
 use Rattle.cam_base.proofs.Joined.{together_map}
-use Rattle.cam_io.proofs.Lines.{lines_begin, lines_end, lines_fail, lines_step}
+use Rattle.cam_io.proofs.Lines.{lines_begin, lines_end, lines_fail, lines_step, read_is}
 use Rattle.cam_io.proofs.Sequence.{writes_exit}
 use Rattle.cam_io.proofs.write.write_each.Goals as goal
-
--- a piece that is read with a default is itself the default
-read_is : (xs : List (Bor (List ℕ))) (i : ℕ) (d : Bor (List ℕ)) → i < length xs → get_or xs i d ≡ get_or xs i (get_or xs i d)
-read_is xs i d h = sym (get_or_from_slice_get xs i (get_or xs i d) (get_or xs i d) (slice_get-get_or xs i d h))
 
 pub loop-part-init : goal.loop-part-init
 loop-part-init g c = lines_begin (λ p. p.now) c.args.parts.now c.requires

@@ -1,11 +1,8 @@
-use Rattle.camkes_tool.proofs.Common.{open_still, writes_after, writes_exit, writes_first}
+use Rattle.std.proofs.Common.{rules}
+use Rattle.cam_io.proofs.Saying.{said_all, says_then}
 use Rattle.camkes_tool.proofs.write.write_generated.Goals as goal
 
-pub returns-in_err-write_summary : goal.returns-in_err-write_summary
-returns-in_err-write_summary g c = writes_exit c.from_residual.ensures.0 (writes_first _ c.in_err-write_summary.ensures)
-
-pub write_all-requires : goal.write_all-requires
-write_all-requires g c = open_still c.in_ok-write_summary.ensures c.requires
-
 pub returns : goal.returns
-returns g c = writes_after c.write_all.ensures.writes c.in_ok-write_summary.ensures
+returns g c =
+    let all = says_then c.write_summary.ensures c.text.ensures in
+    said_all c.new-to.ensures.channel c.new-to.ensures.said all c.close.ensures.result (search rules)

@@ -1,9 +1,9 @@
 use Rattle.capdl_write.proofs.CapEnds.{buffer_word}
-use Rattle.capdl_write.proofs.Nothing.{wrote_no_text}
+use Rattle.cam_io.proofs.Saying.{says_nothing}
 use Rattle.capdl_write.proofs.holder.write_buffer.Goals as goal
 
 pub returns-in-None : goal.returns-in-None
-returns-in-None g c = rw c.in-None.is wrote_no_text
+returns-in-None g c = rw c.in-None.is says_nothing
 
 pub returns-in-Some : goal.returns-in-Some
 returns-in-Some g c =

@@ -8,7 +8,7 @@ not_zero n h = grind (arith, nat_tests)
 
 pub returns-then-cap-eq0 : goal.returns-then-cap-eq0
 returns-then-cap-eq0 g c =
-    let h = rw (c.name-name.ensures, c.end_word.ensures, without_badge) at c.write_parts.ensures in
+    let h = rw (c.name-name.ensures, c.end_word.ensures, without_badge) at c.texts.ensures in
     rw (c.if-cap-eq0.true) h
 
 pub returns-then-any : goal.returns-then-any
@@ -19,11 +19,11 @@ returns-then-any g c =
       c.as_bytes-badge.ensures.value,
       c.format.ensures.text,
       with_both,
-    ) at c.write_parts-then-any.ensures in
+    ) at c.texts-then-any.ensures in
     rw (sym c.any.ensures ∙ c.if-any.true, not_zero c.args.cap.now.badge c.if-cap-eq0.false) h
 
 pub returns-else-any : goal.returns-else-any
 returns-else-any g c =
     let h = rw (c.name-name.ensures, c.as_bytes-badge.ensures.value, c.format.ensures.text, with_badge) at
-    c.write_parts-else-any.ensures in
+    c.texts-else-any.ensures in
     rw (sym c.any.ensures ∙ c.if-any.false, not_zero c.args.cap.now.badge c.if-cap-eq0.false) h

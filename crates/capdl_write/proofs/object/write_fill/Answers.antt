@@ -1,8 +1,8 @@
-use Rattle.capdl_write.proofs.Nothing.{wrote_no_text}
+use Rattle.cam_io.proofs.Saying.{says_nothing}
 use Rattle.capdl_write.proofs.object.write_fill.Goals as goal
 
 pub returns-in-None : goal.returns-in-None
-returns-in-None g c = rw c.in-None.is wrote_no_text
+returns-in-None g c = rw c.in-None.is says_nothing
 
 pub returns-in-Some : goal.returns-in-Some
 returns-in-Some g c =
@@ -13,5 +13,5 @@ returns-in-Some g c =
       c.format-in-Some.ensures.text,
       c.as_bytes-in-Some-2.ensures,
       c.hexadecimal.ensures,
-    ) at c.write_parts.ensures in
+    ) at c.texts.ensures in
     rw c.in-Some.is h

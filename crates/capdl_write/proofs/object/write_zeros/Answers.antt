@@ -3,10 +3,10 @@ use Rattle.capdl_write.proofs.object.write_zeros.Goals as goal
 
 pub returns-in-None : goal.returns-in-None
 returns-in-None g c =
-    let h = rw bare_frame at c.write_parts.ensures in
+    let h = rw bare_frame at c.texts.ensures in
     rw c.in-None.is h
 
 pub returns-in-Some : goal.returns-in-Some
 returns-in-Some g c =
-    let h = rw (c.hexadecimal.ensures, device_frame) at c.write_parts-in-Some.ensures in
+    let h = rw (c.hexadecimal.ensures, device_frame) at c.texts-in-Some.ensures in
     rw c.in-Some.is h

@@ -1,9 +1,6 @@
-use Rattle.policy_text.proofs.Common.{Wrote, apart_line, flat_map, take}
+use Rattle.cam_io.specs.Saying.{Says}
+use Rattle.policy_text.proofs.Common.{apart_line, flat_map, take}
 use Rattle.policy_text.proofs.edges.write_edges.Given as goal
 
 abbrev pub invariant-loop-at : goal.invariant-loop-at
-invariant-loop-at g l =
-    let sink = g.O.Outputs.sink in
-    let faults = g.O.Outputs.faults in
-    Wrote l.channel (flat_map (apart_line l.names) (take l.at l.edges)) (sink l.fn.out) (sink l.out) (faults l.fn.out)
-    (faults l.out)
+invariant-loop-at g l = Says l.fn.to (flat_map (apart_line l.names) (take l.at l.edges)) l.to

@@ -1,7 +1,16 @@
-use Rattle.system_spec.proofs.Common.{List, arith, flat_map, wrote_none, ℕ, ◌∷◌}
-use Rattle.system_spec.proofs.Mapping.{dotted_none}
+use Rattle.cam_io.proofs.Saying.{says_line, says_lines, says_more, says_nothing}
+use Rattle.system_spec.proofs.Common.{List, arith, ℕ, ◌∷◌}
 use Rattle.system_spec.proofs.map_text.write_dotted.Goals as goal
 
-pub returns-then-is_empty : goal.returns-then-is_empty
-returns-then-is_empty g c =
-    wrote_none (flat_map (λ (n : List ℕ). 46 ∷ n) c.args.names.now) (dotted_none c.args.names.now (grind arith))
+pub loop-name-init : goal.loop-name-init
+loop-name-init g c = says_nothing
+
+pub loop-name-preserved : goal.loop-name-preserved
+loop-name-preserved g c =
+    let named = says_more c.text.ensures (rw c.as_bytes.ensures.bytes at c.text-in-loop-name.ensures) in
+    says_line (λ (name : List ℕ). 46 ∷ name) c.args.names.now c.loop-name.name-index c.name-item.result (omega arith)
+    c.name-item.is c.loop-name.invariant named
+
+pub returns : goal.returns
+returns g c =
+    says_lines (λ (name : List ℕ). 46 ∷ name) c.args.names.now c.loop-name.name-index (omega arith) c.loop-name.invariant

@@ -1,9 +1,10 @@
-use Rattle.system_spec.proofs.Common.{end_text, named, sym, wrote_none, ◌∙◌}
-use Rattle.system_spec.proofs.Mapping.{no_text}
+use Rattle.cam_io.proofs.Saying.{says_then}
+use Rattle.system_spec.proofs.Common.{sym, ◌∙◌}
 use Rattle.system_spec.proofs.map_text.write_end.Goals as goal
 
-pub returns-in-None : goal.returns-in-None
-returns-in-None g c =
-    let n = named c.args.names.now in
-    wrote_none (end_text n c.args.connection c.args.end) (no_text n c.args.connection c.args.end (sym c.end_of.ensures
-    ∙ c.in-None.is))
+pub returns-in-Some : goal.returns-in-Some
+returns-in-Some g c =
+    let leaf = rw c.leaf_path.ensures at c.write_path.ensures in
+    let name = rw c.member_name-name.ensures at c.texts.ensures in
+    let connection = rw c.connection_path.ensures at c.write_path-in-Some.ensures in
+    rw (sym c.end_of.ensures ∙ c.in-Some.is) (says_then (says_then leaf name) connection)

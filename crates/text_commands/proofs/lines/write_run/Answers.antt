@@ -1,11 +1,9 @@
-use Rattle.text_commands.proofs.Common.{open_still, writes_after, writes_exit, writes_first}
+use Rattle.text_commands.proofs.Common.{said_all, says_then}
+use Rattle.std.proofs.Common.{rules}
 use Rattle.text_commands.proofs.lines.write_run.Goals as goal
 
-pub returns-in_err-write_count : goal.returns-in_err-write_count
-returns-in_err-write_count g c = writes_exit c.from_residual.ensures.0 (writes_first _ c.in_err-write_count.ensures)
-
-pub write_edges-requires : goal.write_edges-requires
-write_edges-requires g c = open_still c.in_ok-write_count.ensures c.requires
-
 pub returns : goal.returns
-returns g c = writes_after c.write_edges.ensures c.in_ok-write_count.ensures
+returns g c =
+    let count = rw (c.as_bytes.ensures.value, c.format.ensures.text) at c.texts.ensures in
+    let all = says_then count c.write_edges.ensures in
+    said_all c.new-to.ensures.channel c.new-to.ensures.said all c.close.ensures.result (search rules)

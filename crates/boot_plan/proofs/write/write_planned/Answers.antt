@@ -1,5 +1,0 @@
-use Rattle.boot_plan.proofs.write.write_planned.Goals as goal
-
-pub returns : goal.returns
-returns g c = rw (c.as_bytes.ensures.value, c.as_bytes-2.ensures.value, c.format.ensures.text, c.format-2.ensures.text) at
-    c.write_parts.ensures

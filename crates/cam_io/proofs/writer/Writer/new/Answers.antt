@@ -1,0 +1,6 @@
+use Rattle.std.proofs.Common.{[], refl}
+use Rattle.cam_io.proofs.Sequence.{wrote_none}
+use Rattle.cam_io.proofs.writer.Writer.new.Goals as goal
+
+pub returns-clause-said : goal.returns-clause-said
+returns-clause-said g c = wrote_none [] refl

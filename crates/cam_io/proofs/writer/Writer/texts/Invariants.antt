@@ -1,0 +1,7 @@
+use Rattle.std.proofs.Common.{take}
+use Rattle.std.specs.List.{flat_map}
+use Rattle.cam_io.specs.Saying.{Says}
+use Rattle.cam_io.proofs.writer.Writer.texts.Given as goal
+
+abbrev pub invariant-loop-text : goal.invariant-loop-text
+invariant-loop-text g l = Says l.fn.self (flat_map (λ t. t.now) (take l.text-index l.texts)) l.self

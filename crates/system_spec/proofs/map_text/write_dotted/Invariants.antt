@@ -1,0 +1,6 @@
+use Rattle.cam_io.specs.Saying.{Says}
+use Rattle.system_spec.proofs.Common.{List, flat_map, take, ℕ, ◌∷◌}
+use Rattle.system_spec.proofs.map_text.write_dotted.Given as goal
+
+abbrev pub invariant-loop-name : goal.invariant-loop-name
+invariant-loop-name g l = Says l.fn.to (flat_map (λ (name : List ℕ). 46 ∷ name) (take l.name-index l.names)) l.to
