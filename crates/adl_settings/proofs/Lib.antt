@@ -5,4 +5,5 @@ pub mod ValueSearch
 mod SettleCommon
 pub mod SettingKeys
 pub mod TableSteps
+pub mod Unvalued
 pub mod ValueSteps

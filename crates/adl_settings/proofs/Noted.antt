@@ -1,5 +1,5 @@
 -- Noting what the elements of lists give.
-use Rattle.adl_settings.proofs.Common.{Found, Given, IsPermutation, List, None, Option, Some, Value, [], ap, append_assoc, bad_unless, bad_value, filter_map, filter_map-append, flat_map, irq_at, is_some, list_any, list_any-IsPermutation, meant, noted-append, refl, sym, ◌++◌, ◌∙◌, ◌∷◌, ◌≡◌}
+use Rattle.adl_settings.proofs.Common.{Given, IsPermutation, List, None, Option, Some, Value, append_assoc, bad_unless, bad_value, is_some, list_any, list_any-IsPermutation, meant, noted-append, refl, sym, ◌≡◌}
 use Rattle.name_tables.specs.Sharing.{shares}
 use Rattle.name_tables.specs.declared.region.Region.{Region}
 
@@ -10,13 +10,6 @@ bad_meant allowed default None = refl
 bad_meant allowed default (Some g) = refl
 
 pub ruleset noted_values = (noted-append, append_assoc, bad_meant)
-
--- the interrupts of all ends are those of each connection in turn
-pub irqs_whole : (ks : List (List Found)) → filter_map irq_at (flat_map (λ (es : List Found). es) ks) ≡ flat_map
-    (filter_map irq_at) ks
-irqs_whole [] = refl
-irqs_whole (es ∷ ks) = filter_map-append irq_at es (flat_map (λ (es : List Found). es) ks) ∙ ap (λ z. filter_map irq_at es ++ z)
-    (irqs_whole ks)
 
 -- an index of the pages of all regions finds the regions that share a page with one
 pub shared_in_index : (a : Region) (all index : List Region) → IsPermutation all index

@@ -52,6 +52,14 @@ bodies_next h k l =
     drop_first (all_bodies h) k b (omega (arith, l, length-append h.bodies (h.top ∷ []))) (get_or_default h.bodies k h.top b l
     ∙ sym (get_or_append_left h.bodies (h.top ∷ []) b k l))
 
+-- the same, with the assembly
+pub next_body : (h : Hierarchy) (k : ℕ) → k < length h.bodies + 1 → drop k (all_bodies h) ≡ body h k ∷ drop (k + 1) (all_bodies h)
+next_body h k l = elim (cases_lt k (length h.bodies)) [ inl a ↦ bodies_next h k a | inr a ↦ last (omega (arith, l, a)) a ]
+  where
+    last : length h.bodies ≡ k → length h.bodies ≤ k → drop k (all_bodies h) ≡ body h k ∷ drop (k + 1) (all_bodies h)
+    last e a = drop_first (all_bodies h) k (body h k) (omega (arith, l, length-append h.bodies (h.top ∷ []))) (body-behind h k a
+        ∙ sym (get_or_push h.bodies h.top (body h k) k e))
+
 -- ---- the settings of one body
 
 -- the faults of the settings that are left, after one more

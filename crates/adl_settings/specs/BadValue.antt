@@ -19,6 +19,3 @@ bad_at_end f =
 
 abbrev pub bad_in_connection : List Found → List Fault
 bad_in_connection ends = flat_map bad_at_end ends
-
-abbrev pub bad_values : List LeafFound → List (List Found) → List Fault
-bad_values leaves connections = flat_map bad_in_leaf leaves ++ flat_map bad_in_connection connections

@@ -29,6 +29,3 @@ badge_twice_at twice f =
 -- those of a connection
 abbrev pub badges_twice_in : List Found → List Fault
 badges_twice_in ends = flat_map (badge_twice_at (is_repeated (filter_map own_badge ends))) ends
-
-abbrev pub badges_twice : List (List Found) → List Fault
-badges_twice connections = flat_map badges_twice_in connections

@@ -22,12 +22,15 @@ abbrev pub region_of : Found → Option DeviceRegion
 region_of f = option_and_then (λ bytes. option_and_then (λ first. option_map (region_from f bytes first) f.paddr)
     (paddr_of f)) (bytes_of f)
 
+abbrev pub regions_in : List Found → List DeviceRegion
+regions_in ends = filter_map region_of ends
+
 abbrev pub regions : List (List Found) → List DeviceRegion
-regions connections = filter_map region_of (flat_map (λ ends. ends) connections)
+regions connections = flat_map regions_in connections
 
 -- a region, where one of these shares a page with it
 abbrev pub overlap_at : List Region → DeviceRegion → List Fault
 overlap_at all a = where_true (list_any (shares a.pages) all) (at_keyword code.DeviceOverlap a.place)
 
-abbrev pub overlaps : List (List Found) → List Fault
-overlaps connections = flat_map (overlap_at (map (λ a. a.pages) (regions connections))) (regions connections)
+abbrev pub overlaps : List DeviceRegion → List Fault
+overlaps all = flat_map (overlap_at (map (λ a. a.pages) all)) all

@@ -25,5 +25,5 @@ irqs connections = flat_map irqs_in connections
 abbrev pub irq_twice_at : (ℕ → Bool) → Irq → List Fault
 irq_twice_at twice a = where_true (twice a.number) (at_keyword code.IrqTwice a.place)
 
-abbrev pub irqs_twice : List (List Found) → List Fault
-irqs_twice connections = flat_map (irq_twice_at (is_repeated (map (λ a. a.number) (irqs connections)))) (irqs connections)
+abbrev pub irqs_twice : List Irq → List Fault
+irqs_twice all = flat_map (irq_twice_at (is_repeated (map (λ a. a.number) all))) all

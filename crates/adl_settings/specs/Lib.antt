@@ -8,6 +8,7 @@ pub mod Joint
 pub mod Joints
 pub mod Meant
 pub mod Missing
+pub mod Named
 pub mod NumberedEnds
 pub mod Repeated
 pub mod SettingFaults

@@ -1,7 +1,8 @@
 -- The tables of settings, what the search for values looks at, and what it remembers.
-use Rattle.adl_meaning.specs.Prelude.{Given, Hierarchy, Id, Name, Path, Setting, at, body, bytes_eq, given, inner_names, is_group, last_name, lookup, option_and_then, option_copied, option_map_or, path_of, same_path, setting_of, value_at}
+use Rattle.adl_meaning.specs.Prelude.{Bor, Given, Hierarchy, Id, Name, Path, Setting, at, body, bytes_eq, given, inner_names, is_group, last_name, lookup, option_and_then, option_copied, option_map_or, path_of, same_path, setting_of, value_at}
 use Rattle.std.specs.Prelude.{Bool, List, None, Option, Some, [], false, slice_index_or, ℕ, ◌&&◌, ◌++◌, ◌∷◌, ◌≡◌}
 use Rattle.adl_items.specs.Pointed.{pointed}
+use Rattle.adl_settings.specs.Named.{AreNames}
 use Rattle.adl_settings.specs.declared.search.Memo.{Memo}
 use Rattle.adl_settings.specs.declared.tables.SettingTable.{SettingTable}
 use Rattle.adl_settings.specs.declared.tables.SettingTables.{SettingTables}
@@ -34,6 +35,11 @@ IsTable h k t = (p : Path) (x : Name) → setting_found t (p ++ x ∷ []) ≡ se
 
 abbrev pub AreTables : Hierarchy → SettingTables → Type 0
 AreTables h ts = (k : ℕ) → IsTable h k (slice_index_or ts.bodies.items k ts.top)
+
+-- the tables of settings, and the names that have a value in some body, if they were looked for
+pub record IsLookup (h : Hierarchy) (ts : SettingTables) (names : Option (List (Bor Name))) : Type 0 where
+  pub tables : AreTables h ts
+  pub valued : AreNames h names
 
 -- ---- values
 

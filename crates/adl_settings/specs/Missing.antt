@@ -14,6 +14,3 @@ missing_at f = where_true (lacks_value f) (at_word code.Missing f.joint.interfac
 
 abbrev pub missing_in : List Found → List Fault
 missing_in ends = flat_map missing_at ends
-
-abbrev pub missing_values : List (List Found) → List Fault
-missing_values connections = flat_map missing_in connections

@@ -1,13 +1,13 @@
 //! The values of the settings of all leaves, and of the ends of connections at the interfaces that they join.
 
-ghost use Rattle.adl_meaning.specs.Prelude.{option_copied};
-ghost use Rattle.std.specs.Prelude.{IfOk, OnOk, ◌≡◌};
-ghost use Rattle.adl_settings.specs.Joints.{component_at, found_at, found_on, founds_in, interface_at, joint_of, size_of, value_of};
+ghost use Rattle.adl_meaning.specs.Prelude.{cons_option, option_copied};
+ghost use Rattle.std.specs.Prelude.{IfOk, List as Seq, OnOk, option_map, ◌++◌, ◌≡◌};
+ghost use Rattle.adl_settings.specs.Joints.{Found as End, component_at, found_at, found_on, interface_at, joint_of, size_of, value_of};
 ghost use Rattle.adl_settings.specs.Meant.{where_set};
-ghost use Rattle.adl_settings.specs.Settled.{leaf_found, leaves_found};
+ghost use Rattle.adl_settings.specs.Settled.{leaf_found};
 ghost use Rattle.adl_settings.specs.Lookups.{IsRemembered};
 
-use crate::search::{Lookup, Memo, search};
+use crate::search::{Lookup, Memo, value_at};
 use crate::{Found, Given, Joint, LeafFound, is_shared};
 use adl_ast::{Component, Interface, Item, Member, Role, Source};
 use adl_meaning::{Flat, FlatConnection, FlatEnd, ItemAt, Leaf};
@@ -57,8 +57,30 @@ fn joint_of<'a>(
     })
 }
 
-/// The value of a setting of the interface that an end joins, where it has a meaning.
+/// The value of a setting of the interface that an end joins. Where no name has a value, its name isn't made.
+#[tactic(auto, using(crate::proofs::Unvalued::unvalued))]
 fn value_of<'a>(
+    lookup: &Lookup<'_, 'a>,
+    memo: &mut Memo<'a>,
+    joint: &Joint<'a>,
+    setting: &[u8],
+) -> Result<Option<Given<'a>>, NoMemory>
+    requires { IsRemembered lookup.now memo.old }
+    ensures value { IfOk result (λ o. o ≡ value_of lookup.now joint.now setting.now) }
+    ensures memo { OnOk result (IsRemembered lookup.now memo.new) }
+{
+    if lookup.is_bare() {
+        return Ok(None);
+    }
+    let front = joint.interface.id.name.as_bytes();
+    let mut name = Vec::with_capacity(lookup.alloc, front.len().saturating_add(setting.len()))?;
+    name.extend_from_slice(front)?;
+    name.extend_from_slice(setting)?;
+    value_at(lookup, memo, joint.leaf.path.names(), name.as_slice())
+}
+
+/// The value of a setting of the interface that an end joins, where it has a meaning.
+fn value_where<'a>(
     lookup: &Lookup<'_, 'a>,
     memo: &mut Memo<'a>,
     on: bool,
@@ -69,12 +91,11 @@ fn value_of<'a>(
     ensures value { IfOk result (λ o. o ≡ where_set on (value_of lookup.now joint.now setting.now)) }
     ensures memo { OnOk result (IsRemembered lookup.now memo.new) }
 {
-    if !on {
-        return Ok(None);
+    if on {
+        value_of(lookup, memo, joint, setting)
+    } else {
+        Ok(None)
     }
-    let mut name = joint.interface.id.name.as_bytes().to_vec(lookup.alloc)?;
-    name.extend_from_slice(setting)?;
-    search(lookup, memo, joint.leaf.path.names(), name.as_slice())
 }
 
 /// The value of the size of shared memory, or else of a device's registers.
@@ -89,9 +110,9 @@ fn size_of<'a>(
 {
     let connection = joint.connection;
     if is_shared(connection.connector) {
-        return search(lookup, memo, connection.path.names(), b"size");
+        return value_at(lookup, memo, connection.path.names(), b"size");
     }
-    value_of(lookup, memo, joint.is_device_memory(), joint, b"_size")
+    value_where(lookup, memo, joint.is_device_memory(), joint, b"_size")
 }
 
 /// The values of the settings of an end.
@@ -104,12 +125,12 @@ fn found_at<'a>(
     ensures value { IfOk result (λ f. f ≡ found_at lookup.now joint.entry) }
     ensures memo { OnOk result (IsRemembered lookup.now memo.new) }
 {
-    let access = value_of(lookup, memo, joint.has_access(), &joint, b"_access")?;
-    let badge = value_of(lookup, memo, joint.has_badge(), &joint, b"_attributes")?;
+    let access = value_where(lookup, memo, joint.has_access(), &joint, b"_access")?;
+    let badge = value_where(lookup, memo, joint.has_badge(), &joint, b"_attributes")?;
     let size = size_of(lookup, memo, &joint)?;
-    let paddr = value_of(lookup, memo, joint.is_device_memory(), &joint, b"_paddr")?;
+    let paddr = value_where(lookup, memo, joint.is_device_memory(), &joint, b"_paddr")?;
     let has_irq = joint.is_device_event();
-    let irq = value_of(lookup, memo, has_irq, &joint, b"_irq_number")?;
+    let irq = value_where(lookup, memo, has_irq, &joint, b"_irq_number")?;
     Ok(Found {
         joint,
         access,
@@ -120,8 +141,26 @@ fn found_at<'a>(
     })
 }
 
+/// Adds the values of the settings of an end, where it joins an interface.
+fn push_found<'a>(
+    lookup: &Lookup<'_, 'a>,
+    memo: &mut Memo<'a>,
+    joint: Option<Joint<'a>>,
+    found: &mut List<Found<'a>>,
+) -> Result<(), NoMemory>
+    requires { IsRemembered lookup.now memo.old }
+    ensures found { OnOk result ((rest : Seq End) → found.new ++ rest
+        ≡ found.old ++ cons_option (option_map (found_at lookup.now) joint.entry) rest) }
+    ensures memo { OnOk result (IsRemembered lookup.now memo.new) }
+{
+    match joint {
+        None => Ok(()),
+        Some(joint) => found.push(found_at(lookup, memo, joint)?),
+    }
+}
+
 /// The values of the settings of a connection's ends.
-fn found_on<'a>(
+pub fn found_on<'a>(
     lookup: &Lookup<'_, 'a>,
     memo: &mut Memo<'a>,
     source: &'a Source,
@@ -135,9 +174,8 @@ fn found_on<'a>(
     let mut found = List::new(lookup.alloc);
     let mut before: u64 = 0;
     for end in connection.ends.as_slice() {
-        if let Some(joint) = joint_of(source, flat, connection, before + 1, *end) {
-            found.push(found_at(lookup, memo, joint)?)?;
-        }
+        let joint = joint_of(source, flat, connection, before + 1, *end);
+        push_found(lookup, memo, joint, &mut found)?;
         if end.role == Role::From {
             before += 1;
         }
@@ -145,24 +183,8 @@ fn found_on<'a>(
     Ok(found)
 }
 
-/// The values of the settings of all connections' ends.
-pub fn connections_found<'a>(
-    lookup: &Lookup<'_, 'a>,
-    memo: &mut Memo<'a>,
-    source: &'a Source,
-    flat: &'a Flat,
-) -> Result<Vec<List<Found<'a>>>, NoMemory>
-    requires { IsRemembered lookup.now memo.old }
-    ensures { IfOk result (λ v. v.items ≡ founds_in lookup.now source.now flat.now) }
-{
-    let mut found = Vec::new(lookup.alloc);
-    for connection in flat.connections.as_slice() {
-        found.push(found_on(lookup, memo, source, flat, connection)?)?;
-    }
-    Ok(found)
-}
-
-fn leaf_found<'a>(
+/// The values of the settings of a leaf.
+pub fn leaf_found<'a>(
     lookup: &Lookup<'_, 'a>,
     memo: &mut Memo<'a>,
     leaf: &'a Leaf,
@@ -180,28 +202,11 @@ fn leaf_found<'a>(
         });
     }
     let path = leaf.path.names();
-    let priority = search(lookup, memo, path, b"_priority")?;
-    let stack = search(lookup, memo, path, b"_stack_size")?;
+    let priority = value_at(lookup, memo, path, b"_priority")?;
+    let stack = value_at(lookup, memo, path, b"_stack_size")?;
     Ok(LeafFound {
         leaf,
         priority,
         stack,
     })
-}
-
-/// The values of the settings of all leaves.
-pub fn leaves_found<'a>(
-    lookup: &Lookup<'_, 'a>,
-    memo: &mut Memo<'a>,
-    flat: &'a Flat,
-) -> Result<Vec<LeafFound<'a>>, NoMemory>
-    requires { IsRemembered lookup.now memo.old }
-    ensures found { IfOk result (λ v. v.items ≡ leaves_found lookup.now flat.now) }
-    ensures memo { OnOk result (IsRemembered lookup.now memo.new) }
-{
-    let mut found = Vec::new(lookup.alloc);
-    for leaf in flat.leaves.as_slice() {
-        found.push(leaf_found(lookup, memo, leaf)?)?;
-    }
-    Ok(found)
 }

@@ -10,6 +10,7 @@ mod finding;
 mod found;
 mod laws;
 mod meaning;
+mod names;
 mod overlaps;
 mod search;
 mod settling;
@@ -24,4 +25,3 @@ pub use laws::{
     settings_are_those_of_joins,
 };
 pub use settling::{settle, settle_program};
-pub use value_faults::settled;

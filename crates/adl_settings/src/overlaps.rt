@@ -1,12 +1,12 @@
 //! Dataports of devices that share physical pages.
 
 ghost use Rattle.adl_meaning.specs.Prelude.{noted};
-ghost use Rattle.std.specs.Prelude.{IfOk, OnOk, map, ◌≡◌};
-ghost use Rattle.adl_settings.specs.DeviceOverlap.{overlaps, region_of, regions};
+ghost use Rattle.std.specs.Prelude.{IfOk, OnOk, map, ◌++◌, ◌≡◌};
+ghost use Rattle.adl_settings.specs.DeviceOverlap.{overlaps, region_of, regions_in};
 
 use crate::Found;
 use adl_meaning::Earliest;
-use cam_base::{Code, List, NoMemory, Place};
+use cam_base::{Code, NoMemory, Place};
 use name_tables::{PageIndex, Region};
 use std::alloc::Global;
 
@@ -29,11 +29,16 @@ fn region_of(end: &Found<'_>) -> Option<DeviceRegion>
     Some(DeviceRegion { pages, place })
 }
 
-fn regions(alloc: Global, connections: &[List<Found<'_>>]) -> Result<Vec<DeviceRegion>, NoMemory>
-    ensures { IfOk result (λ v. v.items ≡ regions connections.now) }
+/// Adds the regions of devices at the ends of a connection.
+pub fn add_regions(ends: &[Found<'_>], regions: &mut Vec<DeviceRegion>) -> Result<(), NoMemory>
+    ensures { OnOk result (regions.new.items ≡ regions.old.items ++ regions_in ends.now) }
 {
-    let ends = connections.iter().flat_map(|ends| ends.as_slice());
-    Ok(ends.filter_map(region_of).collect(alloc)?)
+    for end in ends {
+        if let Some(region) = region_of(end) {
+            regions.push(region)?;
+        }
+    }
+    Ok(())
 }
 
 fn all_pages(alloc: Global, regions: &[DeviceRegion]) -> Result<Vec<Region>, NoMemory>
@@ -44,17 +49,16 @@ fn all_pages(alloc: Global, regions: &[DeviceRegion]) -> Result<Vec<Region>, NoM
 
 /// Notes the dataports of devices that share a page with another.
 #[tactic(auto, using(crate::proofs::Noted::shared_in_index, std::proofs::lemmas::Grind::common_steps))]
-pub fn note_overlaps<'a>(
+pub fn note_overlaps(
     alloc: Global,
-    connections: &[List<Found<'a>>],
-    first: &mut Earliest<'a>,
+    regions: &[DeviceRegion],
+    first: &mut Earliest<'_>,
 ) -> Result<(), NoMemory>
-    ensures { OnOk result (first.new ≡ noted first.old (overlaps connections.now)) }
+    ensures { OnOk result (first.new ≡ noted first.old (overlaps regions.now)) }
 {
-    let regions = regions(alloc, connections)?;
-    let pages = all_pages(alloc, regions.as_slice())?;
+    let pages = all_pages(alloc, regions)?;
     let index = PageIndex::new(alloc, pages.as_slice())?;
-    for region in regions.as_slice() {
+    for region in regions {
         let shares = index.shares_any(&region.pages);
         first.note(shares, Code::DeviceOverlap, region.place, b"");
     }

@@ -1,9 +1,10 @@
 //! The search for the value of a setting.
 
 ghost use Rattle.adl_meaning.specs.Prelude.{Name as Bytes, body, default_in, option_and_then, option_copied, option_map_or, setting_of, value_at};
-ghost use Rattle.std.specs.Prelude.{IfOk, List as Seq, None, OnOk, Some, [], slice_get, ◌++◌, ◌∷◌, ◌≡◌};
+ghost use Rattle.std.specs.Prelude.{IfOk, List as Seq, None, OnOk, Some, [], false, slice_get, true, ◌++◌, ◌∷◌, ◌≡◌};
 ghost use Rattle.adl_items.specs.Pointed.{pointed};
 ghost use Rattle.adl_settings.specs.Lookups.{IsRemembered, attribute_at, given_from, within};
+ghost use Rattle.adl_settings.specs.Named.{is_valued};
 
 use crate::Given;
 use crate::tables::{SettingTables, within};
@@ -11,7 +12,7 @@ use adl_ast::{Setter, Setting};
 use adl_items::last_name;
 use adl_program::Bodies;
 use cam_base::{Name, NoMemory};
-use indexmap::IndexMap;
+use indexmap::{IndexMap, IndexSet};
 use std::alloc::Global;
 use std::marker::Model;
 
@@ -28,6 +29,8 @@ pub struct Lookup<'t, 'a> {
     pub alloc: Global,
     pub bodies: &'t Bodies<'a>,
     pub settings: SettingTables<'a>,
+    /// The names that have a value in some body, if they were looked for.
+    pub names: Option<IndexSet<&'a [u8]>>,
 }
 
 impl<'t, 'a> Model for Lookup<'t, 'a> {
@@ -40,14 +43,35 @@ impl<'t, 'a> Model for Lookup<'t, 'a> {
 
     ghost coded = { Prim.hlevel (codes, values.the_row.coded) };
 
-    ghost use Rattle.adl_settings.specs.Lookups.{AreTables};
+    ghost use Rattle.adl_settings.specs.Lookups.{IsLookup};
+    ghost use Rattle.std.specs.Prelude.{option_map};
 
     ghost view = { λ l. l.bodies.now };
 
-    ghost invariant = { λ l. AreTables l.bodies.now l.settings };
+    ghost invariant = { λ l. IsLookup l.bodies.now l.settings (option_map (λ s. s.keys) l.names) };
 }
 
 impl<'t, 'a> Lookup<'t, 'a> {
+    /// Whether it is known that no name has a value.
+    pub fn is_bare(&self) -> bool
+        ensures { (n : Bytes) → result ≡ true → is_valued self.now n ≡ false }
+    {
+        match &self.names {
+            None => false,
+            Some(names) => names.is_empty(),
+        }
+    }
+
+    /// Whether the name can have a value.
+    fn may_be_valued(&self, name: &[u8]) -> bool
+        ensures { result ≡ false → is_valued self.now name.now ≡ false }
+    {
+        match &self.names {
+            None => true,
+            Some(names) => names.contains(name),
+        }
+    }
+
     /// The body behind the name at this place of a path; behind the whole path it stays.
     fn behind(&self, number: Option<u32>, path: &[Name], at: usize) -> Option<u32>
         ensures { result ≡ option_map_or (within self.now number) (slice_get path.now at) number }
@@ -71,7 +95,7 @@ impl<'t, 'a> Lookup<'t, 'a> {
         ensures { result ≡ option_and_then (λ k. default_in (body self.now k) name.now) number }
     {
         let attribute = self.bodies.body(number?).attribute(name)?;
-        let value = attribute.value.as_ref()?;
+        let value = attribute.value.as_ref()?.get();
         let name = attribute.id.name.as_bytes();
         Some(Given { value, name })
     }
@@ -87,7 +111,7 @@ fn again<'a>(found: &Option<Given<'a>>) -> Option<Given<'a>>
 fn key_of<'q>(alloc: Global, path: &'q [Name], name: &'q [u8]) -> Result<Vec<&'q [u8]>, NoMemory>
     ensures { IfOk result (λ v. pointed v.items ≡ path.now ++ name.now ∷ []) }
 {
-    let mut key = Vec::new(alloc);
+    let mut key = Vec::with_capacity(alloc, path.len().saturating_add(1))?;
     for part in path {
         key.push(part.as_bytes())?;
     }
@@ -126,7 +150,7 @@ fn given_by<'a>(
 
 /// The value of the setting at a path, searched for from the outermost body inwards.
 #[cycle(value)]
-pub fn search<'a>(
+fn search<'a>(
     lookup: &Lookup<'_, 'a>,
     memo: &mut Memo<'a>,
     path: &'a [Name],
@@ -166,4 +190,22 @@ fn referred<'a>(
     let found = search(lookup, memo, path, name)?;
     memo.found.insert((path, name), again(&found))?;
     Ok(found)
+}
+
+/// The value of the setting at a path. It is searched for where its name can have a value.
+#[tactic(auto, using(crate::proofs::Unvalued::unvalued))]
+pub fn value_at<'a>(
+    lookup: &Lookup<'_, 'a>,
+    memo: &mut Memo<'a>,
+    path: &'a [Name],
+    name: &[u8],
+) -> Result<Option<Given<'a>>, NoMemory>
+    requires { IsRemembered lookup.now memo.old }
+    ensures value { IfOk result (λ o. o ≡ value_at lookup.now path.now name.now) }
+    ensures memo { OnOk result (IsRemembered lookup.now memo.new) }
+{
+    if !lookup.may_be_valued(name) {
+        return Ok(None);
+    }
+    search(lookup, memo, path, name)
 }

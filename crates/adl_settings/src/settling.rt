@@ -1,21 +1,116 @@
 //! The settings of a flat system, or the first fault of settings.
 
-ghost use Rattle.adl_meaning.specs.Prelude.{AreFew, Refuses, flat_of, hierarchy_of};
-ghost use Rattle.std.specs.Prelude.{IfOk, ◌≡◌};
-ghost use Rattle.adl_settings.specs.SettingFaults.{first_setting_fault};
-ghost use Rattle.adl_settings.specs.Settled.{settled_of};
+ghost use Rattle.adl_meaning.specs.Prelude.{AreFew, Refuses, flat_map, flat_of, hierarchy_of, noted};
+ghost use Rattle.std.specs.Prelude.{IfOk, OnOk, map, ◌++◌, ◌≡◌};
+ghost use Rattle.adl_settings.specs.BadValue.{bad_in_leaf};
+ghost use Rattle.adl_settings.specs.DeviceOverlap.{regions};
+ghost use Rattle.adl_settings.specs.IrqTwice.{irqs};
+ghost use Rattle.adl_settings.specs.Joints.{founds_in};
+ghost use Rattle.adl_settings.specs.Lookups.{IsRemembered};
+ghost use Rattle.adl_settings.specs.SettingFaults.{faults_on, first_setting_fault, value_faults};
+ghost use Rattle.adl_settings.specs.Settled.{end_settings, leaf_setting, leaves_found, settled_from, settled_of};
 
-use crate::finding::{connections_found, leaves_found};
+use crate::Found;
+use crate::finding::{found_on, leaf_found};
+use crate::names::names_for;
 use crate::search::{Lookup, Memo};
-use crate::settled;
 use crate::tables::setting_tables;
+use crate::value_faults::{Judged, note_bad_leaf};
 use adl_ast::Source;
 use adl_items::Names;
-use adl_meaning::{Earliest, Flat, Settled};
+use adl_meaning::{Earliest, EndSettings, Flat, LeafSetting, Settled};
 use adl_program::{Bodies, Program, bodies_of};
-use cam_base::{Fault, Refused};
+use cam_base::{Fault, List, NoMemory, Refused};
 use indexmap::IndexMap;
 use std::alloc::Global;
+
+/// The settings of all leaves; notes their values that aren't allowed.
+fn settle_leaves<'a>(
+    lookup: &Lookup<'_, 'a>,
+    memo: &mut Memo<'a>,
+    flat: &'a Flat,
+    first: &mut Earliest<'a>,
+) -> Result<List<LeafSetting>, NoMemory>
+    requires { IsRemembered lookup.now memo.old }
+    ensures settings { IfOk result (λ list. list ≡ map leaf_setting (leaves_found lookup.now flat.now)) }
+    ensures noted { OnOk result (first.new ≡ noted first.old (flat_map bad_in_leaf (leaves_found lookup.now flat.now))) }
+    ensures memo { OnOk result (IsRemembered lookup.now memo.new) }
+{
+    let mut settings = Vec::with_capacity(lookup.alloc, flat.leaves.len())?;
+    for leaf in flat.leaves.as_slice() {
+        let found = leaf_found(lookup, memo, leaf)?;
+        note_bad_leaf(&found, first);
+        settings.push(found.setting())?;
+    }
+    Ok(List::from_vec(settings))
+}
+
+fn end_settings(alloc: Global, ends: &[Found<'_>]) -> Result<EndSettings, NoMemory>
+    ensures { IfOk result (λ settings. settings ≡ end_settings ends.now) }
+{
+    let mut settings = Vec::with_capacity(alloc, ends.len())?;
+    for end in ends {
+        settings.push(end.setting())?;
+    }
+    Ok(EndSettings {
+        ends: List::from_vec(settings),
+    })
+}
+
+/// The settings of all ends, whose values are judged one connection after the other.
+fn settle_ends<'a>(
+    lookup: &Lookup<'_, 'a>,
+    memo: &mut Memo<'a>,
+    source: &'a Source,
+    flat: &'a Flat,
+    judged: &mut Judged<'a>,
+) -> Result<List<EndSettings>, NoMemory>
+    requires { IsRemembered lookup.now memo.old }
+    ensures settings { IfOk result (λ list. list ≡ map end_settings (founds_in lookup.now source.now flat.now)) }
+    ensures first { OnOk result (judged.new.first
+        ≡ noted judged.old.first (flat_map faults_on (founds_in lookup.now source.now flat.now))) }
+    ensures regions { OnOk result (judged.new.regions.items
+        ≡ judged.old.regions.items ++ regions (founds_in lookup.now source.now flat.now)) }
+    ensures irqs { OnOk result (judged.new.irqs.items
+        ≡ judged.old.irqs.items ++ irqs (founds_in lookup.now source.now flat.now)) }
+{
+    let mut settings = Vec::with_capacity(lookup.alloc, flat.connections.len())?;
+    for connection in flat.connections.as_slice() {
+        let ends = found_on(lookup, memo, source, flat, connection)?;
+        judged.add(lookup.alloc, ends.as_slice())?;
+        settings.push(end_settings(lookup.alloc, ends.as_slice())?)?;
+    }
+    Ok(List::from_vec(settings))
+}
+
+/// The settings of all leaves and ends of a flat system, behind what was noted before.
+#[tactic(auto, using(adl_meaning::proofs::Noting::noting))]
+fn settle_flat<'a>(
+    lookup: &Lookup<'_, 'a>,
+    memo: &mut Memo<'a>,
+    source: &'a Source,
+    flat: &'a Flat,
+    first: Earliest<'a>,
+) -> Result<Settled, Refused<Fault>>
+    requires { IsRemembered lookup.now memo.old }
+    ensures fault { Refuses result (noted first.entry
+        (value_faults (leaves_found lookup.now flat.now) (founds_in lookup.now source.now flat.now))) }
+    ensures settled { IfOk result (λ x. x
+        ≡ settled_from (leaves_found lookup.now flat.now) (founds_in lookup.now source.now flat.now)) }
+{
+    let mut judged = Judged {
+        first,
+        regions: Vec::new(lookup.alloc),
+        irqs: Vec::new(lookup.alloc),
+    };
+    let leaves = settle_leaves(lookup, memo, flat, &mut judged.first)?;
+    let connections = settle_ends(lookup, memo, source, flat, &mut judged)?;
+    judged.refuse(lookup.alloc)?;
+    Ok(Settled {
+        leaves,
+        connections,
+    })
+}
 
 /// The settings of all leaves and ends of a source with these bodies.
 fn settle_bodies<'a>(
@@ -31,17 +126,17 @@ fn settle_bodies<'a>(
 {
     let mut first = Earliest::none();
     let settings = setting_tables(alloc, bodies, &mut first)?;
+    let names = names_for(alloc, bodies, flat.leaves.len())?;
     let lookup = Lookup {
         alloc,
         bodies,
         settings,
+        names,
     };
     let mut memo = Memo {
         found: IndexMap::new(alloc),
     };
-    let leaves = leaves_found(&lookup, &mut memo, flat)?;
-    let connections = connections_found(&lookup, &mut memo, source, flat)?;
-    settled(alloc, leaves.as_slice(), connections.as_slice(), first)
+    settle_flat(&lookup, &mut memo, source, flat, first)
 }
 
 /// The settings of all leaves and ends of a source, over its program, in the order of the flat system. The source outlives the flat

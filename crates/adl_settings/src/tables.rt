@@ -156,7 +156,8 @@ fn add_setting<'a>(
     Ok(())
 }
 
-fn settings_of<'a>(body: &Body<'a>) -> &'a [Setting]
+/// The settings of a body.
+pub fn settings_of<'a>(body: &Body<'a>) -> &'a [Setting]
     ensures { result.now ≡ settings_of body.now }
 {
     let configuration = body.configuration();
@@ -191,7 +192,8 @@ pub fn setting_tables<'a>(
     ensures found { IfOk result (λ ts. AreTables bodies.now ts) }
     ensures noted { OnOk result (first.new ≡ noted first.old (settings_twice bodies.now)) }
 {
-    let mut tables = Vec::new(alloc);
+    let room = bodies.top_number() as usize;
+    let mut tables = Vec::with_capacity(alloc, room)?;
     for number in 0..bodies.top_number() {
         tables.push(table_of(alloc, bodies, number, first)?)?;
     }

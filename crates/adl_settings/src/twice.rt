@@ -1,22 +1,25 @@
 //! Numbers that stand twice: those of devices' interrupts, and the badges of the ends of one connection.
 
-ghost use Rattle.adl_meaning.specs.Prelude.{filter_map, flat_map, noted};
-ghost use Rattle.std.specs.Prelude.{IfOk, OnOk, map, ℕ, ◌≡◌};
-ghost use Rattle.adl_settings.specs.BadgeTwice.{badges_twice, last_in, own_badge};
-ghost use Rattle.adl_settings.specs.IrqTwice.{irq_at, irqs_twice};
+ghost use Rattle.adl_meaning.specs.Prelude.{filter_map, noted};
+ghost use Rattle.std.specs.Prelude.{IfOk, OnOk, map, ℕ, ◌++◌, ◌≡◌};
+ghost use Rattle.adl_settings.specs.BadgeTwice.{badges_twice_in, last_in, own_badge};
+ghost use Rattle.adl_settings.specs.IrqTwice.{irq_at, irqs_in, irqs_twice};
 ghost use Rattle.adl_settings.specs.Repeated.{is_marked, is_repeated};
 
 use crate::Found;
 use adl_meaning::Earliest;
-use cam_base::{Code, List, NoMemory, Path, Place};
+use cam_base::{Code, NoMemory, Path, Place};
 use indexmap::IndexMap;
 use std::alloc::Global;
 
-/// Whether each of the numbers stands twice or more.
+/// Whether each of the numbers stands twice or more; nothing is marked where there is one number at most.
 fn repeated(alloc: Global, numbers: &[u64]) -> Result<IndexMap<u64, bool>, NoMemory>
     ensures { IfOk result (λ t. (n : ℕ) → is_marked t.entries n ≡ is_repeated numbers.now n) }
 {
-    let mut twice = IndexMap::new(alloc);
+    if numbers.len() < 2 {
+        return Ok(IndexMap::new(alloc));
+    }
+    let mut twice = IndexMap::with_capacity(alloc, numbers.len())?;
     for number in numbers {
         let is_met = twice.contains_key(number);
         twice.insert(*number, is_met)?;
@@ -46,11 +49,16 @@ fn irq_at(end: &Found<'_>) -> Option<Irq>
     Some(Irq { number, place })
 }
 
-fn irqs(alloc: Global, connections: &[List<Found<'_>>]) -> Result<Vec<Irq>, NoMemory>
-    ensures { IfOk result (λ v. v.items ≡ filter_map irq_at (flat_map (λ ends. ends) connections.now)) }
+/// Adds the interrupts of devices at the ends of a connection.
+pub fn add_irqs(ends: &[Found<'_>], irqs: &mut Vec<Irq>) -> Result<(), NoMemory>
+    ensures { OnOk result (irqs.new.items ≡ irqs.old.items ++ irqs_in ends.now) }
 {
-    let ends = connections.iter().flat_map(|ends| ends.as_slice());
-    Ok(ends.filter_map(irq_at).collect(alloc)?)
+    for end in ends {
+        if let Some(irq) = irq_at(end) {
+            irqs.push(irq)?;
+        }
+    }
+    Ok(())
 }
 
 fn repeated_irqs(alloc: Global, irqs: &[Irq]) -> Result<IndexMap<u64, bool>, NoMemory>
@@ -61,17 +69,15 @@ fn repeated_irqs(alloc: Global, irqs: &[Irq]) -> Result<IndexMap<u64, bool>, NoM
 }
 
 /// Notes the interrupts that have the number of another.
-#[tactic(auto, using(crate::proofs::Noted::irqs_whole, std::proofs::lemmas::Grind::common_steps))]
-pub fn note_irqs_twice<'a>(
+pub fn note_irqs_twice(
     alloc: Global,
-    connections: &[List<Found<'a>>],
-    first: &mut Earliest<'a>,
+    irqs: &[Irq],
+    first: &mut Earliest<'_>,
 ) -> Result<(), NoMemory>
-    ensures { OnOk result (first.new ≡ noted first.old (irqs_twice connections.now)) }
+    ensures { OnOk result (first.new ≡ noted first.old (irqs_twice irqs.now)) }
 {
-    let irqs = irqs(alloc, connections)?;
-    let twice = repeated_irqs(alloc, irqs.as_slice())?;
-    for irq in irqs.as_slice() {
+    let twice = repeated_irqs(alloc, irqs)?;
+    for irq in irqs {
         let is_twice = is_marked(&twice, irq.number);
         first.note(is_twice, Code::IrqTwice, irq.place, b"");
     }
@@ -99,23 +105,20 @@ fn own_badges(alloc: Global, ends: &[Found<'_>]) -> Result<Vec<u64>, NoMemory>
     Ok(ends.iter().filter_map(own_badge).collect(alloc)?)
 }
 
-/// Notes the ends that have the badge of another end of their connection.
+/// Notes the ends of a connection that have the badge of another.
 pub fn note_badges_twice<'a>(
     alloc: Global,
-    connections: &[List<Found<'a>>],
+    ends: &[Found<'a>],
     first: &mut Earliest<'a>,
 ) -> Result<(), NoMemory>
-    ensures { OnOk result (first.new ≡ noted first.old (badges_twice connections.now)) }
+    ensures { OnOk result (first.new ≡ noted first.old (badges_twice_in ends.now)) }
 {
-    for connection in connections {
-        let ends = connection.as_slice();
-        let badges = own_badges(alloc, ends)?;
-        let twice = repeated(alloc, badges.as_slice())?;
-        for end in ends {
-            if let Some(badge) = own_badge(end) {
-                let (place, name) = (end.joint.end.place, last_in(&end.joint.connection.path));
-                first.note(is_marked(&twice, badge), Code::BadgeTwice, place, name);
-            }
+    let badges = own_badges(alloc, ends)?;
+    let twice = repeated(alloc, badges.as_slice())?;
+    for end in ends {
+        if let Some(badge) = own_badge(end) {
+            let (place, name) = (end.joint.end.place, last_in(&end.joint.connection.path));
+            first.note(is_marked(&twice, badge), Code::BadgeTwice, place, name);
         }
     }
     Ok(())

@@ -42,10 +42,14 @@ agree _ _ = true
 abbrev pub at_end : Code → End → Fault
 at_end c e = record { code = c; place = e.place; name = last_name e.words }
 
+-- those of an end that joins this interface, if any
+abbrev pub faults_at : Connector → Option LeafInterface → Option LeafInterface → End → List Fault
+faults_at c first leaf e =
+    where_true (not (option_map_or (is_kind_of (end_rule c e.role)) leaf true)) (at_end code.Kind e)
+    ++ where_true (has_one_type c && not (agree first leaf)) (at_end code.TypeMismatch e)
+
 abbrev pub end_faults : Hierarchy → ℕ → Connector → Option LeafInterface → End → List Fault
-end_faults h k c first e =
-    where_true (not (option_map_or (is_kind_of (end_rule c e.role)) (leaf_of h k e.words) true)) (at_end code.Kind e)
-    ++ where_true (has_one_type c && not (agree first (leaf_of h k e.words))) (at_end code.TypeMismatch e)
+end_faults h k c first e = faults_at c first (leaf_of h k e.words) e
 
 -- ---- connections
 

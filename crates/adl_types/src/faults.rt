@@ -1,7 +1,7 @@
 //! The faults of types.
 
 ghost use Rattle.adl_meaning.specs.Prelude.{flat_map, least, noted, option_copied, option_map_or, top_number};
-ghost use Rattle.adl_types.specs.TypeFaults.{agree, count_of, is_kind_of, may_have, size_faults, type_faults_in, wire_faults};
+ghost use Rattle.adl_types.specs.TypeFaults.{agree, count_of, end_faults, faults_at, first_leaf, is_kind_of, may_have, size_faults, type_faults_in, wire_faults};
 ghost use Rattle.std.specs.Prelude.{[], true, ◌≡◌, ◌≤◌};
 
 use adl_ast::{Component, End, Member, Role};
@@ -52,7 +52,69 @@ fn may_have(connector: Connector, ends: &[End]) -> bool
         && EndRule::of(connector, Role::To).allows(count_of(Role::To, ends))
 }
 
+/// Notes the faults of an end that joins this interface, beside the one that the first end of its connection joins.
+fn note_end<'a>(
+    connector: Connector,
+    model: &Option<Leaf<'_>>,
+    leaf: &Option<Leaf<'_>>,
+    end: &'a End,
+    first: &mut Earliest<'a>,
+)
+    ensures { first.new ≡ noted first.old (faults_at connector model.now leaf.now end.entry.now) }
+{
+    let word = last_name(end.words.as_slice());
+    let is_right = is_right(EndRule::of(connector, end.role), leaf);
+    first.note(!is_right, Code::Kind, end.place, word);
+    let agrees = agree(model, leaf);
+    first.note(
+        connector != Connector::Interrupt && !agrees,
+        Code::TypeMismatch,
+        end.place,
+        word,
+    );
+}
+
+/// Notes the faults of ends in the body of the number, beside the interface that the first end of their connection joins.
+fn note_rest<'a>(
+    program: &Program<'a>,
+    number: u32,
+    connector: Connector,
+    model: &Option<Leaf<'_>>,
+    rest: &'a [End],
+    first: &mut Earliest<'a>,
+)
+    requires { number ≤ top_number program.now }
+    ensures { first.new ≡ noted first.old (flat_map (end_faults program.now number connector model.now) rest.entry.now) }
+{
+    for end in rest {
+        let leaf = program.leaf(number, end.words.as_slice());
+        note_end(connector, model, &leaf, end, first);
+    }
+}
+
+/// Notes the faults of a connection's ends in the body of the number.
+#[tactic(auto, using(adl_meaning::proofs::Noting::noting))]
+fn note_ends<'a>(
+    program: &Program<'a>,
+    number: u32,
+    connector: Connector,
+    ends: &'a [End],
+    first: &mut Earliest<'a>,
+)
+    requires { number ≤ top_number program.now }
+    ensures { first.new ≡ noted first.old
+        (flat_map (end_faults program.now number connector (first_leaf program.now number ends.entry.now)) ends.entry.now) }
+{
+    let [head, rest @ ..] = ends else {
+        return;
+    };
+    let model = program.leaf(number, head.words.as_slice());
+    note_end(connector, &model, &model, head, first);
+    note_rest(program, number, connector, &model, rest, first);
+}
+
 /// Notes the faults of a connection in the body of the number.
+#[tactic(auto, using(adl_meaning::proofs::Noting::noting))]
 fn note_wire<'a>(program: &Program<'a>, number: u32, wire: &Wire<'a>, first: &mut Earliest<'a>)
     requires { number ≤ top_number program.now }
     ensures { first.new ≡ noted first.old (wire_faults program.now number wire.now) }
@@ -60,23 +122,7 @@ fn note_wire<'a>(program: &Program<'a>, number: u32, wire: &Wire<'a>, first: &mu
     let connector = wire.connector;
     let connection = wire.connection;
     let ends = connection.ends.as_slice();
-    let model = match ends {
-        [] => None,
-        [end, ..] => program.leaf(number, end.words.as_slice()),
-    };
-    for end in ends {
-        let leaf = program.leaf(number, end.words.as_slice());
-        let word = last_name(end.words.as_slice());
-        let is_right = is_right(EndRule::of(connector, end.role), &leaf);
-        first.note(!is_right, Code::Kind, end.place, word);
-        let agrees = agree(&model, &leaf);
-        first.note(
-            connector != Connector::Interrupt && !agrees,
-            Code::TypeMismatch,
-            end.place,
-            word,
-        );
-    }
+    note_ends(program, number, connector, ends, first);
     let name = &connection.id;
     first.note(
         !may_have(connector, ends),

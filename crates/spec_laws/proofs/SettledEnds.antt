@@ -1,7 +1,9 @@
 -- The settings of an end by its numbers, with what they are found at: where no fault of types or settings stands, its values
 -- are allowed, none is missing, and interface and leaf are as the connector table has them.
 use Rattle.spec_laws.proofs.Common.{AreSettingsSound, AreTyped, EndSetting, EndSettings, FlatConnection, FlatEnd, Found, IsIn, Joint, None, Option, Some, Source, [], ap, bad_at_end, bad_in_connection, end_rule, end_setting, end_settings, flat_of}
-use Rattle.spec_laws.proofs.Common.{found_at, found_on, founds_in, from_get_map, get_map, hierarchy_of, in_get, is_kind_of, members_at, missing_at, missing_in, none_in, option_and_then, refl, setting_of, settled_of, slice_get, true, ℕ, ◌∙◌, ◌≡◌}
+use Rattle.spec_laws.proofs.Common.{found_at, found_on, founds_in, from_get_map, get_map, hierarchy_of, in_get, is_kind_of, members_at, missing_at, missing_in, none_in, none_left, none_right, option_and_then, refl, setting_of, settled_of, slice_get, true, ℕ, ◌++◌, ◌∙◌, ◌≡◌}
+use Rattle.adl_settings.specs.BadgeTwice.{badges_twice_in}
+use Rattle.adl_settings.specs.SettingFaults.{faults_on}
 use Rattle.adl_ast.specs.declared.component.Member.TheVariants as members
 use Rattle.flat_laws.proofs.SettledEnds.{found_there}
 
@@ -54,6 +56,10 @@ end_found s typed sound k n c e at is =
     let listed : slice_get es n ≡ Some (found_at h joint) = there.3 ∙ ap (λ z. Some z) f.at in
     let one : IsIn (found_at h joint) es = in_get es n (found_at h joint) listed in
     let all : slice_get fs k ≡ Some es = get_map (found_on h s (flat_of s)) (flat_of s).connections k c at in
+    let bad = bad_in_connection es in
+    let missing = missing_in es in
+    let badges = badges_twice_in es in
+    let none = none_left (bad ++ missing) badges (none_in faults_on fs es sound.connections (in_get fs k es all)) in
     record {
       found = found_at h joint;
       connection = refl;
@@ -64,7 +70,7 @@ end_found s typed sound k n c e at is =
       setting = ap (λ o. option_and_then (λ z. slice_get z.ends n) o) (get_map end_settings fs k es all)
           ∙ get_map end_setting es n (found_at h joint) listed;
       among = one;
-      good = none_in bad_at_end es (found_at h joint) (none_in bad_in_connection fs es sound.allowed (in_get fs k es all)) one;
-      present = none_in missing_at es (found_at h joint) (none_in missing_in fs es sound.present (in_get fs k es all)) one;
+      good = none_in bad_at_end es (found_at h joint) (none_left bad missing none) one;
+      present = none_in missing_at es (found_at h joint) (none_right bad missing none) one;
       kind = f.joined.kind;
     }

@@ -1,13 +1,10 @@
 -- Each thread's stack has a page, where no fault of settings stands.
-use Rattle.spec_laws.proofs.Common.{Bool, Domain, EndAt, Given, Images, IsIn, Leaf, LeafFound, None, Option, Some, Source, Value, [], and_parts, ap, arith, bad_in_connection, bad_in_leaf, bad_value, bad_values, cond, domain_number, domain_of, ends}
-use Rattle.spec_laws.proofs.Common.{ends_at, false, first_setting_fault, flat_map, flat_of, founds_in, from_flat_map, from_get_map, get_map, given, hierarchy_of, in_get, inl, inr, irqs_twice, is_hardware, is_some, is_there, leaf_found, leaf_of}
-use Rattle.spec_laws.proofs.Common.{leaf_owned, leaf_setting, leaf_threads, least-empty, leaves, leaves_found, leaves_of, leb-true, meant, missing_values, nat_le, none_in, none_left, none_right, number_in, option_and_then, option_map, option_map_or}
-use Rattle.spec_laws.proofs.Common.{priority_in, refl, server, serves, setting_faults, settled_of, slice_get, so, stack_in, stack_pages, subst, sym, thread, threads_of, true, unwrap_or, value_faults, whole_pages, within, ℕ, ◌&&◌, ◌*◌, ◌++◌, ◌+◌, ◌/◌}
+use Rattle.spec_laws.proofs.Common.{Bool, Domain, EndAt, Given, Images, IsIn, Leaf, LeafFound, None, Option, Some, Source, Value, [], and_parts, ap, arith, bad_in_leaf, bad_value, cond, domain_number, domain_of, ends}
+use Rattle.spec_laws.proofs.Common.{ends_at, false, first_setting_fault, flat_of, from_flat_map, from_get_map, get_map, given, hierarchy_of, in_get, inl, inr, is_hardware, is_some, is_there, leaf_found, leaf_of}
+use Rattle.spec_laws.proofs.Common.{leaf_owned, leaf_setting, leaf_threads, leaves, leaves_found, leaves_of, leb-true, meant, nat_le, none_in, none_right, number_in, option_and_then, option_map, option_map_or}
+use Rattle.spec_laws.proofs.Common.{priority_in, refl, server, serves, settings_sound, settled_of, slice_get, so, stack_in, stack_pages, subst, sym, thread, threads_of, true, unwrap_or, whole_pages, within, ℕ, ◌&&◌, ◌*◌, ◌+◌, ◌/◌}
 use Rattle.spec_laws.proofs.Common.{◌∙◌, ◌∷◌, ◌≡◌, ◌≤◌}
 use Rattle.adl_meaning.specs.Values.{Given as Value_given}
-use Rattle.adl_settings.specs.BadgeTwice.{badges_twice}
-use Rattle.adl_settings.specs.DeviceOverlap.{overlaps}
-use Rattle.adl_settings.specs.SettingTwice.{settings_twice}
 use Rattle.vspace_layout.specs.declared.thread.ThreadOf.{ThreadOf}
 
 -- ---- threads are of leaves of their domain
@@ -65,21 +62,6 @@ stack_meant (Some g) good =
     let is : unwrap_or (stack_in g.value) 0 ≡ b.0 = ap (λ o. unwrap_or o 0) b.1 in
     omega (arith, l, is)
 
-leaves_sound : (s : Source) → first_setting_fault s ≡ None → flat_map bad_in_leaf (leaves_found (hierarchy_of s) (flat_of s)) ≡ []
-leaves_sound s none =
-    let h = hierarchy_of s in
-    let fs = founds_in h s (flat_of s) in
-    let ls = leaves_found h (flat_of s) in
-    let values = none_right (settings_twice h) (value_faults ls fs) (least-empty (setting_faults s) none) in
-    let a = bad_values ls fs in
-    let b = missing_values fs in
-    let c = overlaps fs in
-    let d = irqs_twice fs in
-    let four = none_left (a ++ b ++ c ++ d) (badges_twice fs) values in
-    let three = none_left (a ++ b ++ c) d four in
-    let two = none_left (a ++ b) c three in
-    none_left (flat_map bad_in_leaf ls) (flat_map bad_in_connection fs) (none_left a b two)
-
 leaf_stack : (f : LeafFound) → f.leaf.hardware ≡ false → bad_in_leaf f ≡ [] → 4096 ≤ (leaf_setting f).stack
 leaf_stack f soft good =
     let is : (leaf_setting f).stack ≡ unwrap_or (meant stack_in 16384 f.stack) 0 =
@@ -108,7 +90,7 @@ stack_some s none l d leaf at own =
     let f = leaf_found h leaf in
     let found : slice_get fs l ≡ Some f = get_map (leaf_found h) (flat_of s).leaves l leaf at in
     let settled : slice_get (settled_of s).leaves l ≡ Some (leaf_setting f) = get_map leaf_setting fs l f found in
-    let good = none_in bad_in_leaf fs f (leaves_sound s none) (in_get fs l f found) in
+    let good = none_in bad_in_leaf fs f (settings_sound s none).leaves (in_get fs l f found) in
     let most = leaf_stack f (soft_leaf s l d leaf at own) good in
     let is : stack_pages (settled_of s) l ≡ (leaf_setting f).stack / 4096 =
     ap (λ o. option_map_or (λ z. z.stack / 4096) o 0) settled in

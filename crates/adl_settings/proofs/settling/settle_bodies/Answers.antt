@@ -14,8 +14,7 @@ pub returns-clause-fault : goal.returns-clause-fault
 returns-clause-fault c =
     let h = c.args.bodies.now in
     let start = c.in_ok-settings.ensures.noted ∙ ap (λ o. noted o (settings_twice h)) c.none-first.ensures in
-    subst (λ (o : Option Fault). Refuses c.settled.result o)
-    ((λ i. noted (start i) (value_faults ((c.as_slice.ensures.value ∙ c.in_ok-leaves.ensures.found) i)
-    ((c.as_slice-2.ensures.value ∙ c.in_ok-connections.ensures) i)))
+    subst (λ (o : Option Fault). Refuses c.settle_flat.result o)
+    (ap (λ o. noted o (value_faults (leaves_found h c.args.flat.now) (founds_in h c.args.source.now c.args.flat.now))) start
     ∙ first_noted c.args.source.now h c.args.flat.now c.requires.bodies c.requires.flat)
-    c.settled.ensures.fault
+    c.settle_flat.ensures.fault

@@ -1,0 +1,50 @@
+use Rattle.adl_settings.proofs.Common.{Found, List, [], ap, append_assoc, drop_first, end_settings, flat_map, map, noted, subst, sym, ◌++◌, ◌<◌, ◌∙◌, ◌∷◌, ◌≡◌, length, get_or}
+use Rattle.adl_meaning.proofs.Noting.{noted_mapped}
+use Rattle.adl_settings.proofs.SettleCommon.{drop, found_on, ◌+◌}
+use Rattle.adl_settings.specs.DeviceOverlap.{regions_in}
+use Rattle.adl_settings.specs.IrqTwice.{irqs_in}
+use Rattle.adl_settings.specs.SettingFaults.{faults_on}
+use Rattle.adl_settings.proofs.settling.settle_ends.Goals as goal
+
+-- one connection more
+module _ {X : Type 0} (x : X) (left rest : List X) (e : left ≡ x ∷ rest) where
+  all_added : {Y : Type 0} (g : X → List Y) (old new : List Y) → new ≡ old ++ g x → new ++ flat_map g rest ≡ old ++ flat_map g left
+  all_added g old new n =
+      ap (λ z. z ++ flat_map g rest) n ∙ append_assoc old (g x) (flat_map g rest) ∙ ap (λ z. old ++ flat_map g z) (sym e)
+
+  one_added : {Y : Type 0} (g : X → Y) (old new : List Y) → new ≡ old ++ g x ∷ [] → new ++ map g rest ≡ old ++ map g left
+  one_added g old new n =
+      ap (λ z. z ++ map g rest) n ∙ append_assoc old (g x ∷ []) (map g rest) ∙ ap (λ z. old ++ map g z) (sym e)
+
+pub loop-connection-preserved : goal.loop-connection-preserved
+loop-connection-preserved c =
+    let f = found_on c.args.lookup.now c.args.source.now c.args.flat.now in
+    let ks = c.args.flat.now.connections in
+    let l = c.loop-connection in
+    let i = l.connection-index in
+    let k = c.connection-item.result in
+    let all = c.as_slice-connection-items.ensures in
+    let less = subst (λ z. i < length z) all c.loop-connection-test.true in
+    let here = subst (λ z. k ≡ get_or z i k) all c.connection-item.is in
+    let rest = map f (drop (i + 1) ks) in
+    let next = ap (map f) (drop_first ks i k less here) in
+    let judged = c.as_slice.ensures ∙ c.in_ok-ends.ensures.found in
+    let settled = c.as_slice-in-loop-connection.ensures ∙ c.in_ok-ends.ensures.found in
+    let a = c.in_ok-add.ensures in
+    record {
+      settings =
+          one_added (f k) (map f (drop i ks)) rest next end_settings l.settings.items c.push.new.self.items
+          (c.in_ok-push.ensures.items
+          ∙ ap (λ v. l.settings.items ++ v ∷ []) (c.in_ok-end_settings.ensures ∙ ap end_settings settled))
+          ∙ l.invariant.settings;
+      first =
+          noted_mapped faults_on f c.add.new.self.first l.judged.first ks i k less here
+          (a.first ∙ ap (λ es. noted l.judged.first (faults_on es)) judged) ∙ l.invariant.first;
+      regions =
+          all_added (f k) (map f (drop i ks)) rest next regions_in l.judged.regions.items c.add.new.self.regions.items
+          (a.regions ∙ ap (λ es. l.judged.regions.items ++ regions_in es) judged) ∙ l.invariant.regions;
+      irqs =
+          all_added (f k) (map f (drop i ks)) rest next irqs_in l.judged.irqs.items c.add.new.self.irqs.items
+          (a.irqs ∙ ap (λ es. l.judged.irqs.items ++ irqs_in es) judged) ∙ l.invariant.irqs;
+      memo = c.in_ok-ends.ensures.memo;
+    }
