@@ -1,14 +1,9 @@
 -- The bodies of a source's hierarchy, and their instances.
-use Rattle.std.proofs.Common.{◌≡◌, ◌≤◌, ℕ, List, length, [], ◌∷◌, map, Option, Some, None, refl, sym, subst, ap, ◌∙◌, ◌⊎◌, inl, inr, true, is_some, arith}
-use Rattle.adl_meaning.specs.Prelude.{AreNamesSound, Assembly, Body, Component, Composition, Hierarchy, Instance, Line, Name, Part, Source, assemblies, body, body_of, components, filter_map, graph, hierarchy_of, inner_of, instances_by}
-use Rattle.adl_meaning.specs.declared.item_at.ItemAt.{ItemAt}
-use Rattle.adl_meaning.specs.Prelude.{instances_in, is_composite, kind_named, part_of, parts_by, parts_in, slice_get, top_number, top_of}
-use Rattle.std.proofs.lemmas.Option.{get_or_from_slice_get, slice_get_within}
-use Rattle.std.proofs.lemmas.List.{length-map}
+use Rattle.adl_hierarchy.proofs.Common.{AreNamesSound, Assembly, Body, Component, Composition, Hierarchy, Instance, IsIn, ItemAt, Line, List, Name, None, Option, Part, Some, Source, [], ap, arith, assemblies, body, body_of, components, filter_map}
+use Rattle.adl_hierarchy.proofs.Common.{from_filter_map, from_flat_map, get_map, get_or_from_slice_get, get_or_last, get_or_map, graph, hierarchy_of, in_flat_map, inl, inr, instances_by, instances_in, is_composite, is_some, kind_named, length}
+use Rattle.adl_hierarchy.proofs.Common.{length-map, map, map_some, one_assembly, part_of, parts_by, parts_in, refl, slice_get, slice_get_within, subst, sym, top_number, top_of, true, ℕ, ◌∙◌, ◌∷◌, ◌≡◌, ◌≤◌, ◌⊎◌}
+use Rattle.adl_meaning.specs.Prelude.{inner_of}
 use Rattle.adl_ast.specs.declared.composition.Line.TheVariants as lines
-use Rattle.cam_base.specs.Gather.{IsIn}
-use Rattle.adl_meaning.proofs.SoundNames.{one_assembly}
-use Rattle.cam_base.proofs.NumberedLists.{in_flat_map, from_flat_map, from_filter_map, get_map, get_or_map, get_or_last, map_some}
 
 -- ---- instances
 

@@ -1,15 +1,10 @@
 -- A search downwards finds an interface of a leaf exactly where the interface climbs up to the port.
-use Rattle.std.proofs.Common.{◌≡◌, ◌≤◌, ℕ, zero, suc, Bool, true, false, cond, length, [], ◌∷◌, map, Option, Some, None, option_map, is_some, refl, sym, ◌∙◌, ap, subst, arith}
-use Rattle.adl_meaning.specs.Prelude.{AreNamesSound, Climbs, Composition, Export, Hierarchy, IsLeaf, Known, Name, Part, Path, Reached, Source, at, behind, body, bytes_eq, export_named, exports_in, exports_of, hierarchy_of, is_composite, known_in}
-use Rattle.adl_meaning.specs.Prelude.{misfits_in_composition, name_of, option_and_then, option_map_or, part_named, port_in, reached, reached_by, reached_within}
-use Rattle.std.proofs.lemmas.Option.{option_and_then_some}
-use Rattle.std.proofs.lemmas.Slice.Eq.{bytes_eq-Decides}
-use Rattle.cam_base.specs.Gather.{IsIn}
-use Rattle.adl_hierarchy.specs.Once.{IsOnce}
+use Rattle.adl_hierarchy.proofs.Common.{AreNamesSound, Bool, Climbs, Composition, Export, Hierarchy, IsIn, IsLeaf, IsOnce, Known, Name, None, Option, Part, Path, Reached, Some, Source, [], ap, arith, at, behind, body, bytes_eq, bytes_eq-Decides}
+use Rattle.adl_hierarchy.proofs.Common.{cond, export_named, exports_in, exports_of, false, found, hierarchy_of, is_composite, is_some, known_in, length, map, map_some, misfits_in_composition, name_of, option_and_then, option_and_then_some}
+use Rattle.adl_hierarchy.proofs.Common.{option_map, option_map_or, part_named, port_in, reached, reached_by, reached_within, refl, subst, suc, sym, true, zero, ℕ, ◌∙◌, ◌∷◌, ◌≡◌, ◌≤◌}
 use Rattle.adl_hierarchy.proofs.Exports.{no_misfit, targets_once}
 use Rattle.adl_hierarchy.proofs.Finite.{sound_is_finite}
 use Rattle.adl_hierarchy.proofs.Leaves.{StandsIn}
-use Rattle.cam_base.proofs.NumberedLists.{found, map_some}
 use Rattle.adl_hierarchy.proofs.PartsAt.{named_in, part_behind, first_on, path_short}
 use Rattle.adl_hierarchy.proofs.Repeats.{find_once}
 

@@ -1,22 +1,17 @@
 -- Components by number, and the graph of the types of their instances.
-use Rattle.std.proofs.Common.{◌≡◌, ◌<◌, ◌+◌, ℕ, suc, Bool, true, false, cond, List, length, [], ◌∷◌, map, Option, Some, None, option_map, refl, sym, ◌∙◌, ap, arith}
+use Rattle.adl_hierarchy.proofs.Common.{Bool, InRange, IsAcyclic, IsIn, ItemAt, List, None, Option, Some, [], ap, arith, at_place, cond, false, found, from_enumerate, from_filter_map, get_map, get_or_from_slice_get, graph_of, has, in_enumerate}
+use Rattle.adl_hierarchy.proofs.Common.{in_filter_map, in_flat_map, inner_of, instances_of, is_held, length, length-map, map, map_some, none_from, none_in, number_from, number_named, option_map, recursive_among, recursive_in, recursive_instance}
+use Rattle.adl_hierarchy.proofs.Common.{recursive_type, refl, slice_get_within, suc, sym, true, types_of, ℕ, ◌+◌, ◌<◌, ◌∙◌, ◌∷◌, ◌≡◌}
 use Rattle.std.specs.List.{find, enumerate_from, slice_get}
 use Rattle.std.specs.Str.{bytes_eq}
-use Rattle.std.proofs.lemmas.List.{length-map}
-use Rattle.std.proofs.lemmas.Option.{get_or_from_slice_get, slice_get_within}
 use Rattle.adl_ast.specs.declared.component.Component.{Component}
 use Rattle.adl_ast.specs.declared.composition.Composition.{Composition}
 use Rattle.adl_ast.specs.declared.composition.Instance.{Instance}
-use Rattle.adl_meaning.specs.declared.item_at.ItemAt.{ItemAt}
-use Rattle.adl_meaning.specs.Graph.{has, inner_of, InRange, IsAcyclic, is_held}
 use Rattle.adl_meaning.specs.Holding.{instances_in}
 use Rattle.adl_meaning.specs.Items.{Name}
-use Rattle.cam_base.specs.Gather.{IsIn}
 use Rattle.adl_meaning.specs.Members.{compositions, composition_of}
-use Rattle.adl_meaning.specs.Recursive.{instances_of, number_from, number_named, types_of, graph_of, recursive_type, recursive_instance, recursive_in, recursive_among}
 use Rattle.adl_hierarchy.specs.Numbers.{AreBelow}
 use Rattle.adl_hierarchy.proofs.Lists.{in_has, has_in, in_get}
-use Rattle.cam_base.proofs.NumberedLists.{in_flat_map, in_filter_map, from_filter_map, get_map, found, from_enumerate, in_enumerate, none_in, none_from, map_some, at_place}
 use Rattle.adl_hierarchy.proofs.Through.{through_complete, unheld}
 
 -- ---- numbers

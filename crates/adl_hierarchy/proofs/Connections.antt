@@ -1,13 +1,7 @@
 -- The walk to the connections meets each connection once, and nothing else.
-use Rattle.std.proofs.Common.{◌≡◌, ◌≤◌, ◌↔◌, ℕ, zero, suc, List, length, [], ◌∷◌, ◌++◌, map, Some, refl, sym, ◌∙◌, ap, subst, arith, inl, inr}
-use Rattle.adl_meaning.specs.Prelude.{AreNamesSound, Hierarchy, Name, Part, Path, Source, Strung, Wire, at, body, connections, flat_map, further, hierarchy_of, name_of, strung, strung_by, top_number, wires_of}
-use Rattle.std.proofs.lemmas.List.{map-append}
-use Rattle.adl_meaning.specs.Joins.{connections_within}
-use Rattle.cam_base.specs.Gather.{IsIn}
-use Rattle.adl_hierarchy.specs.Once.{IsOnce}
+use Rattle.adl_hierarchy.proofs.Common.{AreNamesSound, Hierarchy, IsIn, IsOnce, List, Name, Part, Path, Some, Source, Strung, Wire, [], ap, arith, at, body, connections, connections_within, flat_map, from_flat_map, from_map, further, hierarchy_of}
+use Rattle.adl_hierarchy.proofs.Common.{in_append, in_flat_map, in_left, in_map, in_right, inl, inr, length, map, map-append, name_of, refl, strung, strung_by, subst, suc, sym, top_number, wires_of, zero, ℕ, ◌++◌, ◌↔◌, ◌∙◌, ◌∷◌, ◌≡◌, ◌≤◌}
 use Rattle.adl_hierarchy.proofs.Finite.{sound_is_finite}
-use Rattle.cam_base.proofs.Gathered.{in_left, in_right, in_append}
-use Rattle.cam_base.proofs.NumberedLists.{in_map, from_map, in_flat_map, from_flat_map}
 use Rattle.adl_hierarchy.proofs.PartNames.{names_once, wires_once}
 use Rattle.adl_hierarchy.proofs.PartsAt.{named_in, at_behind, first_on, path_short}
 use Rattle.adl_hierarchy.proofs.Repeats.{once_append, once_map, head_of, tail_of, once_by_head, find_once}

@@ -1,10 +1,7 @@
 -- The search for cycles.
-use Rattle.std.proofs.Common.{◌≡◌, ◌<◌, ◌⊎◌, ℕ, zero, suc, true, List, length, get_or, [], ◌∷◌, ◌++◌, sym, ◌∙◌, subst, arith, inl, inr, refl, get_or-set_same, get_or-set_other}
-use Rattle.std.proofs.Math.ListN.{set, length-set}
-use Rattle.std.proofs.lemmas.Bool.{both_ways, cases_eq, eqb-true, eq-eqb, false≢true}
+use Rattle.adl_hierarchy.proofs.Common.{AreCycleNumbers, AreHeldBy, AreRoots, Holds, InRange, IsTurned, List, TellCycles, Walk, [], arith, both_ways, cases_eq, eq-eqb, eqb-true, false≢true, get_or, get_or-set_other, get_or-set_same, has, inl}
+use Rattle.adl_hierarchy.proofs.Common.{inner_of, inr, is_held, length, length-set, refl, set, subst, suc, sym, true, zero, ℕ, ◌++◌, ◌<◌, ◌∙◌, ◌∷◌, ◌≡◌, ◌⊎◌}
 use lib.Dec.{eqb}
-use Rattle.adl_meaning.specs.Graph.{has, inner_of, InRange, Walk, Holds, is_held}
-use Rattle.adl_hierarchy.specs.Cycles.{AreCycleNumbers, AreHeldBy, AreRoots, IsTurned, TellCycles}
 use Rattle.adl_hierarchy.proofs.Cycling.{exact}
 use Rattle.adl_hierarchy.proofs.Marks.{has_new, has_old, has_pushed}
 use Rattle.adl_hierarchy.proofs.Through.{held_test}

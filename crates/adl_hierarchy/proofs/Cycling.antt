@@ -1,7 +1,5 @@
 -- Components of one number hold each other.
-use Rattle.std.proofs.Common.{◌≡◌, ◌↔◌, ◌<◌, ◌≤◌, ℕ, zero, suc, true, List, length, subst, sym, ap, arith, inl, inr}
-use Rattle.adl_meaning.specs.Graph.{has, inner_of, InRange, Walk, Holds}
-use Rattle.adl_hierarchy.specs.Cycles.{AreCycleNumbers}
+use Rattle.adl_hierarchy.proofs.Common.{AreCycleNumbers, Holds, InRange, List, Walk, ap, arith, has, inl, inner_of, inr, length, subst, suc, sym, true, zero, ℕ, ◌<◌, ◌↔◌, ◌≡◌, ◌≤◌}
 use Rattle.adl_hierarchy.proofs.Through.{walk_join}
 
 -- no walk leads to a smaller rank

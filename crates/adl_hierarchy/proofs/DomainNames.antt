@@ -1,12 +1,7 @@
 -- The domains of a hierarchy are those of its leaves.
-use Rattle.std.proofs.Common.{◌≡◌, ◌↔◌, ℕ, Bool, true, false, not, List, map, Some, Decides, refl, sym, ◌∙◌, ap, subst, arith}
-use Rattle.adl_meaning.specs.Prelude.{AreNamesSound, Hierarchy, Path, Placed, Source, domain_number, domain_of, domains, enumerate_from, filter, flat_domain, hierarchy_of, is_hardware, is_inside, leaf_number, leaves, same_path, slice_get}
-use Rattle.std.proofs.lemmas.Bool.{and_parts, and_from, not-true}
-use Rattle.std.proofs.Common.{◌+◌, map-id}
-use Rattle.std.proofs.lemmas.Slice.Eq.{bytes_eq-Decides, slice_eq-Decides}
-use Rattle.cam_base.specs.Gather.{IsIn}
-use Rattle.adl_hierarchy.specs.Once.{IsOnce}
-use Rattle.cam_base.proofs.NumberedLists.{in_map, from_map, from_enumerate, in_enumerate}
+use Rattle.adl_hierarchy.proofs.Common.{AreNamesSound, Bool, Decides, Hierarchy, IsIn, IsOnce, List, Path, Placed, Some, Source, and_from, and_parts, ap, arith, bytes_eq-Decides, domain_number, domain_of, domains, enumerate_from, false, filter}
+use Rattle.adl_hierarchy.proofs.Common.{flat_domain, from_enumerate, from_map, hierarchy_of, in_enumerate, in_map, is_hardware, is_inside, leaf_number, leaves, map, map-id, not, not-true, refl, same_path, slice_eq-Decides, slice_get, subst, sym}
+use Rattle.adl_hierarchy.proofs.Common.{true, ℕ, ◌+◌, ◌↔◌, ◌∙◌, ◌≡◌}
 use Rattle.adl_hierarchy.proofs.Once.{leaf_paths_once}
 use Rattle.adl_hierarchy.proofs.Places.{place_is, at_place, in_filter, from_filter, once_filter, numbers_once, firsts_are, once_firsts}
 

@@ -1,14 +1,9 @@
 -- Where no export is at fault: exports stand once by target, and what is exported or joined leads on.
-use Rattle.std.proofs.Common.{◌≡◌, ℕ, Bool, true, false, ◌||◌, List, [], ◌∷◌, map, Option, Some, None, refl, sym, ◌∙◌, ap, subst, inl, inr}
-use Rattle.adl_meaning.specs.Prelude.{AreNamesSound, Composition, Connection, End, Export, Fault, Held, Known, Name, Port, Source, body, bytes_eq, compositions, connections_in, exports_in, flat_map, held_as, hierarchy_of, is_unled, known_in}
-use Rattle.adl_meaning.specs.Prelude.{known_of, misfits_in_composition, port_of, where_true}
-use Rattle.std.proofs.lemmas.Bool.{or_left, or_right, or_parts}
-use Rattle.std.proofs.lemmas.Slice.Eq.{bytes_eq-Decides}
-use Rattle.adl_meaning.specs.Export.{inner_of, is_port, export_fault, is_misfit, misfits_after, unled_end, unled_ends, misfits_in_item}
-use Rattle.cam_base.specs.Gather.{IsIn}
-use Rattle.adl_hierarchy.specs.Once.{IsOnce}
+use Rattle.adl_hierarchy.proofs.Common.{AreNamesSound, Bool, Composition, Connection, End, Export, Fault, Held, IsIn, IsOnce, Known, List, Name, None, Option, Port, Some, Source, [], ap, body, bytes_eq, bytes_eq-Decides, compositions, connections_in}
+use Rattle.adl_hierarchy.proofs.Common.{export_fault, exports_in, false, flat_map, held_as, hierarchy_of, inl, inr, is_misfit, is_port, is_unled, known_in, known_of, map, misfits_after, misfits_in_composition, misfits_in_item, none_in, none_left}
+use Rattle.adl_hierarchy.proofs.Common.{none_right, or_left, or_parts, or_right, port_of, refl, subst, sym, true, unled_end, unled_ends, where_true, ℕ, ◌||◌, ◌∙◌, ◌∷◌, ◌≡◌}
+use Rattle.adl_meaning.specs.Export.{inner_of}
 use Rattle.adl_hierarchy.proofs.Lists.{in_get}
-use Rattle.cam_base.proofs.NumberedLists.{none_in, none_left, none_right}
 use Rattle.adl_hierarchy.proofs.Sources.{composed, none_in_component, none_in_assembly}
 
 -- no export of this composition is at fault

@@ -1,15 +1,10 @@
 -- Where no fault of names stands, the hierarchy is finite: no component is recursive, and the assembly is no component.
-use Rattle.std.proofs.Common.{◌≡◌, ◌<◌, ◌≤◌, ℕ, zero, suc, true, List, length, [], ◌∷◌, ◌++◌, map, Some, sym, ◌∙◌, ap, subst, arith, inl, inr, length-append}
-use Rattle.adl_meaning.specs.Prelude.{AreNamesSound, Body, Component, Hierarchy, Part, Source, Walk, body, body_of, components, graph, has, hierarchy_of, inner_of, kind_named, slice_get}
-use Rattle.adl_meaning.specs.declared.item_at.ItemAt.{ItemAt}
-use Rattle.std.proofs.lemmas.List.{length-map}
-use Rattle.cam_base.specs.Gather.{IsIn}
-use Rattle.adl_meaning.specs.Recursive.{instances_of, graph_of}
+use Rattle.adl_hierarchy.proofs.Common.{AreNamesSound, Body, Component, Hierarchy, IsFinite, IsIn, ItemAt, List, Part, Some, Source, [], ap, arith, body, body_of, components, from_map, get_map, graph, graph_of, hierarchy_of, inl, inr, instances_of}
+use Rattle.adl_hierarchy.proofs.Common.{kind_named, length, length-append, length-map, map, slice_get, subst, suc, sym, true, zero, ℕ, ◌++◌, ◌<◌, ◌∙◌, ◌∷◌, ◌≡◌, ◌≤◌}
+use Rattle.adl_meaning.specs.Prelude.{Walk, has, inner_of}
 use Rattle.adl_hierarchy.proofs.ComponentNumbers.{numbers_below, composed_instance, listed, graph_in_range, acyclic_from_none}
 use Rattle.adl_hierarchy.proofs.Lists.{in_has}
-use Rattle.cam_base.proofs.NumberedLists.{get_map, from_map}
 use Rattle.adl_hierarchy.proofs.Walks.{walk_in_range}
-use Rattle.adl_hierarchy.specs.Finite.{IsFinite}
 use Rattle.adl_hierarchy.proofs.Bodies.{body_at, part_of_body, inner_of_body}
 
 -- the components without their places

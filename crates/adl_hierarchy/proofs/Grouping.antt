@@ -1,10 +1,7 @@
 -- The group above a path is the outermost.
-use Rattle.std.proofs.Common.{◌≡◌, ◌↔◌, ℕ, [], ◌∷◌, ◌++◌, Option, Some, None, option_map, refl, sym, ◌∙◌, ap, subst}
-use Rattle.adl_meaning.specs.Prelude.{Hierarchy, Name, Part, Path, body, group_above, group_or, option_and_then, part_named}
-use Rattle.std.proofs.lemmas.Option.{option_and_then_some}
+use Rattle.adl_hierarchy.proofs.Common.{Hierarchy, Name, None, Option, Part, Path, Some, [], ap, body, group_above, group_or, map_some, option_and_then, option_and_then_some, option_map, part_at, part_named, refl, subst, sym, ℕ, ◌++◌, ◌↔◌, ◌∙◌, ◌∷◌}
+use Rattle.adl_hierarchy.proofs.Common.{◌≡◌}
 use Rattle.adl_hierarchy.specs.OutermostGroup.{IsOutermostGroup}
-use Rattle.adl_hierarchy.specs.PartAt.{part_at}
-use Rattle.cam_base.proofs.NumberedLists.{map_some}
 use Rattle.adl_hierarchy.proofs.PartsAt.{part_behind}
 use Rattle.adl_hierarchy.proofs.Repeats.{head_of, tail_of}
 

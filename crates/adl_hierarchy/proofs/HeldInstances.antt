@@ -1,11 +1,7 @@
 -- What names stand for among what a composition holds: instances of it, each under its own name.
-use Rattle.std.proofs.Common.{◌≡◌, List, [], ◌∷◌, Option, Some, None, refl, sym, ◌∙◌, ap, subst, inl, inr}
-use Rattle.adl_meaning.specs.Prelude.{Composition, Held, Id, Instance, Line, Name, Port, a_connection, a_group, an_instance, as_held, bytes_eq, find, held_as, held_by, held_in, instances_by, instances_in, member_of, port_of}
-use Rattle.std.proofs.lemmas.Slice.Eq.{bytes_eq-Decides}
+use Rattle.adl_hierarchy.proofs.Common.{Composition, Held, Id, Instance, IsIn, Line, List, Name, None, Option, Port, Some, [], a_connection, a_group, an_instance, ap, as_held, bytes_eq, bytes_eq-Decides, find, found, from_flat_map, from_map, held_as}
+use Rattle.adl_hierarchy.proofs.Common.{held_by, held_in, in_flat_map, inl, inr, instance_held, instances_by, instances_in, map_some, member_held, member_of, port_of, refl, subst, sym, ◌∙◌, ◌∷◌, ◌≡◌}
 use Rattle.adl_ast.specs.declared.composition.Line.TheVariants as lines
-use Rattle.adl_meaning.specs.Export.{instance_held, member_held}
-use Rattle.cam_base.specs.Gather.{IsIn}
-use Rattle.cam_base.proofs.NumberedLists.{in_flat_map, from_flat_map, from_map, found, map_some}
 
 held_found : (k : Composition) (n : Name) (x : Held) → held_as k n ≡ Some x → (l : Line) × IsIn l k.lines × (h : Id × Held)
     × IsIn h (held_by l) × (h.0.name ≡ n) × (h.1 ≡ x)

@@ -1,11 +1,7 @@
 -- What an end joins is what the relation of joining says.
-use Rattle.std.proofs.Common.{◌≡◌, ◌≤◌, ℕ, zero, suc, List, length, [], ◌∷◌, ◌++◌, Option, Some, option_map, refl, sym, ◌∙◌, ap, subst, arith, inl, inr}
-use Rattle.adl_meaning.specs.Prelude.{AreNamesSound, Climbs, End, Joins, Name, Path, Placed, Reached, Role, Source, Strung, at, connections, cons_option, filter_map, flat_end, flat_ends, hierarchy_of, joined_by, leaves, option_and_then}
+use Rattle.adl_hierarchy.proofs.Common.{AreDotted, AreNamesSound, Climbs, End, IsIn, Joins, List, Name, Option, Path, Placed, Reached, Role, Some, Source, Strung, [], ap, arith, at, connections, cons_option, filter_map, flat_end, flat_ends}
+use Rattle.adl_hierarchy.proofs.Common.{hierarchy_of, inl, inr, joined_by, leaves, length, option_and_then, option_and_then_some, option_map, port_in, reached, refl, slice_get, subst, suc, sym, top_number, zero, ℕ, ◌++◌, ◌∙◌, ◌∷◌, ◌≡◌, ◌≤◌}
 use Rattle.adl_meaning.specs.declared.flat.FlatEnd.{FlatEnd}
-use Rattle.adl_meaning.specs.Prelude.{port_in, reached, slice_get, top_number}
-use Rattle.std.proofs.lemmas.Option.{option_and_then_some}
-use Rattle.cam_base.specs.Gather.{IsIn}
-use Rattle.adl_hierarchy.specs.Leads.{AreDotted}
 use Rattle.adl_hierarchy.proofs.Climbing.{found_climbs, climbs_reached}
 use Rattle.adl_hierarchy.proofs.Connections.{connections_stand}
 use Rattle.adl_hierarchy.proofs.Finite.{sound_is_finite}

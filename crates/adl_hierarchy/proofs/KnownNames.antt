@@ -1,20 +1,13 @@
 -- Where no name is unknown: types have components with numbers, and dotted names have instances.
-use Rattle.std.proofs.Common.{◌≡◌, ◌≤◌, ℕ, suc, List, length, [], ◌∷◌, Option, Some, None, option_map, is_some, refl, sym, ◌∙◌, ap, subst, arith, inl, inr}
-use Rattle.adl_meaning.specs.Prelude.{AreNamesSound, Component, Composition, Connection, End, Export, Held, Id, Instance, Known, Line, Member, Name, Source, a_connection, a_group, an_instance, as_composition, as_connection}
-use Rattle.adl_meaning.specs.declared.connector.Connector.{Connector}
-use Rattle.adl_meaning.specs.declared.item_at.ItemAt.{ItemAt}
-use Rattle.adl_meaning.specs.Prelude.{as_export, body, components, compositions, connections_in, connector_of, exports_in, flat_map, held_as, hierarchy_of, instances_by, instances_in, kind_named, known_in, known_of, port_in, port_of, slice_get}
-use Rattle.adl_meaning.specs.Prelude.{unknown_in_composition, unknown_interface, unless_known}
+use Rattle.adl_hierarchy.proofs.Common.{AreNamesSound, Component, Composition, Connection, Connector, End, Export, Held, Id, Instance, IsDotted, IsIn, ItemAt, Known, Line, List, Member, Name, None, Option, Some, Source, [], a_connection, a_group}
+use Rattle.adl_hierarchy.proofs.Common.{an_instance, ap, arith, as_composition, as_connection, as_export, body, component_named, components, compositions, connections_in, connector_of, exports_in, flat_map, from_filter_map, from_flat_map, held_as}
+use Rattle.adl_hierarchy.proofs.Common.{hierarchy_of, inl, inr, instance_held, instances_by, instances_in, is_some, kind_named, known_in, known_of, length, map_some, member_held, none_in, none_left, none_right, option_map, port_in, port_of, refl}
+use Rattle.adl_hierarchy.proofs.Common.{slice_get, subst, suc, sym, unknown_in_composition, unknown_interface, unless_known, ℕ, ◌∙◌, ◌∷◌, ◌≡◌, ◌≤◌}
 use Rattle.adl_ast.specs.declared.component.Member.TheVariants as members
 use Rattle.adl_ast.specs.declared.composition.Line.TheVariants as lines
-use Rattle.adl_meaning.specs.Export.{instance_held, member_held}
-use Rattle.adl_meaning.specs.Items.{component_named}
-use Rattle.cam_base.specs.Gather.{IsIn}
 use Rattle.adl_meaning.specs.Unknown.{unknown_type, unknown_connector, unknown_in_two, unknown_in_group, unknown_in_three, unknown_in_dotted, unknown_target, unknown_in_line, unknown_in_member, unknown_in_item, is_procedure}
 use Rattle.adl_hierarchy.proofs.ComponentNumbers.{number_found}
 use Rattle.adl_hierarchy.proofs.Lists.{in_get}
-use Rattle.cam_base.proofs.NumberedLists.{from_flat_map, from_filter_map, none_in, none_left, none_right, map_some}
-use Rattle.adl_hierarchy.specs.Leads.{IsDotted}
 use Rattle.adl_hierarchy.proofs.HeldInstances.{instance_in, member_in}
 use Rattle.adl_hierarchy.proofs.Sources.{composed, none_in_component, none_in_assembly}
 

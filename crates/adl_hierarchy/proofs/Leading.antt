@@ -1,21 +1,15 @@
 -- Where no fault of names stands, the dotted names of exports and ends lead on, and each end joins an interface of a leaf.
-use Rattle.std.proofs.Common.{◌≡◌, ◌≤◌, ℕ, zero, suc, Bool, true, false, ◌||◌, ◌&&◌, not, cond, List, length, [], ◌∷◌, Option, Some, None, option_map, is_some, refl, sym, ◌∙◌, ap, subst}
-use Rattle.adl_meaning.specs.Prelude.{AreNamesSound, Body, Component, Composition, Connection, End, Export, Hierarchy, Id, Instance, Known, Line, Name, Part, Reached, Source, Wire, behind, body, body_of, bytes_eq, composition_of}
-use Rattle.adl_meaning.specs.declared.connector.Connector.{Connector}
-use Rattle.adl_meaning.specs.Prelude.{connections_in, connector_of, export_named, exports_in, exports_of, filter_map, find, held_as, hierarchy_of, instances_by, instances_in, is_composite, is_unled, joined_by, kind_named, known_in, known_of}
-use Rattle.adl_meaning.specs.Prelude.{list_any, name_of, option_and_then, option_map_or, part_named, part_of, parts_by, parts_in, port_in, port_of, reached, reached_by, reached_within, unknown_in_composition, unknown_interface, unless_known, wire_of}
-use Rattle.adl_meaning.specs.Prelude.{wires_of}
+use Rattle.adl_hierarchy.proofs.Common.{AllLead, AreDotted, AreNamesSound, Body, Bool, Component, Composition, Connection, Connector, End, Export, Hierarchy, Id, Instance, IsFinite, IsIn, Known, Leads, Line, List, Name, None, Option, Part, PortLeads}
+use Rattle.adl_hierarchy.proofs.Common.{Reached, Some, Source, Wire, [], ap, behind, body, body_of, bytes_eq, composition_of, cond, connections_in, connector_of, ends_in, export_named, exports_in, exports_of, false, filter_map, find, found}
+use Rattle.adl_hierarchy.proofs.Common.{from_filter_map, from_flat_map, held_as, hierarchy_of, in_filter_map, in_flat_map, instances_by, instances_in, is_composite, is_some, is_unled, joined_by, kind_named, known_in, known_of, length, list_any}
+use Rattle.adl_hierarchy.proofs.Common.{map_some, name_of, not, option_and_then, option_map, option_map_or, part_named, part_of, parts_by, parts_in, port_in, port_of, reached, reached_by, reached_within, refl, subst, suc, sym, true}
+use Rattle.adl_hierarchy.proofs.Common.{unknown_in_composition, unknown_interface, unless_known, wire_of, wires_of, zero, ℕ, ◌&&◌, ◌||◌, ◌∙◌, ◌∷◌, ◌≡◌, ◌≤◌}
 use Rattle.adl_ast.specs.declared.composition.Line.TheVariants as lines
-use Rattle.adl_meaning.specs.Export.{ends_in}
 use Rattle.adl_meaning.specs.Known.{is_target, is_exported}
-use Rattle.cam_base.specs.Gather.{IsIn}
-use Rattle.adl_hierarchy.specs.Finite.{IsFinite}
-use Rattle.adl_hierarchy.specs.Leads.{PortLeads, Leads, AllLead, AreDotted}
 use Rattle.adl_hierarchy.proofs.Bodies.{body_number, parts_of}
 use Rattle.adl_hierarchy.proofs.Exports.{no_misfit, export_leads, end_leads}
 use Rattle.adl_hierarchy.proofs.KnownNames.{IsTyped, typed, no_unknown, instance_typed, export_known, end_known, IsKnown, dotted_known}
 use Rattle.adl_hierarchy.proofs.Finite.{sound_is_finite}
-use Rattle.cam_base.proofs.NumberedLists.{in_flat_map, from_flat_map, in_filter_map, from_filter_map, found, map_some}
 use Rattle.adl_hierarchy.proofs.PartNames.{names_once}
 use Rattle.adl_hierarchy.proofs.Repeats.{find_once}
 use Rattle.adl_hierarchy.proofs.Steps.{IsShallow, kind_in, shallow, below, no_parts, part_in}

@@ -1,13 +1,8 @@
 -- The walk to the leaves meets each leaf, and nothing else.
-use Rattle.std.proofs.Common.{◌≡◌, ◌≤◌, ◌↔◌, ℕ, zero, suc, Bool, true, false, cond, List, length, [], ◌∷◌, map, Some, refl, sym, ◌∙◌, ap, subst, arith, inl, inr, true≢false}
-use Rattle.std.proofs.lemmas.Option.{option_and_then_some}
-use Rattle.adl_meaning.specs.Prelude.{AreNamesSound, Hierarchy, IsLeaf, Name, Part, Path, Placed, Source, body, hierarchy_of, is_composite, leaves, leaves_within, name_of, outside, part_named, placed_by, top_number}
-use Rattle.cam_base.specs.Gather.{IsIn}
-use Rattle.adl_hierarchy.specs.Once.{IsOnce}
-use Rattle.adl_hierarchy.specs.PartAt.{part_at}
+use Rattle.adl_hierarchy.proofs.Common.{AreNamesSound, Bool, Hierarchy, IsIn, IsLeaf, IsOnce, List, Name, Part, Path, Placed, Some, Source, [], ap, arith, body, cond, false, from_flat_map, from_map, hierarchy_of, in_flat_map, in_map, inl, inr}
+use Rattle.adl_hierarchy.proofs.Common.{is_composite, leaves, leaves_within, length, map, name_of, option_and_then_some, outside, part_at, part_named, placed_by, refl, subst, suc, sym, top_number, true, true≢false, zero, ℕ, ◌↔◌, ◌∙◌, ◌∷◌, ◌≡◌, ◌≤◌}
 use Rattle.adl_hierarchy.proofs.Bodies.{top_composed}
 use Rattle.adl_hierarchy.proofs.Finite.{sound_is_finite}
-use Rattle.cam_base.proofs.NumberedLists.{in_map, from_map, in_flat_map, from_flat_map}
 use Rattle.adl_hierarchy.proofs.PartNames.{names_once}
 use Rattle.adl_hierarchy.proofs.PartsAt.{named_in, part_behind, at_part, part_from_at, path_short, AreComposed, are_composed, is_outer}
 use Rattle.adl_hierarchy.proofs.Repeats.{find_once}

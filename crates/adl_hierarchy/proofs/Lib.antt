@@ -1,3 +1,4 @@
+pub mod Common
 -- Lemmas on walks, orders and sets of components, on components by number, and on what stands in lists.
 pub mod Bodies
 pub mod Climbing

@@ -1,15 +1,10 @@
 -- The limits of a hierarchy, where none is passed.
-use Rattle.std.proofs.Common.{◌≡◌, ◌≤◌, ℕ, List, length, [], ◌∷◌, ◌++◌, None, sym, subst, inl, refl}
+use Rattle.adl_hierarchy.proofs.Common.{AreNamesSound, Assembly, IsIn, ItemAt, List, Name, None, Source, [], assemblies, connections, depth, first_size_fault, hierarchy_of, inl, leaves, length, limits_passed, ltb-false, none_in, none_left}
+use Rattle.adl_hierarchy.proofs.Common.{none_right, one_assembly, refl, subst, sym, ℕ, ◌++◌, ◌∷◌, ◌≡◌, ◌≤◌}
 use Rattle.std.specs.Prelude.{nat_lt, codes}
-use Rattle.std.proofs.lemmas.Bool.{ltb-false}
-use Rattle.adl_meaning.specs.Prelude.{AreNamesSound, Assembly, Name, Source, assemblies, connections, depth, first_size_fault, hierarchy_of, leaves, limits_passed}
-use Rattle.adl_meaning.specs.declared.item_at.ItemAt.{ItemAt}
 use Rattle.adl_hierarchy.proofs.Exports.{not_so}
-use Rattle.cam_base.proofs.NumberedLists.{none_in, none_left, none_right}
-use Rattle.cam_base.specs.Gather.{IsIn}
 use Rattle.adl_meaning.specs.SizeFaults.{all_ends, limit_passed, size_faults}
 use Rattle.adl_meaning.proofs.Least.{least-empty}
-use Rattle.adl_meaning.proofs.SoundNames.{one_assembly}
 
 pub record AreInLimits (s : Source) : Type 0 where
   pub depth_is : depth (hierarchy_of s) ≤ 16

@@ -1,16 +1,10 @@
 -- Sets of numbers: their marks, and what their lists have.
-use Rattle.std.proofs.Common.{◌≡◌, ◌<◌, ◌≤◌, ◌^◌, ℕ, Bool, true, false, ◌||◌, List, length, get_or, [], ◌∷◌, ◌++◌, take, drop, refl, sym, ◌∙◌, ap, subst, arith, length-append, inl, inr, ◌⊎◌, get_or-set_same, get_or-set_other}
-use Rattle.std.proofs.Math.ListN.{set, length-set, replicate}
+use Rattle.adl_hierarchy.proofs.Common.{AreMarks, Bool, IsDistinct-push, List, [], ap, arith, cases_Bool, cases_eq, drop, eq-eqb, eqb-true, false, false≢true, get_or, get_or-replicate, get_or-set_other, get_or-set_same, has, inl, inr, length}
+use Rattle.adl_hierarchy.proofs.Common.{length-append, length-le_from_distinct_below, length-replicate, length-set, list_any-append, list_any_at, ne_eqb, or_cases, or_left, or_right, refl, replicate, set, subst, sym, take, take-append-drop}
+use Rattle.adl_hierarchy.proofs.Common.{take-append-le, true, with_number, ℕ, ◌++◌, ◌<◌, ◌^◌, ◌||◌, ◌∙◌, ◌∷◌, ◌≡◌, ◌≤◌, ◌⊎◌}
 use Rattle.std.specs.List.{IsDistinct}
-use Rattle.std.proofs.lemmas.List.{length-replicate, get_or-replicate, take-append-le, take-append-drop}
-use Rattle.std.proofs.lemmas.List.Folds.{list_any-append, list_any_at}
-use Rattle.std.proofs.lemmas.Bool.{or_cases, or_right, or_left, cases_Bool, eqb-true, eq-eqb, ne_eqb, false≢true, cases_eq}
-use Rattle.std.proofs.lemmas.Map.Steps.{length-le_from_distinct_below}
-use Rattle.std.proofs.lemmas.Map.Keys.{IsDistinct-push}
 use Rattle.std.proofs.lemmas.Cmp.{nat_eq_equiv}
 use lib.Dec.{eqb}
-use Rattle.adl_meaning.specs.Graph.{has}
-use Rattle.adl_hierarchy.specs.Sets.{AreMarks, with_number}
 
 pub marks_few : (marks : List Bool) (list : List ℕ) → AreMarks marks list → length list ≤ length marks
 marks_few marks list m = length-le_from_distinct_below list (length marks) m.distinct m.below

@@ -1,9 +1,6 @@
 -- No leaf is met twice.
-use Rattle.std.proofs.Common.{◌≡◌, ℕ, zero, suc, Bool, true, false, cond, List, length, [], ◌∷◌, map, refl, sym, ap, subst, inl, inr}
-use Rattle.adl_meaning.specs.Prelude.{AreNamesSound, Hierarchy, Name, Part, Path, Placed, Source, body, hierarchy_of, is_composite, leaves, leaves_within, name_of, outside, placed_by, top_number}
-use Rattle.cam_base.specs.Gather.{IsIn}
-use Rattle.adl_hierarchy.specs.Once.{IsOnce}
-use Rattle.cam_base.proofs.NumberedLists.{from_map}
+use Rattle.adl_hierarchy.proofs.Common.{AreNamesSound, Bool, Hierarchy, IsIn, IsOnce, List, Name, Part, Path, Placed, Source, [], ap, body, cond, false, from_map, hierarchy_of, inl, inr, is_composite, leaves, leaves_within, length, map, name_of}
+use Rattle.adl_hierarchy.proofs.Common.{outside, placed_by, refl, subst, suc, sym, top_number, true, zero, ℕ, ◌∷◌, ◌≡◌}
 use Rattle.adl_hierarchy.proofs.PartNames.{names_once}
 use Rattle.adl_hierarchy.proofs.Repeats.{once_map, head_of, tail_of, once_by_head}
 

@@ -1,15 +1,10 @@
 -- Where no name is a duplicate, the names of a body's instances stand once.
-use Rattle.std.proofs.Common.{◌≡◌, ℕ, List, [], ◌∷◌, ◌++◌, map, Option, Some, None, refl, sym, ap, subst, inl, inr}
-use Rattle.adl_meaning.specs.Prelude.{AreNamesSound, Composition, Connection, Held, Id, Instance, Line, Name, Part, Source, Wire, as_connection, as_held, body, compositions, connections_in, connector_of, cons_option, filter_map, flat_map}
-use Rattle.adl_meaning.specs.declared.connector.Connector.{Connector}
-use Rattle.adl_meaning.specs.Prelude.{held_by, held_in, hierarchy_of, items_of, kind_named, name_of, option_map_or, part_of, parts_by, parts_in, wire_of, wires_of}
+use Rattle.adl_hierarchy.proofs.Common.{AreNamesSound, Composition, Connection, Connector, Held, Id, Instance, IsIn, IsOnce, Line, List, Name, None, Option, Part, Some, Source, Wire, [], ap, as_connection, as_held, body, compositions, connections_in}
+use Rattle.adl_hierarchy.proofs.Common.{connector_of, cons_option, duplicates_in_composition, duplicates_in_item, filter_map, flat_map, held_by, held_in, hierarchy_of, inl, inr, items_of, kind_named, map, map_some, name_of, none_in, none_right}
+use Rattle.adl_hierarchy.proofs.Common.{option_map_or, part_of, parts_by, parts_in, refl, subst, sym, wire_of, wires_of, ℕ, ◌++◌, ◌∷◌, ◌≡◌}
 use Rattle.adl_ast.specs.declared.composition.Line.TheVariants as lines
-use Rattle.adl_meaning.specs.Duplicate.{duplicates_in_composition, duplicates_in_item}
-use Rattle.cam_base.specs.Gather.{IsIn}
-use Rattle.adl_hierarchy.specs.Once.{IsOnce}
 use Rattle.adl_hierarchy.proofs.Bodies.{parts_of}
 use Rattle.adl_hierarchy.proofs.Lists.{in_get}
-use Rattle.cam_base.proofs.NumberedLists.{none_in, none_right, map_some}
 use Rattle.adl_hierarchy.proofs.Repeats.{filtered_in, once_filtered, once_flat_map, unrepeated_once}
 use Rattle.adl_hierarchy.proofs.Sources.{composed, none_in_component, none_in_assembly}
 

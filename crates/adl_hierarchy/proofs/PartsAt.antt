@@ -1,13 +1,8 @@
 -- Instances at paths.
-use Rattle.std.proofs.Common.{◌≡◌, ◌≤◌, ℕ, Bool, true, false, List, length, [], ◌∷◌, ◌++◌, Option, Some, None, is_some, refl, sym, ◌∙◌, ap, subst}
-use Rattle.adl_meaning.specs.Prelude.{Composition, Hierarchy, Name, Part, Path, Source, Walk, at, body, bytes_eq, graph, hierarchy_of, is_composite, kind_named, name_of, option_and_then, part_named, parts_in}
-use Rattle.std.proofs.lemmas.Option.{option_and_then_some}
-use Rattle.std.proofs.lemmas.Slice.Eq.{bytes_eq-Decides}
-use Rattle.cam_base.specs.Gather.{IsIn}
-use Rattle.adl_hierarchy.specs.Finite.{IsFinite}
-use Rattle.adl_hierarchy.specs.PartAt.{part_at}
+use Rattle.adl_hierarchy.proofs.Common.{Bool, Composition, Hierarchy, IsFinite, IsIn, List, Name, None, Option, Part, Path, Some, Source, [], ap, at, body, bytes_eq, bytes_eq-Decides, false, found, graph, hierarchy_of, is_composite, is_some}
+use Rattle.adl_hierarchy.proofs.Common.{kind_named, length, name_of, option_and_then, option_and_then_some, part_at, part_named, parts_in, refl, subst, sym, true, ℕ, ◌++◌, ◌∙◌, ◌∷◌, ◌≡◌, ◌≤◌}
+use Rattle.adl_meaning.specs.Prelude.{Walk}
 use Rattle.adl_hierarchy.proofs.Bodies.{parts_of}
-use Rattle.cam_base.proofs.NumberedLists.{found}
 use Rattle.adl_hierarchy.proofs.Steps.{listed, kind_in, shallow}
 
 -- an instance found by name is one of the name

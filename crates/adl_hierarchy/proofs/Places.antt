@@ -1,12 +1,8 @@
 -- Places in lists, and lists without what stands twice, where a test decides equality.
-use Rattle.std.proofs.Common.{◌≡◌, ◌↔◌, ◌⊎◌, ◌+◌, ℕ, zero, suc, Bool, true, false, ◌||◌, cond, List, [], ◌∷◌, map, Some, Decides, refl, sym, ◌∙◌, ap, subst, inl, inr, arith}
-use Rattle.adl_meaning.specs.Prelude.{enumerate_from, filter, firsts_after, place_by, slice_get}
-use Rattle.std.proofs.lemmas.Bool.{or_parts, or_from, both_ways, false_from_ne_true}
+use Rattle.adl_hierarchy.proofs.Common.{Bool, Decides, IsIn, IsOnce, List, Some, [], ap, arith, both_ways, cond, enumerate_from, false, false_from_ne_true, filter, firsts_after, from_enumerate, from_map, in_map, inl, inr, map, or_from, or_parts}
+use Rattle.adl_hierarchy.proofs.Common.{place_by, refl, slice_get, subst, suc, sym, true, zero, ℕ, ◌+◌, ◌||◌, ◌↔◌, ◌∙◌, ◌∷◌, ◌≡◌, ◌⊎◌}
 use Rattle.adl_meaning.specs.Lists.{firsts}
-use Rattle.cam_base.specs.Gather.{IsIn}
-use Rattle.adl_hierarchy.specs.Once.{IsOnce}
 use Rattle.adl_hierarchy.proofs.Lists.{in_get}
-use Rattle.cam_base.proofs.NumberedLists.{in_map, from_map, from_enumerate}
 
 -- where keys stand once, the place of the first that has a key is the place of the one that has it
 pub place_is : {X K : Type 0} (same : K → K → Bool) → ((a b : K) → Decides (same a b) (a ≡ b))

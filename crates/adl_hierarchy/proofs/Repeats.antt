@@ -1,14 +1,6 @@
 -- Lists in which nothing stands twice.
-use Rattle.std.proofs.Common.{◌≡◌, Bool, true, false, ◌||◌, cond, List, [], ◌∷◌, ◌++◌, map, Option, Some, None, refl, sym, ◌∙◌, ap, subst, inl, inr}
-use Rattle.adl_meaning.specs.Prelude.{Fault, Id, Name, Path, bytes_eq, cons_option, filter_map, find, flat_map, where_true}
-use Rattle.std.proofs.lemmas.Bool.{or_left, or_right}
-use Rattle.std.proofs.lemmas.List.{map-append}
-use Rattle.std.proofs.lemmas.Slice.Eq.{bytes_eq-Decides}
-use Rattle.adl_meaning.specs.Duplicate.{repeats_after, repeats}
-use Rattle.cam_base.specs.Gather.{IsIn}
-use Rattle.adl_hierarchy.specs.Once.{IsOnce}
-use Rattle.cam_base.proofs.Gathered.{in_left, in_right, in_append}
-use Rattle.cam_base.proofs.NumberedLists.{in_map, from_map, from_flat_map, from_filter_map, none_right}
+use Rattle.adl_hierarchy.proofs.Common.{Bool, Fault, Id, IsIn, IsOnce, List, Name, None, Option, Path, Some, [], ap, bytes_eq, bytes_eq-Decides, cond, cons_option, false, filter_map, find, flat_map, from_filter_map, from_flat_map, from_map}
+use Rattle.adl_hierarchy.proofs.Common.{in_append, in_left, in_map, in_right, inl, inr, map, map-append, none_right, or_left, or_right, refl, repeats, repeats_after, subst, sym, true, where_true, ◌++◌, ◌||◌, ◌∙◌, ◌∷◌, ◌≡◌}
 
 -- ---- lists made of others
 

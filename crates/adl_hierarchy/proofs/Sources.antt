@@ -1,12 +1,9 @@
 -- The compositions of a source's bodies, and the items that they stand in.
-use Rattle.std.proofs.Common.{◌≡◌, ℕ, List, [], Option, Some, None, refl, sym, ◌∙◌, ap, ◌⊎◌, inl, inr}
-use Rattle.adl_meaning.specs.Prelude.{Assembly, Body, Component, Composition, Item, Source, as_assembly, as_component, assemblies, body, components, composition_of, flat_map, hierarchy_of, items_of, kind_named, slice_get, top_of}
-use Rattle.adl_meaning.specs.declared.item_at.ItemAt.{ItemAt}
+use Rattle.adl_hierarchy.proofs.Common.{Assembly, Body, Component, Composition, IsIn, Item, ItemAt, List, None, Option, Some, Source, [], ap, as_assembly, as_component, assemblies, body, components, composition_of, flat_map, from_filter_map}
+use Rattle.adl_hierarchy.proofs.Common.{hierarchy_of, inl, inr, items_of, kind_named, none_in, refl, slice_get, sym, top_of, ℕ, ◌∙◌, ◌≡◌, ◌⊎◌}
 use Rattle.adl_ast.specs.declared.file.Item.TheVariants as items
-use Rattle.cam_base.specs.Gather.{IsIn}
 use Rattle.adl_hierarchy.proofs.Bodies.{body_at}
 use Rattle.adl_hierarchy.proofs.Lists.{in_get}
-use Rattle.cam_base.proofs.NumberedLists.{from_filter_map, none_in}
 
 -- a component is an item
 pub component_item : (s : Source) (c : ItemAt × Component) → IsIn c (components s) → (x : ItemAt × Item) × IsIn x (items_of s)

@@ -1,8 +1,6 @@
 -- In trees that tokens spell, dotted names of ends and exports have two words or three.
-use Rattle.std.proofs.Common.{◌≡◌, ℕ, List, [], ◌∷◌, Option, Some, None, sym, ap, subst, arith, inl, inr}
-use Rattle.adl_meaning.specs.Prelude.{Assembly, Component, Composition, Connection, End, Ended, Export, File, Id, Item, Line, Member, Seen, Source, as_composition, as_connection, as_export, body, compositions, enumerate_from, hierarchy_of}
-use Rattle.adl_meaning.specs.declared.item_at.ItemAt.{ItemAt}
-use Rattle.adl_meaning.specs.Prelude.{items_in, items_of}
+use Rattle.adl_hierarchy.proofs.Common.{AreDotted, Assembly, Component, Composition, Connection, End, Ended, Export, File, Id, IsDotted, IsIn, Item, ItemAt, Line, List, Member, None, Option, Seen, Some, Source, [], ap, arith, as_composition}
+use Rattle.adl_hierarchy.proofs.Common.{as_connection, as_export, body, compositions, enumerate_from, from_enumerate, from_filter_map, from_flat_map, from_map, hierarchy_of, inl, inr, items_in, items_of, subst, sym, ℕ, ◌∷◌, ◌≡◌}
 use Rattle.cam_base.specs.declared.token.Mark.TheVariants as marks
 use Rattle.cam_base.specs.Form.{behind}
 use Rattle.cam_base.specs.Spelling.{Each, Spells}
@@ -11,12 +9,9 @@ use Rattle.adl_ast.specs.Codes.{token_code, mark_code}
 use Rattle.adl_ast.specs.Forms.{Rule, nested_line, Dotted, dotted_of, dotted_line, end_line, end_form, connection_line, export_line, composition_member_line, composition_member_form, composition_line, assembly_line, member_line, member_form, component_line, item_line, ended_line, ended_form, file_line}
 use Rattle.adl_ast.specs.Spelling.{limit, IsSpelledBy}
 use Rattle.adl_ast.specs.declared.file.Item.TheVariants as items
-use Rattle.cam_base.specs.Gather.{IsIn}
-use Rattle.adl_hierarchy.specs.Leads.{IsDotted, AreDotted}
 use Rattle.adl_hierarchy.specs.Spelled.{AreSpelled}
 use Rattle.adl_hierarchy.proofs.Leading.{own_export, own_connection}
 use Rattle.adl_hierarchy.proofs.Lists.{in_get}
-use Rattle.cam_base.proofs.NumberedLists.{from_map, from_flat_map, from_filter_map, from_enumerate}
 use Rattle.adl_hierarchy.proofs.Sources.{component_item, assembly_item, composed}
 
 -- some tokens spell it by the rule

@@ -1,16 +1,13 @@
 -- The walks over a finite hierarchy, without their bounds: a bound past the depth changes nothing.
-use Rattle.std.proofs.Common.{◌≡◌, ◌<◌, ◌≤◌, ℕ, zero, suc, Bool, true, false, cond, List, length, [], ◌∷◌, ◌++◌, map, Option, Some, None, option_map, refl, sym, ◌∙◌, ap, subst, arith, inl, inr, append-nil}
-use Rattle.adl_meaning.specs.Prelude.{Hierarchy, Name, Part, Placed, Reached, Strung, Walk, behind, body, bytes_eq, export_named, exports_of, flat_map, further, graph, has, inner_of, is_composite, leaves_in, leaves_within, name_of, option_and_then}
-use Rattle.adl_meaning.specs.Prelude.{outside, part_named, placed_by, port_in, reached, reached_by, reached_within, strung, strung_by, wires_of}
-use Rattle.adl_meaning.specs.Joins.{connections_within, connections_in}
-use Rattle.cam_base.specs.Gather.{IsIn}
+use Rattle.adl_hierarchy.proofs.Common.{Bool, Hierarchy, IsFinite, IsIn, List, Name, None, Option, Part, Placed, Reached, Some, Strung, [], ap, append-nil, arith, behind, body, bytes_eq, cond, connections_within, empty, export_named, exports_of}
+use Rattle.adl_hierarchy.proofs.Common.{false, flat_map, flat_map_same, found, from_flat_map, from_map, further, graph, in_flat_map, in_map, in_right, inl, inr, is_composite, leaves_in, leaves_within, length, map, name_of, option_and_then}
+use Rattle.adl_hierarchy.proofs.Common.{option_map, outside, part_named, placed_by, port_in, reached, reached_by, reached_within, refl, strung, strung_by, subst, suc, sym, true, wires_of, zero, ℕ, ◌++◌, ◌<◌, ◌∙◌, ◌∷◌, ◌≡◌, ◌≤◌}
+use Rattle.adl_meaning.specs.Prelude.{Walk, has, inner_of}
+use Rattle.adl_meaning.specs.Joins.{connections_in}
 use Rattle.adl_hierarchy.proofs.Walks.{walks_short}
-use Rattle.adl_hierarchy.specs.Finite.{IsFinite}
 use Rattle.adl_hierarchy.proofs.Bodies.{inner_of_body}
 use Rattle.adl_hierarchy.proofs.Finite.{graph_size}
 use Rattle.adl_hierarchy.proofs.Lists.{has_in}
-use Rattle.cam_base.proofs.Gathered.{in_right}
-use Rattle.cam_base.proofs.NumberedLists.{in_map, from_map, in_flat_map, from_flat_map, found, empty, flat_map_same}
 
 -- ---- depth
 

@@ -1,8 +1,7 @@
 -- The test of holding agrees with walks.
-use Rattle.std.proofs.Common.{◌≡◌, ◌<◌, ℕ, zero, suc, Bool, true, false, ◌&&◌, List, length, refl, sym, subst, arith, inl, inr}
-use Rattle.std.proofs.lemmas.Bool.{or_cases, or_left, or_right, and_parts, and_from, eqb-true, eq-eqb, cases_eq, false_from_ne_true}
+use Rattle.adl_hierarchy.proofs.Common.{Bool, Holds, InRange, IsAcyclic, List, Walk, and_from, and_parts, arith, cases_eq, eq-eqb, eqb-true, false, false_from_ne_true, has, inl, inner_of, inr, is_held, length, or_cases, or_left, or_right, refl}
+use Rattle.adl_hierarchy.proofs.Common.{subst, suc, sym, through, true, zero, ℕ, ◌&&◌, ◌<◌, ◌≡◌}
 use lib.Dec.{eqb}
-use Rattle.adl_meaning.specs.Graph.{has, inner_of, InRange, Walk, Holds, IsAcyclic, through, is_held}
 
 pub walk_join : (g : List (List ℕ)) (n m a b c : ℕ) → Walk g a b n → Walk g b c m → Holds g a c
 walk_join g zero m a b c v w = (m, let P : ℕ → Type 0 = λ x. Walk g x c m in subst P (sym v) w)

@@ -1,13 +1,7 @@
 -- Components that wait for inner ones.
-use Rattle.std.proofs.Common.{◌≡◌, ◌<◌, ◌≤◌, ◌+◌, ℕ, zero, suc, true, false, ◌||◌, List, length, take, get_or, [], ◌∷◌, ◌++◌, refl, sym, ◌∙◌, ap, subst, arith, inl, inr, ◌⊎◌, length-append, get_or-set_same, get_or-set_other}
-use Rattle.std.proofs.Math.ListN.{set, length-set}
-use Rattle.std.proofs.Math.Seq.{take-length, get_or-append_seam}
-use Rattle.std.proofs.lemmas.List.{take-append-le, get_or_append_left, take_all}
-use Rattle.std.proofs.lemmas.Bool.{cases_Bool, cases_eq, cases_lt, false_from_ne_true, both_ways}
-use Rattle.adl_meaning.specs.Graph.{has, inner_of, InRange, IsAcyclic, IsInnerFirst}
-use Rattle.adl_hierarchy.specs.Placing.{IsLaid, IsPlacing, Waits, Settles, IsAtEnd}
-use Rattle.adl_hierarchy.specs.Sets.{Numbers, with_number}
-use Rattle.adl_hierarchy.specs.declared.placing.Placing.{Placing}
+use Rattle.adl_hierarchy.proofs.Common.{InRange, IsAcyclic, IsAtEnd, IsInnerFirst, IsLaid, IsPlacing, List, Numbers, Placing, Settles, Waits, [], ap, arith, both_ways, cases_Bool, cases_eq, cases_lt, false, false_from_ne_true, get_or}
+use Rattle.adl_hierarchy.proofs.Common.{get_or-append_seam, get_or-set_other, get_or-set_same, get_or_append_left, has, inl, inner_of, inr, length, length-append, length-set, refl, set, subst, suc, sym, take, take-append-le, take-length, take_all}
+use Rattle.adl_hierarchy.proofs.Common.{true, with_number, zero, ℕ, ◌++◌, ◌+◌, ◌<◌, ◌||◌, ◌∙◌, ◌∷◌, ◌≡◌, ◌≤◌, ◌⊎◌}
 use Rattle.adl_hierarchy.proofs.Marks.{has_at, has_old, has_new, has_pushed, has_take, has-with_number, take-with_number, length-with_number}
 use Rattle.adl_hierarchy.proofs.Walks.{ring_from_stuck, has_more}
 

@@ -1,13 +1,8 @@
 -- Walks: how long they are where no component holds itself, and what an order says of them.
-use Rattle.std.proofs.Common.{◌≡◌, ◌<◌, ◌≤◌, ◌+◌, ℕ, zero, suc, true, false, List, length, take, get_or, [], ◌∷◌, refl, sym, ◌∙◌, ap, subst, arith, inl, inr, add-one, ◌⊎◌}
-use Rattle.std.specs.List.{IsDistinct, AllByRecursion}
-use Rattle.std.proofs.lemmas.List.Folds.{list_any_more}
-use Rattle.std.proofs.lemmas.Bool.{or_cases, or_left, or_parts, false_from_ne_true, eqb-true, false≢true}
-use Rattle.std.proofs.lemmas.Map.Steps.{length-le_from_distinct_below}
-use Rattle.std.proofs.lemmas.Map.Keys.{IsDistinct-cons}
+use Rattle.adl_hierarchy.proofs.Common.{AllByRecursion, Holds, InRange, IsAcyclic, IsDistinct-cons, IsInnerFirst, List, Walk, [], add-one, ap, arith, eqb-true, false, false_from_ne_true, false≢true, get_or, has, inl, inner_of, inr, length}
+use Rattle.adl_hierarchy.proofs.Common.{length-le_from_distinct_below, list_any_more, or_cases, or_left, or_parts, refl, subst, suc, sym, take, take-length, true, zero, ℕ, ◌+◌, ◌<◌, ◌∙◌, ◌∷◌, ◌≡◌, ◌≤◌, ◌⊎◌}
+use Rattle.std.specs.List.{IsDistinct}
 use lib.Dec.{eqb}
-use Rattle.std.proofs.Math.Seq.{take-length}
-use Rattle.adl_meaning.specs.Graph.{has, inner_of, InRange, Walk, Holds, IsAcyclic, IsInnerFirst}
 
 -- a walk stays in range
 pub walk_in_range : (g : List (List ℕ)) → InRange g → (n a b : ℕ) → a < length g → Walk g a b n → b < length g

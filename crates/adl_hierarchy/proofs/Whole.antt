@@ -1,14 +1,10 @@
 -- Where no name is unknown, nothing is left out of a body: each instance of its composition is there, and each connection.
-use Rattle.std.proofs.Common.{◌≡◌, ℕ, List, [], ◌∷◌, ◌++◌, map, Option, Some, None, option_map, refl, sym, ◌∙◌, ap, inl, inr}
-use Rattle.adl_meaning.specs.Prelude.{AreNamesSound, Composition, Instance, Known, Line, Name, Part, Source, Wire, body, connections_in, connector_of, cons_option, filter_map, flat_map, hierarchy_of, instances_by, instances_in, kind_named}
-use Rattle.adl_meaning.specs.declared.connector.Connector.{Connector}
-use Rattle.adl_meaning.specs.Prelude.{known_in, option_map_or, part_of, parts_by, parts_in, unknown_in_composition, wire_of, wires_of}
-use Rattle.std.proofs.lemmas.List.{map-append}
+use Rattle.adl_hierarchy.proofs.Common.{AreNamesSound, Composition, Connector, Instance, IsIn, Known, Line, List, Name, None, Option, Part, Some, Source, Wire, [], ap, body, connections_in, connector_of, cons_option, filter_map, flat_map}
+use Rattle.adl_hierarchy.proofs.Common.{hierarchy_of, in_flat_map, inl, inr, instances_by, instances_in, kind_named, known_in, map, map-append, map_some, option_map, option_map_or, part_of, parts_by, parts_in, refl, sym, unknown_in_composition}
+use Rattle.adl_hierarchy.proofs.Common.{wire_of, wires_of, ℕ, ◌++◌, ◌∙◌, ◌∷◌, ◌≡◌}
 use Rattle.adl_ast.specs.declared.composition.Line.TheVariants as lines
-use Rattle.cam_base.specs.Gather.{IsIn}
 use Rattle.adl_hierarchy.proofs.Bodies.{parts_of}
 use Rattle.adl_hierarchy.proofs.KnownNames.{typed, no_unknown, instance_typed, connector_known}
-use Rattle.cam_base.proofs.NumberedLists.{in_flat_map, map_some}
 
 -- where f gives something at each, and back leads from it, nothing is left out
 whole : {X Y : Type 0} (f : X → Option Y) (back : Y → X) → ((x : X) (y : Y) → f x ≡ Some y → back y ≡ x) → (xs : List X)

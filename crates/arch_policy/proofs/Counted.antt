@@ -1,40 +1,14 @@
 -- A table that has the listed edges has as many as there are different ones.
-use Rattle.arch_policy.proofs.Common.{Adds, Before, Bool, Edge, IsBound, IsDistinct, IsDistinct-from_apart, IsIn, IsPolicyOf, IsSorted, List, Tables, [], ap, arith, bound_edges, cases_lt, edge_count, false, filter, get_or, has, in_append, in_left}
-use Rattle.arch_policy.proofs.Common.{in_right, inl, inr, length, list_any, not_before_self, refl, same_edge, same_edge-sym, same_edge_self, same_edge_true, slice_get-get_or, subst, sym, triples, true, true≢false, ◌++◌, ◌<◌, ◌||◌, ◌∙◌, ◌∷◌, ◌≡◌}
-use Rattle.std.specs.Cmp.{IsEquivalence}
+use Rattle.arch_policy.proofs.Common.{Adds, Bool, Edge, IsBound, IsIn, IsPolicyOf, IsSorted, List, Tables, [], ap, arith, bound_edges, cases_lt, edge_count, false, filter, has, in_append, in_left}
+use Rattle.arch_policy.proofs.Common.{in_right, inl, inr, length, refl, same_edge, same_edge_self, same_edge_true, sym, triples, true, true≢false, ◌++◌, ◌<◌, ◌∙◌, ◌∷◌, ◌≡◌}
 use Rattle.std.specs.Cmp.Derive.{one_truth}
-use Rattle.std.specs.Set.{is_member}
+use Rattle.cap_model.proofs.EdgeLists.{distinct, member_has, same_laws}
 use Rattle.std.proofs.lemmas.Map.Made.{length-from_keys}
 use Rattle.arch_policy.proofs.Listed.{from_bound, in_bound, triples_are_policy}
 use Rattle.arch_policy.proofs.Lists.{from_filter, has_in, in_filter, in_has}
 
 same_back : (d e : Edge) → same_edge d e ≡ true → same_edge e d ≡ true
 same_back d e h = ap (λ z. same_edge z d) (sym (same_edge_true d e h)) ∙ same_edge_self d
-
-pub same_laws : IsEquivalence same_edge
-same_laws = record {
-  refl = same_edge_self;
-  symm = same_edge-sym;
-  congr = λ x y z h. ap (λ v. same_edge v z) (same_edge_true x y h);
-}
-
-pub member_has : (es : List Edge) (e : Edge) → is_member same_edge es e ≡ has es e
-member_has [] e = refl
-member_has (d ∷ es) e = ap (λ b. b || list_any (same_edge e) es) (same_edge-sym e d) ∙ ap (λ b. same_edge d e || b)
-    (member_has es e)
-
-differs : (d e : Edge) → Before d e → same_edge d e ≡ false
-differs d e b = go (same_edge d e) refl where
-  go : (v : Bool) → same_edge d e ≡ v → v ≡ false
-  go true h = absurd (not_before_self d (subst (λ (z : Edge). Before d z) (sym (same_edge_true d e h)) b))
-  go false h = refl
-
--- edges that stand in order differ
-pub distinct : (es : List Edge) → IsSorted es → IsDistinct same_edge es
-distinct es s =
-    IsDistinct-from_apart same_edge es (λ i j d l m.
-    differs (get_or es i d) (get_or es j d) (s.by_place i j (get_or es i d) (get_or es j d) l
-    (slice_get-get_or es i d (omega (arith, l, m))) (slice_get-get_or es j d m)))
 
 pub table_counts : (t : Tables) (table : List Edge) → IsSorted table → ((e : Edge) → has table e ≡ has (triples t) e)
     → length table ≡ edge_count t

@@ -1,6 +1,6 @@
 -- The edges of locks, leaf by leaf, are those of the locks of domains.
-use Rattle.arch_policy.proofs.Common.{Adds, Edge, IsCertificateOf, IsLockEdge, IsOfLeaf, IsOfSet, IsPolicyOf, IsSetOf, IsWithLock, Leaf, List, LockAt, RW, Some, Tables, [], adds_none, adds_same, ap, domain_label, from_any, get_or_from_slice_get, has}
-use Rattle.arch_policy.proofs.Common.{in_place, inl, inr, is_lock, list_any, members_at, place_of, refl, set_has, slice_get, slice_get_within, subst, sym, take, take_more, true, ℕ, ⊎_elim, ◌++◌, ◌+◌, ◌↔◌, ◌∙◌, ◌∷◌, ◌≡◌, ◌⊎◌}
+use Rattle.arch_policy.proofs.Common.{Adds, Edge, IsCertificateOf, IsLockEdge, IsOfLeaf, IsOfSet, IsPolicyOf, IsSetOf, IsWithLock, Leaf, List, RW, Some, Tables, adds_none, adds_same, ap, domain_label, from_any, has}
+use Rattle.arch_policy.proofs.Common.{in_place, inl, inr, is_lock, list_any, members_at, place_of, refl, subst, sym, true, ℕ, ⊎_elim, ◌↔◌, ◌∙◌, ◌≡◌, ◌⊎◌}
 use Rattle.adl_ast.specs.declared.component.Member.TheVariants as members
 use Rattle.arch_policy.proofs.Listed.{lock_of_member}
 use Rattle.arch_policy.proofs.Lists.{in_any}
@@ -106,11 +106,3 @@ certifies t policy cert exact is e = (
   λ h. ⊎_elim (λ i. inl ((is e).0 i)) (λ l. inr l) ((exact e).0 h),
   λ h. (exact e).1 (⊎_elim (λ r. inl ((is e).1 r)) (λ l. inr l) h),
 )
-
--- one edge more of a table
-pub edge_more : (table old new : List Edge) (i : ℕ) (e : Edge) → slice_get table i ≡ Some e → old ≡ take i table
-    → new ≡ old ++ e ∷ [] → new ≡ take (i + 1) table
-edge_more table old new i e at o n =
-    let is = sym (get_or_from_slice_get table i e e at) in
-    let below = slice_get_within table i e at in
-    n ∙ ap (λ z. z ++ e ∷ []) o ∙ ap (λ z. take i table ++ z ∷ []) is ∙ sym (take_more table i e below)

@@ -8,16 +8,14 @@ ghost use Rattle.cap_model.specs.declared.edge.Edge.{Edge as Triple};
 ghost use Rattle.cap_model.specs.Confers.{kind_confers};
 ghost use Rattle.cap_model.specs.declared.kind.Kind.TheVariants.{Notification};
 ghost use Rattle.conn_rules.specs.Row.{RW};
-ghost use Rattle.cspace_layout.specs.Members.{is_lock};
-ghost use Rattle.std.specs.List.{list_any};
 ghost use Rattle.std.specs.Prelude.{◌≡◌, ◌↔◌, ◌⊎◌, true, IfOk};
 
+use crate::edges::has_lock;
 use crate::{Tables, domain_label};
-use adl_ast::Member;
 use adl_meaning::Leaf;
 use cam_base::NoMemory;
 use cap_model::{Authority, AuthoritySet, Edge, EdgeTable, Hint, with_set};
-use cspace_layout::{is_lock, members_at};
+use cspace_layout::members_at;
 use std::alloc::Global;
 
 /// What rights to read and write a notification confer.
@@ -35,12 +33,6 @@ fn with_lock(edges: Vec<Edge>, label: u32) -> Result<Vec<Edge>, NoMemory>
     ensures { IfOk result (λ new. Adds (IsWithLock label) edges.items new.items) }
 {
     with_set(edges, label, lock_authorities(), label)
-}
-
-fn has_lock(members: &[Member]) -> bool
-    ensures { result ≡ list_any is_lock members.now }
-{
-    members.iter().any(|member| is_lock(member))
 }
 
 fn with_leaf(edges: Vec<Edge>, tables: &Tables<'_>, leaf: &Leaf) -> Result<Vec<Edge>, NoMemory>

@@ -418,7 +418,8 @@ fn push_signals(tables: &Tables<'_>, edges: &mut List<Edge>) -> Result<(), NoMem
     Ok(())
 }
 
-fn has_lock(members: &[Member]) -> bool
+/// Whether one of the members is a lock.
+pub fn has_lock(members: &[Member]) -> bool
     ensures { result ≡ list_any is_lock members.now }
 {
     members.iter().any(|member| is_lock(member))

@@ -2,11 +2,10 @@
 use Rattle.build_laws.proofs.Common.{Bool, Domain, Edge, IsCertificateOf, IsFlat, IsIn, IsLockEdge, IsPolicyOf, IsSorted, List, None, Option, Tables, [], ap, arith, assemblies, codes, cond, domain_label, edge, edge_count, false, first_edge_fault}
 use Rattle.build_laws.proofs.Common.{gather, has, has_in, in_gather, in_has, in_left, in_map, in_right, inl, inr, length, length-append, ltb-false, map, nat_lt, option_map, refl, slice_get, subst, suc, sym, true, ℕ, ◌*◌, ◌++◌, ◌+◌, ◌∙◌, ◌∷◌, ◌≡◌}
 use Rattle.build_laws.proofs.Common.{◌≤◌}
-use Rattle.std.proofs.lemmas.Map.Made.{length-le_from_is_member}
 use Rattle.std.specs.Cmp.Derive.{one_truth}
 use Rattle.adl_ast.specs.declared.composition.Assembly.{Assembly}
 use Rattle.adl_meaning.specs.declared.item_at.ItemAt.{ItemAt}
-use Rattle.arch_policy.proofs.Counted.{distinct, member_has, same_laws, table_counts}
+use Rattle.arch_policy.proofs.Counted.{table_counts}
 use Rattle.arch_policy.proofs.Listed.{triples_are_policy}
 use Rattle.arch_policy.specs.Triples.{triples}
 use Rattle.arch_policy.proofs.Given.{an_authority}
@@ -15,11 +14,7 @@ use Rattle.authorities.specs.Authorities.{authorities}
 use Rattle.cam_base.specs.declared.place.Fault.{Fault}
 use Rattle.cspace_layout.specs.Limit.{fault_at, limit_fault, place_in}
 use Rattle.reach_laws.proofs.EndLabels.{lock_domain}
-
--- edges that stand in order and in a list are no more than the list
-pub no_more : (xs ys : List Edge) → IsSorted xs → ((e : Edge) → has xs e ≡ true → has ys e ≡ true) → length xs ≤ length ys
-no_more xs ys s h = length-le_from_is_member same_laws xs ys (distinct xs s) (λ e i. member_has ys e
-    ∙ h e (sym (member_has xs e) ∙ i))
+use Rattle.cap_model.proofs.EdgeLists.{no_more}
 
 -- ---- the policy
 

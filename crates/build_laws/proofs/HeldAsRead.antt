@@ -4,7 +4,7 @@ use Rattle.build_laws.proofs.Common.{object_labels, subst, sym, ℕ, ◌↔◌, 
 use Rattle.assigned_laws.specs.Texts.{IsAssignedText}
 use Rattle.policy_text.specs.PolicyTexts.{IsCertText}
 use Rattle.build_laws.proofs.CertBack.{cert_read}
-use Rattle.build_laws.proofs.LabelsBack.{labels_one}
+use Rattle.cam_base.proofs.NumberedLists.{somes_one}
 use Rattle.build_laws.proofs.PolicyBack.{policy_read}
 use Rattle.build_laws.proofs.SpecBack.{spec_back}
 use Rattle.build_laws.proofs.TrioValid.{trio_valid}
@@ -20,7 +20,7 @@ module _ (b : Build) (sound : IsSound b) (spec_is : IsSpecReadBack b) (policy_is
 
   pub same_labels : (spec : Spec) (policy : Policy) (given : Labels) → IsReadAs b spec policy given
       → (object_labels b).by_object ≡ given.by_object
-  same_labels spec policy given r = labels_one (object_labels b).by_object given.by_object (trio.labelled
+  same_labels spec policy given r = somes_one (object_labels b).by_object given.by_object (trio.labelled
       ∙ sym (own_labels spec policy given r))
 
   read_reaches : (spec : Spec) (policy : Policy) (given : Labels) → IsReadAs b spec policy given

@@ -42,11 +42,3 @@ module _ {X : Type 0} (entry : X → Entry) (label : X → ℕ) (xs : List X)
   pub labels_back : map (λ n. Some n) (map label xs) ≡ map (λ (e : Entry). object_label objects e.name) (map entry xs)
   labels_back = map-map (λ n. Some n) label xs ∙ map_same (λ x. Some (label x)) (λ x. object_label objects (entry x).name) xs
       label_back ∙ sym (map-map (λ (e : Entry). object_label objects e.name) entry xs)
-
-pub labels_one : (xs ys : List ℕ) → map (λ n. Some n) xs ≡ map (λ n. Some n) ys → xs ≡ ys
-labels_one [] [] e = refl
-labels_one [] (y ∷ ys) e = cc
-labels_one (x ∷ xs) [] e = cc
-labels_one (x ∷ xs) (y ∷ ys) e =
-    let head : x ≡ y = cc in
-    let tail : map (λ n. Some n) xs ≡ map (λ n. Some n) ys = cc in ap (λ z. z ∷ xs) head ∙ ap (λ z. y ∷ z) (labels_one xs ys tail)

@@ -2,7 +2,8 @@
 use Rattle.build_laws.proofs.Common.{Edge, IsIn, List, Policy, [], arith, codes, decimal, edge_line, edge_short, flat_map, inl, inr, label_line, length, length-append, mul-suc, number_short, object_line, refl, ℕ, ◌*◌, ◌+◌, ◌<◌, ◌∷◌, ◌≤◌}
 use Rattle.cam_base.specs.Texts.{◌⊹◌}
 use Rattle.policy_text.specs.PolicyLines.{policy_text}
-use Rattle.spec_laws.proofs.Lengths.{all_short, joined}
+use Rattle.spec_laws.proofs.Lengths.{joined}
+use Rattle.cam_base.proofs.ShortTexts.{all_short}
 
 abbrev pub IsLabelShort : ℕ × List ℕ → Type 0
 IsLabelShort l = (l.0 < 8192) × (length l.1 ≤ 2047)

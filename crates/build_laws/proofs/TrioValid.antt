@@ -5,7 +5,8 @@ use Rattle.cert_check.specs.Valid.{Valid}
 use Rattle.reach_laws.proofs.ValidCertificates.{valid}
 use Rattle.spec_laws.specs.Fit.{IsFit}
 use Rattle.system_spec.specs.Tables.{Tables}
-use Rattle.build_laws.proofs.LabelsBack.{labels_back, labels_one}
+use Rattle.build_laws.proofs.LabelsBack.{labels_back}
+use Rattle.cam_base.proofs.NumberedLists.{somes_one}
 
 judged_yes : {spec : Spec} {labels : List ℕ} {policy cert : List Edge} (verdict : Verdict) → Valid spec labels policy cert
     → Judged spec labels policy cert verdict → verdict ≡ Yes
@@ -43,7 +44,7 @@ module _ {contents : Contents} (b : Build) (facts : AreFacts contents b.meaning.
 
   by_labels : (given : Labels) → IsLabelling b.spec b.policy (Ok given) → Valid b.spec given.by_object b.policy.edges b.cert
   by_labels given l =
-      subst (λ z. Valid b.spec z b.policy.edges b.cert) (labels_are s images facts b made ∙ labels_one labels given.by_object
+      subst (λ z. Valid b.spec z b.policy.edges b.cert) (labels_are s images facts b made ∙ somes_one labels given.by_object
       (gives ∙ sym l)) sound.valid
 
   pub made_trio : IsTrioValid b

@@ -1,11 +1,6 @@
 -- Where each part of a form has a spelling, a form is begun exactly by the fronts of its spellings.
-use Rattle.std.proofs.Common.{◌≡◌, ℕ, zero, suc, Bool, true, false, List, [], ◌∷◌, ◌++◌, refl, sym, ap, subst, ◌∙◌, append_assoc, inl, inr}
-use Rattle.std.specs.Prelude.{◌&&◌, ◌↔◌}
-use Rattle.std.proofs.lemmas.List.{append-nil}
-use Rattle.std.proofs.lemmas.Bool.{and_parts, or_cases, cases_Bool}
-use Rattle.cam_base.specs.Form.{Form, Give, One, Then, Or, Many, As, Starts, Nested, among}
-use Rattle.cam_base.specs.Spelling.{Meaning, Spells, Begins, Each}
-use Rattle.cam_base.specs.Depth.{deep, Spelled, Begun}
+use Rattle.cam_base.proofs.Common.{As, Begins, Begun, Bool, Each, Form, Give, List, Many, Meaning, Nested, One, Or, Spelled, Spells, Starts, Then, [], among, and_parts, ap, append-nil, append_assoc, cases_Bool, deep, false, inl, inr, or_cases, refl}
+use Rattle.cam_base.proofs.Common.{subst, suc, sym, true, zero, ℕ, ◌&&◌, ◌++◌, ◌↔◌, ◌∙◌, ◌∷◌, ◌≡◌}
 use Rattle.cam_base.specs.Spellable.{has_sample, has_spelling, parts_have_spellings}
 use Rattle.cam_base.proofs.TerminalCodes.{if_false}
 use Rattle.cam_base.proofs.Depth.{spells_up}

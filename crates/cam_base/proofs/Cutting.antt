@@ -1,12 +1,8 @@
 -- The first part of a text, and the parts behind it.
-use Rattle.std.proofs.Common.{◌≡◌, ◌∙◌, ap, sym, refl, ℕ, ◌+◌, ◌<◌, ◌≤◌, ◌==◌, leb, Bool, true, false, List, [], ◌∷◌, length, drop, inl, inr, arith}
-use Rattle.std.specs.List.{slice_split, before_first, position_or_len}
-use Rattle.std.proofs.lemmas.Bool.{cases_lt}
-use Rattle.std.proofs.lemmas.Bool.Decides.{nat_tests}
-use Rattle.std.proofs.lemmas.List.{length-take-le, length-drop, drop-drop, take_all}
+use Rattle.cam_base.proofs.Common.{Bool, List, [], ap, arith, before_first, cases_lt, drop, drop-drop, false, inl, inr, leb, length, length-drop, length-take-le, nat_tests, parts, parts_from, position_or_len, refl, slice_split, sym, take_all, true}
+use Rattle.cam_base.proofs.Common.{ℕ, ◌+◌, ◌<◌, ◌==◌, ◌∙◌, ◌∷◌, ◌≡◌, ◌≤◌}
 use Rattle.std.proofs.lemmas.List.Splits.{slice_split_first, slice_split_none}
 use Rattle.std.proofs.lemmas.List.Sums.{fails_before_first}
-use Rattle.cam_base.specs.Parts.{parts, parts_from}
 
 -- the first part and the others
 split_more : (p : ℕ → Bool) (rest : List ℕ) → position_or_len p rest < length rest

@@ -1,11 +1,7 @@
 -- The digits that are written of a number are a number without leading zeros, of this value.
-use Rattle.std.proofs.Common.{◌≡◌, ◌∙◌, refl, ℕ, zero, suc, ◌+◌, ◌<◌, ◌^◌, ◌%◌, ◌==◌, nat_lt, leb, ◌&&◌, ◌||◌, cond, Bool, true, false, List, [], ◌∷◌, ◌++◌, Some, decimal, arith}
-use Rattle.std.specs.List.{list_all}
-use Rattle.std.specs.Str.Parse.{digits_value}
-use Rattle.std.proofs.lemmas.Bool.{and_parts}
-use Rattle.std.proofs.lemmas.Bool.Decides.{nat_tests}
-use Rattle.std.proofs.lemmas.Fmt.{decimal_digit, decimal_by_steps, decimal_is_IsNumeral}
-use Rattle.cam_base.specs.Numbers.{is_digit, is_decimal, is_hexadecimal, fits, number_value}
+use Rattle.cam_base.proofs.Common.{Bool, List, Some, [], and_parts, arith, cond, decimal, decimal_by_steps, decimal_digit, decimal_is_IsNumeral, digits_value, false, fits, is_decimal, is_digit, is_hexadecimal, leb, list_all, nat_lt, nat_tests}
+use Rattle.cam_base.proofs.Common.{number_value, refl, suc, true, zero, ℕ, ◌%◌, ◌++◌, ◌+◌, ◌<◌, ◌==◌, ◌^◌, ◌∙◌, ◌∷◌, ◌≡◌}
+use Rattle.std.proofs.Common.{◌&&◌, ◌||◌}
 
 -- a digit from 1 to 9, and digits
 is_long : List ℕ → Bool

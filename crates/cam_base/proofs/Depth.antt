@@ -1,13 +1,7 @@
 -- Readers that go to different depths, and what they keep.
-use Rattle.std.proofs.Common.{◌≡◌, ℕ, zero, suc, ◌+◌, ◌≤◌, Bool, true, false, List, [], ◌∷◌, ◌++◌, length, Result, Ok, Err, refl, sym, ap, subst, ◌∙◌, arith, ◌⊎◌, inl, inr, zero-add, suc-add}
-use Rattle.std.proofs.lemmas.Bool.{cases_Bool}
-use Rattle.cam_base.specs.declared.grammar_error.Stop.{Stop}
-use Rattle.cam_base.specs.declared.grammar_error.Why.TheVariants.{Unexpected, TooDeep}
-use Rattle.cam_base.specs.Form.{Form, Give, One, Then, Or, Many, As, Starts, Nested, among}
-use Rattle.cam_base.specs.Spelling.{Each, Meaning, Spells, Begins}
-use Rattle.cam_base.specs.Depth.{deep}
-use Rattle.cam_base.specs.Deciding.{can_be_empty, first, further, decides}
-use Rattle.cam_base.specs.Reading.{◌>>=◌, Reader, left, starts, either, times, many, read, guarded, too_deep, read_deep}
+use Rattle.cam_base.proofs.Common.{As, Begins, Bool, Each, Err, Form, Give, List, Many, Meaning, Nested, Ok, One, Or, Reader, Result, Spells, Starts, Stop, Then, TooDeep, Unexpected, [], among, ap, arith, can_be_empty, cases_Bool, decides, deep}
+use Rattle.cam_base.proofs.Common.{either, false, first, further, guarded, inl, inr, left, length, read, refl, starts, subst, suc, suc-add, sym, times, too_deep, true, zero, zero-add, ℕ, ◌++◌, ◌+◌, ◌>>=◌, ◌∙◌, ◌∷◌, ◌≡◌, ◌≤◌, ◌⊎◌}
+use Rattle.cam_base.specs.Reading.{many, read_deep}
 use Rattle.cam_base.proofs.TerminalCodes.{true_is_not_false}
 use Rattle.cam_base.proofs.Laws.{IsRead, no_nil, failed, ok_is_not_err, err_is, shorter, spelled_starts}
 use Rattle.cam_base.proofs.Whole.{Exact, exact}

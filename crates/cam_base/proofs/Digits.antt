@@ -1,7 +1,6 @@
 -- The digits, from the last to the first.
-use Rattle.std.proofs.Common.{◌≡◌, refl, ℕ, zero, suc, ◌-◌, ◌<◌, ◌≤◌, ◌/◌, ◌%◌, nat_lt, true, false, [], ◌∷◌, ◌++◌, arith, sub-one}
-use Rattle.std.proofs.lemmas.Bool.Decides.{nat_tests}
-use Rattle.cam_base.specs.Hex.{glyph, hex_digits}
+use Rattle.cam_base.proofs.Common.{[], arith, false, glyph, nat_lt, nat_tests, refl, sub-one, suc, true, zero, ℕ, ◌%◌, ◌++◌, ◌-◌, ◌/◌, ◌<◌, ◌∷◌, ◌≡◌, ◌≤◌}
+use Rattle.cam_base.specs.Hex.{hex_digits}
 
 pub hex_none : (n : ℕ) → hex_digits 0 n ≡ []
 unfolding hex_digits

@@ -1,10 +1,6 @@
 -- A field more.
-use Rattle.std.proofs.Common.{◌≡◌, ◌∙◌, ap, sym, ℕ, suc, ◌+◌, ◌-◌, ◌<◌, ◌≤◌, ◌==◌, List, [], ◌∷◌, ◌++◌, length, take, drop, append_assoc, arith}
+use Rattle.cam_base.proofs.Common.{List, [], ap, append_assoc, arith, before_first, drop, length, map-append, parts_from, suc, sym, take, texts, ℕ, ◌++◌, ◌+◌, ◌-◌, ◌<◌, ◌==◌, ◌∙◌, ◌∷◌, ◌≡◌, ◌≤◌}
 use Rattle.std.specs.Borrow.{Bor}
-use Rattle.std.specs.List.{before_first}
-use Rattle.std.proofs.lemmas.List.{map-append}
-use Rattle.cam_base.specs.Parts.{parts_from}
-use Rattle.cam_base.specs.LineTexts.{texts}
 use Rattle.cam_base.proofs.Cutting.{parts_more}
 
 taken : (room : ℕ) (part : List ℕ) (more : List (List ℕ)) → 0 < room → take room (part ∷ more) ≡ part ∷ take (room - 1) more

@@ -1,15 +1,9 @@
 -- A grammar in which no line stands within itself: nothing in it nests too deep.
-use Rattle.std.proofs.Common.{◌≡◌, ℕ, zero, suc, List, [], ◌∷◌, ◌++◌, length, Ok, Err, refl, sym, ◌∙◌, inl, inr}
-use Rattle.std.proofs.lemmas.Bool.{cases_Bool}
-use Rattle.cam_base.specs.declared.grammar_error.Stop.{Stop}
-use Rattle.cam_base.specs.declared.grammar_error.Why.TheVariants.{Unexpected}
-use Rattle.cam_base.specs.Form.{Form, Give, One, Then, Or, Many, As, Starts, Nested, among}
-use Rattle.cam_base.specs.Depth.{deep}
-use Rattle.cam_base.specs.Deciding.{first}
-use Rattle.cam_base.specs.Reading.{◌>>=◌, Reader, starts, one, both, either, times, many, mapped, read, read_deep, whole, ended}
+use Rattle.cam_base.proofs.Common.{As, Err, Form, Give, IsTooDeep, List, Many, Nested, Ok, One, Or, Reader, Starts, Stop, Then, Unexpected, [], among, both, cases_Bool, deep, either, ended, first, inl, inr, length, mapped, one, read, refl, starts}
+use Rattle.cam_base.proofs.Common.{suc, sym, times, whole, zero, ℕ, ◌++◌, ◌>>=◌, ◌∙◌, ◌∷◌, ◌≡◌}
+use Rattle.cam_base.specs.Reading.{many, read_deep}
 use Rattle.cam_base.proofs.TerminalCodes.{if_true, if_false}
 use Rattle.cam_base.specs.Flat.{never}
-use Rattle.cam_base.specs.Faults.{IsTooDeep}
 use Rattle.cam_base.proofs.Depth.{IsLine, begins_up}
 use Rattle.cam_base.proofs.Laws.{bind_err, ok_is_not_err, why_is}
 

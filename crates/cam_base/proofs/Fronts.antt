@@ -1,8 +1,5 @@
 -- What stands before the first byte that passes a test.
-use Rattle.std.proofs.Common.{◌≡◌, ap, sym, refl, ℕ, ◌≤◌, nat_lt, Bool, true, false, List, Some, None, length, take, arith}
-use Rattle.std.specs.List.{before_first, position, position_or_len}
-use Rattle.std.proofs.lemmas.Bool.Decides.{nat_tests}
-use Rattle.std.proofs.lemmas.List.{take_all}
+use Rattle.cam_base.proofs.Common.{Bool, List, None, Some, ap, arith, before_first, false, length, nat_lt, nat_tests, position, position_or_len, refl, sym, take, take_all, true, ℕ, ◌≡◌, ◌≤◌}
 
 pub front_at : (p : ℕ → Bool) (bs : List ℕ) (n : ℕ) → position p bs ≡ Some n → take n bs ≡ before_first p bs
 front_at p bs n e = go (nat_lt (position_or_len p bs) (length bs)) refl

@@ -1,10 +1,9 @@
 -- On gather
-use Rattle.std.proofs.Common.{◌≡◌, ◌<◌, ◌+◌, ℕ, zero, suc, List, length, map, get_or, take, [], ◌∷◌, ◌++◌, refl, sym, ◌∙◌, ap, subst, inl, inr, ◌⊎◌, Some, append_assoc, append-nil, add-one, arith}
-use Rattle.std.proofs.lemmas.Option.{slice_get_read, slice_get-get_or}
+use Rattle.cam_base.proofs.Common.{IsIn, List, Some, [], add-one, ap, append_assoc, arith, before, flat_map, gather, get_or, inl, inr, length, map, refl, slice_get, slice_get-get_or, slice_get_read, subst, suc, sym, take, zero, ℕ, ◌++◌, ◌+◌, ◌<◌}
+use Rattle.cam_base.proofs.Common.{◌∙◌, ◌∷◌, ◌≡◌, ◌⊎◌}
+use Rattle.std.proofs.Common.{append-nil}
 use Rattle.std.proofs.lemmas.Grind.{flat_map-append}
-use Rattle.std.specs.List.{flat_map, slice_get}
 pub use Rattle.std.proofs.lemmas.List.{length-append as length_append}
-use Rattle.cam_base.specs.Gather.{gather, before, IsIn}
 
 pub in_left : {X : Type 0} (x : X) (xs ys : List X) → IsIn x xs → IsIn x (xs ++ ys)
 in_left x [] ys h = absurd h

@@ -1,10 +1,7 @@
 -- What begins a form is begun in each of its fronts, and what spells it begins it. (No form need be decided for this.)
-use Rattle.std.proofs.Common.{◌≡◌, ℕ, zero, suc, List, [], ◌∷◌, ◌++◌, refl, sym, ap, subst, ◌∙◌, append_assoc, ◌⊎◌, inl, inr}
-use Rattle.std.proofs.lemmas.List.{append-nil}
-use Rattle.cam_base.specs.Form.{Form, Give, One, Then, Or, Many, As, Starts, Nested}
-use Rattle.cam_base.specs.Spelling.{Meaning, Spells, Begins, Each}
-use Rattle.cam_base.specs.Depth.{deep, Spelled, Begun}
+use Rattle.cam_base.proofs.Common.{As, Begins, Begun, Each, Form, Give, List, Many, Meaning, Nested, One, Or, Spelled, Spells, Starts, Then, [], ap, append-nil, append_assoc, deep, inl, inr, refl, subst, suc, sym, zero, ℕ, ◌++◌, ◌∙◌, ◌∷◌, ◌≡◌, ◌⊎◌}
 use Rattle.cam_base.proofs.Depth.{begins_nil}
+use Rattle.cam_base.proofs.NumberedLists.{none_left}
 
 -- two ways to cut one list: the first part of the one goes on in the second of the other, or the other way round
 abbrev pub Cut : {T : Type 0} → List T → List T → List T → List T → Type 0
@@ -25,10 +22,6 @@ cut (x ∷ a) b (y ∷ p) q e = step (head_is x y (a ++ b) (p ++ q) e) (cut a b 
     step h (inl s) = inl (s.0, ap (λ z. x ∷ z) s.1 ∙ ap (λ z. z ∷ (p ++ s.0)) h, s.2)
     step h (inr s) = inr (s.0, ap (λ z. y ∷ z) s.1 ∙ ap (λ z. z ∷ (a ++ s.0)) (sym h), s.2)
 
-pub nil_left : {T : Type 0} (a b : List T) → a ++ b ≡ [] → a ≡ []
-nil_left [] b e = refl
-nil_left (x ∷ a) b e = absurd cc
-
 module _ {T V : Type 0} (code : T → ℕ) (m : Meaning T V) (m-nil : m.begins []) (m-begun : (v : V) (ts : List T) → m.spells v ts
     → m.begins ts) (m-front : (a b : List T) → m.begins (a ++ b) → m.begins a) where
   spelled_begins : {A : Type 0} (f : Form T V A) (x : A) (ts : List T) → Spells code m f x ts → Begins code m f ts
@@ -44,7 +37,7 @@ module _ {T V : Type 0} (code : T → ℕ) (m : Meaning T V) (m-nil : m.begins [
 
   each_front : {A : Type 0} (f : Form T V A) → ((a b : List T) → Begins code m f (a ++ b) → Begins code m f a)
       → (xs : List A) (a c : List T) → Each (Spells code m f) xs (a ++ c) → Begins code m (Many f) a
-  each_front f front [] a c e = ([], [], [], nil_left a c e, refl, begins_nil code m m-nil f)
+  each_front f front [] a c e = ([], [], [], none_left a c e, refl, begins_nil code m m-nil f)
   each_front f front (x ∷ xs) a c s = elim (cut a c s.0 s.1 s.2) [
     | inl d ↦
         let k = each_front f front xs d.0 c (subst (λ (z : List T). Each (Spells code m f) xs z) d.2 s.4) in (
@@ -59,13 +52,13 @@ module _ {T V : Type 0} (code : T → ℕ) (m : Meaning T V) (m-nil : m.begins [
   ]
 
   begins_front : {A : Type 0} (f : Form T V A) (a b : List T) → Begins code m f (a ++ b) → Begins code m f a
-  begins_front (Give x) a b e = nil_left a b e
-  begins_front (One cs) a b (inl e) = inl (nil_left a b e)
+  begins_front (Give x) a b e = none_left a b e
+  begins_front (One cs) a b (inl e) = inl (none_left a b e)
   begins_front (One cs) [] b (inr s) = inl refl
   begins_front (One cs) (x ∷ a) b (inr s) = inr (
     s.0,
     s.1,
-    ap (λ z. x ∷ z) (nil_left a b (tail_is x s.0 (a ++ b) [] s.2))
+    ap (λ z. x ∷ z) (none_left a b (tail_is x s.0 (a ++ b) [] s.2))
         ∙ ap (λ z. z ∷ []) (head_is x s.0 (a ++ b) [] s.2),
   )
   begins_front (Then f g) a b (inl h) = inl (begins_front f a b h)
@@ -91,7 +84,7 @@ module _ {T V : Type 0} (code : T → ℕ) (line : Form T V V) where
     front : (a b : List T) → (deep code line n).begins (a ++ b) → (deep code line n).begins a
 
   closed : (n : ℕ) → IsClosed n
-  closed zero = record { nil = refl; begun = λ v ts s. absurd s; front = λ a b e. nil_left a b e }
+  closed zero = record { nil = refl; begun = λ v ts s. absurd s; front = λ a b e. none_left a b e }
   closed (suc n) =
       let c = closed n in
       record {

@@ -1,14 +1,9 @@
 -- The text that is written of a number in hexadecimal is a number, of this value.
-use Rattle.std.proofs.Common.{◌≡◌, ℕ, zero, suc, ◌+◌, ◌*◌, ◌<◌, ◌^◌, Bool, true, false, cond, List, [], ◌∷◌, ◌++◌, Some, refl, ◌∙◌, arith}
+use Rattle.cam_base.proofs.Common.{Bool, List, Some, [], and_parts, arith, cond, digit_value, digits_value, digits_value_push, false, glyph, is_hex_digit, is_hexadecimal, list_all, lt-ltb, ltb-true, number_value, refl, suc, true, zero, ℕ, ◌*◌, ◌++◌}
+use Rattle.cam_base.proofs.Common.{◌+◌, ◌<◌, ◌^◌, ◌∙◌, ◌∷◌, ◌≡◌}
 use Rattle.std.specs.Prelude.{◌/◌, ◌%◌, nat_lt}
-use Rattle.std.specs.List.{list_all}
-use Rattle.std.specs.Char.{digit_value}
-use Rattle.std.specs.Str.Parse.{digits_value}
 use Rattle.std.proofs.Math.Nat.{pow-suc}
-use Rattle.std.proofs.lemmas.Int.Digits.{digits_value_push}
-use Rattle.std.proofs.lemmas.Bool.{and_parts, ltb-true, lt-ltb}
-use Rattle.cam_base.specs.Hex.{glyph, hex_digits, hex_text}
-use Rattle.cam_base.specs.Numbers.{is_hex_digit, is_hexadecimal, number_value}
+use Rattle.cam_base.specs.Hex.{hex_digits, hex_text}
 use Rattle.cam_base.proofs.Decimals.{fits_some}
 
 glyph_is : (d : ℕ) → d < 16 → (is_hex_digit (glyph d) ≡ true) × (digit_value (glyph d) ≡ d)

@@ -1,7 +1,5 @@
 -- Texts that a loop puts together.
-use Rattle.std.proofs.Common.{◌≡◌, ℕ, List, map}
-use Rattle.std.specs.List.{flat_map}
-use Rattle.std.proofs.lemmas.List.Folds.{flat_map-map}
+use Rattle.cam_base.proofs.Common.{List, flat_map, flat_map-map, map, ℕ, ◌≡◌}
 use Rattle.cam_base.specs.Texts.{together}
 
 pub join_map : {X : Type 0} (f : X → List ℕ) (xs : List X) → flat_map (λ x. x) (map f xs) ≡ flat_map f xs

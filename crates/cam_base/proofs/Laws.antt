@@ -1,12 +1,6 @@
 -- What a reader of a form keeps, for each kind of form.
-use Rattle.std.proofs.Common.{◌≡◌, ℕ, ◌<◌, ◌≤◌, Bool, true, false, cond, List, [], ◌∷◌, ◌++◌, length, Result, Ok, Err, refl, sym, ap, subst, ◌∙◌, append_assoc, arith, ◌⊎◌, inl, inr}
-use Rattle.std.specs.Prelude.{◌&&◌}
-use Rattle.std.proofs.lemmas.List.{append-nil, length-append}
-use Rattle.std.proofs.lemmas.Bool.{cases_Bool}
-use Rattle.cam_base.specs.declared.grammar_error.Stop.{Stop}
-use Rattle.cam_base.specs.Form.{among}
-use Rattle.cam_base.specs.Deciding.{apart}
-use Rattle.cam_base.specs.Reading.{◌>>=◌, Reader, left, starts, one, both, either, mapped}
+use Rattle.cam_base.proofs.Common.{Bool, Err, List, Ok, Reader, Result, Stop, [], among, ap, apart, append-nil, append_assoc, arith, both, cases_Bool, cond, either, false, inl, inr, left, length, length-append, mapped, one, refl, starts, subst, sym}
+use Rattle.cam_base.proofs.Common.{true, ℕ, ◌&&◌, ◌++◌, ◌<◌, ◌>>=◌, ◌∙◌, ◌∷◌, ◌≡◌, ◌≤◌, ◌⊎◌}
 use Rattle.cam_base.proofs.TerminalCodes.{if_true, if_false, true_is_not_false, among-left, among-right, starts_none-left, starts_none-right, starts_apart_back}
 
 -- A reader answers exactly what is spelled, and stops exactly where nothing is begun any more.

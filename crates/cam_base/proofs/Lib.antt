@@ -1,3 +1,4 @@
+pub mod Common
 pub mod Bytes
 pub mod Decimals
 pub mod Digits
@@ -27,3 +28,4 @@ pub mod Completed
 pub mod Cutting
 pub mod FieldsMore
 pub mod Telling
+pub mod ShortTexts

@@ -1,11 +1,7 @@
 -- What lists are made of, where std has no such law.
-use Rattle.std.proofs.Common.{◌≡◌, ◌+◌, ◌-◌, ◌<◌, ◌≤◌, ◌∙◌, ℕ, zero, suc, Bool, true, false, cond, List, [], ◌∷◌, ◌++◌, length, take, drop, get_or, map, refl, sym, ap, subst, Option, Some, None, arith, add-one}
+use Rattle.cam_base.proofs.Common.{Bool, List, None, Option, Some, [], add-one, and_from, ap, arith, cond, cons_option, drop, false, filter_map, find, flat_map, get_or, length, length-append, list_all, list_any, map, option_or, position_from, refl}
+use Rattle.cam_base.proofs.Common.{slice_get, subst, suc, sym, take, true, zero, ℕ, ◌++◌, ◌+◌, ◌-◌, ◌<◌, ◌||◌, ◌∙◌, ◌∷◌, ◌≡◌, ◌≤◌}
 use Rattle.std.proofs.Math.Seq.{drop-cons}
-use Rattle.std.proofs.lemmas.Bool.{and_from}
-use Rattle.std.proofs.lemmas.List.{length-append}
-use Rattle.std.specs.List.{cons_option, filter_map, find, flat_map, list_all, list_any, position_from, slice_get}
-use Rattle.std.specs.Option.{option_or}
-use Rattle.std.specs.Prelude.{◌||◌}
 
 pub nil_append : {A : Type 0} (xs ys : List A) → xs ++ ys ≡ [] → (xs ≡ []) × (ys ≡ [])
 nil_append [] ys e = (refl, e)

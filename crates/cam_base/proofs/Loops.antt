@@ -1,13 +1,7 @@
 -- A loop that reads one form after the other: what was read before it (front), and what is still to be read.
-use Rattle.std.proofs.Common.{◌≡◌, ℕ, ◌<◌, true, false, List, [], ◌∷◌, ◌++◌, length, Result, Ok, Err, refl, sym, ap, ◌∙◌, append_assoc, arith}
-use Rattle.std.proofs.lemmas.List.{append-nil}
-use Rattle.cam_base.specs.declared.grammar_error.Stop.{Stop}
-use Rattle.cam_base.specs.declared.grammar_error.ReadError.{ReadError}
+use Rattle.cam_base.proofs.Common.{Err, Fails, Form, List, Ok, ReadError, Reader, Result, Stop, [], ap, append-nil, append_assoc, arith, both, can_be_empty, decides, false, length, many, mapped, one, read, read_deep, refl, starts, sym, true, ℕ, ◌++◌}
+use Rattle.cam_base.proofs.Common.{◌<◌, ◌>>=◌, ◌∙◌, ◌∷◌, ◌≡◌}
 use Rattle.cam_base.specs.declared.grammar_error.ReadError.TheVariants as errors
-use Rattle.cam_base.specs.Form.{Form}
-use Rattle.cam_base.specs.Deciding.{can_be_empty, decides}
-use Rattle.cam_base.specs.Reading.{◌>>=◌, Reader, starts, one, both, mapped, many, read, read_deep}
-use Rattle.cam_base.specs.Gives.{Fails}
 use Rattle.cam_base.proofs.Laws.{bind_ok, ok_is, consumes, IsRead-one}
 use Rattle.cam_base.proofs.Repeats.{and_more, many_more, many_none}
 use Rattle.cam_base.proofs.Depth.{IsLine, deep_exact}

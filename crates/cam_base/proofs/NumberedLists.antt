@@ -1,9 +1,7 @@
 -- What stands in a list, and what a list's elements are made into.
-use Rattle.std.proofs.Common.{◌≡◌, ◌<◌, ◌≤◌, ◌+◌, ◌∙◌, ℕ, zero, suc, Bool, true, false, cond, List, [], ◌∷◌, ◌++◌, length, take, drop, get_or, map, refl, sym, ap, subst, inl, inr, ◌⊎◌, Option, Some, None, option_map, arith, true≢false}
-use Rattle.std.specs.List.{flat_map, filter_map, find, enumerate_from, cons_option, range_with_len, slice_get, list_any, All}
-use Rattle.std.proofs.lemmas.Option.{slice_get-get_or, slice_get_read}
-use Rattle.std.specs.Prelude.{◌||◌}
-use Rattle.cam_base.specs.Gather.{IsIn, gather}
+use Rattle.cam_base.proofs.Common.{All, Bool, IsIn, List, None, Option, Some, [], ap, arith, cond, cons_option, drop, enumerate_from, false, filter_map, find, flat_map, gather, get_or, get_or_from_slice_get, inl, inr, length, list_any, map}
+use Rattle.cam_base.proofs.Common.{range_with_len, refl, slice_get, slice_get-get_or, slice_get_read, slice_get_within, subst, suc, sym, take, take_more, true, true≢false, zero, ℕ, ◌++◌, ◌+◌, ◌<◌, ◌||◌, ◌∙◌, ◌∷◌, ◌≡◌, ◌≤◌, ◌⊎◌}
+use Rattle.std.proofs.Common.{option_map}
 use Rattle.cam_base.proofs.Gathered.{in_append, in_left, in_right, in_place, length_append}
 
 pub in_map : {X A : Type 0} (f : X → A) (x : X) (xs : List X) → IsIn x xs → IsIn (f x) (map f xs)
@@ -253,3 +251,29 @@ all_in P (y ∷ xs) x h (inr i) = all_in P xs x (λ k d l. h (suc k) d (omega ar
 
 pub below_count : (n i : ℕ) → IsIn i (range_with_len 0 n) → i < n
 below_count n i h = let l = from_range 0 n i h in omega (arith, l)
+
+-- what a list begins with, one more of it
+pub taken_more : {X : Type 0} (xs : List X) (n : ℕ) (x : X) → slice_get xs n ≡ Some x → take (n + 1) xs ≡ take n xs ++ x ∷ []
+taken_more xs n x h = take_more xs n x (slice_get_within xs n x h)
+    ∙ ap (λ z. take n xs ++ z ∷ []) (get_or_from_slice_get xs n x x h)
+
+pub one_more : {X : Type 0} (xs old new : List X) (n : ℕ) (x : X) → slice_get xs n ≡ Some x → old ≡ take n xs
+    → new ≡ old ++ x ∷ [] → new ≡ take (n + 1) xs
+one_more xs old new n x h is more = more ∙ ap (λ z. z ++ x ∷ []) is ∙ sym (taken_more xs n x h)
+
+pub in_any : {X : Type 0} (p : X → Bool) (xs : List X) (x : X) → IsIn x xs → p x ≡ true → list_any p xs ≡ true
+in_any p [] x i e = absurd i
+in_any p (y ∷ xs) x (inl s) e = ap (λ b. b || list_any p xs) (ap p s ∙ e)
+in_any p (y ∷ xs) x (inr i) e = go (p y) (in_any p xs x i e) where
+  go : (b : Bool) → list_any p xs ≡ true → (b || list_any p xs) ≡ true
+  go true h = refl
+  go false h = h
+
+pub somes_one : {X : Type 0} (xs ys : List X) → map (λ x. Some x) xs ≡ map (λ x. Some x) ys → xs ≡ ys
+somes_one [] [] e = refl
+somes_one [] (y ∷ ys) e = absurd cc
+somes_one (x ∷ xs) [] e = absurd cc
+somes_one {X} (x ∷ xs) (y ∷ ys) e =
+    let head : x ≡ y = cc in
+    let tail : map (λ (z : X). Some z) xs ≡ map (λ z. Some z) ys = cc in
+    ap (λ z. z ∷ xs) head ∙ ap (λ z. y ∷ z) (somes_one xs ys tail)

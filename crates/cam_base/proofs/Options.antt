@@ -1,7 +1,5 @@
 -- Of two answers the first that is there.
-use Rattle.std.proofs.Common.{◌≡◌, Bool, true, false, cond, Option, Some, None, refl, true≢false}
-use Rattle.std.specs.Prelude.{◌||◌}
-use Rattle.std.specs.Option.{is_some, option_map, option_or}
+use Rattle.cam_base.proofs.Common.{Bool, None, Option, Some, cond, false, is_some, option_map, option_or, refl, true, true≢false, ◌||◌, ◌≡◌}
 
 pub option_or-none : {V : Type 0} (o : Option V) → o ≡ option_or o None
 option_or-none None = refl

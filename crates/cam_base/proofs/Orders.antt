@@ -1,6 +1,5 @@
 -- Numbers compared.
-use Rattle.std.proofs.Common.{◌≡◌, ◌<◌, ℕ, Bool, true, false, Greater, Less, Equal, Ordering, nat_lt, refl, arith}
-use Rattle.std.proofs.lemmas.Bool.Decides.{nat_tests}
+use Rattle.cam_base.proofs.Common.{Bool, Equal, Greater, Less, Ordering, arith, false, nat_lt, nat_tests, refl, true, ℕ, ◌<◌, ◌≡◌}
 use Rattle.std.specs.Ordering.{is_eq, nat_cmp}
 use Rattle.std.specs.Prelude.{◌==◌}
 

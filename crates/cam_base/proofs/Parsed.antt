@@ -1,19 +1,7 @@
 -- What reading gives is what a parser says.
-use Rattle.std.proofs.Common.{◌≡◌, ℕ, true, false, List, [], ◌++◌, Result, Ok, Err, ◌+◌, ◌-◌, ◌≤◌, length, take, drop, append_assoc, arith, refl, sym, ap, subst, ◌∙◌, inl, inr}
-use Rattle.std.proofs.lemmas.List.{drop_at, length-append, length-drop, take-append-drop}
-use Rattle.std.specs.Prelude.{IfOk}
-use Rattle.cam_base.specs.declared.grammar_error.Stop.{Stop}
-use Rattle.cam_base.specs.declared.grammar_error.Why.{Why}
-use Rattle.cam_base.specs.declared.grammar_error.Why.TheVariants.{Unexpected, TooDeep}
-use Rattle.cam_base.specs.declared.grammar_error.ReadError.{ReadError}
+use Rattle.cam_base.proofs.Common.{Err, Fails, FileStops, Form, Gives, IfOk, IsFileOf, IsPartOf, List, Ok, PartStops, ReadError, Reader, Result, Spelled, Spells, Stop, TooDeep, Unexpected, Why, [], ap, append_assoc, arith, decides, deep, drop}
+use Rattle.cam_base.proofs.Common.{drop_at, false, further, inl, inr, length, length-append, length-drop, read, read_deep, refl, starts, subst, sym, take, take-append-drop, true, whole, ℕ, ◌++◌, ◌+◌, ◌-◌, ◌∙◌, ◌≡◌, ◌≤◌}
 use Rattle.cam_base.specs.declared.grammar_error.ReadError.TheVariants as errors
-use Rattle.cam_base.specs.Form.{Form}
-use Rattle.cam_base.specs.Spelling.{Spells}
-use Rattle.cam_base.specs.Depth.{deep, Spelled}
-use Rattle.cam_base.specs.Deciding.{decides, further}
-use Rattle.cam_base.specs.Reading.{Reader, starts, read, read_deep, whole}
-use Rattle.cam_base.specs.Gives.{Fails, Gives}
-use Rattle.cam_base.specs.Parsed.{FileStops, IsFileOf, PartStops, IsPartOf}
 use Rattle.cam_base.proofs.Laws.{ok_is, ok_is_not_err, err_is}
 use Rattle.cam_base.proofs.Depth.{IsLine}
 use Rattle.cam_base.proofs.Theorems.{starts_none, too_deep_is_not, found, only, first_fault, deep_fault, whole_found, whole_only, whole_none, whole_fault, whole_deep}

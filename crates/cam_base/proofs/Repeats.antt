@@ -1,12 +1,7 @@
 -- Any number of one form.
-use Rattle.std.proofs.Common.{◌≡◌, ℕ, zero, suc, ◌<◌, ◌≤◌, true, false, List, [], ◌∷◌, ◌++◌, length, Result, Ok, Err, refl, sym, ap, subst, ◌∙◌, append_assoc, arith, inl, inr}
-use Rattle.std.proofs.lemmas.List.{append-nil, length-append}
-use Rattle.std.proofs.lemmas.Bool.{cases_Bool}
-use Rattle.cam_base.specs.declared.grammar_error.Stop.{Stop}
-use Rattle.cam_base.specs.Form.{among}
-use Rattle.cam_base.specs.Spelling.{Each}
-use Rattle.cam_base.specs.Deciding.{apart}
-use Rattle.cam_base.specs.Reading.{◌>>=◌, Reader, left, starts, times, many}
+use Rattle.cam_base.proofs.Common.{Each, Err, List, Ok, Reader, Result, Stop, [], among, ap, apart, append-nil, append_assoc, arith, cases_Bool, false, inl, inr, left, length, length-append, refl, starts, subst, suc, sym, times, true, zero, ℕ, ◌++◌}
+use Rattle.cam_base.proofs.Common.{◌<◌, ◌>>=◌, ◌∙◌, ◌∷◌, ◌≡◌, ◌≤◌}
+use Rattle.cam_base.specs.Reading.{many}
 use Rattle.cam_base.proofs.TerminalCodes.{true_is_not_false, starts_none-left, starts_none-right, starts_apart_back}
 use Rattle.cam_base.proofs.Laws.{IsRead, done, bind_ok, bind_err, ok_is, ok_is_not_err, shorter, spelled_starts}
 

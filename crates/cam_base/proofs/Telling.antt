@@ -1,8 +1,6 @@
 -- The lines from a place on, one after another.
-use Rattle.std.proofs.Common.{◌≡◌, ◌∙◌, ap, sym, refl, ℕ, ◌+◌, ◌<◌, ◌≤◌, ◌==◌, true, false, List, [], ◌∷◌, length, drop}
-use Rattle.std.specs.List.{before_first}
+use Rattle.cam_base.proofs.Common.{List, [], ap, before_first, drop, false, length, parts_from, refl, sym, true, ℕ, ◌+◌, ◌<◌, ◌==◌, ◌∙◌, ◌∷◌, ◌≡◌, ◌≤◌}
 use Rattle.cam_base.specs.Lines.{Line, placed, telling, is_silent}
-use Rattle.cam_base.specs.Parts.{parts_from}
 use Rattle.cam_base.proofs.Cutting.{parts_more, parts_end}
 
 -- the lines from a place on that say something

@@ -1,10 +1,6 @@
 -- Sets of codes, as lists.
-use Rattle.std.proofs.Common.{◌≡◌, ℕ, Bool, true, false, cond, List, [], ◌∷◌, ◌++◌, refl, inl, inr}
-use Rattle.std.specs.Prelude.{not, ◌==◌}
-use Rattle.std.proofs.lemmas.Bool.{eqb-true, and_parts, cases_Bool}
-use Rattle.cam_base.specs.Form.{among}
-use Rattle.cam_base.specs.Deciding.{apart, same}
-use Rattle.cam_base.specs.Reading.{starts}
+use Rattle.cam_base.proofs.Common.{Bool, List, [], among, and_parts, apart, cases_Bool, cond, eqb-true, false, inl, inr, refl, same, starts, true, ℕ, ◌++◌, ◌∷◌, ◌≡◌}
+use Rattle.std.specs.Prelude.{◌==◌}
 
 pub if_true : {A : Type 0} (b : Bool) (x y : A) → b ≡ true → cond b x y ≡ x
 if_true b x y e = rw e refl

@@ -1,16 +1,8 @@
 -- What reading a form says of all tokens, and of the tokens from a place on.
-use Rattle.std.proofs.Common.{◌≡◌, ℕ, zero, suc, ◌+◌, ◌≤◌, true, false, List, [], ◌∷◌, ◌++◌, length, Ok, Err, refl, sym, ap, subst, ◌∙◌, append_assoc, arith, ◌⊎◌, inl, inr, add-one, add_comm}
-use Rattle.std.specs.Prelude.{◌&&◌, not}
-use Rattle.std.proofs.lemmas.List.{append-nil, length-append, append_cancel_right}
-use Rattle.std.proofs.lemmas.Bool.{and_parts, cases_Bool}
-use Rattle.cam_base.specs.declared.grammar_error.Stop.{Stop}
-use Rattle.cam_base.specs.declared.grammar_error.Why.TheVariants.{Unexpected, TooDeep}
-use Rattle.cam_base.specs.Form.{Form, Give, One, Then, Or, Many, As, Starts, Nested, among}
-use Rattle.cam_base.specs.Spelling.{Each, Meaning, Spells, Begins}
-use Rattle.cam_base.specs.Depth.{deep, Spelled}
-use Rattle.cam_base.specs.Deciding.{apart, can_be_empty, first, further, decides, same}
-use Rattle.cam_base.specs.Reading.{◌>>=◌, Reader, left, starts, one, both, either, times, many, mapped, read, guarded, too_deep, read_deep, ended, whole}
-use Rattle.cam_base.specs.Faults.{IsSyntaxError, IsTooDeep}
+use Rattle.cam_base.proofs.Common.{As, Begins, Each, Err, Form, Give, IsSyntaxError, IsTooDeep, List, Many, Meaning, Nested, Ok, One, Or, Reader, Spelled, Spells, Starts, Stop, Then, TooDeep, Unexpected, [], add-one, add_comm, among, and_parts, ap}
+use Rattle.cam_base.proofs.Common.{apart, append-nil, append_assoc, append_cancel_right, arith, both, can_be_empty, cases_Bool, decides, deep, either, ended, false, first, further, guarded, inl, inr, left, length, length-append, mapped, not, one}
+use Rattle.cam_base.proofs.Common.{read, refl, same, starts, subst, suc, sym, times, too_deep, true, whole, zero, ℕ, ◌&&◌, ◌++◌, ◌+◌, ◌>>=◌, ◌∙◌, ◌∷◌, ◌≡◌, ◌≤◌, ◌⊎◌}
+use Rattle.cam_base.specs.Reading.{many, read_deep}
 use Rattle.cam_base.proofs.TerminalCodes.{if_true, if_false}
 use Rattle.cam_base.proofs.Laws.{IsRead, bind_ok, bind_err, ok_is, ok_is_not_err, err_is, why_is}
 use Rattle.cam_base.proofs.Repeats.{times_none, times_more}

@@ -1,13 +1,6 @@
 -- There is one place at which the tokens stop being those of a form, and one reason.
-use Rattle.std.proofs.Common.{◌≡◌, ℕ, List, [], ◌∷◌, ◌++◌, length, refl, sym, ap, subst, ◌∙◌, append_assoc, inl, inr}
-use Rattle.std.proofs.lemmas.List.{append-nil, append_cancel_left}
-use Rattle.cam_base.specs.declared.grammar_error.Why.{Why}
-use Rattle.cam_base.specs.declared.grammar_error.Why.TheVariants.{Unexpected, TooDeep}
-use Rattle.cam_base.specs.Form.{Form}
-use Rattle.cam_base.specs.Spelling.{Begins, Spells}
-use Rattle.cam_base.specs.Depth.{deep, Begun}
-use Rattle.cam_base.specs.Faults.{IsSyntaxError, IsTooDeep}
-use Rattle.cam_base.specs.Parsed.{FileStops, PartStops}
+use Rattle.cam_base.proofs.Common.{Begins, Begun, FileStops, Form, IsSyntaxError, IsTooDeep, List, PartStops, Spells, TooDeep, Unexpected, Why, [], ap, append-nil, append_assoc, append_cancel_left, deep, inl, inr, length, refl, subst, sym, ℕ, ◌++◌}
+use Rattle.cam_base.proofs.Common.{◌∙◌, ◌∷◌, ◌≡◌}
 use Rattle.cam_base.proofs.GrammarFronts.{cut, head_is, deep_front, deep_begun}
 
 module _ {T V A : Type 0} (code : T → ℕ) (line : Form T V V) (f : Form T V A) (limit : ℕ) (ts : List T) where

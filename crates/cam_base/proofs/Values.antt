@@ -1,9 +1,5 @@
 -- The values of digits, and which of them fit 64 bits.
-use Rattle.std.proofs.Common.{◌≡◌, refl, sym, Bool, ℕ, ◌+◌, ◌*◌, ◌^◌, ◌<◌, ◌≤◌, nat_lt, true, false, List, [], ◌∷◌, Some, None, arith}
-use Rattle.std.proofs.lemmas.Bool.Decides.{nat_tests}
-use Rattle.std.specs.Char.{digit_value}
-use Rattle.std.specs.Str.Parse.{digits_value_after}
-use Rattle.cam_base.specs.Numbers.{fits}
+use Rattle.cam_base.proofs.Common.{Bool, List, None, Some, [], arith, digit_value, digits_value_after, false, fits, nat_lt, nat_tests, refl, sym, true, ℕ, ◌*◌, ◌+◌, ◌<◌, ◌^◌, ◌∷◌, ◌≡◌, ◌≤◌}
 
 pub fits_below : (n : ℕ) → n < 2 ^ 64 → fits true n ≡ Some n
 fits_below n h = let t : nat_lt n (2 ^ 64) ≡ true = grind (arith, nat_tests) in rw t refl

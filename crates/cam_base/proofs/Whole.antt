@@ -1,11 +1,6 @@
 -- Every form that the next token decides is read exactly.
-use Rattle.std.proofs.Common.{◌≡◌, ℕ, Bool, true, false, List, [], sym, subst}
-use Rattle.std.specs.Prelude.{◌&&◌, ◌||◌, not}
-use Rattle.std.proofs.lemmas.Bool.{not-true, and_parts}
-use Rattle.cam_base.specs.Form.{Form, Give, One, Then, Or, Many, As, Starts, Nested}
-use Rattle.cam_base.specs.Spelling.{Meaning, Spells, Begins}
-use Rattle.cam_base.specs.Deciding.{apart, can_be_empty, first, further, decides, same}
-use Rattle.cam_base.specs.Reading.{Reader, read}
+use Rattle.cam_base.proofs.Common.{As, Begins, Bool, Form, Give, List, Many, Meaning, Nested, One, Or, Reader, Spells, Starts, Then, [], and_parts, apart, can_be_empty, decides, false, first, further, not, not-true, read, same, subst, sym, true, ℕ}
+use Rattle.cam_base.proofs.Common.{◌&&◌, ◌||◌, ◌≡◌}
 use Rattle.cam_base.proofs.TerminalCodes.{same_is}
 use Rattle.cam_base.proofs.Laws.{IsRead, IsRead-give, IsRead-one, IsRead-map, IsRead-then, IsRead-or}
 use Rattle.cam_base.proofs.Repeats.{IsRead-many}

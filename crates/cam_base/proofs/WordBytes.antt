@@ -1,9 +1,7 @@
 -- Which bytes may stand in words, by a table.
-use Rattle.std.proofs.Common.{arith, ◌≡◌, ◌<◌, ◌∙◌, ℕ, Bool, true, false, cond, List, [], ◌∷◌, refl, ap, get_or}
+use Rattle.cam_base.proofs.Common.{Bool, List, [], ap, arith, cond, false, get_or, is_word_byte, range_with_len, refl, true, ℕ, ◌<◌, ◌∙◌, ◌∷◌, ◌≡◌}
 use Rattle.std.proofs.lemmas.List.FromFn.{get_or-map-range_with_len}
-use Rattle.std.specs.List.{range_with_len}
 use Rattle.std.specs.Prelude.{◌==◌, map}
-use Rattle.cam_base.specs.Names.{is_word_byte}
 
 -- 1 for each byte of words, as the code has it
 abbrev word_bytes : List ℕ

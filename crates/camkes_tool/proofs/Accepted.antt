@@ -8,7 +8,7 @@ use Rattle.build_laws.specs.ReadBack.{AreReadBack}
 use Rattle.cam_base.specs.declared.error.Refused.TheVariants as refused
 use Rattle.capdl_text.proofs.Unique.{no_fault_of_text}
 use Rattle.camkes_tool.proofs.Accepting.{labels_stand, none_some}
-use Rattle.text_commands.specs.declared.fault.InputError.TheVariants.{NoMemory, ReadFault}
+use Rattle.cam_base.specs.declared.error.Unread.TheVariants.{NoMemory, ReadFault}
 use Rattle.camkes_tool.proofs.Statuses.{exact_status}
 
 module _ (m : Contents) (old new : List ℕ → ℕ) where

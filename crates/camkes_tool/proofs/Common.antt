@@ -14,7 +14,7 @@ pub use Rattle.build_laws.proofs.SpecBack.{spec_back}
 pub use Rattle.build_laws.proofs.TrioValid.{trio_valid}
 pub use Rattle.build_laws.specs.AsRead.{HoldsAsRead, IsReadAs}
 pub use Rattle.build_laws.specs.TriosValid.{IsTrioValid}
-pub use Rattle.cam_io.proofs.Sequence.{open_still, writes_after, writes_exit, writes_first}
+pub use Rattle.cam_io.proofs.Sequence.{writes_after, writes_exit, writes_first}
 pub use Rattle.cam_io.specs.Causes.{Rose}
 pub use Rattle.cam_io.specs.Contents.{Contents}
 pub use Rattle.cam_io.specs.Reading.{InAll, LearnsOnly}
@@ -39,7 +39,7 @@ pub use Rattle.command_words.specs.declared.command.Command.{Command}
 pub use Rattle.command_words.specs.declared.command.Command.TheVariants.{Audit, Certify, Check, Compile, Explain, Generate, Plan, Replay, Sections}
 pub use Rattle.explain.specs.Answers.{answer_text, is_assigned}
 pub use Rattle.flow_laws.proofs.Separated.{separated}
-pub use Rattle.front_end.specs.declared.error.BuildError.{BuildError}
+pub use Rattle.cam_base.specs.Unread.{SourceError}
 pub use Rattle.policy_text.specs.EdgeLines.{LabelNames, apart_lines}
 pub use Rattle.policy_text.specs.Labelled.{IsLabelling, first_unlabelled, object_label}
 pub use Rattle.policy_text.specs.PolicyLines.{cert_text, policy_text}
@@ -59,7 +59,7 @@ pub use Rattle.text_commands.specs.Commands.{IsAudited, IsCert, IsCertified, IsC
 pub use Rattle.text_commands.specs.Inputs.{AlikeAsRead, AlikeInInputs, Holds, IsInput, IsTold, Turn}
 pub use Rattle.text_commands.specs.OneAnswer.{AreOneButChoice, answer_but_choice, but_choice}
 pub use Rattle.text_commands.specs.Outcomes.{is_well, is_yes, text_of}
-pub use Rattle.text_commands.specs.declared.fault.InputError.{InputError}
-pub use Rattle.text_commands.specs.declared.fault.InputError.TheVariants.{Fault}
+pub use Rattle.text_commands.specs.InputErrors.{InputError}
+pub use Rattle.cam_base.specs.declared.error.Unread.TheVariants.{Fault}
 pub use Rattle.text_commands.specs.declared.fault.InputFault.{InputFault}
 pub use Rattle.text_commands.specs.declared.outcome.Outcome.{Outcome}

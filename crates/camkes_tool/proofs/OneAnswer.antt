@@ -1,5 +1,5 @@
 -- For the same words and contents there is one answer, aside from failed reads and want of memory.
-use Rattle.camkes_tool.proofs.Common.{Answer, AreNamedBy, AreOne, AreOneButChoice, Audit, Begin, Build, BuildError, Certify, Check, Command, Compile, Compiled, Contents, Err, Explain, Explained, Faulted, Fits, FitsCompiled, FitsExplained}
+use Rattle.camkes_tool.proofs.Common.{Answer, AreNamedBy, AreOne, AreOneButChoice, Audit, Begin, Build, SourceError, Certify, Check, Command, Compile, Compiled, Contents, Err, Explain, Explained, Faulted, Fits, FitsCompiled, FitsExplained}
 use Rattle.camkes_tool.proofs.Common.{FitsGenerated, FitsListed, FitsTexts, Generate, Generated, InputError, IsAudited, IsCertified, IsChecked, IsExplained, IsGenerated, IsListed, IsPlanned, IsRun, IsTabled, List, Listed, Listing, NoMemory, None, Ok}
 use Rattle.camkes_tool.proofs.Common.{Option, Outcome, Plan, ReadFault, Refused, Replay, Result, Sections, Sink, Some, Summary, Tells, TextNames, Told, Usage, Write, [], after, answer_but_choice, ap, arith, audited_one, build_first, build_summary}
 use Rattle.camkes_tool.proofs.Common.{builds_same, but_choice, canonical, cert_text, certified_one, checked_one, cond, false, inl, inr, is_chosen, is_well, leaves_choice, one_explained, one_first, one_listing, planned_one, policy_text, ran_one, refl}
@@ -7,12 +7,11 @@ use Rattle.camkes_tool.proofs.Common.{script, status_of, string_bytes, subst, sy
 use Rattle.cam_base.specs.declared.place.Fault.{Fault}
 use Rattle.arch_compile.specs.Maps.{build_map}
 use Rattle.command_words.specs.declared.command.Command.TheVariants.{List as ListOf}
-use Rattle.front_end.specs.Refusals as refusals
-use Rattle.front_end.specs.declared.error.BuildError.TheVariants as build
+use Rattle.cam_base.specs.Unread as errors
+use Rattle.cam_base.specs.declared.error.Unread.TheVariants as unread
 use Rattle.camkes_tool.proofs.OneGenerated.{one_generated}
 use Rattle.explain.specs.declared.answer.Answer.{Answer as Reply}
 use Rattle.text_commands.specs.OneAnswer as texts
-use Rattle.text_commands.specs.declared.fault.InputError.TheVariants as input
 use Rattle.text_commands.specs.declared.outcome.Outcome.TheVariants.{Audited, Certified, Checked, Planned, Ran, Tabled}
 
 same_answer : (a : Answer) → AreOne a a
@@ -160,10 +159,10 @@ one_of_texts Here There one (Told o) (Told r) p q x y =
     let h = one (Ok o) (Ok r) tt tt x y in
     let same : but_choice o ≡ but_choice r = cc in
     told_same o r same
-one_of_texts Here There one (Told o) (Refused b g) p q x y = let h = one (Ok o) (Err (input.Fault g b)) tt tt x y in absurd cc
-one_of_texts Here There one (Refused a f) (Told r) p q x y = let h = one (Err (input.Fault f a)) (Ok r) tt tt x y in absurd cc
+one_of_texts Here There one (Told o) (Refused b g) p q x y = let h = one (Ok o) (Err (unread.Fault g b)) tt tt x y in absurd cc
+one_of_texts Here There one (Refused a f) (Told r) p q x y = let h = one (Err (unread.Fault f a)) (Ok r) tt tt x y in absurd cc
 one_of_texts Here There one (Refused a f) (Refused b g) p q x y =
-    let h = one (Err (input.Fault f a)) (Err (input.Fault g b)) tt tt x y in
+    let h = one (Err (unread.Fault f a)) (Err (unread.Fault g b)) tt tt x y in
     let same : Refused a f ≡ Refused b g = cc in
     equal_answers (Refused a f) (Refused b g) same
 one_of_texts Here There one (Compiled a a') b p q x y = absurd x
@@ -198,22 +197,22 @@ but_choice_one Here There one a b s t x y = ap answer_but_choice (one a b s t x 
 -- ---- commands over sources
 
 -- the answer that a command over a source finds, or a fault
-abbrev pub AreOneOf : {A : Type 0} → (Result A BuildError → Type 0) → (Result A BuildError → Type 0) → Type 0
-AreOneOf {A} Here There = (a b : Result A BuildError) → refusals.yields a ≡ false → refusals.yields b ≡ false → Here a
+abbrev pub AreOneOf : {A : Type 0} → (Result A SourceError → Type 0) → (Result A SourceError → Type 0) → Type 0
+AreOneOf {A} Here There = (a b : Result A SourceError) → errors.yields a ≡ false → errors.yields b ≡ false → Here a
     → There b → a ≡ b
 
-one_of_listed : (Here There : Result Listing BuildError → Type 0) → AreOneOf Here There → (a b : Answer) → yields a ≡ false
+one_of_listed : (Here There : Result Listing SourceError → Type 0) → AreOneOf Here There → (a b : Answer) → yields a ≡ false
     → yields b ≡ false → FitsListed Here a → FitsListed There b → AreOne a b
 one_of_listed Here There one (Listed o) (Listed r) p q x y =
     let h = one (Ok o) (Ok r) refl refl x y in
     let same : Listed o ≡ Listed r = cc in
     equal_answers (Listed o) (Listed r) same
-one_of_listed Here There one (Listed o) (Faulted b g) p q x y = let h = one (Ok o) (Err (build.Fault g b)) refl refl x y in
+one_of_listed Here There one (Listed o) (Faulted b g) p q x y = let h = one (Ok o) (Err (unread.Fault g b)) refl refl x y in
     absurd cc
-one_of_listed Here There one (Faulted a f) (Listed r) p q x y = let h = one (Err (build.Fault f a)) (Ok r) refl refl x y in
+one_of_listed Here There one (Faulted a f) (Listed r) p q x y = let h = one (Err (unread.Fault f a)) (Ok r) refl refl x y in
     absurd cc
 one_of_listed Here There one (Faulted a f) (Faulted b g) p q x y =
-    let h = one (Err (build.Fault f a)) (Err (build.Fault g b)) refl refl x y in
+    let h = one (Err (unread.Fault f a)) (Err (unread.Fault g b)) refl refl x y in
     let same : Faulted a f ≡ Faulted b g = cc in
     equal_answers (Faulted a f) (Faulted b g) same
 one_of_listed Here There one (Compiled a a') b p q x y = absurd x
@@ -241,18 +240,18 @@ one_of_listed Here There one (Faulted a a') Usage p q x y = absurd y
 one_of_listed Here There one (Faulted a a') (ReadFault b) p q x y = absurd cc
 one_of_listed Here There one (Faulted a a') NoMemory p q x y = absurd cc
 
-one_of_explained : (Here There : Result Reply BuildError → Type 0) → AreOneOf Here There → (a b : Answer) → yields a ≡ false
+one_of_explained : (Here There : Result Reply SourceError → Type 0) → AreOneOf Here There → (a b : Answer) → yields a ≡ false
     → yields b ≡ false → FitsExplained Here a → FitsExplained There b → AreOne a b
 one_of_explained Here There one (Explained o) (Explained r) p q x y =
     let h = one (Ok o) (Ok r) refl refl x y in
     let same : Explained o ≡ Explained r = cc in
     equal_answers (Explained o) (Explained r) same
-one_of_explained Here There one (Explained o) (Faulted b g) p q x y = let h = one (Ok o) (Err (build.Fault g b)) refl refl x y in
+one_of_explained Here There one (Explained o) (Faulted b g) p q x y = let h = one (Ok o) (Err (unread.Fault g b)) refl refl x y in
     absurd cc
-one_of_explained Here There one (Faulted a f) (Explained r) p q x y = let h = one (Err (build.Fault f a)) (Ok r) refl refl x y in
+one_of_explained Here There one (Faulted a f) (Explained r) p q x y = let h = one (Err (unread.Fault f a)) (Ok r) refl refl x y in
     absurd cc
 one_of_explained Here There one (Faulted a f) (Faulted b g) p q x y =
-    let h = one (Err (build.Fault f a)) (Err (build.Fault g b)) refl refl x y in
+    let h = one (Err (unread.Fault f a)) (Err (unread.Fault g b)) refl refl x y in
     let same : Faulted a f ≡ Faulted b g = cc in
     equal_answers (Faulted a f) (Faulted b g) same
 one_of_explained Here There one (Compiled a a') b p q x y = absurd x
@@ -280,18 +279,18 @@ one_of_explained Here There one (Faulted a a') Usage p q x y = absurd y
 one_of_explained Here There one (Faulted a a') (ReadFault b) p q x y = absurd cc
 one_of_explained Here There one (Faulted a a') NoMemory p q x y = absurd cc
 
-one_of_generated : (Here There : Result Summary BuildError → Type 0) → AreOneOf Here There → (a b : Answer) → yields a ≡ false
+one_of_generated : (Here There : Result Summary SourceError → Type 0) → AreOneOf Here There → (a b : Answer) → yields a ≡ false
     → yields b ≡ false → FitsGenerated Here a → FitsGenerated There b → AreOne a b
 one_of_generated Here There one (Generated o) (Generated r) p q x y =
     let h = one (Ok o) (Ok r) refl refl x y in
     let same : Generated o ≡ Generated r = cc in
     equal_answers (Generated o) (Generated r) same
-one_of_generated Here There one (Generated o) (Faulted b g) p q x y = let h = one (Ok o) (Err (build.Fault g b)) refl refl x y in
+one_of_generated Here There one (Generated o) (Faulted b g) p q x y = let h = one (Ok o) (Err (unread.Fault g b)) refl refl x y in
     absurd cc
-one_of_generated Here There one (Faulted a f) (Generated r) p q x y = let h = one (Err (build.Fault f a)) (Ok r) refl refl x y in
+one_of_generated Here There one (Faulted a f) (Generated r) p q x y = let h = one (Err (unread.Fault f a)) (Ok r) refl refl x y in
     absurd cc
 one_of_generated Here There one (Faulted a f) (Faulted b g) p q x y =
-    let h = one (Err (build.Fault f a)) (Err (build.Fault g b)) refl refl x y in
+    let h = one (Err (unread.Fault f a)) (Err (unread.Fault g b)) refl refl x y in
     let same : Faulted a f ≡ Faulted b g = cc in
     equal_answers (Faulted a f) (Faulted b g) same
 one_of_generated Here There one (Compiled a a') b p q x y = absurd x

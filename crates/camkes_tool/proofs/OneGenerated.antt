@@ -1,9 +1,9 @@
 -- What generating answers is one, aside from want of memory.
-use Rattle.camkes_tool.proofs.Common.{Build, BuildError, Err, IsGenerated, Ok, Result, Summary, ap, build_first, builds_same, false, generated, one_first, root_name, sym, ℕ, ◌∙◌, ◌≡◌}
+use Rattle.camkes_tool.proofs.Common.{Build, SourceError, Err, IsGenerated, Ok, Result, Summary, ap, build_first, builds_same, false, generated, one_first, root_name, sym, ℕ, ◌∙◌, ◌≡◌}
 use Rattle.arch_compile.specs.Summary.{summary_of}
 use Rattle.front_end.proofs.OneAnswer.{faults_same}
-use Rattle.front_end.specs.Refusals.{yields}
-use Rattle.front_end.specs.declared.error.BuildError.TheVariants as error
+use Rattle.cam_base.specs.declared.error.Unread.TheVariants as error
+use Rattle.cam_base.specs.Unread.{yields}
 
 module _ (count : ℕ) where
   summaries_same : (f g : Summary) → IsGenerated count (Ok f) → IsGenerated count (Ok g) → f ≡ g
@@ -11,7 +11,7 @@ module _ (count : ℕ) where
       accepted.summed ∙ ap (λ (z : Build). summary_of z.meaning.flat z.spec z.policy.edges)
       (builds_same (generated count) root_name b c is be) ∙ sym accepts.summed
 
-  pub one_generated : (a b : Result Summary BuildError) → yields a ≡ false → yields b ≡ false → IsGenerated count a
+  pub one_generated : (a b : Result Summary SourceError) → yields a ≡ false → yields b ≡ false → IsGenerated count a
       → IsGenerated count b → a ≡ b
   one_generated (Ok f) (Ok g) p q x y = ap Ok (summaries_same f g x y)
   one_generated (Ok f) (Err (error.Fault g b)) p q x y = absurd (build_first (generated count) root_name x.0 g b x.1 y)

@@ -6,7 +6,7 @@ use Rattle.boot_plan.specs.UntypedTexts as untyped
 use Rattle.capdl_text.specs.Texts as capdl
 use Rattle.sect_table.specs.Elf as elves
 use Rattle.step_text.specs.StepTexts as step_texts
-use Rattle.text_commands.specs.declared.fault.InputError.TheVariants.{ReadFault}
+use Rattle.cam_base.specs.declared.error.Unread.TheVariants.{ReadFault}
 
 module _ {B : Type 0} (file : List ℕ) (e : InputError) (is : ◌≡◌ {A = Result B InputError} (Err (ReadFault file)) (Err e)) where
   same : ReadFault file ≡ e

@@ -1,13 +1,12 @@
 -- Statuses are exact where contents are told and nothing failed.
-use Rattle.camkes_tool.proofs.Common.{Answer, AreOneButChoice, Audit, Bool, Build, BuildError, Certify, Check, Command, Compile, Compiled, Contents, Err, Explain, Explained, Faulted, Fits, FitsCompiled, FitsExplained, FitsGenerated, FitsListed}
+use Rattle.camkes_tool.proofs.Common.{Answer, AreOneButChoice, Audit, Bool, Build, SourceError, Certify, Check, Command, Compile, Compiled, Contents, Err, Explain, Explained, Faulted, Fits, FitsCompiled, FitsExplained, FitsGenerated, FitsListed}
 use Rattle.camkes_tool.proofs.Common.{FitsTexts, Generate, Generated, HasFault, HasNoFault, InputError, IsAudited, IsBuildOf, IsCertified, IsChecked, IsExplained, IsGenerated, IsListed, IsPlanned, IsRun, IsStatus, IsStatusOf, IsStatusOfSource}
 use Rattle.camkes_tool.proofs.Common.{IsStatusOfTexts, IsTabled, List, Listed, Listing, NoMemory, None, NoneRose, Ok, Option, Outcome, Plan, ReadFault, Refused, Replay, Result, Rose, Sections, Sink, Some, Tells, Told, Usage, ap, arith, audited_one}
 use Rattle.camkes_tool.proofs.Common.{but_choice, certified_one, checked_one, cond, false, inl, inr, is_assigned, is_well, none_first, one_explained, one_listing, planned_one, ran_one, refl, status_of, sym, tabled_one, true, ℕ, ◌∙◌, ◌≡◌, ◌⊎◌}
 use Rattle.command_words.specs.declared.command.Command.TheVariants.{List as ListOf}
-use Rattle.front_end.specs.declared.error.BuildError.TheVariants as build
+use Rattle.cam_base.specs.declared.error.Unread.TheVariants as errors
 use Rattle.camkes_tool.proofs.OneGenerated.{one_generated}
 use Rattle.explain.specs.declared.answer.Answer.{Answer as Reply}
-use Rattle.text_commands.specs.declared.fault.InputError.TheVariants as input
 use Rattle.camkes_tool.proofs.OneAnswer.{AreOneOf, but_choice_one, well_one}
 use Rattle.camkes_tool.proofs.ReadFaults.{audit_rose, certify_rose, check_rose, plan_rose, run_rose, table_rose}
 
@@ -41,7 +40,7 @@ of_usage m old new (ReadFault file) status x e = absurd x
 of_usage m old new NoMemory status x e = inr e
 
 of_texts : (asked : Result Outcome InputError → Type 0) (a : Answer) (status : ℕ)
-    → ((file : List ℕ) → asked (Err (input.ReadFault file)) → ⊥) → FitsTexts asked a → status ≡ status_of a
+    → ((file : List ℕ) → asked (Err (errors.ReadFault file)) → ⊥) → FitsTexts asked a → status ≡ status_of a
     → IsStatusOfTexts asked status
 of_texts asked (Told outcome) status none x e = inl (outcome, x, e)
 of_texts asked (Refused file fault) status none x e = inr (inl (fault, file, x, e))
@@ -54,8 +53,8 @@ of_texts asked (Generated o) status none x e = absurd x
 of_texts asked (Faulted file fault) status none x e = absurd x
 of_texts asked Usage status none x e = absurd x
 
-of_listed : (asked : Result Listing BuildError → Type 0) (a : Answer) (status : ℕ)
-    → ((file : List ℕ) → asked (Err (build.ReadFault file)) → ⊥) → FitsListed asked a → status ≡ status_of a
+of_listed : (asked : Result Listing SourceError → Type 0) (a : Answer) (status : ℕ)
+    → ((file : List ℕ) → asked (Err (errors.ReadFault file)) → ⊥) → FitsListed asked a → status ≡ status_of a
     → IsStatusOfSource asked (λ listing. true) status
 of_listed asked (Listed o) status none x e = inl (o, x, e)
 of_listed asked (Faulted file fault) status none x e = inr (inl (fault, file, x, e))
@@ -68,8 +67,8 @@ of_listed asked (Generated o) status none x e = absurd x
 of_listed asked (Refused file fault) status none x e = absurd x
 of_listed asked Usage status none x e = absurd x
 
-of_explained : (asked : Result Reply BuildError → Type 0) (a : Answer) (status : ℕ)
-    → ((file : List ℕ) → asked (Err (build.ReadFault file)) → ⊥) → FitsExplained asked a → status ≡ status_of a
+of_explained : (asked : Result Reply SourceError → Type 0) (a : Answer) (status : ℕ)
+    → ((file : List ℕ) → asked (Err (errors.ReadFault file)) → ⊥) → FitsExplained asked a → status ≡ status_of a
     → IsStatusOfSource asked is_assigned status
 of_explained asked (Explained o) status none x e = inl (o, x, e)
 of_explained asked (Faulted file fault) status none x e = inr (inl (fault, file, x, e))
@@ -150,7 +149,7 @@ texts_not_two asked (Generated o) x e = absurd x
 texts_not_two asked (Faulted file fault) x e = absurd x
 texts_not_two asked Usage x e = absurd x
 
-listed_not_two : (asked : Result Listing BuildError → Type 0) (a : Answer) → FitsListed asked a → 2 ≡ status_of a → ⊥
+listed_not_two : (asked : Result Listing SourceError → Type 0) (a : Answer) → FitsListed asked a → 2 ≡ status_of a → ⊥
 listed_not_two asked (Listed o) x e = cc
 listed_not_two asked (Faulted file fault) x e = cc
 listed_not_two asked (ReadFault file) x e = cc
@@ -162,7 +161,7 @@ listed_not_two asked (Generated o) x e = absurd x
 listed_not_two asked (Refused file fault) x e = absurd x
 listed_not_two asked Usage x e = absurd x
 
-explained_not_two : (asked : Result Reply BuildError → Type 0) (a : Answer) → FitsExplained asked a → 2 ≡ status_of a → ⊥
+explained_not_two : (asked : Result Reply SourceError → Type 0) (a : Answer) → FitsExplained asked a → 2 ≡ status_of a → ⊥
 explained_not_two asked (Explained o) x e = not_two (is_assigned o) e
 explained_not_two asked (Faulted file fault) x e = cc
 explained_not_two asked (ReadFault file) x e = cc
@@ -248,25 +247,25 @@ module _ (first second : ℕ) where
       let found : but_choice o ≡ but_choice p = cc in
       inl (e ∙ ap (λ z. cond z 0 3) (well_one o p found) ∙ sym d)
   texts_one Here There one (inl (o, h, e)) (inr (inl (fault, file, k, d))) = let same =
-      one (Ok o) (Err (input.Fault fault file)) tt tt h k in absurd cc
+      one (Ok o) (Err (errors.Fault fault file)) tt tt h k in absurd cc
   texts_one Here There one (inl (o, h, e)) (inr (inr six)) = inr (inr six)
   texts_one Here There one (inr (inl (fault, file, h, e))) (inl (p, k, d)) = let same =
-      one (Err (input.Fault fault file)) (Ok p) tt tt h k in absurd cc
+      one (Err (errors.Fault fault file)) (Ok p) tt tt h k in absurd cc
   texts_one Here There one (inr (inl (fault, file, h, e))) (inr (inl (other, name, k, d))) = inl (e ∙ sym d)
   texts_one Here There one (inr (inl (fault, file, h, e))) (inr (inr six)) = inr (inr six)
   texts_one Here There one (inr (inr six)) y = inr (inl six)
 
-  source_one : {A : Type 0} (well : A → Bool) (Here There : Result A BuildError → Type 0) → AreOneOf Here There
+  source_one : {A : Type 0} (well : A → Bool) (Here There : Result A SourceError → Type 0) → AreOneOf Here There
       → IsStatusOfSource Here well first → IsStatusOfSource There well second → AreOneStatus
   source_one {A = A} well Here There one (inl (f, h, e)) (inl (g, k, d)) =
       let same = one (Ok f) (Ok g) refl refl h k in
       let found : f ≡ g = cc in
       inl (e ∙ ap (λ (z : A). cond (well z) 0 3) found ∙ sym d)
   source_one well Here There one (inl (f, h, e)) (inr (inl (fault, file, k, d))) = let same =
-      one (Ok f) (Err (build.Fault fault file)) refl refl h k in absurd cc
+      one (Ok f) (Err (errors.Fault fault file)) refl refl h k in absurd cc
   source_one well Here There one (inl (f, h, e)) (inr (inr six)) = inr (inr six)
   source_one well Here There one (inr (inl (fault, file, h, e))) (inl (g, k, d)) = let same =
-      one (Err (build.Fault fault file)) (Ok g) refl refl h k in absurd cc
+      one (Err (errors.Fault fault file)) (Ok g) refl refl h k in absurd cc
   source_one well Here There one (inr (inl (fault, file, h, e))) (inr (inl (other, name, k, d))) = inl (e ∙ sym d)
   source_one well Here There one (inr (inl (fault, file, h, e))) (inr (inr six)) = inr (inr six)
   source_one well Here There one (inr (inr six)) y = inr (inl six)

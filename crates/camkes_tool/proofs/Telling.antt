@@ -3,7 +3,7 @@
 use Rattle.camkes_tool.proofs.Common.{Answer, Audit, Certify, Check, Command, Compile, Contents, Err, Explain, Fault, Fits, FitsTexts, Generate, InputError, IsAudited, IsCertified, IsChecked, IsPlanned, IsRun, IsTabled, List, None, Ok, Option}
 use Rattle.camkes_tool.proofs.Common.{Outcome, Plan, Replay, Result, Sections, Some, subst, sym, ℕ, ◌≡◌}
 use Rattle.command_words.specs.declared.command.Command.TheVariants.{List as ListOf}
-use Rattle.text_commands.specs.declared.fault.InputError.TheVariants.{ReadFault, NoMemory}
+use Rattle.cam_base.specs.declared.error.Unread.TheVariants.{ReadFault, NoMemory}
 use Rattle.camkes_tool.specs.Deciding.{told}
 use Rattle.camkes_tool.specs.declared.answer.Answer.TheVariants as answers
 

@@ -14,8 +14,8 @@ use Rattle.command_words.specs.Lines.{usage_line}
 use Rattle.command_words.specs.Words.{read_words}
 use Rattle.command_words.specs.declared.command.Command.{Command}
 use Rattle.command_words.specs.declared.command.Command.TheVariants.{Compile, Check, List as ListOf, Explain, Replay, Generate, Audit, Certify, Sections, Plan}
-use Rattle.front_end.specs.declared.error.BuildError.{BuildError}
-use Rattle.front_end.specs.declared.error.BuildError.TheVariants as build
+use Rattle.cam_base.specs.Unread.{SourceError}
+use Rattle.cam_base.specs.declared.error.Unread.TheVariants as unread
 use Rattle.camkes_tool.specs.Generated.{IsGenerated, generated_text}
 use Rattle.explain.specs.Answers.{answer_text, is_assigned}
 use Rattle.source_commands.specs.Explained.{IsExplained}
@@ -26,8 +26,7 @@ use Rattle.text_commands.specs.Commands.{IsAudited, IsCertified, IsChecked, IsPl
 use Rattle.text_commands.specs.Lines as texts
 use Rattle.text_commands.specs.OneAnswer.{but_choice}
 use Rattle.text_commands.specs.Outcomes.{is_well, text_of}
-use Rattle.text_commands.specs.declared.fault.InputError.{InputError}
-use Rattle.text_commands.specs.declared.fault.InputError.TheVariants as input
+use Rattle.text_commands.specs.InputErrors.{InputError}
 use Rattle.text_commands.specs.declared.fault.InputFault.{InputFault}
 use Rattle.text_commands.specs.declared.outcome.Outcome.{Outcome}
 use Rattle.text_commands.specs.declared.outcome.Outcome.TheVariants.{Audited, Planned}
@@ -52,28 +51,28 @@ IsUsage _ = ⊥
 -- the answer of a command over texts
 abbrev pub FitsTexts : (Result Outcome InputError → Type 0) → Answer → Type 0
 FitsTexts asked (Told outcome) = asked (Ok outcome)
-FitsTexts asked (Refused file fault) = asked (Err (input.Fault fault file))
-FitsTexts asked (ReadFault file) = asked (Err (input.ReadFault file))
+FitsTexts asked (Refused file fault) = asked (Err (unread.Fault fault file))
+FitsTexts asked (ReadFault file) = asked (Err (unread.ReadFault file))
 FitsTexts asked NoMemory = Unit {0}
 FitsTexts asked _ = ⊥
 
 -- what may come in place of what a command over a source found
-abbrev pub FitsRefused : (BuildError → Type 0) → Answer → Type 0
-FitsRefused refused (Faulted file fault) = refused (build.Fault fault file)
-FitsRefused refused (ReadFault file) = refused (build.ReadFault file)
+abbrev pub FitsRefused : (SourceError → Type 0) → Answer → Type 0
+FitsRefused refused (Faulted file fault) = refused (unread.Fault fault file)
+FitsRefused refused (ReadFault file) = refused (unread.ReadFault file)
 FitsRefused refused NoMemory = Unit {0}
 FitsRefused refused _ = ⊥
 
 -- the answer of a listing, of an explanation, and of generating
-abbrev pub FitsListed : (Result Listing BuildError → Type 0) → Answer → Type 0
+abbrev pub FitsListed : (Result Listing SourceError → Type 0) → Answer → Type 0
 FitsListed asked (Listed listing) = asked (Ok listing)
 FitsListed asked answer = FitsRefused (λ e. asked (Err e)) answer
 
-abbrev pub FitsExplained : (Result Reply BuildError → Type 0) → Answer → Type 0
+abbrev pub FitsExplained : (Result Reply SourceError → Type 0) → Answer → Type 0
 FitsExplained asked (Explained answer) = asked (Ok answer)
 FitsExplained asked answer = FitsRefused (λ e. asked (Err e)) answer
 
-abbrev pub FitsGenerated : (Result Summary BuildError → Type 0) → Answer → Type 0
+abbrev pub FitsGenerated : (Result Summary SourceError → Type 0) → Answer → Type 0
 FitsGenerated asked (Generated summary) = asked (Ok summary)
 FitsGenerated asked answer = FitsRefused (λ e. asked (Err e)) answer
 

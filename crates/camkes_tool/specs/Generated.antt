@@ -10,8 +10,8 @@ use Rattle.arch_compile.specs.Summary.{summary_line, summary_of}
 use Rattle.arch_compile.specs.declared.summary.Summary.{Summary}
 use Rattle.cert_check.specs.Verdicts.{Judged}
 use Rattle.cert_check.specs.declared.verdict.Verdict.TheVariants.{Yes}
-use Rattle.front_end.specs.declared.error.BuildError.{BuildError}
-use Rattle.front_end.specs.declared.error.BuildError.TheVariants as error
+use Rattle.cam_base.specs.Unread.{SourceError}
+use Rattle.cam_base.specs.declared.error.Unread.TheVariants as error
 use Rattle.camkes_tool.specs.GeneratedFiles.{generated, root_name}
 use Rattle.policy_text.specs.Labelled.{IsLabelling}
 
@@ -22,7 +22,7 @@ pub record IsAccepted (b : Build) (summary : Summary) : Type 0 where
   pub judged : Judged b.spec labels.by_object b.policy.edges b.cert Yes
   pub summed : summary ≡ summary_of b.meaning.flat b.spec b.policy.edges
 
-abbrev pub IsGenerated : ℕ → Result Summary BuildError → Type 0
+abbrev pub IsGenerated : ℕ → Result Summary SourceError → Type 0
 IsGenerated count (Ok summary) = (b : Build) × IsBuildOf root_name (generated count) b × IsAccepted b summary
 IsGenerated count (Err (error.Fault fault file)) = IsFirstFault root_name (generated count) fault file
 IsGenerated count (Err (error.ReadFault file)) = ⊥

@@ -21,16 +21,15 @@ use Rattle.arch_compile.specs.Compiled.{IsFirstFault}
 use Rattle.arch_compile.specs.LayoutFaults.{first_fault, found_beside}
 use Rattle.command_words.specs.declared.command.Command.{Command}
 use Rattle.command_words.specs.declared.command.Command.TheVariants.{Compile, Check, List as ListOf, Explain, Replay, Generate, Audit, Certify, Sections, Plan}
-use Rattle.front_end.specs.declared.error.BuildError.{BuildError}
-use Rattle.front_end.specs.declared.error.BuildError.TheVariants as build
+use Rattle.cam_base.specs.Unread.{SourceError}
+use Rattle.cam_base.specs.declared.error.Unread.TheVariants as unread
 use Rattle.camkes_tool.specs.Generated.{IsGenerated}
 use Rattle.explain.specs.Answers.{is_assigned}
 use Rattle.source_commands.specs.Explained.{IsExplained}
 use Rattle.source_commands.specs.Listed.{IsListed}
 use Rattle.text_commands.specs.Commands.{IsAudited, IsCertified, IsChecked, IsPlanned, IsRun, IsTabled}
 use Rattle.text_commands.specs.Outcomes.{is_well}
-use Rattle.text_commands.specs.declared.fault.InputError.{InputError}
-use Rattle.text_commands.specs.declared.fault.InputError.TheVariants as input
+use Rattle.text_commands.specs.InputErrors.{InputError}
 use Rattle.text_commands.specs.declared.fault.InputFault.{InputFault}
 use Rattle.text_commands.specs.declared.outcome.Outcome.{Outcome}
 
@@ -54,12 +53,12 @@ IsStatusOf m root status = ((status ≡ 0) × HasNoFault m root) ⊎ (((status �
 abbrev pub IsStatusOfTexts : (Result Outcome InputError → Type 0) → ℕ → Type 0
 IsStatusOfTexts asked status =
     ((outcome : Outcome) × asked (Ok outcome) × (status ≡ (if is_well outcome then 0 else 3)))
-    ⊎ (((fault : InputFault) × (file : List ℕ) × asked (Err (input.Fault fault file)) × (status ≡ 1)) ⊎ (status ≡ 6))
+    ⊎ (((fault : InputFault) × (file : List ℕ) × asked (Err (unread.Fault fault file)) × (status ≡ 1)) ⊎ (status ≡ 6))
 
-abbrev pub IsStatusOfSource : {A : Type 0} → (Result A BuildError → Type 0) → (A → Bool) → ℕ → Type 0
+abbrev pub IsStatusOfSource : {A : Type 0} → (Result A SourceError → Type 0) → (A → Bool) → ℕ → Type 0
 IsStatusOfSource {A} asked well status =
     ((found : A) × asked (Ok found) × (status ≡ (if well found then 0 else 3)))
-    ⊎ (((fault : Fault) × (file : List ℕ) × asked (Err (build.Fault fault file)) × (status ≡ 1)) ⊎ (status ≡ 6))
+    ⊎ (((fault : Fault) × (file : List ℕ) × asked (Err (unread.Fault fault file)) × (status ≡ 1)) ⊎ (status ≡ 6))
 
 -- the status of a call with these counts of read faults before and after
 abbrev pub IsStatus : Contents → (List ℕ → ℕ) → (List ℕ → ℕ) → Option Command → ℕ → Type 0

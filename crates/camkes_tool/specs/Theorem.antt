@@ -70,7 +70,7 @@ use Rattle.text_commands.specs.Commands.{IsChecked, IsRun}
 use Rattle.text_commands.specs.Inputs.{Holds}
 use Rattle.text_commands.specs.Lines.{report_text}
 use Rattle.text_commands.specs.OneAnswer.{IsAnswer}
-use Rattle.text_commands.specs.declared.fault.InputError.{InputError}
+use Rattle.text_commands.specs.InputErrors.{InputError}
 use Rattle.text_commands.specs.declared.outcome.Outcome.{Outcome}
 use Rattle.text_commands.specs.declared.outcome.Outcome.TheVariants.{Checked, Ran}
 use Rattle.text_commands.specs.declared.replay.Replayed.TheVariants.{Done}

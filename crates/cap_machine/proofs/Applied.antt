@@ -1,17 +1,7 @@
 -- What `apply` owes beside the change: room for later numbers, and no want of memory where none is taken.
-use Rattle.std.proofs.Common.{◌≡◌, ◌⊎◌, ◌≤◌, ℕ, ◌+◌, List, [], ◌∷◌, refl, inl, inr, arith, ap, get_or, set, suc, zero, Option}
-use Rattle.cap_model.specs.declared.state.Content.{Content}
-use Rattle.cap_model.specs.declared.state.Content.TheVariants.{Capability, SavedReply}
-use Rattle.cap_model.specs.State.{Node, State, no_node}
-use Rattle.cap_machine.specs.declared.change.Change.{Change}
+use Rattle.cap_machine.proofs.Common.{Capability, Change, Content, List, Mapped, NextsFit, Node, Option, SavedReply, State, Step, TakesMemory, ThreadState, Turned, [], ap, arith, changed, get_or, grown, grown_at, inl, inr, no_node, parts, refl, set}
+use Rattle.cap_machine.proofs.Common.{suc, without, without_at, zero, ℕ, ◌+◌, ◌∷◌, ◌≡◌, ◌≤◌, ◌⊎◌}
 use Rattle.cap_machine.specs.declared.change.Change.TheVariants.{Add, Call, Reply, ReplyAdd, Root, Space, Map, Bind, Drop, Save, Release, ReleaseAdd}
-use Rattle.cap_machine.specs.declared.step.Step.{Step}
-use Rattle.cap_machine.specs.Decide.{changed}
-use Rattle.cap_machine.specs.Effects.{grown, without, grown_at, without_at}
-use Rattle.cap_machine.specs.Perform.{TakesMemory, Turned, parts}
-use Rattle.cap_model.specs.declared.state.Mapped.{Mapped}
-use Rattle.cap_model.specs.declared.state.ThreadState.{ThreadState}
-use Rattle.cap_machine.specs.Progress.{NextsFit}
 use Rattle.cap_machine.specs.Refused.{MayTakeMemory}
 
 -- what is read after a write is what was there, or, at the place itself, what was written

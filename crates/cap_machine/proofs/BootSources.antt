@@ -1,26 +1,8 @@
 -- The edges of the boot state are those that the objects are the sources of.
-use Rattle.std.proofs.Common.{◌≡◌, ◌↔◌, ℕ, List, [], map, slice_get, Option, Some, None, refl, inl, inr, arith, subst}
-use Rattle.std.specs.List.{Contains}
-use Rattle.std.proofs.lemmas.Option.{slice_get-map}
-use Rattle.cap_model.specs.Adds.{Adds}
-use Rattle.cap_model.specs.Edges.{edge}
-use Rattle.cap_model.specs.ObjectLabels.{label_of}
-use Rattle.cap_model.specs.Tables.{Has}
-use Rattle.authorities.specs.declared.authority.Authority.{Authority}
-use Rattle.authorities.specs.declared.authority.Authority.TheVariants.{Control, AsyncSend}
-use Rattle.cap_model.specs.declared.edge.Edge.{Edge}
-use Rattle.cap_model.specs.Auth.{of_buffer, of_table, of_root, of_space, of_reply, of_saved, of_mapped, of_irq, buffer_of, table_of, Auth}
-use Rattle.cap_model.specs.declared.cap.Cap.{Cap}
-use Rattle.cap_model.specs.declared.object.Object.{Object}
-use Rattle.cap_model.specs.declared.object.Object.TheVariants.{Endpoint, Notification, CNode, Thread, Frame, Pages, Irq}
-use Rattle.cap_model.specs.declared.spec.Entry.{Entry}
-use Rattle.cap_model.specs.declared.spec.Spec.{Spec}
-use Rattle.cap_model.specs.declared.state.Content.TheVariants.{Capability}
-use Rattle.cap_model.specs.declared.state.ThreadState.{ThreadState}
-use Rattle.cap_model.specs.Lookup.{entry_object}
-use Rattle.cap_model.specs.State.{Node, node_at, thread_at, irq_at, boot, boot_slot, boot_node, boot_thread, boot_irq, no_node, no_thread}
-use Rattle.cap_model.proofs.BootPlaces.{at_contains, at_entry, contains_at, entry_at, none_saved, nothing_pending, slot_of}
-use Rattle.cap_machine.specs.Sources.{OfOption, OfLink, OfCap, OfObject, OfSpec}
+use Rattle.cap_machine.proofs.Common.{Adds, AsyncSend, Auth, Authority, CNode, Cap, Capability, Contains, Control, Edge, Endpoint, Entry, Frame, Has, Irq, List, Node, None, Notification, Object, OfCap, OfLink, OfObject, OfOption, OfSpec, Option}
+use Rattle.cap_machine.proofs.Common.{Pages, Some, Spec, Thread, ThreadState, [], arith, at_contains, at_entry, boot, boot_irq, boot_node, boot_slot, boot_thread, buffer_of, contains_at, edge, entry_at, entry_object, inl, inr, irq_at, label_of, map}
+use Rattle.cap_machine.proofs.Common.{no_node, no_thread, node_at, none_saved, nothing_pending, of_buffer, of_irq, of_mapped, of_reply, of_root, of_saved, of_space, of_table, refl, slice_get, slice_get-map, slot_of, subst, table_of, thread_at, ℕ}
+use Rattle.cap_machine.proofs.Common.{◌↔◌, ◌≡◌}
 
 module _ (spec : Spec) (labels : List ℕ) where
   -- from the boot state to the objects

@@ -1,28 +1,11 @@
 -- The boot state of a kept spec: it can be made, and fits the spec.
-use Rattle.std.proofs.Common.{◌≡◌, ◌≤◌, ◌^◌, ◌&&◌, ℕ, Bool, true, nat_lt, leb, List, [], ◌∷◌, map, slice_get, Option, Some, None, refl, sym, ap, subst, inl, inr, get_or, arith}
-use Rattle.std.proofs.lemmas.Bool.{and_parts}
-use Rattle.std.proofs.lemmas.List.{length-map}
+use Rattle.cap_machine.proofs.Common.{All, Bool, Bootable, CNode, Cap, Capability, Contains, Content, ContentFits, Entry, FitsSpec, Irq, IrqFits, IsKept, List, NextsFit, Node, NodeFits, None, Object, Option, Some, Spec, Thread, ThreadFits}
+use Rattle.cap_machine.proofs.Common.{ThreadState, [], and_parts, ap, arith, at_entry, boot, boot_irq, boot_node, boot_slot, boot_thread, fits, fits_as, get_or, get_or_from_slice_get, if_any, inl, inr, is_at, is_space_root, keeps, keeps_cnode}
+use Rattle.cap_machine.proofs.Common.{keeps_slots, kind_at, kind_of_object, leb, length-map, list_all, map, nat_lt, no_node, no_thread, pow_mono, refl, rise, same_kind, slice_get, slice_get_within, subst, sym, true, ℕ, ◌&&◌, ◌^◌, ◌∷◌, ◌≡◌, ◌≤◌}
 use Rattle.std.proofs.lemmas.List.Sums.{AllPass-from_list_all}
-use Rattle.std.proofs.lemmas.Option.{slice_get_within, get_or_from_slice_get}
-use Rattle.std.proofs.Math.Pow.{pow_mono}
-use Rattle.std.specs.List.{All, Contains, list_all}
-use Rattle.cap_model.specs.declared.cap.Cap.{Cap}
 use Rattle.cap_model.specs.declared.kind.Kind.{Kind}
 use Rattle.cap_model.specs.declared.kind.Kind.TheVariants as kinds
-use Rattle.cap_model.specs.declared.object.Object.{Object}
-use Rattle.cap_model.specs.declared.object.Object.TheVariants.{CNode, Thread, Irq}
-use Rattle.cap_model.specs.declared.spec.Entry.{Entry}
-use Rattle.cap_model.specs.declared.spec.Spec.{Spec}
-use Rattle.cap_model.specs.declared.state.Content.{Content}
-use Rattle.cap_model.specs.declared.state.Content.TheVariants.{Capability}
-use Rattle.cap_model.specs.declared.state.ThreadState.{ThreadState}
-use Rattle.cap_model.specs.FitsSpec.{ContentFits, NodeFits, ThreadFits, IrqFits, FitsSpec}
-use Rattle.cap_model.specs.Kept.{rise, if_any, fits, fits_as, keeps_slots, keeps_cnode, keeps, IsKept}
-use Rattle.cap_model.specs.Kinds.{kind_of_object, kind_at, is_at, is_space_root, same_kind}
-use Rattle.cap_model.specs.State.{Node, no_node, no_thread, boot, boot_slot, boot_node, boot_thread, boot_irq}
-use Rattle.cap_model.proofs.BootPlaces.{at_entry}
 use Rattle.cap_model.proofs.Kept.{all_at, fits_below}
-use Rattle.cap_machine.specs.Progress.{Bootable, NextsFit}
 use Rattle.cap_machine.proofs.Fitting.{first_or_behind}
 
 first_of_both : {A : Type 0} (p q : A → Bool) (xs : List A) → list_all (λ x. p x && q x) xs ≡ true → list_all p xs ≡ true

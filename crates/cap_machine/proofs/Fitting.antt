@@ -1,24 +1,10 @@
 -- A step leads from a state that fits the spec to one that fits it.
-use Rattle.std.proofs.Common.{◌≡◌, ◌⊎◌, ℕ, ◌==◌, Bool, true, false, List, [], ◌∷◌, Option, Some, None, IsSome, refl, sym, ap, subst, inl, inr, get_or, set, arith}
-use Rattle.std.specs.List.{Contains, filter}
-use Rattle.std.proofs.lemmas.List.{length-set}
+use Rattle.cap_machine.proofs.Common.{Bind, Bool, Call, Capability, Contains, Content, ContentFits, Drop, FitsSpec, Grant, IrqFits, IsSome, List, Map, Mapped, MappedFits, Node, NodeFits, None, Option, Pending, Put, Reply, ReplyFits, ReplyTo, Save}
+use Rattle.cap_machine.proofs.Common.{SavedReply, SetCspace, SetVspace, Some, Spec, State, Step, StepTo, Take, ThreadFits, ThreadState, [], added, ap, arith, content_in, dropped, false, filter, get_or, grown, grown_at, inl, inr, is_at, is_space_root}
+use Rattle.cap_machine.proofs.Common.{length-set, lessened, no_node, no_thread, node_at, refl, replied, set, subst, sym, thread_at, true, waiting, with_pending, with_root, with_space, without, without_at, ℕ, ◌==◌, ◌∷◌, ◌≡◌, ◌⊎◌}
 use Rattle.std.proofs.lemmas.List.Elements.{Contains-append_cases, Contains-append_left, Contains-append_right, Contains-push, Contains-push_cases}
 use Rattle.std.proofs.lemmas.Map.Views.{Contains-from_lookup}
 use Rattle.cap_model.specs.declared.kind.Kind.TheVariants as kinds
-use Rattle.cap_model.specs.declared.spec.Spec.{Spec}
-use Rattle.cap_model.specs.declared.state.Content.{Content}
-use Rattle.cap_model.specs.declared.state.Content.TheVariants.{Capability, SavedReply}
-use Rattle.cap_model.specs.declared.state.Mapped.{Mapped}
-use Rattle.cap_model.specs.declared.state.Pending.{Pending}
-use Rattle.cap_model.specs.declared.state.ThreadState.{ThreadState}
-use Rattle.cap_model.specs.FitsSpec.{ReplyFits, ContentFits, NodeFits, ThreadFits, IrqFits, MappedFits, FitsSpec}
-use Rattle.cap_model.specs.Kinds.{is_at, is_space_root}
-use Rattle.cap_model.specs.Lessened.{lessened}
-use Rattle.cap_model.specs.State.{Node, State, no_node, no_thread, node_at, thread_at, content_in}
-use Rattle.cap_machine.specs.declared.step.Step.{Step}
-use Rattle.cap_machine.specs.declared.step.Step.TheVariants.{Take, Put, Grant, Call, Reply, SetCspace, SetVspace, Map, Bind, Drop, Save, ReplyTo}
-use Rattle.cap_machine.specs.Effects.{grown, without, grown_at, without_at, waiting, with_pending, with_root, with_space, added, dropped, replied}
-use Rattle.cap_machine.specs.StepTable.{StepTo}
 use Rattle.cap_machine.proofs.Applied.{read_written}
 
 -- elements

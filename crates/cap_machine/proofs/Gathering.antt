@@ -1,11 +1,6 @@
 -- Edges of the items of a list, gathered one item after the other.
-use Rattle.std.proofs.Common.{◌≡◌, ◌⊎◌, ◌<◌, ◌≤◌, ℕ, ◌+◌, List, length, slice_get, get_or, Some, inl, inr, arith, subst}
-use Rattle.std.proofs.lemmas.Bool.{cases_lt}
-use Rattle.std.proofs.lemmas.Option.{slice_get_within, slice_get-get_or}
-use Rattle.cap_model.specs.Adds.{Adds}
-use Rattle.cap_model.specs.declared.edge.Edge.{Edge}
+use Rattle.cap_machine.proofs.Common.{Adds, Edge, List, OfEach, Some, arith, cases_lt, get_or, inl, inr, length, slice_get, slice_get-get_or, slice_get_within, subst, ℕ, ◌+◌, ◌<◌, ◌≡◌, ◌≤◌, ◌⊎◌}
 use Rattle.cap_model.proofs.EdgeGrowth.{adds_same, adds_then, adds_none}
-use Rattle.cap_machine.specs.Sources.{OfEach}
 
 -- the items at lesser places than n
 pub record OfFirst {A : Type 0} (P : ℕ → A → Edge → Type 0) (items : List A) (n : ℕ) (e : Edge) : Type 0 where

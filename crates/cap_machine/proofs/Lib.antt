@@ -1,3 +1,4 @@
+pub mod Common
 pub mod Applied
 pub mod Booting
 pub mod Fitting

@@ -1,17 +1,9 @@
 -- The slots of a CNode as a map by number: look-ups, a slot behind all others, a slot taken out.
-use Rattle.std.proofs.Common.{◌≡◌, ◌<◌, ◌≤◌, ◌+◌, ◌==◌, ℕ, Bool, true, false, not, List, [], ◌∷◌, ◌++◌, Less, refl, sym, ap, arith, nat_lt, map, take, length, get_or, zero, suc}
-use Rattle.std.proofs.lemmas.Bool.{and_parts}
-use Rattle.std.proofs.lemmas.List.{map_more}
-use Rattle.std.specs.List.{AllByRecursion, filter, list_all}
-use Rattle.cap_model.specs.declared.cap.Cap.{Cap}
-use Rattle.cap_model.specs.declared.state.Content.{Content}
-use Rattle.cap_model.specs.declared.state.Content.TheVariants.{Capability}
-use Rattle.cap_model.specs.Kept.{rise}
-use Rattle.cap_model.specs.State.{boot_slot}
+use Rattle.cap_machine.proofs.Common.{AllByRecursion, Bool, Cap, Capability, Content, Less, List, [], and_parts, ap, arith, boot_slot, false, filter, get_or, insert_entry, is_eq, length, list_all, map, map_more, nat_cmp, nat_lt, not, refl, rise, suc}
+use Rattle.cap_machine.proofs.Common.{sym, take, true, zero, ℕ, ◌++◌, ◌+◌, ◌<◌, ◌==◌, ◌∷◌, ◌≡◌, ◌≤◌}
 use Rattle.std.specs.List.Sorted.{IsStrictlySortedBy}
 use Rattle.std.specs.Map.{keys_of, lookup, remove_entry}
-use Rattle.std.specs.Ordering.{nat_cmp, is_eq}
-use Rattle.std.specs.BTreeMap.{is_at, insert_entry}
+use Rattle.std.specs.BTreeMap.{is_at}
 use Rattle.cam_base.proofs.Orders.{nat_cmp-greater}
 
 test_same : (i n : ℕ) → is_eq (nat_cmp i n) ≡ (n == i)

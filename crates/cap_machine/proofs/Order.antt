@@ -1,20 +1,10 @@
 -- The function `decide` answers by the first failing test of the stated order.
-use Rattle.std.proofs.Common.{◌≡◌, ◌==◌, ℕ, Bool, true, false, not, List, [], ◌∷◌, ◌++◌, Option, Some, None, Result, Ok, Err, refl, sym, subst}
+use Rattle.cap_machine.proofs.Common.{Bind, Bool, Call, Cap, Capability, Change, Content, Drop, Err, Grant, List, Map, NoCap, NoGrant, NoPending, NoRight, NoRoot, None, Ok, Option, OtherEndpoint, PeerNoCap, PeerNoRight, PeerNoRoot, PeerWaiting}
+use Rattle.cap_machine.proofs.Common.{PeerWrongKind, Put, Reply, ReplyTo, Result, SamePeer, Save, SavedReply, SetCspace, SetVspace, Some, Spec, State, Step, Take, Waiting, Why, WrongKind, [], acting, acts, and_then, any, any_cap, asking, caller_root}
+use Rattle.cap_machine.proofs.Common.{cap_of, capability, checks, content_in, decide, false, first_failing, found_cap, found_reply, has_cap, hears, is_at, is_capability, is_saved_reply, is_space_root, listens, meets, no_reply, not, or_why, owed}
+use Rattle.cap_machine.proofs.Common.{owed_by, owes, own, own_cap, own_reply, peer_cap, peer_root, reachable, refl, reply_of, root_of, saved_reply, saves, subst, sym, thread_at, true, ℕ, ◌++◌, ◌==◌, ◌∷◌, ◌≡◌}
 use Rattle.std.specs.Option.{is_some, unwrap_or}
-use Rattle.cap_model.specs.declared.cap.Cap.{Cap}
 use Rattle.cap_model.specs.declared.kind.Kind.TheVariants as kinds
-use Rattle.cap_model.specs.declared.spec.Spec.{Spec}
-use Rattle.cap_model.specs.declared.state.Content.{Content}
-use Rattle.cap_model.specs.declared.state.Content.TheVariants.{Capability, SavedReply}
-use Rattle.cap_model.specs.Kinds.{is_at, is_space_root}
-use Rattle.cap_model.specs.State.{State, thread_at, content_in}
-use Rattle.cap_machine.specs.declared.change.Change.{Change}
-use Rattle.cap_machine.specs.declared.step.Step.{Step}
-use Rattle.cap_machine.specs.declared.step.Step.TheVariants.{Take, Put, Grant, Call, Reply, SetCspace, SetVspace, Map, Bind, Drop, Save, ReplyTo}
-use Rattle.cap_machine.specs.declared.step.Why.{Why}
-use Rattle.cap_machine.specs.declared.step.Why.TheVariants.{Waiting, NoRoot, NoPending, NoGrant, NoCap, WrongKind, NoRight, SamePeer, PeerWaiting, PeerNoRoot, PeerNoCap, PeerWrongKind, PeerNoRight, OtherEndpoint}
-use Rattle.cap_machine.specs.Checks.{first_failing, is_capability, is_saved_reply, capability, saved_reply, no_reply, root_of, owed_by, cap_of, reply_of, acts, has_cap, any, own, owes, saves, meets, hears, listens, reachable, checks}
-use Rattle.cap_machine.specs.Decide.{and_then, or_why, asking, found_cap, found_reply, acting, any_cap, own_cap, own_reply, owed, caller_root, peer_root, peer_cap, decide}
 
 abbrev pub why_of : {A : Type 0} → Result A Why → Option Why
 why_of (Ok x) = None

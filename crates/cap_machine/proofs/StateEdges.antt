@@ -1,27 +1,7 @@
 -- The edges of a state are those that its parts are the sources of.
-use Rattle.std.proofs.Common.{◌≡◌, ◌⊎◌, ◌↔◌, ℕ, List, [], slice_get, get_or, Option, Some, None, refl, sym, inl, inr, arith, subst, suc, zero, ◌∷◌, ◌∙◌}
-use Rattle.std.specs.List.{Contains}
-use Rattle.std.proofs.lemmas.Option.{get_or_from_slice_get}
-use Rattle.cap_model.proofs.BootPlaces.{contains_at, at_contains}
-use Rattle.cap_machine.specs.Sources.{OfCap}
-use Rattle.cap_model.specs.Adds.{Adds}
-use Rattle.cap_model.specs.Edges.{edge}
-use Rattle.cap_model.specs.ObjectLabels.{label_of}
-use Rattle.cap_model.specs.Tables.{has, Has}
-use Rattle.authorities.specs.declared.authority.Authority.{Authority}
-use Rattle.cap_model.specs.declared.edge.Edge.{Edge}
-use Rattle.cap_model.specs.Auth.{of_buffer, of_table, of_root, of_space, of_reply, of_saved, of_mapped, of_irq, buffer_of, table_of, Auth}
-use Rattle.cap_model.specs.declared.cap.Cap.{Cap}
-use Rattle.cap_model.specs.declared.object.Object.{Object}
-use Rattle.cap_model.specs.declared.object.Object.TheVariants.{Thread, Pages}
-use Rattle.cap_model.specs.declared.spec.Entry.{Entry}
-use Rattle.cap_model.specs.declared.spec.Spec.{Spec}
-use Rattle.cap_model.specs.declared.state.Content.{Content}
-use Rattle.cap_model.specs.declared.state.Content.TheVariants.{Capability, SavedReply}
-use Rattle.cap_model.specs.declared.state.ThreadState.{ThreadState}
-use Rattle.cap_model.specs.Lookup.{entry_object}
-use Rattle.cap_model.specs.State.{Node, State, node_at, thread_at, irq_at, no_node, no_thread}
-use Rattle.cap_machine.specs.StateSources.{OfContent, OfNodes, OfThread, OfThreads, OfFixed, OfSpecParts, OfState}
+use Rattle.cap_machine.proofs.Common.{Adds, Auth, Authority, Cap, Capability, Contains, Content, Edge, Entry, Has, List, Node, None, Object, OfCap, OfContent, OfFixed, OfNodes, OfSpecParts, OfState, OfThread, OfThreads, Option, Pages, SavedReply}
+use Rattle.cap_machine.proofs.Common.{Some, Spec, State, Thread, ThreadState, [], arith, at_contains, buffer_of, contains_at, edge, entry_object, get_or, get_or_from_slice_get, has, inl, inr, irq_at, label_of, no_node, no_thread, node_at, of_buffer}
+use Rattle.cap_machine.proofs.Common.{of_irq, of_mapped, of_reply, of_root, of_saved, of_space, of_table, refl, slice_get, subst, suc, sym, table_of, thread_at, zero, ℕ, ◌↔◌, ◌∙◌, ◌∷◌, ◌≡◌, ◌⊎◌}
 
 -- what is read at a place stands there, or is what is read past the end
 read_at : {A : Type 0} (xs : List A) (k : ℕ) (d : A) → ((x : A) × (slice_get xs k ≡ Some x) × (get_or xs k d ≡ x))

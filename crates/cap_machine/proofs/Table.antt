@@ -1,25 +1,10 @@
 -- The function `decide` goes on exactly where the table of steps has a next state, and the change leads there.
-use Rattle.std.proofs.Common.{◌≡◌, ◌≢◌, ℕ, ◌==◌, Bool, true, false, ◌&&◌, ◌||◌, not, Option, Some, None, Result, Ok, Err, refl, sym, ap, subst, arith, ◌∙◌}
-use Rattle.std.proofs.lemmas.Bool.{eqb-true, not-true}
-use Rattle.cap_model.specs.declared.cap.Cap.{Cap}
+use Rattle.cap_machine.proofs.Common.{Acts, Bind, Bool, Call, Cap, Capability, Change, Content, Drop, Err, Grant, Map, NoCap, NoGrant, NoPending, NoRight, NoRoot, None, Ok, Option, OtherEndpoint, Own, Peer, PeerNoCap, PeerNoRight, PeerNoRoot}
+use Rattle.cap_machine.proofs.Common.{PeerWaiting, PeerWrongKind, Pending, Put, Reply, ReplyTo, Result, SamePeer, Save, SavedReply, SetCspace, SetVspace, Some, Spec, State, Step, StepTo, Take, Waiting, Why, WrongKind, acting, and_then, any_cap, ap}
+use Rattle.cap_machine.proofs.Common.{arith, asking, both_rights, caller_root, changed, checks, content_in, decide, eqb-true, false, first_failing, found_cap, found_reply, is_at, is_space_root, lessened, not, not-true, or_why, owed, own_cap}
+use Rattle.cap_machine.proofs.Common.{own_reply, peer_cap, peer_root, read_write, refl, subst, sym, thread_at, true, ℕ, ◌&&◌, ◌==◌, ◌||◌, ◌∙◌, ◌≡◌, ◌≢◌}
 use Rattle.cap_model.specs.declared.kind.Kind.TheVariants as kinds
-use Rattle.cap_model.specs.declared.spec.Spec.{Spec}
-use Rattle.cap_model.specs.declared.state.Content.{Content}
-use Rattle.cap_model.specs.declared.state.Content.TheVariants.{Capability, SavedReply}
-use Rattle.cap_model.specs.declared.state.Pending.{Pending}
-use Rattle.cap_model.specs.Kinds.{is_at, is_space_root}
-use Rattle.cap_model.specs.Lessened.{lessened, both_rights}
-use Rattle.cap_model.specs.State.{State, thread_at, content_in}
-use Rattle.cap_machine.specs.declared.change.Change.{Change}
 use Rattle.cap_machine.specs.declared.change.Change.TheVariants as changes
-use Rattle.cap_machine.specs.declared.step.Step.{Step}
-use Rattle.cap_machine.specs.declared.step.Step.TheVariants.{Take, Put, Grant, Call, Reply, SetCspace, SetVspace, Map, Bind, Drop, Save, ReplyTo}
-use Rattle.cap_machine.specs.declared.step.Why.{Why}
-use Rattle.cap_machine.specs.declared.step.Why.TheVariants.{Waiting, NoRoot, NoPending, NoGrant, NoCap, WrongKind, NoRight, SamePeer, PeerWaiting, PeerNoRoot, PeerNoCap, PeerWrongKind, PeerNoRight, OtherEndpoint}
-use Rattle.cap_machine.specs.Checks.{checks, first_failing}
-use Rattle.cap_machine.specs.Decide.{and_then, or_why, asking, found_cap, found_reply, acting, any_cap, own_cap, own_reply, owed, caller_root, peer_root, peer_cap, decide, changed}
-use Rattle.cap_machine.specs.Effects.{read_write}
-use Rattle.cap_machine.specs.StepTable.{Acts, Own, Peer, StepTo}
 use Rattle.cap_machine.proofs.Order.{why_of, decide_checks}
 
 -- each part of `decide` that goes on tells what it found

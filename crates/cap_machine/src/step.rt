@@ -3,19 +3,33 @@ use cap_model::Rights;
 /// Why a step is illegal. A number is the one in a CNode that the answer is about.
 #[derive(Clone, Copy)]
 pub enum Why {
+    /// The thread waits for a reply.
     Waiting,
+    /// The thread has no root CNode.
     NoRoot,
+    /// The thread owes no reply.
     NoPending,
+    /// The thread may not give a capability with its reply.
     NoGrant,
+    /// Nothing stands at the number.
     NoCap(u64),
+    /// What stands at the number is of another kind.
     WrongKind(u64),
+    /// The capability at the number lacks the right.
     NoRight(u64),
+    /// The thread is its own peer.
     SamePeer,
+    /// The peer waits for a reply.
     PeerWaiting,
+    /// The peer, or the caller, has no root CNode.
     PeerNoRoot,
+    /// Nothing stands at the number in the peer's root.
     PeerNoCap(u64),
+    /// What stands there is of another kind.
     PeerWrongKind(u64),
+    /// The capability there lacks the right.
     PeerNoRight(u64),
+    /// The peer's capability is to another endpoint.
     OtherEndpoint,
 }
 

@@ -1,18 +1,10 @@
 -- What the boot state has at a place: what it has for the object there, or nothing. What stands in a CNode is found at its
 -- number, and nothing is pending or saved.
-use Rattle.std.proofs.Common.{◌≡◌, ◌⊎◌, ◌∙◌, ◌==◌, ◌&&◌, ◌^◌, ℕ, suc, zero, true, false, nat_lt, leb, List, [], ◌∷◌, map, get_or, slice_get, Option, Some, None, refl, sym, ap, subst, inl, inr, arith}
-use Rattle.std.specs.List.{Contains}
+use Rattle.cap_model.proofs.Common.{Cap, Contains, Entry, IsKept, List, None, Object, Option, Some, Spec, [], and_parts, ap, arith, false, fits, get_or, get_or_from_slice_get, inl, inr, keeps, keeps_slots, leb, map, nat_lt, option_map, refl, rise}
+use Rattle.cap_model.proofs.Common.{slice_get, slice_get-get_or, slice_get-map, slice_get_within, subst, suc, sym, true, zero, ℕ, ◌&&◌, ◌==◌, ◌^◌, ◌∙◌, ◌∷◌, ◌≡◌, ◌⊎◌}
 use Rattle.std.specs.Map.{lookup}
-use Rattle.std.specs.Option.{option_map}
-use Rattle.std.proofs.lemmas.Bool.{and_parts}
-use Rattle.std.proofs.lemmas.Option.{slice_get-map, slice_get-get_or, get_or_from_slice_get, slice_get_within}
-use Rattle.cap_model.specs.Kept.{rise, fits, keeps, keeps_slots, IsKept}
 use Rattle.cap_model.specs.State.{Node, boot, boot_node, boot_slot, boot_thread, content_at, content_in, no_node, no_thread, node_at, thread_at}
-use Rattle.cap_model.specs.declared.cap.Cap.{Cap}
-use Rattle.cap_model.specs.declared.object.Object.{Object}
 use Rattle.cap_model.specs.declared.object.Object.TheVariants.{CNode, Thread}
-use Rattle.cap_model.specs.declared.spec.Entry.{Entry}
-use Rattle.cap_model.specs.declared.spec.Spec.{Spec}
 use Rattle.cap_model.specs.declared.state.Content.{Content}
 use Rattle.cap_model.specs.declared.state.Content.TheVariants.{Capability, SavedReply}
 use Rattle.cap_model.specs.declared.state.Pending.{Pending}

@@ -1,9 +1,5 @@
 -- What the numbers of classes tell of labels.
-use Rattle.std.proofs.Common.{◌≡◌, ◌∙◌, ℕ, Bool, true, false, List, Option, Some, None, refl, sym}
-use Rattle.cap_model.specs.Classes.{OutAlike, IsClassOf}
-use Rattle.cap_model.specs.Edges.{edge}
-use Rattle.cap_model.specs.Tables.{has}
-use Rattle.cap_model.specs.declared.edge.Edge.{Edge}
+use Rattle.cap_model.proofs.Common.{Bool, Edge, IsClassOf, List, None, Option, OutAlike, Some, edge, false, has, refl, sym, true, ℕ, ◌∙◌, ◌≡◌}
 
 not_there : (b : Bool) → (b ≡ true → ⊥) → b ≡ false
 not_there true none = absurd (none refl)

@@ -1,14 +1,7 @@
 -- What the comparisons of a set of edges say of the edges that it has.
-use Rattle.std.proofs.Common.{◌≡◌, ◌∙◌, ◌||◌, ◌+◌, Bool, if◌then◌else◌, not, length, true, false, cond, List, [], ◌∷◌, Equal, refl, sym, ap, subst}
-use Rattle.std.specs.Cmp.Derive.{one_truth}
-use Rattle.std.specs.List.{list_any}
-use Rattle.std.specs.Ordering.{is_eq}
-use Rattle.cam_base.proofs.Orders.{is_equal}
-use Rattle.cap_model.specs.Edges.{same_edge}
-use Rattle.cap_model.specs.Tables.{has}
+use Rattle.cap_model.proofs.Common.{Bool, Edge, Equal, List, [], ap, cond, false, has, if◌then◌else◌, is_eq, is_equal, length, list_any, one_truth, refl, same_edge, subst, sym, total-law, true, ◌+◌, ◌||◌, ◌∙◌, ◌∷◌, ◌≡◌}
+use Rattle.std.proofs.Common.{not}
 use Rattle.cap_model.specs.contracts.edge.EdgeOrd.TheImpl.{ghosts as ordered}
-use Rattle.cap_model.specs.contracts.edge.EdgeOrd.TheImpl.Laws.{total-law}
-use Rattle.cap_model.specs.declared.edge.Edge.{Edge}
 use Rattle.cap_model.proofs.EdgeCompare.{cmp-same}
 use Rattle.cap_model.proofs.EdgeOrder.{same_edge_true, same_edge_self, same_edge-sym}
 use Rattle.cap_model.proofs.PairLists.{itself}

@@ -1,15 +1,7 @@
 -- Lessening adds no authority, and no capability confers Reply.
+use Rattle.cap_model.proofs.Common.{AsyncSend, Authority, Call, Cap, Endpoint, Frame, Grant, GrantBack, Kind, Notification, Read, Receive, Reply, Reset, Spec, SyncSend, Write, confers, kind_at, kind_confers, option_confers, subst}
 use Rattle.std.specs.Prelude.{◌≡◌, ◌≢◌, Bool, true, false, ◌&&◌, ◌||◌, Option, Some, None, refl}
-use Rattle.std.proofs.Common.{subst}
 use Rattle.cap_model.specs.declared.rights.Rights.{Rights}
-use Rattle.cap_model.specs.declared.cap.Cap.{Cap}
-use Rattle.cap_model.specs.declared.spec.Spec.{Spec}
-use Rattle.authorities.specs.declared.authority.Authority.{Authority}
-use Rattle.authorities.specs.declared.authority.Authority.TheVariants.{Receive, SyncSend, AsyncSend, Reset, Grant, Read, Write, Call, Reply, GrantBack}
-use Rattle.cap_model.specs.declared.kind.Kind.{Kind}
-use Rattle.cap_model.specs.declared.kind.Kind.TheVariants.{Endpoint, Notification, Frame}
-use Rattle.cap_model.specs.Confers.{kind_confers, option_confers, confers}
-use Rattle.cap_model.specs.Kinds.{kind_at}
 use Rattle.cap_model.specs.Lessened.{both_rights, lessened}
 
 left_true : (a b : Bool) → a && b ≡ true → a ≡ true

@@ -1,11 +1,8 @@
 -- What the comparisons of edges in code say of the order.
-use Rattle.std.proofs.Common.{◌≡◌, true, Less, Equal, Greater, refl, rules, arith}
+use Rattle.cap_model.proofs.Common.{Before, Edge, Equal, Greater, Less, arith, matches_eq-law, refl, rules, total-law, true, ◌≡◌}
 use Rattle.std.proofs.lemmas.Grind.{common_steps}
 use Rattle.cap_model.specs.contracts.edge.EdgeOrd.TheImpl.{ghosts as ordered}
-use Rattle.cap_model.specs.contracts.edge.EdgeOrd.TheImpl.Laws.{total-law, matches_eq-law}
 use Rattle.cap_model.specs.contracts.edge.EdgePartialEq.TheImpl.{ghosts as compared}
-use Rattle.cap_model.specs.Edges.{Before}
-use Rattle.cap_model.specs.declared.edge.Edge.{Edge}
 
 pub eq-same : (d e : Edge) → compared.eq d e ≡ true → d ≡ e
 eq-same d e h = search rules

@@ -1,13 +1,6 @@
 -- Edges: when two are one, and the laws of their order.
-use Rattle.std.proofs.Common.{◌≡◌, ◌⊎◌, ◌==◌, ◌&&◌, true, List, [], ◌∷◌, refl, ap, sym, inl, inr, arith, get_or, subst}
-use Rattle.std.proofs.lemmas.Bool.{and_parts, cases_lt, eqb-true}
-use Rattle.std.specs.Cmp.Derive.{one_truth}
-use Rattle.cam_base.proofs.Orders.{same_itself}
-use Rattle.authorities.specs.Authorities.{number_of}
-use Rattle.cap_model.specs.Edges.{same_edge, AtMost, Before}
-use Rattle.authorities.specs.declared.authority.Authority.{Authority}
-use Rattle.authorities.specs.declared.authority.Authority.TheVariants.{Receive, SyncSend, AsyncSend, Reset, Grant, Read, Write, Control, Call, Reply, GrantBack, Handle}
-use Rattle.cap_model.specs.declared.edge.Edge.{Edge}
+use Rattle.cap_model.proofs.Common.{AsyncSend, AtMost, Authority, Before, Call, Control, Edge, Grant, GrantBack, Handle, List, Read, Receive, Reply, Reset, SyncSend, Write, [], and_parts, ap, arith, cases_lt, eqb-true, get_or, inl, inr, number_of}
+use Rattle.cap_model.proofs.Common.{one_truth, refl, same_edge, same_itself, subst, sym, true, ◌&&◌, ◌==◌, ◌∷◌, ◌≡◌, ◌⊎◌}
 
 -- ---- equality
 

@@ -1,11 +1,10 @@
 -- The examples' texts, computed.
-use Rattle.std.proofs.Common.{◌≡◌, refl, lit<}
+use Rattle.cap_model.proofs.Common.{IsKept, lit<, refl, ◌≡◌}
 use Rattle.std.specs.Fmt.{digits}
 use Rattle.cam_base.specs.Hex.{hex_digits, hex_text}
 use Rattle.cam_base.specs.Texts.{◌⊹◌, together}
 use Rattle.cap_model.specs.Canonical.{canonical}
 use Rattle.cap_model.specs.Example.{echo, echo_text, driver, driver_text, space, space_text}
-use Rattle.cap_model.specs.Kept.{IsKept}
 
 pub echo_written : canonical echo ≡ echo_text
 unfolding canonical ◌⊹◌ together hex_text hex_digits digits

@@ -1,14 +1,8 @@
 -- An object is found under its own name.
-use Rattle.std.specs.Prelude.{◌≡◌, ◌<◌, ℕ, zero, suc, Bool, true, false, not, List, [], ◌∷◌, map, length, Some, slice_get, nat_lt, refl}
-use Rattle.std.specs.List.{list_any, position_or_len}
+use Rattle.cap_model.proofs.Common.{Decides-ltb, Entry, IsKept, Spec, and_parts, ap, arith, list_any, names_differ, not, not-true, or_parts, position_or_len, subst, sym}
+use Rattle.std.specs.Prelude.{◌≡◌, ◌<◌, ℕ, zero, suc, Bool, true, false, List, [], ◌∷◌, map, length, Some, slice_get, nat_lt, refl}
 use Rattle.std.specs.Str.{bytes_eq}
-use Rattle.std.proofs.Common.{arith, ap, sym, subst}
-use Rattle.std.proofs.lemmas.Bool.{and_parts, not-true, or_parts}
-use Rattle.std.proofs.lemmas.Bool.Decides.{Decides-ltb}
 use Rattle.std.proofs.lemmas.Slice.Eq.{bytes_eq-Decides}
-use Rattle.cap_model.specs.declared.spec.Entry.{Entry}
-use Rattle.cap_model.specs.declared.spec.Spec.{Spec}
-use Rattle.cap_model.specs.Kept.{names_differ, IsKept}
 use Rattle.cap_model.specs.Lookup.{place_of}
 
 flip_at : (a b : List ℕ) (r : Bool) → bytes_eq b a ≡ r → bytes_eq a b ≡ false → r ≡ false

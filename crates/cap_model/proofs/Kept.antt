@@ -1,20 +1,10 @@
 -- What the parts of a kept spec give.
+use Rattle.cap_model.proofs.Common.{Cap, Endpoint, Entry, Frame, Irq, IsKept, Kind, Notification, Object, Pages, Spec, and_parts, ap, arith, entry_object, eqb-true, fits, fits_kind, is_at, is_kind, is_root_object, is_some, is_space_root, keeps}
+use Rattle.cap_model.proofs.Common.{keeps_slots, kind_at, kind_number, kind_of_object, list_all, ltb-true, object_at, option_map, rise, same_kind, subst, sym, ◌∙◌}
 use Rattle.std.specs.Prelude.{◌≡◌, ◌<◌, ◌==◌, ◌&&◌, ℕ, zero, suc, Bool, true, List, [], ◌∷◌, length, Option, Some, None, slice_get, nat_lt, refl, if◌then◌else◌}
-use Rattle.std.specs.List.{list_all}
-use Rattle.std.proofs.Common.{arith, ap, sym, ◌∙◌, subst}
-use Rattle.std.specs.Option.{option_map, is_some}
-use Rattle.std.proofs.lemmas.Bool.{and_parts, eqb-true, ltb-true}
-use Rattle.cap_model.specs.declared.cap.Cap.{Cap}
-use Rattle.cap_model.specs.declared.kind.Kind.{Kind}
-use Rattle.cap_model.specs.declared.kind.Kind.TheVariants.{Endpoint, Notification, CNode, Thread, Frame, Pages, Irq}
+use Rattle.cap_model.specs.declared.kind.Kind.TheVariants.{CNode, Thread}
 use Rattle.cap_model.specs.declared.level.Arch.{Arch}
 use Rattle.cap_model.specs.declared.level.Level.TheVariants.{Global, Upper, Directory, Table}
-use Rattle.cap_model.specs.declared.object.Object.{Object}
-use Rattle.cap_model.specs.declared.spec.Entry.{Entry}
-use Rattle.cap_model.specs.declared.spec.Spec.{Spec}
-use Rattle.cap_model.specs.Kept.{rise, fits_kind, fits, keeps_slots, keeps, IsKept}
-use Rattle.cap_model.specs.Kinds.{kind_at, kind_of_object, kind_number, same_kind, is_kind, is_at, is_root_object, is_space_root}
-use Rattle.cap_model.specs.Lookup.{entry_object, object_at}
 
 -- what all pass, the one at a place passes
 pub all_at : {A : Type 0} (test : A → Bool) (xs : List A) (i : ℕ) (x : A) → list_all test xs ≡ true → slice_get xs i ≡ Some x

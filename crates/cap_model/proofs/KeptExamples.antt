@@ -1,11 +1,6 @@
 -- The examples of kept and faulty specs, computed.
-use Rattle.std.specs.Prelude.{◌≡◌, ◌&&◌, ◌^◌, ℕ, Bool, true, not, Some, slice_get, length, nat_lt, refl}
-use Rattle.std.specs.List.{list_all}
-use Rattle.std.proofs.lemmas.Bool.{and_parts, ltb-true}
-use Rattle.std.proofs.lemmas.Bool.Decides.{Decides-ltb}
-use Rattle.cap_model.specs.declared.spec.Entry.{Entry}
-use Rattle.cap_model.specs.declared.spec.Spec.{Spec}
-use Rattle.cap_model.specs.Kept.{keeps, names_differ, keeps_lines, IsKept}
+use Rattle.cap_model.proofs.Common.{Decides-ltb, Entry, IsKept, Spec, and_parts, keeps, keeps_lines, list_all, ltb-true, names_differ, not}
+use Rattle.std.specs.Prelude.{◌≡◌, ◌&&◌, ◌^◌, ℕ, Bool, true, Some, slice_get, length, nat_lt, refl}
 use Rattle.cap_model.proofs.Kept.{all_at}
 use Rattle.cap_model.specs.KeptExamples.{kept_ones, faulty_ones}
 

@@ -1,9 +1,5 @@
 -- The name of a label number: what is found is a label, and where no number stands twice it is the only one.
-use Rattle.std.proofs.Common.{◌≡◌, ℕ, List, [], ◌∷◌, slice_get, Option, Some, None, IfSome, Bor, refl, ap, sym, inl, inr, arith, suc, zero, get_or}
-use Rattle.std.specs.List.{Contains}
-use Rattle.std.specs.Option.{option_map}
-use Rattle.std.proofs.lemmas.Bool.Decides.{eqb_tells}
-use Rattle.std.proofs.lemmas.Option.{slice_get_within, get_or_from_slice_get}
+use Rattle.cap_model.proofs.Common.{Bor, Contains, IfSome, List, None, Option, Some, [], ap, arith, eqb_tells, get_or, get_or_from_slice_get, inl, inr, option_map, refl, slice_get, slice_get_within, suc, sym, zero, ℕ, ◌∷◌, ◌≡◌}
 use Rattle.cap_model.specs.Policies.{label_name, NumbersDiffer}
 
 numbers_of_rest : (l : ℕ × List ℕ) (labels : List (ℕ × List ℕ)) → NumbersDiffer (l ∷ labels) → NumbersDiffer labels

@@ -1,3 +1,4 @@
+pub mod Common
 pub mod BootPlaces
 pub mod Conferring
 pub mod Eaches
@@ -21,3 +22,5 @@ pub mod SharedRows
 pub mod ClassNumbers
 pub mod Comparing
 pub mod Ranges
+pub mod EdgeLists
+pub mod SpaceRoots

@@ -1,25 +1,10 @@
 -- Rows and classes that are made one behind another.
-use Rattle.std.proofs.Common.{◌≡◌, ◌⊎◌, ◌<◌, ◌≤◌, ◌∙◌, ℕ, Bool, true, false, cond, List, [], ◌∷◌, ◌++◌, length, take, map, slice_get, Some, None, refl, sym, ap, subst, inl, inr, arith, get_or, append-nil}
-use Rattle.std.specs.Ordering.{is_eq}
-use Rattle.std.proofs.lemmas.Bool.{cases_lt}
-use Rattle.std.proofs.lemmas.List.{take-append-le}
-use Rattle.std.proofs.lemmas.List.Concat.{flat_map-append}
-use Rattle.std.proofs.Math.Seq.{take-append_seam}
-use Rattle.std.proofs.lemmas.Option.{slice_get_within, slice_get-get_or, same_Some}
-use Rattle.cap_model.specs.Making.{place_in, list_cmp, IsMade, HasNew, HasClass, HasRow}
-use Rattle.cap_model.specs.Rows.{reply_to, edges_of, table_edges, IsClass, IsTable}
-use Rattle.cap_model.specs.Tables.{IsSorted}
-use Rattle.authorities.specs.declared.authority.Authority.{Authority}
-use Rattle.authorities.specs.declared.authority.Authority.TheVariants.{Reply}
-use Rattle.cap_model.specs.declared.edge.Edge.{Edge}
+use Rattle.cap_model.proofs.Common.{Authority, Bool, Class, Edge, HasClass, HasNew, HasRow, IsClass, IsIn, IsMade, IsSorted, IsTable, List, None, Reply, Row, Some, [], ap, append-nil, arith, cases_lt, cond, edges_of, false, flat_map-append}
+use Rattle.cap_model.proofs.Common.{flat_map_same, get_behind, get_front, get_or, inl, inr, is_eq, length, list_cmp, map, place_in, place_of, refl, reply_to, same_Some, single, slice_get, slice_get-get_or, slice_get_within, split_get, subst, sym}
+use Rattle.cap_model.proofs.Common.{table_edges, take, take-append-le, take-append_seam, true, ℕ, ◌++◌, ◌<◌, ◌∙◌, ◌∷◌, ◌≡◌, ◌≤◌, ◌⊎◌}
 use Rattle.cap_model.specs.declared.making.Made.{Made}
-use Rattle.cap_model.specs.declared.rows.Class.{Class}
-use Rattle.cap_model.specs.declared.rows.Row.{Row}
 use Rattle.cap_model.proofs.PairLists.{is_eq-same, list_itself}
 use Rattle.cap_model.proofs.RowEdges.{in_take}
-use Rattle.cam_base.specs.Gather.{IsIn}
-use Rattle.cam_base.proofs.Gathered.{place_of, get_behind, get_front, split_get}
-use Rattle.cam_base.proofs.NumberedLists.{flat_map_same, single}
 
 pub pushed : {X : Type 0} (xs : List X) (x : X) (k : ℕ) (y : X) → slice_get (xs ++ x ∷ []) k ≡ Some y
     → (slice_get xs k ≡ Some y) ⊎ ((k ≡ length xs) × (x ≡ y))

@@ -1,13 +1,7 @@
 -- Lists of pairs by their order: two that compare as equal are one list.
-use Rattle.std.proofs.Common.{◌≡◌, ◌∙◌, ℕ, List, [], ◌∷◌, Ordering, Less, Equal, Greater, true, refl, ap}
-use Rattle.std.specs.Cmp.{IsTotalOrder, on_total}
+use Rattle.cap_model.proofs.Common.{Authority, Equal, Greater, IsTotalOrder, Less, List, Ordering, [], ap, edge_to, is_eq, list_cmp, on_total, ordering_reverse, ordering_then, refl, total-law, true, ℕ, ◌∙◌, ◌∷◌, ◌≡◌}
 use Rattle.std.specs.Cmp.Lexicographic.{lists_total}
-use Rattle.std.specs.Ordering.{ordering_then, ordering_reverse, is_eq}
 use Rattle.cap_model.specs.contracts.edge.EdgeOrd.TheImpl.{ghosts as ordered}
-use Rattle.cap_model.specs.contracts.edge.EdgeOrd.TheImpl.Laws.{total-law}
-use Rattle.cap_model.specs.Making.{list_cmp}
-use Rattle.cap_model.specs.Rows.{edge_to}
-use Rattle.authorities.specs.declared.authority.Authority.{Authority}
 use Rattle.cap_model.proofs.EdgeCompare.{cmp-same}
 use Rattle.cap_model.proofs.RowEdges.{pair_is}
 

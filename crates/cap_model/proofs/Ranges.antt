@@ -1,22 +1,12 @@
 -- A set of edges in order: a list that is sorted, and what lies between two edges.
-use Rattle.std.proofs.Common.{◌≡◌, ◌∙◌, ◌<◌, ◌≤◌, ◌^◌, ◌↔◌, ◌&&◌, ℕ, Bool, true, false, not, List, Less, Equal, Greater, refl, sym, ap, subst, arith}
-use Rattle.std.proofs.lemmas.Bool.{and_parts}
-use Rattle.std.proofs.lemmas.List.Kept.{IsStrictlySortedBy-filter}
+use Rattle.cap_model.proofs.Common.{AsyncSend, AtMost, Authority, Bool, Call, Control, Edge, Equal, Grant, GrantBack, Greater, Handle, IsBetween, IsSorted, IsStrictlySortedBy, IsStrictlySortedBy-filter, Less, List, Read, Receive, Reply, Reset}
+use Rattle.cap_model.proofs.Common.{SyncSend, Write, and_parts, ap, arith, edge, false, filter, has, is_gt, is_le, is_lt, number_of, refl, same_edge, subst, sym, true, ℕ, ◌&&◌, ◌<◌, ◌^◌, ◌↔◌, ◌∙◌, ◌≡◌, ◌≤◌}
+use Rattle.std.proofs.Common.{not}
 use Rattle.std.proofs.lemmas.Map.Views.{any-filter_same}
-use Rattle.std.specs.List.{filter}
-use Rattle.std.specs.List.Sorted.{IsStrictlySortedBy}
-use Rattle.std.specs.Ordering.{is_gt, is_le, is_lt}
 use Rattle.std.specs.declared.cmp.Ordering.{Ordering}
-use Rattle.authorities.specs.Authorities.{number_of}
-use Rattle.cap_model.specs.Edges.{edge, same_edge, AtMost}
-use Rattle.cap_model.specs.Tables.{has, IsSorted}
 use Rattle.cap_model.specs.contracts.edge.EdgeOrd.TheImpl.{ghosts as ordered}
-use Rattle.authorities.specs.declared.authority.Authority.{Authority}
-use Rattle.authorities.specs.declared.authority.Authority.TheVariants.{Receive, SyncSend, AsyncSend, Reset, Grant, Read, Write, Control, Call, Reply, GrantBack, Handle}
-use Rattle.cap_model.specs.declared.edge.Edge.{Edge}
 use Rattle.cap_model.proofs.EdgeCompare.{cmp-after, cmp-before, cmp-same}
 use Rattle.cap_model.proofs.EdgeOrder.{at_most_before, at_most_self, before_at_most, same_edge_true, same_number, not_before_self}
-use Rattle.cap_model.specs.Between.{IsBetween}
 use Rattle.cap_model.proofs.TableSorting.{sorted_by_place}
 
 -- ---- the comparison, by its answer

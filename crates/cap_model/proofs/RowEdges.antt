@@ -1,26 +1,11 @@
 -- The edges of one row: what they are, and which edges are among them.
-use Rattle.std.proofs.Common.{◌≡◌, ◌≢◌, ◌<◌, ◌≤◌, ◌+◌, ◌-◌, ◌∙◌, ℕ, zero, suc, true, List, [], ◌∷◌, ◌++◌, length, take, drop, map, slice_get, Option, Some, None, Result, Ok, Err, Ordering, refl, sym, ap, subst, inl, inr, arith, get_or, is_ok}
-use Rattle.std.specs.Cmp.Derive.{one_truth}
-use Rattle.std.specs.List.Sorted.{IsBinarySearchResult, IsSearchInRange}
-use Rattle.std.proofs.lemmas.List.{get_or-map, length-map, length-take-le, take-append-drop, take-map, drop-map}
+use Rattle.cap_model.proofs.Common.{Authority, Class, Edge, Err, IsBinarySearchResult, IsClass, IsIn, IsSearchInRange, IsSorted, List, None, Ok, Option, Ordering, Reply, Result, Row, Some, [], ap, arith, cases_lt, drop, drop-map, edge, edge_to}
+use Rattle.cap_model.proofs.Common.{edges_of, from_map, get_behind, get_drop, get_or, get_or-map, has, in_append, in_left, in_map, in_place, in_right, inl, inr, is_ok, length, length-map, length-take-le, map, nat_cmp, number_of, one_truth}
+use Rattle.cap_model.proofs.Common.{ordering_then, place_of, refl, reply_to, slice_get, subst, suc, sym, take, take-append-drop, take-map, true, zero, ℕ, ◌++◌, ◌+◌, ◌-◌, ◌<◌, ◌∙◌, ◌∷◌, ◌≡◌, ◌≢◌, ◌≤◌}
 use Rattle.cap_model.specs.contracts.edge.EdgeOrd.TheImpl.{ghosts as ordered}
-use Rattle.std.specs.Ordering.{nat_cmp, ordering_then}
 use Rattle.authorities.specs.contracts.authority.AuthorityOrd.TheImpl.{ghosts as numbered}
-use Rattle.std.proofs.lemmas.Bool.{cases_lt}
-use Rattle.authorities.specs.Authorities.{number_of}
-use Rattle.cap_model.specs.Edges.{edge}
-use Rattle.cap_model.specs.Rows.{edge_to, reply_to, edges_of, IsClass}
-use Rattle.cap_model.specs.Tables.{has, IsSorted}
-use Rattle.authorities.specs.declared.authority.Authority.{Authority}
-use Rattle.authorities.specs.declared.authority.Authority.TheVariants.{Reply}
-use Rattle.cap_model.specs.declared.edge.Edge.{Edge}
-use Rattle.cap_model.specs.declared.rows.Class.{Class}
-use Rattle.cap_model.specs.declared.rows.Row.{Row}
 use Rattle.cap_model.proofs.TableMembers.{at_has, has_at}
 use Rattle.cap_model.proofs.TablePlaces.{is_ok-search}
-use Rattle.cam_base.specs.Gather.{IsIn}
-use Rattle.cam_base.proofs.Gathered.{in_append, in_left, in_right, place_of, in_place, get_behind}
-use Rattle.cam_base.proofs.NumberedLists.{in_map, from_map, get_drop}
 
 -- ---- the test, and membership
 

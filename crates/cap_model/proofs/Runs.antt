@@ -1,24 +1,9 @@
 -- The edges out of one label, in order, as pairs before and behind Reply and as replies.
-use Rattle.std.proofs.Common.{◌≡◌, ◌⊎◌, ◌<◌, ◌≤◌, ◌+◌, ◌-◌, ◌∙◌, ℕ, zero, suc, List, [], ◌∷◌, ◌++◌, length, take, drop, map, slice_get, Some, refl, sym, ap, subst, inl, inr, arith, get_or, nat_lt, nat_le, true, false}
-use Rattle.std.specs.List.Sorted.{IsPartitionPoint, IsPartitionedBy}
-use Rattle.std.proofs.lemmas.Bool.{cases_lt}
-use Rattle.std.proofs.lemmas.List.{length-append, length-drop, length-map, length-take-le, take-append-drop, take_all}
-use Rattle.std.proofs.Math.Seq.{take-append_seam, drop-append_seam}
-use Rattle.std.proofs.lemmas.Option.{slice_get_within, slice_get-get_or, slice_get-map, get_or_from_slice_get}
-use Rattle.authorities.specs.Authorities.{number_of}
-use Rattle.cap_model.specs.Edges.{AtMost, Before}
-use Rattle.cap_model.specs.Making.{pair_of, IsRun}
-use Rattle.cap_model.specs.Rows.{edge_to, reply_to, edges_of, IsClass}
-use Rattle.cap_model.specs.Tables.{IsSorted}
-use Rattle.authorities.specs.declared.authority.Authority.{Authority}
-use Rattle.authorities.specs.declared.authority.Authority.TheVariants.{Reply}
-use Rattle.cap_model.specs.declared.edge.Edge.{Edge}
-use Rattle.cap_model.specs.declared.rows.Class.{Class}
-use Rattle.cap_model.specs.declared.rows.Row.{Row}
+use Rattle.cap_model.proofs.Common.{AtMost, Authority, Before, Class, Edge, IsClass, IsPartitionPoint, IsPartitionedBy, IsRun, IsSorted, List, Reply, Row, Some, [], ap, arith, cases_lt, drop, drop-append_seam, edge_to, edges_of, false, get_behind}
+use Rattle.cap_model.proofs.Common.{get_drop, get_front, get_or, get_or_from_slice_get, inl, inr, length, length-append, length-drop, length-map, length-take-le, map, map_some, nat_le, nat_lt, number_of, pair_of, refl, reply_to, slice_get}
+use Rattle.cap_model.proofs.Common.{slice_get-get_or, slice_get-map, slice_get_within, split_get, subst, suc, sym, take, take-append-drop, take-append_seam, take_all, true, zero, ℕ, ◌++◌, ◌+◌, ◌-◌, ◌<◌, ◌∙◌, ◌∷◌, ◌≡◌, ◌≤◌, ◌⊎◌}
 use Rattle.cap_model.proofs.EdgeOrder.{edges_same, same_number}
 use Rattle.cap_model.proofs.TableMembers.{later_at_most}
-use Rattle.cam_base.proofs.Gathered.{get_behind, get_front, split_get}
-use Rattle.cam_base.proofs.NumberedLists.{map_some, get_drop}
 
 -- ---- lists in order
 

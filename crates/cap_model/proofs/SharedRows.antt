@@ -1,25 +1,10 @@
 -- A table in which several labels have the edges of the same pairs.
-use Rattle.std.proofs.Common.{◌≡◌, ◌≢◌, ◌<◌, ◌≤◌, ◌*◌, ◌∙◌, ℕ, zero, suc, true, false, List, [], ◌∷◌, ◌++◌, length, take, drop, map, slice_get, Some, refl, sym, ap, subst, inl, inr, arith, get_or, nat_lt}
+use Rattle.cap_model.proofs.Common.{All, AllPairs, AreShared, Authority, Before, Class, Edge, IsClass, IsIn, IsPartitionPoint, IsPartitionedBy, IsSorted, IsTable, List, PairBefore, Reply, Row, Some, [], ap, arith, cases_lt, drop, edge_to, edges_of}
+use Rattle.cap_model.proofs.Common.{false, flat_map, from_flat_map, from_map, get_or, get_or_from_slice_get, in_place, inl, inr, length, length-append, length-map, map, map_some, nat_lt, number_of, place_of, refl, reply_to, shared_edges, single}
+use Rattle.cap_model.proofs.Common.{slice_get, slice_get-get_or, slice_get-map, slice_get_within, split_get, subst, suc, sym, table_edges, take, take-append-drop, take_all, true, zero, ℕ, ◌*◌, ◌++◌, ◌<◌, ◌∙◌, ◌∷◌, ◌≡◌, ◌≢◌, ◌≤◌}
 use Rattle.std.proofs.Math.Nat.{suc-mul}
-use Rattle.std.specs.List.{flat_map, All, AllPairs}
-use Rattle.std.specs.List.Sorted.{IsPartitionPoint, IsPartitionedBy}
-use Rattle.std.proofs.lemmas.Bool.{cases_lt}
-use Rattle.std.proofs.lemmas.List.{length-append, length-map, take_all, take-append-drop}
-use Rattle.std.proofs.lemmas.Option.{slice_get_within, slice_get-get_or, slice_get-map, get_or_from_slice_get}
-use Rattle.authorities.specs.Authorities.{number_of}
-use Rattle.cap_model.specs.Edges.{Before}
-use Rattle.cap_model.specs.Rows.{edge_to, reply_to, edges_of, table_edges, IsClass, IsTable}
-use Rattle.cap_model.specs.Shared.{PairBefore, shared_edges, AreShared}
-use Rattle.cap_model.specs.Tables.{IsSorted}
-use Rattle.authorities.specs.declared.authority.Authority.{Authority}
-use Rattle.authorities.specs.declared.authority.Authority.TheVariants.{Reply}
-use Rattle.cap_model.specs.declared.edge.Edge.{Edge}
-use Rattle.cap_model.specs.declared.rows.Class.{Class}
-use Rattle.cap_model.specs.declared.rows.Row.{Row}
 use Rattle.cap_model.proofs.EdgeOrder.{same_number}
-use Rattle.cam_base.specs.Gather.{IsIn}
-use Rattle.cam_base.proofs.Gathered.{in_place, place_of, split_get}
-use Rattle.cam_base.proofs.NumberedLists.{at_place as row_at, from_map, from_flat_map, map_some, single}
+use Rattle.cam_base.proofs.NumberedLists.{at_place as row_at}
 
 -- ---- pairs in order
 

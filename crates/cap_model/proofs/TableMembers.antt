@@ -1,12 +1,6 @@
 -- What a list of edges has, by places and by elements; what a sorted list is determined by.
-use Rattle.std.proofs.Common.{◌≡◌, ◌↔◌, ◌≤◌, ◌⊎◌, ℕ, Bool, true, false, ◌||◌, List, [], ◌∷◌, slice_get, Some, refl, ap, sym, subst, inl, inr, arith, suc, zero}
-use Rattle.std.specs.List.{Contains}
-use Rattle.std.proofs.lemmas.Bool.{cases_lt}
-use Rattle.std.proofs.lemmas.Option.{slice_get_within, slice_get_read, get_or_from_slice_get}
-use Rattle.cap_model.specs.Edges.{edge, same_edge, AtMost, Before}
-use Rattle.cap_model.specs.Tables.{has, Has, IsSorted}
-use Rattle.authorities.specs.declared.authority.Authority.{Authority}
-use Rattle.cap_model.specs.declared.edge.Edge.{Edge}
+use Rattle.cap_model.proofs.Common.{AtMost, Authority, Before, Bool, Contains, Edge, Has, IsSorted, List, Some, [], ap, arith, cases_lt, edge, false, get_or_from_slice_get, has, inl, inr, refl, same_edge, slice_get, slice_get_read, slice_get_within}
+use Rattle.cap_model.proofs.Common.{subst, suc, sym, true, zero, ℕ, ◌||◌, ◌↔◌, ◌∷◌, ◌≡◌, ◌≤◌, ◌⊎◌}
 use Rattle.cap_model.proofs.EdgeOrder.{same_edge_true, same_edge_self, at_most_self, before_at_most, not_before_self, not_before_both}
 
 or_true : (b : Bool) → b || true ≡ true

@@ -1,13 +1,7 @@
 -- Binary search in a table.
-use Rattle.std.proofs.Common.{◌≡◌, ◌<◌, ◌≤◌, ℕ, ◌+◌, Bool, true, false, List, slice_get, length, Some, Result, Ok, Err, Ordering, Less, Equal, Greater, refl, sym, subst, inl, inr, arith, get_or, is_ok, nat_lt}
-use Rattle.std.specs.List.Sorted.{IsBinarySearchResult, IsSearchInRange, IsPartitionPoint, IsPartitionedBy}
-use Rattle.std.specs.Ordering.{ordering_index}
-use Rattle.std.proofs.lemmas.Bool.{cases_lt}
-use Rattle.std.proofs.lemmas.Option.{slice_get_within, slice_get-get_or, get_or_from_slice_get}
+use Rattle.cap_model.proofs.Common.{AtMost, Bool, Edge, Equal, Err, Greater, IsBinarySearchResult, IsFirstFrom, IsPartitionPoint, IsPartitionedBy, IsSearchInRange, IsSorted, Less, List, Ok, Ordering, Result, Some, arith, cases_lt, false, get_or}
+use Rattle.cap_model.proofs.Common.{get_or_from_slice_get, has, inl, inr, is_ok, length, nat_lt, ordering_index, refl, slice_get, slice_get-get_or, slice_get_within, subst, sym, true, ℕ, ◌+◌, ◌<◌, ◌≡◌, ◌≤◌}
 use Rattle.cap_model.specs.contracts.edge.EdgeOrd.TheImpl.{ghosts as ordered}
-use Rattle.cap_model.specs.Edges.{AtMost}
-use Rattle.cap_model.specs.Tables.{has, IsSorted, IsFirstFrom}
-use Rattle.cap_model.specs.declared.edge.Edge.{Edge}
 use Rattle.cap_model.proofs.EdgeOrder.{before_chain, not_before_self, not_before_at_most}
 use Rattle.cap_model.proofs.EdgeCompare.{cmp-before, cmp-same, cmp-after}
 use Rattle.cap_model.proofs.TableMembers.{has_at, at_has, later_at_most}

@@ -1,29 +1,11 @@
 -- The edges of a table by its rows: where they stand, which there are, and what two rows of one class share.
-use Rattle.std.proofs.Common.{◌≡◌, ◌≢◌, ◌⊎◌, ◌<◌, ◌≤◌, ◌+◌, ◌-◌, ◌∙◌, ℕ, zero, suc, Bool, true, false, List, [], ◌∷◌, ◌++◌, length, take, drop, map, slice_get, Option, Some, None, refl, sym, ap, subst, inl, inr, arith, get_or, nat_lt, nat_le, ◌==◌, if◌then◌else◌, append_assoc}
-use Rattle.std.specs.Cmp.Derive.{one_truth}
-use Rattle.std.specs.List.{flat_map}
-use Rattle.std.specs.List.Sorted.{IsPartitionPoint, IsPartitionedBy}
-use Rattle.std.proofs.lemmas.Bool.{cases_lt}
-use Rattle.std.proofs.lemmas.List.{length-append, take-append-drop, take_all}
-use Rattle.std.proofs.lemmas.List.Concat.{flat_map-append}
-use Rattle.std.proofs.lemmas.Option.{slice_get_within, slice_get-get_or, slice_get_past, slice_get_read, get_or_from_slice_get}
-use Rattle.std.proofs.lemmas.Bool.Decides.{eqb_tells}
-use Rattle.authorities.specs.Authorities.{number_of}
-use Rattle.cap_model.specs.Classes.{IsClassOf}
-use Rattle.cap_model.specs.Edges.{edge}
-use Rattle.cap_model.specs.Rows.{edge_to, edges_of, table_edges, IsClass, HasRising, HasPlaces, FirstsRise, IsRowOf, NoRowOf, IsRowFrom, IsRowPast, IsTable}
-use Rattle.cap_model.specs.Tables.{has, Has, IsSorted, IsFirstFrom}
-use Rattle.authorities.specs.declared.authority.Authority.{Authority}
-use Rattle.authorities.specs.declared.authority.Authority.TheVariants.{Reply}
-use Rattle.cap_model.specs.declared.edge.Edge.{Edge}
-use Rattle.cap_model.specs.declared.rows.Class.{Class}
-use Rattle.cap_model.specs.declared.rows.Row.{Row}
+use Rattle.cap_model.proofs.Common.{Authority, Bool, Class, Edge, FirstsRise, Has, HasPlaces, HasRising, IsClass, IsClassOf, IsFirstFrom, IsIn, IsPartitionPoint, IsPartitionedBy, IsRowFrom, IsRowOf, IsRowPast, IsSorted, IsTable, List, NoRowOf, None}
+use Rattle.cap_model.proofs.Common.{Option, Reply, Row, Some, [], ap, append_assoc, arith, cases_lt, drop, edge, edge_to, edges_of, eqb_tells, false, flat_map, flat_map-append, from_flat_map, from_map, get_behind, get_or, get_or_from_slice_get, has}
+use Rattle.cap_model.proofs.Common.{if◌then◌else◌, in_flat_map, in_map, in_place, inl, inr, length, length-append, map, nat_le, nat_lt, number_of, one_truth, place_of, refl, slice_get, slice_get-get_or, slice_get_past, slice_get_read}
+use Rattle.cap_model.proofs.Common.{slice_get_within, split_get, subst, suc, sym, table_edges, take, take-append-drop, take_all, true, zero, ℕ, ◌++◌, ◌+◌, ◌-◌, ◌<◌, ◌==◌, ◌∙◌, ◌∷◌, ◌≡◌, ◌≢◌, ◌≤◌, ◌⊎◌}
 use Rattle.cap_model.proofs.RowEdges.{others, has_in, in_has, of_label, in_pairs, has_pair, get_in_front}
 use Rattle.cap_model.proofs.EdgeOrder.{same_number}
 use Rattle.cap_model.proofs.TableMembers.{one_table}
-use Rattle.cam_base.specs.Gather.{IsIn}
-use Rattle.cam_base.proofs.Gathered.{place_of, in_place, get_behind, split_get}
-use Rattle.cam_base.proofs.NumberedLists.{in_map, from_map, in_flat_map, from_flat_map}
 use Rattle.cap_model.proofs.Runs.{taken_place}
 
 -- ---- lists one behind another

@@ -1,21 +1,12 @@
 -- Sorting edges and dropping repeats: the list is in order, and has the edges that it had.
-use Rattle.std.proofs.Common.{◌≡◌, List, []}
-use Rattle.std.specs.Cmp.Derive.{one_truth}
-use Rattle.std.specs.List.{dedup}
+use Rattle.cap_model.proofs.Common.{Contains-dedup, Contains-from_dedup, Contains-permutation, Edge, IsPermutation, IsPermutation-sym, IsSorted, IsStrictlySortedBy, IsStrictlySortedBy-dedup, Less-from_sorted, List, [], dedup, get_or_from_slice_get}
+use Rattle.cap_model.proofs.Common.{has, matches_eq-law, one_truth, slice_get_within, total-law, ◌≡◌}
 use Rattle.std.specs.List.Retain.{IsFiltered, DiffersFromLast}
-use Rattle.std.specs.List.Sorted.{IsPermutation, IsStrictlySortedBy}
 use Rattle.std.specs.List.Sorted.{IsSorted as IsInOrder}
 use Rattle.std.proofs.lemmas.List.Filters.{dedup_is}
-use Rattle.std.proofs.lemmas.List.Kept.{IsStrictlySortedBy-dedup, Contains-dedup, Contains-from_dedup}
-use Rattle.std.proofs.lemmas.List.Sorted.{Contains-permutation, IsPermutation-sym}
-use Rattle.std.proofs.lemmas.Map.Keys.{Less-from_sorted}
-use Rattle.std.proofs.lemmas.Option.{slice_get_within, get_or_from_slice_get}
 use Rattle.cap_model.specs.contracts.edge.EdgeOrd.TheImpl.{ghosts as ordered}
-use Rattle.cap_model.specs.contracts.edge.EdgeOrd.TheImpl.Laws.{total-law, matches_eq-law}
 use Rattle.cap_model.specs.contracts.edge.EdgeEq.TheImpl.Laws.{laws-law}
 use Rattle.cap_model.specs.contracts.edge.EdgePartialEq.TheImpl.{ghosts as compared}
-use Rattle.cap_model.specs.Tables.{has, IsSorted}
-use Rattle.cap_model.specs.declared.edge.Edge.{Edge}
 use Rattle.cap_model.proofs.EdgeCompare.{eq-same, cmp-before}
 use Rattle.cap_model.proofs.TableMembers.{contains_has, has_contains}
 

@@ -1,11 +1,14 @@
 -- The authorities of a state: which label has which authority over which.
 --
--- Held edges: from the label of a CNode, for what each of its capabilities confers, to the label of the object.
--- Structural edges: from the label of a CNode Reply to the label of the caller of each saved reply in it; from a
--- thread's label Control to the labels of its root and its space, and for what the capability to its IPC buffer confers
--- (Read or Write) to the label of the buffer; from a page table's label, for what each of its slots confers; from a
--- space's label Read or Write to the label of each frame that was added to it; from a thread's label Reply to the label
--- of the caller of its pending reply; from an interrupt's label AsyncSend to the label of its notification.
+-- Held edges go from the label of a CNode, for what each of its capabilities confers, to the label of the object. Structural edges
+-- go:
+-- - from the label of a CNode, Reply, to the label of the caller of each saved reply in it;
+-- - from a thread's label, Control, to the labels of its root and its space;
+-- - from a thread's label, for what the capability to its IPC buffer confers (Read or Write), to the label of the buffer;
+-- - from a thread's label, Reply, to the label of the caller of its pending reply;
+-- - from a page table's label, for what each of its slots confers;
+-- - from a space's label, Read or Write, to the label of each frame that was added to it;
+-- - from an interrupt's label, AsyncSend, to the label of its notification.
 use Rattle.std.specs.Prelude.{◌≡◌, ◌⊎◌, ℕ, true, List, [], Option, Some, None}
 use Rattle.std.specs.List.{Contains}
 use Rattle.cap_model.specs.ObjectLabels.{label_of}

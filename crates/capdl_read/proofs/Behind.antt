@@ -1,19 +1,9 @@
 -- Slots whose numbers rise are sorted as they stand.
-use Rattle.std.proofs.Common.{◌≡◌, ◌∙◌, ◌<◌, ◌+◌, ℕ, true, List, [], ◌∷◌, ◌++◌, add-one, drop, length, get_or, Option, Some, refl, sym, ap, subst}
+use Rattle.capdl_read.proofs.Common.{AllByRecursion, Cap, Key, List, Option, Slot, SlotKey, Some, [], add-one, ap, drop, get_or, insert_entry, is_above, length, ltb-true, nat_cmp, numbered_from, put_slot, refl, subst, sym, true, ℕ, ◌++◌, ◌+◌, ◌<◌}
+use Rattle.capdl_read.proofs.Common.{◌∙◌, ◌∷◌, ◌≡◌}
 use Rattle.std.proofs.Math.Seq.{drop-cons}
-use Rattle.std.proofs.lemmas.Bool.{ltb-true}
-use Rattle.std.specs.BTreeMap.{insert_entry}
-use Rattle.std.specs.List.{AllByRecursion}
-use Rattle.std.specs.Ordering.{nat_cmp}
 use Rattle.cam_base.proofs.Orders.{nat_cmp-greater}
-use Rattle.cap_model.specs.declared.cap.Cap.{Cap}
-use Rattle.capdl_text.specs.Meaning.{put_slot}
-use Rattle.capdl_text.specs.declared.tree.SlotKey.{SlotKey}
 use Rattle.capdl_text.specs.declared.tree.SlotKey.TheVariants as keys
-use Rattle.capdl_read.specs.Building.{numbered_from}
-use Rattle.name_tables.specs.Keys.{Key}
-use Rattle.capdl_read.specs.Rising.{is_above}
-use Rattle.capdl_read.specs.declared.held.Slot.{Slot}
 use Rattle.capdl_read.proofs.NoneTwice.{above_both}
 
 -- each number above the last stands behind all of these

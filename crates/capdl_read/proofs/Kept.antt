@@ -1,60 +1,30 @@
 -- The spec of a tree in which no fault stands keeps what every spec keeps.
-use Rattle.std.proofs.Common.{◌≡◌, ℕ, zero, suc, ◌+◌, ◌≤◌, ◌^◌, Bool, true, false, cond, List, [], ◌∷◌, ◌++◌, map, length, Option, Some, None, refl, sym, ap, subst, ◌∙◌, arith, slice_get, ◌⊎◌, inl, inr}
-use Rattle.std.specs.Prelude.{◌&&◌, not, leb, ◌==◌, ◌%◌}
-use Rattle.std.specs.List.{flat_map, list_all, list_any}
-use Rattle.std.specs.BTreeMap.{insert_entry}
-use Rattle.std.specs.Option.{is_some, option_map}
-use Rattle.std.specs.Ordering.{nat_cmp}
-use Rattle.std.specs.Str.{bytes_eq}
-use Rattle.std.proofs.lemmas.List.{length-map}
-use Rattle.std.proofs.lemmas.Bool.{and_parts, eqb-true, or_parts}
-use Rattle.std.proofs.lemmas.Slice.Eq.{bytes_eq-Decides}
+use Rattle.capdl_read.proofs.Common.{Arch, Bool, CapdlUnknown, FrameField, Holder, IrqLine, IsBelow, IsKept, Kind, KindLine, Known, Knows, List, None, ObjectLine, Option, SlotKey, SlotLine, Some, Spec, SpecTree, Tcb, Text, TextFault, ThreadField, []}
+use Rattle.capdl_read.proofs.Common.{and_parts, ap, are_bits, arith, at_id, bytes_eq, bytes_eq-Decides, cap_said, cond, cond_nil, differ, entry_said, eqb-true, false, fields_from, fields_twice, fill_of, fill_off, fill_or, fill_said, fits, fits_as}
+use Rattle.capdl_read.proofs.Common.{fits_kind, flat_map, flat_map_nil, frame_value_off, held, holder_off, if_any, inl, inr, insert_entry, irq_keyed, irq_off, is_at, is_kind, is_root_object, is_space_root, keeps, keeps_cnode, keeps_fill, keeps_lines}
+use Rattle.capdl_read.proofs.Common.{keeps_table, keeps_tcb, keys_twice, kind_at, kind_fields, kind_of_object, kind_off, kind_said, known_as, knows, leb, length, length-map, limits, lines_from, list_all, list_any, map, most_objects, names_twice}
+use Rattle.capdl_read.proofs.Common.{nat_cmp, nil_append, no_tcb, not, object_said, off_in, option_map, or_parts, paddr_or, paddr_said, param_off, past, past_in, place_or, place_said, put_field, refl, rise, same_kind, size_of, size_said, slice_get}
+use Rattle.capdl_read.proofs.Common.{slot_off, slot_ranges, slots_off, slots_past, slots_said, spec_of, subst, suc, sym, takes, thread_said, thread_value_off, tree_faults, true, twice_in, twices, unknown, unknown_in, unknowns, zero, ℕ, ◌%◌, ◌&&◌}
+use Rattle.capdl_read.proofs.Common.{◌++◌, ◌+◌, ◌==◌, ◌^◌, ◌∙◌, ◌∷◌, ◌≡◌, ◌≤◌, ◌⊎◌}
+use Rattle.std.specs.Option.{is_some}
 use Rattle.std.proofs.lemmas.Option.{slice_get-map}
-use Rattle.cam_base.specs.declared.text_fault.TextFault.{TextFault}
-use Rattle.cam_base.specs.declared.text_fault.TextCode.TheVariants.{CapdlUnknown}
-use Rattle.cam_base.proofs.Lists.{nil_append, cond_nil, flat_map_nil}
-use Rattle.capdl_text.specs.Faults.{at_id}
-use Rattle.cap_model.specs.declared.kind.Kind.{Kind}
 use Rattle.cap_model.specs.declared.kind.Kind.TheVariants as kinds
-use Rattle.cap_model.specs.declared.level.Arch.{Arch}
 use Rattle.cap_model.specs.declared.level.Level.{Level}
-use Rattle.cap_model.specs.declared.object.Tcb.{Tcb}
-use Rattle.cap_model.specs.declared.spec.Spec.{Spec}
-use Rattle.cap_model.specs.Kept.{differ, rise, if_any, fits_kind, fits, fits_as, keeps_cnode, keeps_table, keeps_tcb, keeps_fill, keeps, names_differ as entries_differ, keeps_lines, IsKept}
-use Rattle.cap_model.specs.Kinds.{kind_of_object, kind_at, same_kind, is_kind, is_at, is_root_object, is_space_root}
+use Rattle.cap_model.specs.Kept.{names_differ as entries_differ}
 use Rattle.cap_model.specs.Levels.{size, child}
 use Rattle.cap_model.specs.Lookup.{entry_object, object_at}
-use Rattle.capdl_text.specs.KindField.{thread_value_off, frame_value_off, fill_off, kind_off, param_off, holder_off, slot_off, slots_off, off_in, irq_off, kind_fields, takes, is_space_root as is_root_kind}
-use Rattle.capdl_text.specs.Knowing.{Knows, knows, known_as, kind_said, size_said, are_bits}
-use Rattle.capdl_text.specs.Limits.{past, limits, most_objects}
-use Rattle.capdl_text.specs.Meaning.{place_or, place_said, cap_said, slots_said, put_field, fields_from, no_tcb, thread_said, paddr_or, paddr_said, fill_of, fill_or, fill_said, lines_from, held, object_said, entry_said, spec_of}
-use Rattle.capdl_text.specs.SlotRange.{past_in, slots_past, slot_ranges, size_of}
-use Rattle.capdl_text.specs.Texts.{Text}
-use Rattle.capdl_text.specs.TreeFaults.{tree_faults}
-use Rattle.capdl_text.specs.Twice.{twices, names_twice, keys_twice, irq_keyed, fields_twice, twice_in}
-use Rattle.capdl_text.specs.Unknown.{unknown, unknown_in, unknowns}
+use Rattle.capdl_text.specs.KindField.{is_space_root as is_root_kind}
 use Rattle.capdl_text.proofs.Few.{none_past}
-use Rattle.capdl_text.specs.declared.known.Known.{Known}
 use Rattle.capdl_text.specs.declared.tree.FillLine.{FillLine}
-use Rattle.capdl_text.specs.declared.tree.FrameField.{FrameField}
 use Rattle.capdl_text.specs.declared.tree.FrameValue.{FrameValue}
 use Rattle.capdl_text.specs.declared.tree.FrameValue.TheVariants as frame
-use Rattle.capdl_text.specs.declared.tree.Holder.{Holder}
-use Rattle.capdl_text.specs.declared.tree.IrqLine.{IrqLine}
-use Rattle.capdl_text.specs.declared.tree.KindLine.{KindLine}
 use Rattle.capdl_text.specs.declared.tree.KindLine.TheVariants as line
-use Rattle.capdl_text.specs.declared.tree.ObjectLine.{ObjectLine}
-use Rattle.capdl_text.specs.declared.tree.SlotKey.{SlotKey}
 use Rattle.capdl_text.specs.declared.tree.SlotKey.TheVariants as keys
-use Rattle.capdl_text.specs.declared.tree.SlotLine.{SlotLine}
-use Rattle.capdl_text.specs.declared.tree.SpecTree.{SpecTree}
-use Rattle.capdl_text.specs.declared.tree.ThreadField.{ThreadField}
 use Rattle.capdl_text.specs.declared.tree.ThreadValue.{ThreadValue}
 use Rattle.capdl_text.specs.declared.tree.ThreadValue.TheVariants as thread
 use Rattle.capdl_read.proofs.Named.{names_differ, known_there, known_here}
 use Rattle.capdl_read.proofs.Slots.{rights_fit, badge_fits, AllGood, all_good, IsFit, AllFit, said_kept, IsNamed, AllNamed, Fits, named_fit, named_prio, IsHeld, AllHeld, held_fits}
 use Rattle.capdl_read.proofs.Sorted.{rise_insert, all_insert, lacks, parts_differ, differ_insert}
-use Rattle.capdl_text.proofs.Below.{IsBelow}
 
 -- ---- kinds
 

@@ -1,20 +1,6 @@
 -- What names stand for is there.
-use Rattle.std.proofs.Common.{◌≡◌, ℕ, zero, suc, ◌+◌, Bool, true, false, cond, List, [], ◌∷◌, map, Some, refl, sym, ap, ◌∙◌, arith, slice_get}
-use Rattle.std.specs.Prelude.{◌&&◌, ◌||◌, not}
-use Rattle.std.specs.List.{list_any}
-use Rattle.std.specs.Str.{bytes_eq}
-use Rattle.std.proofs.lemmas.Slice.Eq.{bytes_eq-Decides}
-use Rattle.std.proofs.lemmas.Bool.{or_parts}
-use Rattle.cap_model.specs.declared.level.Arch.{Arch}
-use Rattle.cap_model.specs.Kept.{differ}
-use Rattle.capdl_text.specs.Faults.{at_id}
-use Rattle.cam_base.specs.declared.text_fault.TextCode.TheVariants.{CapdlTwice}
-use Rattle.cam_base.proofs.Lists.{nil_append}
-use Rattle.capdl_text.specs.Knowing.{known_as, known_from}
-use Rattle.capdl_text.specs.Twice.{names_after, names_twice}
-use Rattle.capdl_text.specs.declared.known.Known.{Known}
-use Rattle.capdl_text.specs.declared.tree.Id.{Id}
-use Rattle.capdl_text.specs.declared.tree.ObjectLine.{ObjectLine}
+use Rattle.capdl_read.proofs.Common.{Arch, Bool, CapdlTwice, Id, Known, List, ObjectLine, Some, [], ap, arith, at_id, bytes_eq, bytes_eq-Decides, cond, differ, false, known_as, known_from, list_any, map, names_after, names_twice, nil_append, not}
+use Rattle.capdl_read.proofs.Common.{or_parts, refl, slice_get, suc, sym, true, zero, ℕ, ◌&&◌, ◌+◌, ◌||◌, ◌∙◌, ◌∷◌, ◌≡◌}
 use Rattle.capdl_read.proofs.Nothing.{is_false}
 
 abbrev pub Name : Type 0

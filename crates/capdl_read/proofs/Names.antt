@@ -1,21 +1,9 @@
 -- The objects of a text have names.
-use Rattle.std.proofs.Common.{◌≡◌, ◌++◌, ℕ, Bool, true, false, List, [], ◌∷◌, map, refl, sym, ap, subst}
-use Rattle.std.proofs.lemmas.Bool.{and_parts}
-use Rattle.std.specs.List.{list_all}
+use Rattle.capdl_read.proofs.Common.{Bool, Entry, Holder, Id, IsSpecSpelled, IsSpelledBy, Knows, List, ObjectLine, Seen, Spec, SpecTree, Text, [], and_parts, ap, entry_said, false, knows, list_all, map, object_form, refl, subst, sym, true, ℕ, ◌++◌}
+use Rattle.capdl_read.proofs.Common.{◌∷◌, ◌≡◌}
 use Rattle.cam_base.specs.Names.{is_name}
-use Rattle.cap_model.specs.declared.spec.Entry.{Entry}
-use Rattle.cap_model.specs.declared.spec.Spec.{Spec}
-use Rattle.capdl_text.specs.declared.seen.Seen.{Seen}
-use Rattle.capdl_text.specs.Forms.{object_form, object_line, spec_line}
-use Rattle.capdl_text.specs.Knowing.{Knows, knows}
-use Rattle.capdl_text.specs.Meaning.{entry_said}
+use Rattle.capdl_text.specs.Forms.{object_line, spec_line}
 use Rattle.capdl_text.specs.Seeing.{id_of, named}
-use Rattle.capdl_text.specs.Spelling.{IsSpecSpelled, IsSpelledBy}
-use Rattle.capdl_text.specs.Texts.{Text}
-use Rattle.capdl_text.specs.declared.tree.Holder.{Holder}
-use Rattle.capdl_text.specs.declared.tree.Id.{Id}
-use Rattle.capdl_text.specs.declared.tree.ObjectLine.{ObjectLine}
-use Rattle.capdl_text.specs.declared.tree.SpecTree.{SpecTree}
 use Rattle.cam_base.specs.Spelling.{Each}
 
 always_named : (text : List ℕ) → is_name (named text) ≡ true

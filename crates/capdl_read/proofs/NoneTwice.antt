@@ -1,13 +1,8 @@
 -- Rising keys don't stand a second time.
-use Rattle.std.proofs.Common.{◌≡◌, ◌∙◌, ◌||◌, Bool, true, false, cond, List, [], ◌∷◌, ◌++◌, map, Option, Some, None, refl, sym, ap, arith}
-use Rattle.std.proofs.lemmas.Bool.Decides.{nat_tests}
+use Rattle.capdl_read.proofs.Common.{Bool, CapdlTwice, Key, Keyed, List, None, Option, Some, TextFault, [], ap, arith, cond, false, fault, is_above, keys_after, keys_twice, map, nat_tests, noted, refl, rises, same_key, sym, true, where_true, ◌++◌}
+use Rattle.capdl_read.proofs.Common.{◌∙◌, ◌∷◌, ◌≡◌}
+use Rattle.std.proofs.Common.{◌||◌}
 use Rattle.std.specs.Prelude.{ℕ}
-use Rattle.cam_base.specs.declared.text_fault.TextCode.TheVariants.{CapdlTwice}
-use Rattle.cam_base.specs.declared.text_fault.TextFault.{TextFault}
-use Rattle.capdl_text.specs.Faults.{fault, noted, where_true}
-use Rattle.capdl_text.specs.Twice.{Keyed, keys_after, keys_twice}
-use Rattle.name_tables.specs.Keys.{Key, same_key}
-use Rattle.capdl_read.specs.Rising.{is_above, rises}
 
 -- no key above the last was met
 abbrev IsFree : Option Key → (Key → Bool) → Type 0

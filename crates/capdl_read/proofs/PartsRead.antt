@@ -1,15 +1,8 @@
 -- From what the lexer and the grammar answer to what reading a tree answers.
-use Rattle.std.proofs.Common.{◌≡◌, ℕ, List, Result, Ok, Err, sym, subst}
+use Rattle.capdl_read.proofs.Common.{AreLexemes, Err, IsParsed, IsTreeRead, List, Ok, Refused, Result, SpecTree, TextFault, Token, of_syntax, of_tokens, subst, sym, ℕ, ◌≡◌}
 use Rattle.std.specs.Result.{IsErrAnd}
-use Rattle.cam_base.specs.declared.error.Refused.{Refused}
 use Rattle.cam_base.specs.declared.error.Refused.TheVariants as refused
-use Rattle.cam_base.specs.declared.text_fault.TextFault.{TextFault}
-use Rattle.capdl_text.specs.Lexemes.{AreLexemes}
 use Rattle.capdl_text.specs.Lexes.{Lexes}
-use Rattle.capdl_text.specs.declared.token.Token.{Token}
-use Rattle.capdl_read.specs.Parsing.{IsParsed, IsTreeRead}
-use Rattle.capdl_text.specs.declared.tree.SpecTree.{SpecTree}
-use Rattle.capdl_text.specs.Texts.{of_syntax, of_tokens}
 
 pub passed_on : {T : Type 0} (Answers : Result T (Refused TextFault) → Type 0) (answer : Result T (Refused TextFault))
     (refusal : Refused TextFault) → IsErrAnd answer (λ other. other ≡ refusal) → Answers (Err refusal) → Answers answer

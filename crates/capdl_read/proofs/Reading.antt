@@ -1,13 +1,7 @@
 -- From what each round answers to what the reader answers.
-use Rattle.std.proofs.Common.{◌≡◌, ℕ, false, List, Result, Ok, Err}
-use Rattle.cam_base.specs.declared.error.Refused.{Refused}
+use Rattle.capdl_read.proofs.Common.{Err, IsRead, IsTreeRead, List, Ok, Refused, Result, Spec, SpecTree, TextFault, false, is_long, of_tree, ℕ, ◌≡◌}
 use Rattle.cam_base.specs.declared.error.Refused.TheVariants as refused
-use Rattle.cam_base.specs.declared.text_fault.TextFault.{TextFault}
-use Rattle.cap_model.specs.declared.spec.Spec.{Spec}
-use Rattle.capdl_read.specs.Parsing.{IsTreeRead}
 use Rattle.capdl_read.specs.Checking.{IsMeant}
-use Rattle.capdl_text.specs.declared.tree.SpecTree.{SpecTree}
-use Rattle.capdl_text.specs.Texts.{of_tree, IsRead, is_long}
 
 pub no_tree : (bytes : List ℕ) (e : Refused TextFault) → is_long bytes ≡ false → IsTreeRead bytes (Err e) → IsRead bytes (Err e)
 no_tree bytes (refused.Fault f) few is = is few

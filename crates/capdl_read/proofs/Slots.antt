@@ -1,36 +1,15 @@
 -- Slots of a holder in whose lines no fault stands.
-use Rattle.std.proofs.Common.{◌≡◌, ℕ, zero, suc, Bool, true, false, cond, List, [], ◌∷◌, ◌++◌, Option, Some, None, refl, sym, ap, ◌∙◌}
-use Rattle.std.specs.Prelude.{◌&&◌, ◌||◌, not, nat_lt, ◌==◌}
-use Rattle.std.specs.List.{flat_map, list_all}
+use Rattle.capdl_read.proofs.Common.{Arch, Bool, Cap, CapdlUnknown, Id, IsBelow, Kind, Known, Knows, List, None, Option, SlotKey, SlotLine, Some, Tcb, TextFault, [], ap, at_id, badge_said, cap_off, cap_said, cond, cond_nil, false, flat_map}
+use Rattle.capdl_read.proofs.Common.{has_badge, if_any, insert_entry, keeps_slots, key_off, key_past, kind_rights, list_all, named_from, nat_cmp, nat_lt, nil_append, not, notification_said, numbered_or, param_off, params_off, place_said, put_named}
+use Rattle.capdl_read.proofs.Common.{put_slot, refl, rights_said, rise, same_kind, slot_off, slots_from, slots_past, suc, sym, takes, true, unknown, within, zero, ℕ, ◌&&◌, ◌++◌, ◌==◌, ◌||◌, ◌∙◌, ◌∷◌, ◌≡◌}
 use Rattle.std.specs.Option.{is_some}
-use Rattle.std.specs.BTreeMap.{insert_entry}
-use Rattle.std.specs.Ordering.{nat_cmp}
-use Rattle.cam_base.specs.declared.text_fault.TextFault.{TextFault}
-use Rattle.cam_base.specs.declared.text_fault.TextCode.TheVariants.{CapdlUnknown}
-use Rattle.cam_base.proofs.Lists.{nil_append, cond_nil}
-use Rattle.capdl_text.specs.Faults.{at_id}
-use Rattle.cap_model.specs.declared.cap.Cap.{Cap}
-use Rattle.cap_model.specs.declared.kind.Kind.{Kind}
 use Rattle.cap_model.specs.declared.kind.Kind.TheVariants as kinds
-use Rattle.cap_model.specs.declared.level.Arch.{Arch}
-use Rattle.cap_model.specs.declared.object.Tcb.{Tcb}
 use Rattle.cap_model.specs.declared.rights.Rights.{Rights}
-use Rattle.cap_model.specs.Kept.{within, rise, if_any, keeps_slots}
-use Rattle.cap_model.specs.Kinds.{same_kind, kind_rights, has_badge}
-use Rattle.capdl_text.specs.KindField.{has_key, key_off, takes, cap_off, param_off, params_off, slot_off}
-use Rattle.capdl_text.specs.Knowing.{Knows}
-use Rattle.capdl_text.specs.Meaning.{rights_said, badge_said, place_said, cap_said, put_slot, slots_from, put_named, named_from, numbered_or, notification_said}
-use Rattle.capdl_text.specs.SlotRange.{key_past, slots_past}
-use Rattle.capdl_text.specs.Unknown.{unknown}
-use Rattle.capdl_text.specs.declared.known.Known.{Known}
-use Rattle.capdl_text.specs.declared.tree.Id.{Id}
+use Rattle.capdl_text.specs.KindField.{has_key}
 use Rattle.capdl_text.specs.declared.tree.Param.{Param}
 use Rattle.capdl_text.specs.declared.tree.Param.TheVariants as params
-use Rattle.capdl_text.specs.declared.tree.SlotKey.{SlotKey}
 use Rattle.capdl_text.specs.declared.tree.SlotKey.TheVariants as keys
-use Rattle.capdl_text.specs.declared.tree.SlotLine.{SlotLine}
 use Rattle.capdl_read.proofs.Sorted.{rise_insert, all_insert}
-use Rattle.capdl_text.proofs.Below.{IsBelow}
 
 -- ---- parameters
 

@@ -1,10 +1,7 @@
 -- A text is read as its spec, and bytes with a fault are refused by the first.
-use Rattle.std.proofs.Common.{◌≡◌, ◌⊎◌, ℕ, List, Result, Ok, Err, refl, ap, inl, inr}
+use Rattle.capdl_text.proofs.Common.{Err, IsFirstFault, IsRead, List, Ok, Result, Spec, Text, TextFault, ap, inl, inr, refl, ℕ, ◌≡◌, ◌⊎◌}
 use Rattle.cam_base.specs.declared.error.Refused.{Refused}
 use Rattle.cam_base.specs.declared.error.Refused.TheVariants as refused
-use Rattle.cam_base.specs.declared.text_fault.TextFault.{TextFault}
-use Rattle.cap_model.specs.declared.spec.Spec.{Spec}
-use Rattle.capdl_text.specs.Texts.{Text, IsFirstFault, IsRead}
 use Rattle.capdl_text.proofs.Unique.{one_spec, one_first_fault, no_fault_of_text}
 
 pub read_text : (bytes : List ℕ) (s : Spec) (r : Result Spec (Refused TextFault)) → IsRead bytes r → Text bytes s

@@ -1,6 +1,5 @@
 -- A numbered slot is below the size, where there is one.
-use Rattle.std.proofs.Common.{◌≡◌, ℕ, true, Option, Some}
-use Rattle.std.specs.Prelude.{nat_lt}
+use Rattle.capdl_text.proofs.Common.{Option, Some, nat_lt, true, ℕ, ◌≡◌}
 use Rattle.capdl_text.specs.declared.tree.SlotKey.{SlotKey}
 use Rattle.capdl_text.specs.declared.tree.SlotKey.TheVariants as keys
 

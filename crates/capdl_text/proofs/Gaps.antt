@@ -1,16 +1,9 @@
 -- Where a gap stands, no token and no fault does.
-use Rattle.std.proofs.Common.{◌≡◌, ℕ, ◌<◌, ◌≤◌, Bool, true, false, cond, List, [], ◌∷◌, length, Option, Some, None, refl, sym, ◌∙◌, arith, inl, inr}
-use Rattle.std.specs.Prelude.{◌==◌, ◌&&◌, ◌||◌}
-use Rattle.std.proofs.lemmas.Bool.Decides.{nat_tests}
-use Rattle.std.proofs.lemmas.Option.{same_Some}
-use Rattle.std.proofs.lemmas.Bool.{cases_Bool}
-use Rattle.cam_base.specs.declared.text_fault.TextCode.{TextCode}
-use Rattle.cam_base.specs.Names.{is_letter}
-use Rattle.cam_base.specs.Numbers.{is_digit}
-use Rattle.capdl_text.specs.declared.token.Kind.{Kind}
-use Rattle.capdl_text.specs.Gaps.{is_blank, after_close, after_line, after_slash, after_dash, one_gap}
-use Rattle.capdl_text.specs.TokenFaults.{Found, unless, is_star, mark_fault, fault_at}
-use Rattle.capdl_text.specs.TokenKinds.{is_end, kind_of, mark_of}
+use Rattle.capdl_text.proofs.Common.{Bool, Found, Kind, List, None, Option, Some, TextCode, [], after_close, after_dash, after_line, after_slash, arith, cases_Bool, cond, false, inl, inr, is_blank, is_digit, is_end, is_letter, is_star, length}
+use Rattle.capdl_text.proofs.Common.{mark_fault, nat_tests, refl, same_Some, sym, true, unless, ℕ, ◌&&◌, ◌<◌, ◌==◌, ◌||◌, ◌∙◌, ◌∷◌, ◌≡◌, ◌≤◌}
+use Rattle.capdl_text.specs.Gaps.{one_gap}
+use Rattle.capdl_text.specs.TokenFaults.{fault_at}
+use Rattle.capdl_text.specs.TokenKinds.{kind_of, mark_of}
 use Rattle.capdl_text.proofs.Tokens.{none_is_not}
 
 -- what the first byte of a gap is

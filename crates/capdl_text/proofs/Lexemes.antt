@@ -1,31 +1,14 @@
 -- Tokens as readers keep them are the tokens.
-use Rattle.std.proofs.Common.{◌≡◌, ℕ, ◌-◌, ◌≤◌, Bool, true, false, cond, List, [], ◌∷◌, ◌++◌, length, get_or, take, drop, Option, Some, None, refl, sym, ap, subst, ◌∙◌, append_assoc, arith}
-use Rattle.std.specs.Prelude.{◌==◌, ◌&&◌, leb, codes, unwrap_or}
-use Rattle.std.specs.Option.{option_map}
-use Rattle.std.specs.Str.{bytes_eq}
-use Rattle.std.specs.List.{list_all}
-use Rattle.std.proofs.lemmas.List.{drop_at, take_at, length-append, length-map, drop-map}
-use Rattle.std.proofs.lemmas.Bool.Decides.{nat_tests}
-use Rattle.std.proofs.lemmas.Option.{same_Some}
-use Rattle.cam_base.specs.Names.{is_letter, is_word_byte}
-use Rattle.cam_base.specs.Numbers.{is_digit, number_value}
-use Rattle.capdl_text.specs.declared.token.Kind.{Kind}
+use Rattle.capdl_text.proofs.Common.{Bool, IsTokenAt, Kind, Lexeme, List, Mark, None, Option, Some, Sort, Token, [], after_close, after_dash, after_line, after_slash, among, ap, append_assoc, arith, bytes_eq, codes, cond, digits_kind, drop, drop-map}
+use Rattle.capdl_text.proofs.Common.{drop_at, ends_text, false, get_or, is_blank, is_digit, is_end, is_letter, is_word_byte, kind_code, kind_with, leb, length, length-append, length-map, list_all, mark_of, name_codes, nat_tests, number_value}
+use Rattle.capdl_text.proofs.Common.{option_map, place_of, refl, same_Some, see, sees, sort_code, sort_of, subst, sym, take, take_at, text_at, token_code, token_of, tokens_of, true, unwrap_or, value_at, word_of, ℕ, ◌&&◌, ◌++◌, ◌-◌, ◌==◌, ◌∙◌, ◌∷◌}
+use Rattle.capdl_text.proofs.Common.{◌≡◌, ◌≤◌}
 use Rattle.capdl_text.specs.declared.token.Kind.TheVariants as kinds
-use Rattle.capdl_text.specs.declared.token.Lexeme.{Lexeme}
-use Rattle.capdl_text.specs.declared.token.Mark.{Mark}
-use Rattle.capdl_text.specs.declared.token.Sort.{Sort}
 use Rattle.capdl_text.specs.declared.token.Sort.TheVariants as sorts
-use Rattle.capdl_text.specs.declared.token.Token.{Token}
 use Rattle.capdl_text.specs.declared.token.Word.{Word}
-use Rattle.cam_base.specs.Form.{among}
 use Rattle.cam_base.specs.Reading.{starts}
-use Rattle.capdl_text.specs.Codes.{kind_code, name_codes, token_code}
-use Rattle.capdl_text.specs.Gaps.{is_blank, after_close, after_line, after_slash, after_dash, one_gap}
-use Rattle.capdl_text.specs.Lexemes.{kind_with, sees, sort_code, sort_of, token_of, tokens_of, value_at}
-use Rattle.capdl_text.specs.Lexes.{IsTokenAt, place_of}
-use Rattle.capdl_text.specs.TokensSeen.{see, text_at}
-use Rattle.capdl_text.specs.TokenKinds.{digits_kind, ends_text, is_end, kind_of, mark_of}
-use Rattle.capdl_text.specs.Words.{word_of}
+use Rattle.capdl_text.specs.Gaps.{one_gap}
+use Rattle.capdl_text.specs.TokenKinds.{kind_of}
 use Rattle.capdl_text.proofs.Tokens.{none_is_not}
 
 -- ---- codes

@@ -1,3 +1,4 @@
+pub mod Common
 pub mod Decides
 pub mod Eats
 pub mod Unique

@@ -1,17 +1,11 @@
 -- Words that end in a digit.
-use Rattle.std.proofs.Common.{◌≡◌, ◌∙◌, ℕ, zero, suc, Bool, true, false, cond, List, [], ◌∷◌, length, Option, Some, None, refl, sym, ap, inl, inr, true≢false, arith}
-use Rattle.std.specs.Prelude.{◌==◌, ◌||◌, ◌-◌, codes, not, unwrap_or}
-use Rattle.std.specs.List.{list_all, list_any, slice_get}
-use Rattle.std.specs.Option.{option_map, option_map_or, option_or}
-use Rattle.std.specs.Str.{bytes_eq}
+use Rattle.capdl_text.proofs.Common.{Bool, List, None, Option, Some, [], and_parts, ap, arith, bytes_eq, bytes_eq-Decides, cases_Bool, codes, cond, false, has_letter, inl, inr, is_digit, is_right, kind_word, length, list_all, list_any, nat_tests}
+use Rattle.capdl_text.proofs.Common.{not, option_map, option_map_or, option_or, part_word, refl, rights_word, slice_get, slot_word, suc, sym, table_word, true, true≢false, unwrap_or, zero, ℕ, ◌==◌, ◌||◌, ◌∙◌, ◌∷◌, ◌≡◌}
+use Rattle.std.specs.Prelude.{◌-◌}
 use Rattle.std.proofs.Math.Bool.{and-false, or-false}
-use Rattle.std.proofs.lemmas.Bool.{and_parts, cases_Bool}
-use Rattle.std.proofs.lemmas.Bool.Decides.{nat_tests}
-use Rattle.std.proofs.lemmas.Slice.Eq.{bytes_eq-Decides}
-use Rattle.cam_base.specs.Numbers.{is_digit}
 use Rattle.capdl_text.specs.NumberedWords.{ends_in_digit, is_numbered_left_out, numbered_word}
 use Rattle.capdl_text.specs.TokenFaults.{is_left_out_word}
-use Rattle.capdl_text.specs.Words.{field_of, has_letter, is_right, kind_word, part_word, rights_word, slot_word, table_word, word_of}
+use Rattle.capdl_text.specs.Words.{field_of, word_of}
 use Rattle.capdl_text.specs.declared.token.Word.TheVariants as words
 
 -- such a word is none that doesn't end in a digit

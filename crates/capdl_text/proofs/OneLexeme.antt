@@ -1,13 +1,7 @@
 -- Bytes have one list of tokens or one first fault of tokens, and not both.
-use Rattle.std.proofs.Common.{◌≡◌, ℕ, ◌-◌, ◌+◌, List, [], ◌∷◌, length, Some, None, refl, sym, ap, subst, ◌∙◌}
-use Rattle.std.proofs.lemmas.Option.{same_Some}
-use Rattle.cam_base.specs.declared.text_fault.TextCode.{TextCode}
-use Rattle.cam_base.specs.declared.text_fault.TextFault.{TextFault}
-use Rattle.capdl_text.specs.declared.token.Kind.{Kind}
-use Rattle.capdl_text.specs.declared.token.Token.{Token}
-use Rattle.capdl_text.specs.Gaps.{one_gap, IsGap, none, more}
+use Rattle.capdl_text.proofs.Common.{IsGap, IsTokenAt, IsTokenFault, Kind, LexesFrom, List, None, Reached, Some, TextCode, TextFault, Token, [], ap, here, length, more, none, past, place_of, refl, same_Some, subst, sym, ℕ, ◌+◌, ◌-◌, ◌∙◌, ◌∷◌, ◌≡◌}
+use Rattle.capdl_text.specs.Gaps.{one_gap}
 use Rattle.capdl_text.specs.TokenFaults.{fault_at}
-use Rattle.capdl_text.specs.Lexes.{IsTokenAt, place_of, LexesFrom, Reached, here, past, IsTokenFault}
 use Rattle.capdl_text.proofs.Gaps.{fault_no_gap}
 use Rattle.capdl_text.proofs.Tokens.{none_is_not}
 use Rattle.capdl_text.proofs.Steps.{token_no_gap, one_token_of, no_token_of_none}

@@ -1,10 +1,5 @@
 -- Runs of bytes.
-use Rattle.std.proofs.Common.{◌≡◌, ℕ, ◌-◌, ◌≤◌, Bool, true, List, [], ◌∷◌, ◌++◌, length, refl, ap, subst, arith, inl, inr, take}
-use Rattle.std.proofs.lemmas.List.{length-append}
-use Rattle.std.specs.List.{list_all}
-use Rattle.std.proofs.lemmas.Bool.{cases_Bool}
-use Rattle.cam_base.proofs.Lists.{take-front}
-use Rattle.capdl_text.specs.TokenFaults.{run, after_run}
+use Rattle.capdl_text.proofs.Common.{Bool, List, [], after_run, ap, arith, cases_Bool, inl, inr, length, length-append, list_all, refl, run, subst, take, take-front, true, ℕ, ◌++◌, ◌-◌, ◌∷◌, ◌≡◌, ◌≤◌}
 
 -- a run and what is behind it are all
 pub run_after : (test : ℕ → Bool) (bs : List ℕ) → run test bs ++ after_run test bs ≡ bs

@@ -1,12 +1,6 @@
 -- One step of the lexer, and what it leaves of the tokens.
-use Rattle.std.proofs.Common.{◌≡◌, ℕ, ◌<◌, ◌≤◌, List, [], ◌∷◌, ◌++◌, length, Some, refl, sym, ap, ◌∙◌, arith, ◌⊎◌, inl, inr}
-use Rattle.std.proofs.lemmas.List.{append-nil, length-append}
-use Rattle.std.proofs.lemmas.Option.{same_Some}
-use Rattle.cam_base.proofs.Lists.{longer_front}
-use Rattle.capdl_text.specs.declared.token.Kind.{Kind}
-use Rattle.capdl_text.specs.declared.token.Token.{Token}
-use Rattle.capdl_text.specs.Gaps.{one_gap, none, more}
-use Rattle.capdl_text.specs.Lexes.{IsTokenAt, place_of, LexesFrom, Reached, here, past}
+use Rattle.capdl_text.proofs.Common.{IsTokenAt, Kind, LexesFrom, List, Reached, Some, Token, [], ap, append-nil, arith, here, inl, inr, length, length-append, longer_front, more, none, one_gap, past, place_of, refl, same_Some, sym, ℕ, ◌++◌, ◌<◌, ◌∙◌}
+use Rattle.capdl_text.proofs.Common.{◌∷◌, ◌≡◌, ◌≤◌, ◌⊎◌}
 use Rattle.capdl_text.specs.TokenKinds.{kind_of}
 use Rattle.capdl_text.proofs.Gaps.{gap_byte, token_no_gap_byte}
 use Rattle.capdl_text.proofs.Tokens.{none_is_not}

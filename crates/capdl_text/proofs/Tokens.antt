@@ -1,27 +1,12 @@
 -- What the step takes from the front is a token, and the longest one there.
-use Rattle.std.proofs.Common.{◌≡◌, ℕ, suc, Bool, true, false, cond, List, [], ◌∷◌, ◌++◌, length, Option, Some, None, refl, sym, ap, subst, ◌∙◌, arith, inl, inr}
-use Rattle.std.specs.Prelude.{◌==◌, ◌&&◌, ◌||◌, codes, if◌then◌else◌}
-use Rattle.std.specs.List.{list_all}
-use Rattle.std.specs.Option.{is_some, option_map}
-use Rattle.std.specs.Str.{bytes_eq}
-use Rattle.std.proofs.lemmas.Bool.{eqb-true, and_parts, cases_Bool}
-use Rattle.std.proofs.lemmas.Bool.Decides.{nat_tests}
-use Rattle.std.proofs.lemmas.List.{append-nil}
-use Rattle.std.proofs.lemmas.Slice.Eq.{bytes_eq-Decides}
+use Rattle.capdl_text.proofs.Common.{Bool, IsTokenAt, Kind, List, Mark, None, Option, Some, [], after_run, after_text, and_parts, ap, append-nil, arith, bytes_eq, bytes_eq-Decides, cases_Bool, codes, cond, digits_kind, digits_taken, ends_text}
+use Rattle.capdl_text.proofs.Common.{eqb-true, false, fault_at, fits, if◌then◌else◌, inl, inr, is_decimal, is_digit, is_end, is_hex_digit, is_hexadecimal, is_letter, is_some, is_word_byte, length, list_all, mark_of, mark_taken, nat_tests}
+use Rattle.capdl_text.proofs.Common.{number_value, option_map, refl, run, same_Some, subst, suc, sym, text_taken, true, true_is_not_false, word_of, word_taken, ℕ, ◌&&◌, ◌++◌, ◌==◌, ◌||◌, ◌∙◌, ◌∷◌, ◌≡◌}
 use Rattle.std.specs.Str.Parse.{digits_value}
-use Rattle.std.proofs.lemmas.Option.{same_Some}
-use Rattle.cam_base.specs.Names.{is_letter, is_word_byte}
-use Rattle.cam_base.specs.Numbers.{is_digit, is_hex_digit, is_decimal, is_hexadecimal, fits, number_value}
-use Rattle.capdl_text.specs.declared.token.Kind.{Kind}
 use Rattle.capdl_text.specs.declared.token.Kind.TheVariants as kinds
-use Rattle.capdl_text.specs.declared.token.Mark.{Mark}
-use Rattle.capdl_text.specs.Lexes.{IsTokenAt}
-use Rattle.capdl_text.specs.Pieces.{word_taken, digits_taken, text_taken, mark_taken, one_token}
-use Rattle.capdl_text.specs.TokenFaults.{fault_at, run, after_run, after_text}
-use Rattle.capdl_text.specs.TokenKinds.{mark_of, digits_kind, is_end, ends_text, kind_of}
-use Rattle.capdl_text.specs.Words.{word_of}
+use Rattle.capdl_text.specs.Pieces.{one_token}
+use Rattle.capdl_text.specs.TokenKinds.{kind_of}
 use Rattle.capdl_text.proofs.Runs.{run_after, run_passes}
-use Rattle.cam_base.proofs.TerminalCodes.{true_is_not_false}
 
 pub none_is_not : {C A : Type 0} (x : A) → None ≡ Some x → C
 none_is_not x e = absurd cc

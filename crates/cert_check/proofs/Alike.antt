@@ -1,13 +1,5 @@
 -- Labels of one class: neither lacks an edge other than Reply that the other has.
-use Rattle.std.proofs.Common.{◌≡◌, ◌∙◌, ℕ, true, false, List, None, inl, inr, refl, sym, subst}
-use Rattle.cap_model.specs.Classes.{OutAlike}
-use Rattle.cap_model.specs.Edges.{edge}
-use Rattle.cap_model.specs.Tables.{has}
-use Rattle.cap_model.specs.declared.edge.Edge.{Edge}
-use Rattle.cap_model.proofs.EdgeOrder.{edges_same}
-use Rattle.cert_check.specs.Least.{FindsLeast}
-use Rattle.cert_check.specs.Parts.{BreaksPair}
-use Rattle.cert_check.specs.Violations.{Missing}
+use Rattle.cert_check.proofs.Common.{BreaksPair, Edge, FindsLeast, List, Missing, None, OutAlike, edge, edges_same, false, has, inl, inr, refl, subst, sym, true, ℕ, ◌∙◌, ◌≡◌}
 
 none_missing : (cert : List Edge) (x y : ℕ) → OutAlike cert x y → (d : Edge) → Missing cert x y d → ⊥
 none_missing cert x y alike d m =

@@ -1,25 +1,11 @@
 -- The edges that the first rule asks for are those of the objects.
-use Rattle.std.specs.Prelude.{◌≡◌, ◌≢◌, ◌⊎◌, ℕ, List, map, slice_get, Option, Some, None, refl}
-use Rattle.std.specs.List.{Contains}
-use Rattle.std.proofs.Common.{inl, inr, arith, subst}
-use Rattle.cap_model.specs.declared.edge.Edge.{Edge}
-use Rattle.authorities.specs.declared.authority.Authority.{Authority}
+use Rattle.cert_check.proofs.Common.{Asked, Authority, CNode, Cap, Capability, Contains, Edge, Endpoint, Entry, Held, Irq, Node, Notification, OfBound, OfCap, OfLink, Pages, Spec, Structural, Thread, ThreadState, arith, at_contains, at_entry, boot}
+use Rattle.cert_check.proofs.Common.{boot_irq, boot_node, boot_slot, boot_thread, buffer_of, contains_at, edge, entry_at, inl, inr, irq_at, label_of, map, no_node, no_thread, node_at, none_saved, nothing_pending, of_buffer, of_irq, of_mapped}
+use Rattle.cert_check.proofs.Common.{of_reply, of_root, of_saved, of_space, of_table, slice_get-map, slot_of, subst, table_of, thread_at}
+use Rattle.std.specs.Prelude.{◌≡◌, ◌≢◌, ◌⊎◌, ℕ, List, slice_get, Option, Some, None, refl}
 use Rattle.cap_model.specs.declared.object.Object.{Object}
-use Rattle.cap_model.specs.declared.object.Object.TheVariants.{Endpoint, Notification, CNode, Thread, Frame, Pages, Irq}
-use Rattle.cap_model.specs.declared.spec.Entry.{Entry}
-use Rattle.cap_model.specs.declared.cap.Cap.{Cap}
-use Rattle.cap_model.specs.declared.spec.Spec.{Spec}
-use Rattle.cap_model.specs.State.{Node, node_at, thread_at, irq_at, boot, boot_node, boot_thread, boot_irq, no_node, no_thread}
-use Rattle.cap_model.specs.ObjectLabels.{label_of}
-use Rattle.cap_model.specs.Auth.{Held, Structural, of_buffer, of_table, of_root, of_space, of_reply, of_saved, of_mapped, of_irq, buffer_of, table_of}
-use Rattle.cap_model.specs.declared.state.ThreadState.{ThreadState}
-use Rattle.cert_check.specs.Parts.{OfCap, OfLink, OfBound, Asked}
-use Rattle.cap_model.specs.Edges.{edge}
+use Rattle.cap_model.specs.declared.object.Object.TheVariants.{Frame}
 use Rattle.cap_model.specs.Lookup.{entry_object}
-use Rattle.cap_model.specs.State.{boot_slot}
-use Rattle.cap_model.specs.declared.state.Content.TheVariants.{Capability}
-use Rattle.cap_model.proofs.BootPlaces.{at_contains, at_entry, contains_at, entry_at, none_saved, nothing_pending, slot_of}
-use Rattle.std.proofs.lemmas.Option.{slice_get-map}
 
 -- an edge that is asked for because of some object
 pub record AskedSome (spec : Spec) (labels : List ℕ) (e : Edge) : Type 0 where

@@ -1,17 +1,6 @@
 -- What a walk through the edges finds first is least.
-use Rattle.std.proofs.Common.{◌≡◌, ◌≢◌, ◌<◌, ◌≤◌, ℕ, true, false, List, slice_get, Some, None, length, refl, sym, subst, ap, inl, inr, arith}
-use Rattle.std.proofs.lemmas.Bool.{cases_lt}
-use Rattle.authorities.specs.Authorities.{number_of}
-use Rattle.cap_model.specs.Edges.{edge, AtMost, Before}
-use Rattle.cap_model.specs.Tables.{has, IsSorted, Finds}
-use Rattle.authorities.specs.declared.authority.Authority.TheVariants.{AsyncSend, Reset, Handle}
-use Rattle.cap_model.specs.declared.edge.Edge.{Edge}
-use Rattle.cap_model.proofs.TableMembers.{at_has, has_at}
-use Rattle.cert_check.specs.Least.{FindsLeast}
-use Rattle.cert_check.specs.Meetings.{IsFirstNotBefore}
-use Rattle.cert_check.specs.Parts.{FindsLeastAt}
-use Rattle.cert_check.specs.Violations.{BreaksBind, BreaksPolicy}
-use Rattle.cert_check.specs.declared.violation.Violation.{Violation}
+use Rattle.cert_check.proofs.Common.{AsyncSend, AtMost, Before, BreaksBind, BreaksPolicy, Edge, Finds, FindsLeast, FindsLeastAt, Handle, IsFirstNotBefore, IsSorted, List, None, Reset, Some, Violation, ap, arith, at_has, cases_lt, edge, false, has}
+use Rattle.cert_check.proofs.Common.{has_at, inl, inr, length, number_of, refl, slice_get, subst, sym, true, ℕ, ◌<◌, ◌≡◌, ◌≢◌, ◌≤◌}
 use Rattle.cert_check.proofs.Search.{NoneUpTo, none_end, found_first}
 use Rattle.cert_check.proofs.Violations.{at_first, first_of}
 

@@ -1,12 +1,5 @@
 -- Halving a table: what stands before a place, and what stands from one on.
-use Rattle.std.proofs.Common.{◌≡◌, ◌<◌, ◌≤◌, ℕ, ◌+◌, List, slice_get, Some, length, arith}
-use Rattle.std.proofs.lemmas.Option.{slice_get_within}
-use Rattle.cap_model.specs.Edges.{AtMost, Before}
-use Rattle.cap_model.specs.Tables.{IsSorted}
-use Rattle.cap_model.specs.declared.edge.Edge.{Edge}
-use Rattle.cap_model.proofs.EdgeOrder.{at_most_trans, at_most_before}
-use Rattle.cap_model.proofs.TableMembers.{later_at_most}
-use Rattle.cert_check.specs.Meetings.{Halved, IsFirstNotBefore}
+use Rattle.cert_check.proofs.Common.{AtMost, Before, Edge, Halved, IsFirstNotBefore, IsSorted, List, Some, arith, at_most_before, at_most_trans, later_at_most, length, slice_get, slice_get_within, ℕ, ◌+◌, ◌<◌, ◌≡◌, ◌≤◌}
 
 module _ (edges : List Edge) (e : Edge) where
   pub halved_start : Halved edges e 0 (length edges)

@@ -1,29 +1,15 @@
 -- Every step keeps what a safe state has, and so every run from the boot state stays within the policy.
-use Rattle.std.proofs.Common.{◌≡◌, ◌≢◌, ℕ, ◌==◌, Bool, true, false, ◌&&◌, ◌||◌, not, List, [], ◌∷◌, ◌++◌, Option, Some, None, refl, sym, subst, inl, inr, arith, get_or, set}
-use Rattle.std.proofs.lemmas.Bool.{cases_eq}
-use Rattle.std.proofs.lemmas.List.Elements.{All-contains, All-push, All-filter}
+use Rattle.cert_check.proofs.Common.{All-contains, All-filter, All-push, AsyncSend, Authority, Bool, Call, Cap, Capability, Content, Control, Edge, GrantBack, Handle, Has, List, Node, None, Passes, Pending, Receive, SavedReply, Some, Spec, State}
+use Rattle.cert_check.proofs.Common.{ThreadState, Valid, [], arith, boot, cases_eq, confers, content_in, false, get_or, inl, inr, kind_confers, label_of, no_node, no_thread, node_at, not, refl, set, subst, sym, thread_at, true, ℕ, ◌&&◌, ◌++◌, ◌==◌}
+use Rattle.cert_check.proofs.Common.{◌||◌, ◌∷◌, ◌≡◌, ◌≢◌}
 use Rattle.std.proofs.lemmas.Map.Views.{Contains-from_lookup}
-use Rattle.cap_model.specs.ObjectLabels.{label_of}
-use Rattle.cap_model.specs.Tables.{Has}
-use Rattle.authorities.specs.declared.authority.Authority.{Authority}
-use Rattle.authorities.specs.declared.authority.Authority.TheVariants.{Receive, AsyncSend, Grant, Control, Call, GrantBack, Handle}
-use Rattle.cap_model.specs.declared.edge.Edge.{Edge}
-use Rattle.cap_model.specs.Confers.{confers, kind_confers}
-use Rattle.cap_model.specs.Kinds.{kind_at, is_at, is_space_root, is_root_object}
+use Rattle.authorities.specs.declared.authority.Authority.TheVariants.{Grant}
+use Rattle.cap_model.specs.Kinds.{kind_at, is_at, is_space_root}
 use Rattle.cap_model.specs.Lessened.{lessened, both_rights}
-use Rattle.cap_model.specs.Lookup.{object_at}
-use Rattle.cap_model.specs.State.{Node, State, node_at, thread_at, content_in, boot, no_node, no_thread}
-use Rattle.cap_model.specs.declared.cap.Cap.{Cap}
 use Rattle.cap_model.specs.declared.kind.Kind.{Kind}
 use Rattle.cap_model.specs.declared.kind.Kind.TheVariants as kinds
-use Rattle.cap_model.specs.declared.object.Object.{Object}
 use Rattle.cap_model.specs.declared.object.Object.TheVariants as objects
 use Rattle.cap_model.specs.declared.rights.Rights.{Rights}
-use Rattle.cap_model.specs.declared.spec.Spec.{Spec}
-use Rattle.cap_model.specs.declared.state.Content.{Content}
-use Rattle.cap_model.specs.declared.state.Content.TheVariants.{Capability, SavedReply}
-use Rattle.cap_model.specs.declared.state.Pending.{Pending}
-use Rattle.cap_model.specs.declared.state.ThreadState.{ThreadState}
 use Rattle.cap_model.proofs.Conferring.{lessened_confers, lessened_kind, not_reply, not_reply_kind}
 use Rattle.cap_model.proofs.Kept.{kind_is}
 use Rattle.cap_machine.specs.declared.step.Step.{Step}
@@ -32,8 +18,8 @@ use Rattle.cap_machine.specs.Effects.{grown, without, grown_at, waiting, with_pe
 use Rattle.cap_machine.specs.Runs.{Run, Reaches}
 use Rattle.cap_machine.specs.StepTable.{Acts, Own, Peer, StepTo}
 use Rattle.cap_machine.proofs.Applied.{read_written}
-use Rattle.cert_check.specs.Valid.{Passes, Valid}
 use Rattle.cert_check.proofs.Safe.{Flows, Fine, FineReply, FineContent, FineNode, FineThread, FineIrq, FineMapped, Safe, safe_edges, boot_safe}
+use Rattle.cap_model.proofs.SpaceRoots.{root_controls}
 
 -- a fact on each item stays under a write of an item that has it
 each_after_write : {A : Type 0} (P : ℕ → A → Type 0) (xs : List A) (i : ℕ) (v d : A) → ((k : ℕ) → P k (get_or xs k d)) → P i v
@@ -75,14 +61,6 @@ module _ (labels : List ℕ) (cert : List Edge) (t : ℕ) (thread : ThreadState)
     space = λ n e. (let same : d ≡ n = cc in rw (← same) flows);
     through = fine.through;
   }
-
--- a capability to a space root confers Control
-root_controls : (spec : Spec) (cap : Cap) → is_space_root spec cap.object ≡ true → confers spec cap Control ≡ true
-root_controls spec cap is = go (object_at spec cap.object) refl where
-  go : (o : Option Object) → object_at spec cap.object ≡ o → confers spec cap Control ≡ true
-  go None here = absurd (let w : is_root_object spec.arch None ≡ true = rw here at is in cc)
-  go (Some (objects.Pages level slots)) here = rw here refl
-  go (Some _) here = absurd (let w = rw here at is in cc)
 
 module _ (spec : Spec) (labels : List ℕ) (policy cert : List Edge) (v : Valid spec labels policy cert) where
   content_fine : (s : State) (c i : ℕ) (content : Content) → Safe spec labels cert s → content_in s c i ≡ Some content

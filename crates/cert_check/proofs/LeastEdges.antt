@@ -1,19 +1,7 @@
 -- Least edges of several searches.
+use Rattle.cert_check.proofs.Common.{Authority, Cap, CapLack, Edge, Finds, LesserEdge, SlotsLack, Spec, arith, at_most_trans, before_at_most, cases_lt, confers, edge, edges_same, has, inl, inr, label_of, number_of, same_number, subst}
 use Rattle.std.specs.Prelude.{◌≡◌, ◌≢◌, ◌⊎◌, ◌<◌, ◌≤◌, ℕ, ◌+◌, Bool, true, false, List, slice_get, Option, Some, None, refl}
-use Rattle.std.proofs.Common.{inl, inr, arith, subst}
-use Rattle.std.proofs.lemmas.Bool.{cases_lt}
-use Rattle.cap_model.specs.declared.edge.Edge.{Edge}
-use Rattle.authorities.specs.declared.authority.Authority.{Authority}
-use Rattle.cap_model.specs.Tables.{has, Finds}
-use Rattle.cap_model.specs.Edges.{edge}
-use Rattle.authorities.specs.Authorities.{number_of}
-use Rattle.cap_model.proofs.EdgeOrder.{at_most_trans, before_at_most, same_number, edges_same}
-use Rattle.cap_model.specs.declared.cap.Cap.{Cap}
-use Rattle.cap_model.specs.declared.spec.Spec.{Spec}
-use Rattle.cap_model.specs.Confers.{confers}
-use Rattle.cap_model.specs.ObjectLabels.{label_of}
 use Rattle.authorities.proofs.AuthorityBits.{number_of-lt}
-use Rattle.cert_check.specs.Parts.{CapLack, SlotsLack, LesserEdge}
 
 module _ (P Q : Edge → Type 0) where
   -- the same property in other words

@@ -1,13 +1,6 @@
 -- The search for the least missing copy.
+use Rattle.cert_check.proofs.Common.{AtMost, Edge, Finds, IsFirstFrom, IsSorted, Missing, Reply, ap, arith, at_has, cases_lt, edge, has, has_at, inl, inr, later_at_most, sym}
 use Rattle.std.specs.Prelude.{◌≤◌, ◌≡◌, ◌≢◌, ◌<◌, ℕ, ◌+◌, true, false, List, slice_get, Some, refl}
-use Rattle.std.proofs.Common.{sym, ap, inl, inr, arith}
-use Rattle.std.proofs.lemmas.Bool.{cases_lt}
-use Rattle.cap_model.specs.declared.edge.Edge.{Edge}
-use Rattle.authorities.specs.declared.authority.Authority.TheVariants.{Reply}
-use Rattle.cap_model.specs.Tables.{has, IsSorted, Finds, IsFirstFrom}
-use Rattle.cap_model.specs.Edges.{AtMost, edge}
-use Rattle.cap_model.proofs.TableMembers.{at_has, has_at, later_at_most}
-use Rattle.cert_check.specs.Violations.{Missing}
 
 -- the edge of d out of s
 abbrev pub original : ℕ → Edge → Edge

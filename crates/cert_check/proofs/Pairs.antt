@@ -1,17 +1,8 @@
 -- The least violation with one edge of a partner.
-use Rattle.std.proofs.Common.{◌≡◌, ◌≢◌, ◌⊎◌, ℕ, true, false, List, Some, None, refl, sym, ap, subst, inl, inr, ◌∙◌}
-use Rattle.cap_model.specs.Edges.{edge}
-use Rattle.cap_model.specs.Tables.{has, Finds}
-use Rattle.authorities.specs.declared.authority.Authority.{Authority}
+use Rattle.cert_check.proofs.Common.{Authority, Breaks, Edge, Finds, FindsLeast, Grant, List, Meeting, Missing, None, Some, Violation, With, ap, edge, edges_same, false, first_authority, has, inl, inr, partner_authority, partner_of, refl, subst, sym}
+use Rattle.cert_check.proofs.Common.{true, ℕ, ◌∙◌, ◌≡◌, ◌≢◌, ◌⊎◌}
 use Rattle.authorities.specs.declared.authority.Authority.TheVariants as authorities
-use Rattle.cap_model.specs.declared.edge.Edge.{Edge}
-use Rattle.cap_model.proofs.EdgeOrder.{edges_same}
-use Rattle.cert_check.specs.Least.{FindsLeast}
-use Rattle.cert_check.specs.Meetings.{Breaks, With, first_authority, partner_authority, partner_of}
-use Rattle.cert_check.specs.Violations.{Missing}
-use Rattle.cert_check.specs.declared.meetings.Meeting.{Meeting}
-use Rattle.cert_check.specs.declared.meetings.Meeting.TheVariants.{Grant, Call, GrantBack}
-use Rattle.cert_check.specs.declared.violation.Violation.{Violation}
+use Rattle.cert_check.specs.declared.meetings.Meeting.TheVariants.{Call, GrantBack}
 use Rattle.cert_check.proofs.Violations.{at_first}
 
 -- an edge by its parts

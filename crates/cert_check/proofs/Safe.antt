@@ -1,26 +1,10 @@
 -- What every state of a run keeps, given the rules; that such a state has no edge between labels outside the
 -- certificate, and that the boot state is one.
-use Rattle.std.proofs.Common.{◌≡◌, ◌≢◌, ℕ, Bool, true, List, Option, Some, refl, sym, inl, inr}
-use Rattle.std.specs.List.{All, Contains}
-use Rattle.std.proofs.lemmas.List.Elements.{All-contains, All-nil, Contains-get_or}
-use Rattle.cap_model.specs.ObjectLabels.{label_of}
-use Rattle.cap_model.specs.Tables.{Has}
-use Rattle.authorities.specs.declared.authority.Authority.{Authority}
-use Rattle.authorities.specs.declared.authority.Authority.TheVariants.{Receive, AsyncSend, Control, Call, Reply, GrantBack}
-use Rattle.cap_model.specs.declared.edge.Edge.{Edge}
-use Rattle.cap_model.specs.Auth.{Held, Structural, of_buffer, of_table, of_root, of_space, of_reply, of_saved, of_mapped, of_irq, Auth}
-use Rattle.cap_model.specs.Confers.{confers, kind_confers}
-use Rattle.cap_model.specs.State.{Node, State, node_at, thread_at, irq_at, boot}
-use Rattle.cap_model.specs.declared.cap.Cap.{Cap}
+use Rattle.cert_check.proofs.Common.{All, All-contains, All-nil, AsyncSend, Auth, Authority, Bool, Call, Cap, Capability, Contains, Contains-get_or, Content, Control, Edge, GrantBack, Has, Held, List, Node, Option, Pending, Receive, Reply}
+use Rattle.cert_check.proofs.Common.{SavedReply, Some, Spec, State, Structural, ThreadState, Valid, boot, confers, inl, inr, irq_at, kind_confers, label_of, node_at, none_saved, nothing_pending, of_buffer, of_irq, of_mapped, of_reply, of_root}
+use Rattle.cert_check.proofs.Common.{of_saved, of_space, of_table, refl, sym, thread_at, true, ℕ, ◌≡◌, ◌≢◌}
 use Rattle.cap_model.specs.declared.kind.Kind.TheVariants.{Frame}
-use Rattle.cap_model.specs.declared.spec.Spec.{Spec}
-use Rattle.cap_model.specs.declared.state.Content.{Content}
-use Rattle.cap_model.specs.declared.state.Content.TheVariants.{Capability, SavedReply}
 use Rattle.cap_model.specs.declared.state.Mapped.{Mapped}
-use Rattle.cap_model.specs.declared.state.Pending.{Pending}
-use Rattle.cap_model.specs.declared.state.ThreadState.{ThreadState}
-use Rattle.cap_model.proofs.BootPlaces.{none_saved, nothing_pending}
-use Rattle.cert_check.specs.Valid.{Valid}
 
 -- between different labels the edge is in the certificate
 abbrev pub Flows : List Edge → ℕ → Authority → ℕ → Type 0

@@ -1,15 +1,7 @@
 -- A search through a table, place by place, for the least thing with a property. Each such thing x names an edge `w x` of the
 -- table.
+use Rattle.cert_check.proofs.Common.{AreOthers, AtMost, Authority, Edge, IsSorted, arith, at_has, cases_lt, has, inl, inr, later_at_most, slice_get_within}
 use Rattle.std.specs.Prelude.{◌≡◌, ◌<◌, ◌≤◌, ℕ, ◌+◌, true, List, slice_get, Some, length}
-use Rattle.std.proofs.Common.{inl, inr, arith}
-use Rattle.std.proofs.lemmas.Bool.{cases_lt}
-use Rattle.std.proofs.lemmas.Option.{slice_get_within}
-use Rattle.authorities.specs.declared.authority.Authority.{Authority}
-use Rattle.cap_model.specs.declared.edge.Edge.{Edge}
-use Rattle.cap_model.specs.Tables.{has, IsSorted}
-use Rattle.cap_model.specs.Edges.{AtMost}
-use Rattle.cert_check.specs.Parts.{AreOthers}
-use Rattle.cap_model.proofs.TableMembers.{at_has, later_at_most}
 
 -- nothing with the property names an edge before this place
 pub record NoneUpTo {X : Type 0} (P : X → Type 0) (w : X → Edge) (table : List Edge) (i : ℕ) : Type 0 where

@@ -1,14 +1,5 @@
 -- Edges that a walk passes over, since they have another authority.
-use Rattle.std.proofs.Common.{◌≡◌, ◌<◌, ◌+◌, ℕ, ap, List, slice_get, Some, refl, inl, inr, arith}
-use Rattle.std.proofs.lemmas.Bool.{cases_lt}
-use Rattle.authorities.specs.Authorities.{number_of}
-use Rattle.cap_model.specs.Edges.{edge, AtMost, Before}
-use Rattle.cap_model.specs.Tables.{IsFirstFrom, IsSorted}
-use Rattle.authorities.specs.declared.authority.Authority.{Authority}
-use Rattle.cap_model.specs.declared.edge.Edge.{Edge}
-use Rattle.cap_model.proofs.TableMembers.{later_at_most}
-use Rattle.cert_check.specs.Meetings.{Halved, IsFirstNotBefore}
-use Rattle.cert_check.specs.Parts.{AreOthers}
+use Rattle.cert_check.proofs.Common.{AreOthers, AtMost, Authority, Before, Edge, Halved, IsFirstFrom, IsFirstNotBefore, IsSorted, List, Some, ap, arith, cases_lt, edge, inl, inr, later_at_most, number_of, refl, slice_get, ℕ, ◌+◌, ◌<◌, ◌≡◌}
 
 pub others_on : (cert : List Edge) (a : Authority) (low i j : ℕ) → AreOthers cert a low i → AreOthers cert a i j
     → AreOthers cert a low j

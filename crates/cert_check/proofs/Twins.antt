@@ -1,18 +1,8 @@
 -- A violation of a rule over two labels that meet has a twin at any labels that may stand for the two, and where they meet too.
-use Rattle.std.proofs.Common.{◌≡◌, ◌≢◌, ◌≤◌, ℕ, true, false, List, refl, sym, subst, arith, ◌∙◌}
-use Rattle.cap_model.specs.Classes.{OutAlike}
-use Rattle.cap_model.specs.Edges.{edge, AtMost}
-use Rattle.cap_model.specs.Tables.{has}
-use Rattle.authorities.specs.declared.authority.Authority.{Authority}
+use Rattle.cert_check.proofs.Common.{Alike, AtMost, Authority, Breaks, Edge, Grant, List, Meeting, Missing, NotAfter, OutAlike, Violation, arith, edge, edges_same, false, first_authority, has, partner_authority, partner_of, refl, subst, sym, true, ℕ}
+use Rattle.cert_check.proofs.Common.{◌∙◌, ◌≡◌, ◌≢◌, ◌≤◌}
 use Rattle.authorities.specs.declared.authority.Authority.TheVariants as authorities
-use Rattle.cap_model.specs.declared.edge.Edge.{Edge}
-use Rattle.cap_model.proofs.EdgeOrder.{edges_same}
-use Rattle.cert_check.specs.Least.{NotAfter}
-use Rattle.cert_check.specs.Meetings.{Alike, Breaks, first_authority, partner_authority, partner_of}
-use Rattle.cert_check.specs.Violations.{Missing}
-use Rattle.cert_check.specs.declared.meetings.Meeting.{Meeting}
-use Rattle.cert_check.specs.declared.meetings.Meeting.TheVariants.{Grant, Call, GrantBack}
-use Rattle.cert_check.specs.declared.violation.Violation.{Violation}
+use Rattle.cert_check.specs.declared.meetings.Meeting.TheVariants.{Call, GrantBack}
 use Rattle.cert_check.proofs.Violations.{at_first}
 
 -- the same violation where s has the rule's first edge to e, and r the partner's

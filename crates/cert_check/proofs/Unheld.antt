@@ -1,20 +1,8 @@
 -- The least edge of the boot state that is lacking, over all objects.
+use Rattle.cert_check.proofs.Common.{AsyncSend, BreaksBoot, CNode, Cap, Edge, Entry, Finds, Irq, LesserEdge, LinkLack, ObjectLack, OfTcb, Pages, SlotsLack, Spec, Thread, ThreadLack, arith, cases_lt, has, inl, inr, label_of, slice_get_within, subst}
 use Rattle.std.specs.Prelude.{◌≡◌, ◌≢◌, ◌⊎◌, ◌<◌, ◌≤◌, ℕ, ◌+◌, true, false, List, slice_get, length, Option, Some, None, refl}
-use Rattle.std.proofs.Common.{inl, inr, arith, subst}
-use Rattle.std.proofs.lemmas.Bool.{cases_lt}
-use Rattle.std.proofs.lemmas.Option.{slice_get_within}
-use Rattle.cap_model.specs.declared.edge.Edge.{Edge}
-use Rattle.authorities.specs.declared.authority.Authority.TheVariants.{AsyncSend}
-use Rattle.cap_model.specs.Tables.{has, Finds}
-use Rattle.cap_model.specs.declared.spec.Entry.{Entry}
-use Rattle.cap_model.specs.declared.cap.Cap.{Cap}
 use Rattle.cap_model.specs.declared.object.Tcb.{Tcb}
 use Rattle.cap_model.specs.declared.level.Level.{Level}
-use Rattle.cap_model.specs.declared.object.Object.TheVariants.{CNode, Thread, Pages, Irq}
-use Rattle.cap_model.specs.declared.spec.Spec.{Spec}
-use Rattle.cap_model.specs.ObjectLabels.{label_of}
-use Rattle.cert_check.specs.Violations.{BreaksBoot}
-use Rattle.cert_check.specs.Parts.{OfTcb, SlotsLack, LinkLack, ThreadLack, ObjectLack, LesserEdge}
 use Rattle.cert_check.proofs.LeastEdges.{finds_same, finds_either}
 use Rattle.cert_check.proofs.Asked.{AskedSome, held_asked, structural_asked, asked_at}
 

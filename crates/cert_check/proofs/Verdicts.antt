@@ -1,27 +1,14 @@
 -- No edge is lacking exactly where the rules hold.
+use Rattle.cert_check.proofs.Common.{AsyncSend, Authority, BreaksBind, BreaksBoot, BreaksCall, BreaksControl, Call, Control, Edge, GrantBack, Handle, Has, Held, Holds, LeastOf, Missing, Passes, Receive, Reply, Spec, Structural, Valid, Violation}
+use Rattle.cert_check.proofs.Common.{arith, boot, cases_lt, edge, has, inl, inr, subst, sym, ◌+◌, ◌<◌}
 use Rattle.std.specs.Prelude.{◌≡◌, ◌≢◌, ℕ, Bool, true, false, List, Option, refl}
-use Rattle.std.proofs.Common.{inl, inr, sym, subst}
-use Rattle.cap_model.specs.declared.edge.Edge.{Edge}
-use Rattle.authorities.specs.declared.authority.Authority.{Authority}
-use Rattle.authorities.specs.declared.authority.Authority.TheVariants.{Receive, AsyncSend, Grant, Control, Call, Reply, GrantBack, Handle}
-use Rattle.cap_model.specs.Tables.{has, Has}
-use Rattle.cap_model.specs.Edges.{edge}
-use Rattle.cap_model.specs.declared.spec.Spec.{Spec}
-use Rattle.cap_model.specs.State.{boot}
-use Rattle.cap_model.specs.Auth.{Held, Structural}
-use Rattle.cert_check.specs.declared.violation.Violation.{Violation}
-use Rattle.cert_check.specs.Valid.{Valid, Passes}
-use Rattle.cert_check.specs.Violations.{Missing, BreaksBoot, BreaksControl, BreaksCall, BreaksBind}
-use Rattle.cert_check.specs.declared.verdict.Verdict.TheVariants.{No}
-use Rattle.std.proofs.Common.{◌<◌, ◌+◌, arith}
-use Rattle.std.proofs.lemmas.Bool.{cases_lt}
+use Rattle.authorities.specs.declared.authority.Authority.TheVariants.{Grant}
+use Rattle.cert_check.specs.declared.verdict.Verdict.TheVariants.{No, Yes}
 use Rattle.std.proofs.lemmas.Grind.{common_steps}
-use Rattle.cert_check.specs.Least.{Holds, LeastOf}
 use Rattle.cert_check.specs.Rules.{rule_number}
 use Rattle.cert_check.specs.Verdicts.{Judged}
 use Rattle.cert_check.specs.declared.rule.Rule.{Rule}
 use Rattle.cert_check.specs.declared.rule.Rule.TheVariants as rules
-use Rattle.cert_check.specs.declared.verdict.Verdict.TheVariants.{Yes}
 
 -- what isn't lacking is there
 there : (table : List Edge) (e : Edge) → (has table e ≡ false → ⊥) → has table e ≡ true

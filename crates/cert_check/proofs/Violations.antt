@@ -1,11 +1,5 @@
 -- The order of violations, and which of two is kept.
-use Rattle.std.proofs.Common.{◌≡◌, ◌⊎◌, Option, Some, None, refl, sym, subst, inl, inr, ◌∙◌}
-use Rattle.cap_model.specs.Edges.{AtMost, Before}
-use Rattle.cap_model.specs.declared.edge.Edge.{Edge}
-use Rattle.cap_model.proofs.EdgeOrder.{at_most_self, at_most_trans, at_most_both, not_before_self}
-use Rattle.cert_check.specs.Least.{FindsLeast, NotAfter}
-use Rattle.cert_check.specs.Parts.{LesserOf}
-use Rattle.cert_check.specs.declared.violation.Violation.{Violation}
+use Rattle.cert_check.proofs.Common.{AtMost, Before, Edge, FindsLeast, LesserOf, None, NotAfter, Option, Some, Violation, at_most_both, at_most_self, at_most_trans, inl, inr, not_before_self, refl, subst, sym, ◌∙◌, ◌≡◌, ◌⊎◌}
 
 abbrev pub first_of : Violation → Edge
 first_of v = v.first

@@ -1,27 +1,14 @@
 -- A walk through the first edges of a rule, past the partners that are held.
-use Rattle.std.proofs.Common.{◌≡◌, ◌⊎◌, ◌<◌, ◌≤◌, ◌+◌, ◌-◌, ◌==◌, ℕ, nat_lt, nat_le, true, false, get_or, List, [], ◌∷◌, ◌++◌, slice_get, Option, Some, None, IfSome, length, refl, sym, ap, subst, inl, inr, arith, ◌∙◌}
-use Rattle.std.specs.List.{Contains}
+use Rattle.cert_check.proofs.Common.{Alike, AreMet, AreOthers, AtMost, Breaks, Contains, Contains-append_left, Contains-permutation, Contains-push, Contains-push_cases, Edge, FindsLeast, FindsLeastAt, GoesLike, HasPartners, IfSome, IsLeastAlike}
+use Rattle.cert_check.proofs.Common.{IsLed, IsNonDecreasingBy-from_sort, IsPermutation-sym, IsReach, IsSorted, LesserOf, List, MeetToo, Meeting, None, OfPartners, Option, Some, Violation, With, [], ap, arith, at_contains, at_has, cases_lt}
+use Rattle.cert_check.proofs.Common.{contains_at, edge, end_of, eqb-false, false, first_authority, get_or, get_or_from_slice_get, has, has_at, inl, inr, later_at_most, leb-false, leb-true, length, ltb-false, ltb-true, nat_le, nat_lt}
+use Rattle.cert_check.proofs.Common.{partner_authority, partner_of, refl, slice_get, slice_get-get_or, slice_get_within, subst, sym, true, ℕ, ◌++◌, ◌+◌, ◌-◌, ◌<◌, ◌==◌, ◌∙◌, ◌∷◌, ◌≡◌, ◌≤◌, ◌⊎◌}
 use Rattle.std.specs.List.Sorted.{IsNonDecreasingBy, IsPartitionPoint, IsPermutation, IsSorted as IsInOrder}
 use Rattle.std.specs.Ordering.{is_lt, nat_cmp, ordering_then}
 use Rattle.std.specs.declared.cmp.Ordering.{Ordering}
 use Rattle.std.specs.declared.cmp.Ordering.TheVariants.{Less, Equal, Greater}
-use Rattle.std.proofs.lemmas.Bool.{cases_lt, eqb-false, leb-false, leb-true, ltb-false, ltb-true}
-use Rattle.std.proofs.lemmas.List.Elements.{Contains-append_left, Contains-push, Contains-push_cases}
-use Rattle.std.proofs.lemmas.List.Sorted.{Contains-permutation, IsNonDecreasingBy-from_sort, IsPermutation-sym}
-use Rattle.std.proofs.lemmas.Option.{slice_get_within, slice_get-get_or, get_or_from_slice_get}
-use Rattle.cap_model.specs.Classes.{IsLeastAlike}
-use Rattle.cap_model.specs.Edges.{edge, AtMost}
-use Rattle.cap_model.specs.Tables.{has, IsSorted}
-use Rattle.cap_model.specs.declared.edge.Edge.{Edge}
-use Rattle.cap_model.proofs.TableMembers.{at_has, has_at, later_at_most}
-use Rattle.cap_model.proofs.BootPlaces.{at_contains, contains_at}
-use Rattle.cert_check.specs.Least.{FindsLeast}
-use Rattle.cert_check.specs.Meetings.{Alike, AreMet, Breaks, GoesLike, HasPartners, IsLed, IsReach, MeetToo, OfPartners, With, end_of, first_authority, partner_authority, partner_of}
-use Rattle.cert_check.specs.Parts.{AreOthers, FindsLeastAt, LesserOf}
-use Rattle.cert_check.specs.declared.meetings.Meeting.{Meeting}
 use Rattle.cert_check.specs.declared.meetings.Meeting.TheVariants as rules
 use Rattle.cert_check.specs.declared.partners.Met.{Met}
-use Rattle.cert_check.specs.declared.violation.Violation.{Violation}
 use Rattle.cert_check.proofs.Pairs.{first_has, first_is, partner_has, partner_is, partner_to, parts}
 use Rattle.cert_check.proofs.Search.{NoneUpTo, none_start, none_more, none_on}
 use Rattle.cert_check.proofs.Twins.{twin, twin_first, twin_partner, twin_breaks, twin_not_after, alike_self, alike_has, alike_chain, first_no_reply, partner_no_reply}

@@ -1,15 +1,11 @@
 -- What the builders of a command make of `app_of`.
-use Rattle.std.proofs.Common.{◌≡◌, ◌∙◌, ◌<◌, ◌+◌, ℕ, false, true, map, take, ap, ap₂, sym, List, [], ◌∷◌, ◌++◌, get_or, length}
-use Rattle.std.specs.Borrow.{Bor}
+use Rattle.command_words.proofs.Common.{AddsArg, AddsSubcommand, App, Bor, List, Rule, Shape, Text, [], ap, app_of, app_of_fields, ap₂, bare, false, get_or, leaf, length, map, new_app, new_rule, new_shape, rule_of, slot, sym, take, true, with_rule}
+use Rattle.command_words.proofs.Common.{with_subcommand, ℕ, ◌++◌, ◌+◌, ◌<◌, ◌∙◌, ◌∷◌, ◌≡◌}
 use Rattle.std.proofs.lemmas.List.{take_more, map-append}
-use Rattle.clap.specs.Words.{AddsArg, AddsSubcommand, app_of, rule_of, with_rule, with_subcommand}
-use Rattle.clap.specs.Walk.{Rule, Text}
-use Rattle.clap.specs.Simple.{App, Shape, app_of_fields, new_app, new_rule, new_shape}
 use Rattle.clap.specs.declared.builder.arg.Arg.{Arg}
 use Rattle.clap.specs.declared.builder.command.Command.{Command}
 use Rattle.clap.specs.declared.builder.command.Command.TheOpen.{Command-F}
 use Rattle.clap.specs.declared.builder.command.Command.TheViews.{out-Command as fields_of}
-use Rattle.command_words.specs.Clap.{bare, leaf, slot}
 
 pub rule_required : (a b : Arg) (id : Text) → b ≡ record a { required = true } → rule_of a ≡ new_rule id → rule_of b ≡ slot id
 rule_required a b id e is = ap rule_of e ∙ ap (λ (r : Rule). record r { required = true }) is

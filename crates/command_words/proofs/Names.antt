@@ -1,17 +1,11 @@
 -- What `clap` makes of the first word, which names a command.
-use Rattle.std.proofs.Common.{◌≡◌, ◌∙◌, ◌||◌, Bool, codes, true, false, refl, sym, ap, ap₂, List, [], ◌∷◌, map, Option, Some, None, is_some, option_map}
-use Rattle.std.specs.List.{find, fold, list_all}
-use Rattle.std.specs.Str.{bytes_eq, IsUtf8}
-use Rattle.std.proofs.Math.Bool.{and-false, or-false}
-use Rattle.std.proofs.lemmas.Slice.Eq.{bytes_eq-Decides}
-use Rattle.clap.specs.Walk.{Names, Row, Text, Walk, answers_to, finished, idle, is_empty, nothing_held, rows_after, settled, stop_after, subcommand_met, walk, walk_from, walked}
-use Rattle.clap.specs.Simple.{App, Shape, entered, label_of, rows_at}
-use Rattle.clap.specs.Kinds.{Kinds, or_else}
-use Rattle.clap.specs.Faults.{built_fault, check_fault, defaults_fault, entered_fault, level_fault, settle_fault, turn_fault, walk_fault}
+use Rattle.command_words.proofs.Common.{App, Bool, IsUtf8, Kinds, List, Names, None, Option, Row, Shape, Some, Text, Walk, [], and-false, answers_to, ap, ap₂, bare, built_fault, bytes_eq, bytes_eq-Decides, check_fault, codes, entered, entered_fault}
+use Rattle.command_words.proofs.Common.{false, find, finished, fold, idle, is_empty, is_some, label_of, level_fault, list_all, map, nothing_held, option_map, or-false, or_else, refl, rows_after, rows_at, settle_fault, settled, stop_after}
+use Rattle.command_words.proofs.Common.{subcommand_met, sym, true, turn_fault, walk, walk_from, walk_stopped, ◌||◌, ◌∙◌, ◌∷◌, ◌≡◌}
+use Rattle.clap.specs.Walk.{walked}
+use Rattle.clap.specs.Faults.{defaults_fault, walk_fault}
 use Rattle.clap.proofs.FaultLemmas.{stopped_fault}
 use Rattle.clap.proofs.SimpleLemmas.{is_nil, label_first}
-use Rattle.clap.proofs.WalkLemmas.{walk_stopped}
-use Rattle.command_words.specs.Clap.{bare}
 use Rattle.cam_base.proofs.Lists.{find_passes as found_passes}
 use Rattle.command_words.proofs.Slots.{find_passes, first_fails, first_word_fails, passes}
 

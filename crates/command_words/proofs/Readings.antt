@@ -1,27 +1,16 @@
 -- What the program's reader makes of its words is what `read_words` says.
-use Rattle.std.proofs.Common.{◌≡◌, ◌∙◌, ◌||◌, ℕ, Bool, cond, codes, true, false, refl, sym, ap, ap₂, subst, List, [], ◌∷◌, map, Option, Some, None, String, string_bytes, true≢false, option_map, ⊎_elim}
-use Rattle.std.proofs.lemmas.Option.{same_Some}
-use Rattle.std.specs.Prelude.{option_and_then, Box, Result, Ok, Err, IfOk, MatchResult}
+use Rattle.command_words.proofs.Common.{App, AreUtf8, Bool, Box, Command, Err, HasKind, IfOk, IsUtf8, IsUtf8-string_bytes, Kinds, List, MatchResult, None, Ok, Option, OutOfMemory, Result, Row, Shape, Some, String, Text, [], ap, ap₂, built, bytes_eq}
+use Rattle.command_words.proofs.Common.{bytes_eq-Decides, codes, command_of, cond, count_of, entered, false, fault_of, find, is_dashed, is_simple, is_simple_and_free, label_of, level_fault, list_all, made_of, map, nothing_held, of_count, of_four}
+use Rattle.command_words.proofs.Common.{of_one, of_three, of_two, option_and_then, option_map, read_words, reader, refl, rows_after, same_Some, string_bytes, subcommand_of, subcommand_rows, subst, sym, taken, true, true≢false, ℕ, ⊎_elim, ◌||◌, ◌∙◌}
+use Rattle.command_words.proofs.Common.{◌∷◌, ◌≡◌}
 use Rattle.std.specs.Box.{box_value}
-use Rattle.std.specs.List.{find, list_all}
-use Rattle.std.specs.Str.{bytes_eq, IsUtf8}
-use Rattle.std.proofs.lemmas.Str.{IsUtf8-string_bytes}
-use Rattle.std.proofs.lemmas.Slice.Eq.{bytes_eq-Decides}
-use Rattle.clap.specs.Walk.{Row, Text, nothing_held, rows_after}
-use Rattle.clap.specs.Simple.{App, Shape, built, entered, is_simple, label_of, subcommand_of, subcommand_rows}
-use Rattle.clap.specs.Kinds.{HasKind, Kinds}
 use Rattle.clap.specs.Values.{kind_of}
 use Rattle.clap.specs.declared.error.Error.{Error}
-use Rattle.clap.specs.declared.error.kind.ErrorKind.TheVariants.{OutOfMemory}
-use Rattle.clap.specs.Faults.{fault_of, is_simple_and_free, level_fault}
 use Rattle.clap.specs.declared.parser.matches.SubCommand.{SubCommand}
 use Rattle.clap.specs.declared.parser.matches.ArgMatches.TheViews.{out-SubCommand}
 use Rattle.clap.proofs.OnLiterals.{clap_on_literals}
-use Rattle.command_words.specs.declared.command.Command.{Command}
 use Rattle.command_words.specs.declared.command.Command.TheVariants.{Compile, Check, List as Listing, Explain, Replay, Generate, Audit, Certify, Sections, Plan}
 use Rattle.command_words.specs.declared.command.WordsError.{WordsError}
-use Rattle.command_words.specs.Clap.{made_of, reader}
-use Rattle.command_words.specs.Words.{AreUtf8, command_of, count_of, is_dashed, of_count, of_four, of_one, of_three, of_two, read_words, taken}
 use Rattle.command_words.proofs.Slots.{AreTexts, has_slots, level_fails, level_same, passes, some≢none}
 use Rattle.command_words.proofs.Names.{command_met, named, no_command}
 

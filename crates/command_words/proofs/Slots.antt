@@ -1,24 +1,15 @@
 -- What `clap` makes of the words after a command, of which each argument takes one word.
-use Rattle.std.proofs.Common.{◌≡◌, ◌∙◌, ◌+◌, ◌==◌, ◌&&◌, ◌||◌, ◌<◌, ◌⊎◌, inl, inr, arith, ℕ, Bool, cond, codes, true, false, not, refl, sym, ap, ap₂, subst, List, [], ◌∷◌, ◌++◌, length, min, Option, Some, None, is_some, true≢false, option_map}
-use Rattle.std.proofs.lemmas.Option.{same_Some}
-use Rattle.std.specs.Prelude.{slice_get}
-use Rattle.std.specs.List.{find, fold, list_all}
+use Rattle.command_words.proofs.Common.{Bool, Held, IsCharBoundary-after_ascii, IsUtf8, IsUtf8-drop, Kinds, List, None, Option, Row, Rule, Shape, Some, Text, UnknownArgument, Walk, [], and-false, ap, ap₂, arg_by_index, arg_by_long, arg_by_short}
+use Rattle.command_words.proofs.Common.{arith, bytes_eq, bytes_eq-Decides, chars, check_fault, codes, cond, defaults_fault, encodes-chars, false, find, finished, fold, idle, inl, inr, is_dashed, is_multiple, is_pending, is_some, length, level_fault}
+use Rattle.command_words.proofs.Common.{list_all, min, not, nothing_held, option_map, or-false, or_else, positional_fault, refl, rows_after, same_Some, settle_fault, settled, settled_rows, slice_get, stray_fault, subst, sym, taken, takes_several}
+use Rattle.command_words.proofs.Common.{to_positional, true, true≢false, turn_fault, walk, walk_from, ℕ, ◌&&◌, ◌++◌, ◌+◌, ◌<◌, ◌==◌, ◌||◌, ◌∙◌, ◌∷◌, ◌≡◌, ◌⊎◌}
 use Rattle.std.specs.Option.{option_map_or}
-use Rattle.std.specs.Str.{bytes_eq, chars, IsUtf8}
-use Rattle.std.proofs.lemmas.Slice.Eq.{bytes_eq-Decides}
-use Rattle.std.proofs.lemmas.Str.{IsUtf8-drop, IsCharBoundary-after_ascii, encodes-chars}
 use Rattle.std.proofs.lemmas.Bool.{and_parts, not-true, or_parts}
 use Rattle.std.proofs.lemmas.Bool.Decides.{Decides-eqb}
-use Rattle.std.proofs.Math.Bool.{and-false, or-false}
 use lib.Utf8.{encodes}
 use Rattle.clap.specs.Lexer.{name_and_value, long_of, short_of, usize_max}
-use Rattle.clap.specs.Walk.{Held, Row, Rule, Text, Walk, arg_by_index, arg_by_long, arg_by_short, finished, idle, is_multiple, nothing_held, rows_after, settled_rows, takes_several, to_positional, walk, walk_from, walked}
-use Rattle.clap.specs.Simple.{Shape}
-use Rattle.clap.specs.Kinds.{Kinds, or_else}
-use Rattle.clap.specs.Faults.{check_fault, defaults_fault, flags_fault, level_fault, positional_fault, settle_fault, stray_fault, turn_fault, walk_fault}
-use Rattle.clap.specs.Walk.{is_pending, settled}
-use Rattle.clap.specs.declared.error.kind.ErrorKind.TheVariants.{UnknownArgument}
-use Rattle.command_words.specs.Words.{is_dashed, taken}
+use Rattle.clap.specs.Walk.{walked}
+use Rattle.clap.specs.Faults.{flags_fault, walk_fault}
 
 pub some≢none : {X : Type 0} (x : X) → Some x ≡ None → ⊥
 some≢none x e = true≢false (ap (λ o. is_some o) e)

@@ -1,11 +1,5 @@
 -- The tables of a domain, put together.
-use Rattle.std.proofs.Common.{◌≡◌, ◌∙◌, ℕ, List, ap}
-use Rattle.std.specs.List.{flat_map}
-use Rattle.domain_table.specs.Pages.{rows_of_space}
-use Rattle.domain_table.specs.Rows.{Row}
-use Rattle.domain_table.specs.Tables.{root_name, slot_line, tables_in, thread_line, window_line}
-use Rattle.domain_table.specs.declared.table.DomainTables.{DomainTables}
-use Rattle.system_spec.specs.MapText.{Named}
+use Rattle.domain_table.proofs.Common.{DomainTables, List, Named, Row, ap, flat_map, root_name, rows_of_space, slot_line, tables_in, thread_line, window_line, ℕ, ◌∙◌, ◌≡◌}
 use Rattle.system_spec.specs.declared.map_line.MapLine.{MapLine}
 
 abbrev pub made : List Row → List Row → List Row → List Row → DomainTables

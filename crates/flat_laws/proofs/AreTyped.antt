@@ -1,19 +1,8 @@
 -- The ends of a source in which no fault of names or types stands are typed.
-use Rattle.std.proofs.Common.{◌≡◌, true, None, sym, ◌∙◌, ap, subst}
-use Rattle.adl_meaning.specs.Prelude.{AreNamesSound, Body, Component, Part, Role, Source, flat_of, hierarchy_of, is_hardware, is_interface, item_of, leaf_of, option_map_or, place_by, slice_get}
-use Rattle.adl_meaning.specs.declared.connector.Connector.{Connector}
-use Rattle.adl_meaning.specs.declared.flat.FlatConnection.{FlatConnection}
-use Rattle.adl_meaning.specs.declared.flat.FlatEnd.{FlatEnd}
-use Rattle.adl_hierarchy.specs.Leads.{AreDotted}
-use Rattle.adl_hierarchy.proofs.Bodies.{body_number}
+use Rattle.flat_laws.proofs.Common.{AreDotted, AreNamesSound, AreTyped, Body, Component, Connector, FlatConnection, FlatEnd, None, Part, Role, Source, ap, body_number, end_rule, first_type_fault, flat_of, hierarchy_of, is_hardware, is_interface}
+use Rattle.flat_laws.proofs.Common.{is_kind_of, is_there, item_of, leaf_of, members_at, option_map_or, place_by, slice_get, subst, sym, true, well_typed, ◌∙◌, ◌≡◌}
 use Rattle.adl_hierarchy.proofs.Connections.{connections_stand}
-use Rattle.adl_hierarchy.proofs.Leading.{is_there}
 use Rattle.adl_program.proofs.Joined.{joined_leaf}
-use Rattle.adl_types.specs.TypeFaults.{is_kind_of, first_type_fault}
-use Rattle.adl_types.proofs.Typed.{well_typed}
-use Rattle.conn_rules.specs.Ends.{end_rule}
-use Rattle.cspace_layout.specs.Members.{members_at}
-use Rattle.flat_laws.specs.Typed.{AreTyped}
 use Rattle.flat_laws.proofs.Declared.{end_declared}
 use Rattle.flat_laws.proofs.EndMembers.{interface_placed}
 use Rattle.flat_laws.proofs.FlatEnds.{strung_of, end_of}

@@ -1,9 +1,5 @@
 -- The flat system of a source within its limits has small numbers.
-use Rattle.std.proofs.Common.{◌≡◌, ◌≤◌, length, None, ap, subst, arith}
-use Rattle.std.proofs.lemmas.List.{length-map}
-use Rattle.std.proofs.lemmas.Option.{slice_get_within}
-use Rattle.adl_meaning.specs.Prelude.{AreNamesSound, HaveFewMembers, Source, connections, first_flat_fault, flat_connection, flat_of, hierarchy_of, leaf_of, leaves}
-use Rattle.adl_meaning.specs.declared.flat.FlatConnection.{FlatConnection}
+use Rattle.flat_laws.proofs.Common.{AreNamesSound, FlatConnection, HaveFewMembers, None, Source, ap, arith, connections, first_flat_fault, flat_connection, flat_of, hierarchy_of, leaf_of, leaves, length, length-map, slice_get_within, subst, ◌≡◌, ◌≤◌}
 use Rattle.adl_meaning.proofs.SoundNames.{one_assembly}
 use Rattle.cspace_layout.specs.Within.{IsWithin}
 use Rattle.flat_laws.proofs.FlatEnds.{strung_of, end_of}

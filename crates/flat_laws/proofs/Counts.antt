@@ -1,7 +1,5 @@
 -- Elements that pass a test, counted.
-use Rattle.std.proofs.Common.{◌≡◌, ◌≤◌, ◌+◌, ℕ, zero, suc, Bool, true, false, cond, List, [], ◌∷◌, Some, refl, ◌∙◌, ap, arith}
-use Rattle.adl_meaning.specs.Prelude.{count_by, slice_get}
-use Rattle.std.proofs.lemmas.List.Sums.{sum_by-cons}
+use Rattle.flat_laws.proofs.Common.{Bool, List, Some, [], ap, arith, cond, count_by, false, refl, slice_get, suc, sum_by-cons, true, zero, ℕ, ◌+◌, ◌∙◌, ◌∷◌, ◌≡◌, ◌≤◌}
 
 abbrev one : Bool → ℕ
 one b = cond b 1 0

@@ -1,19 +1,12 @@
 -- The interface that an end joins is one that the component of its leaf declares.
-use Rattle.std.proofs.Common.{◌≡◌, ℕ, zero, suc, Bool, true, false, cond, List, length, [], ◌∷◌, map, Option, Some, option_map, is_some, sym, ◌∙◌, ap, subst}
-use Rattle.adl_meaning.specs.Prelude.{AreNamesSound, Component, Composition, End, Export, Hierarchy, Id, Instance, Known, Name, Part, Reached, Source, Wire, behind, body, bytes_eq, components, export_named, exports_of, hierarchy_of}
-use Rattle.adl_meaning.specs.declared.item_at.ItemAt.{ItemAt}
-use Rattle.adl_meaning.specs.Prelude.{instances_in, interface_of, is_composite, joined_by, kind_named, known_in, name_of, option_and_then, option_map_or, part_named, port_in, reached, reached_by, reached_within, slice_get, unknown_interface}
-use Rattle.adl_meaning.specs.Prelude.{wires_of}
-use Rattle.std.proofs.lemmas.Option.{option_and_then_some}
-use Rattle.adl_hierarchy.specs.Leads.{AreDotted}
-use Rattle.adl_hierarchy.proofs.Bodies.{part_of_body}
+use Rattle.flat_laws.proofs.Common.{AreDotted, AreNamesSound, Bool, Component, Composition, End, Export, Hierarchy, Id, Instance, IsIn, ItemAt, Known, List, Name, Option, Part, Reached, Some, Source, Wire, [], ap, behind, body, bytes_eq, components}
+use Rattle.flat_laws.proofs.Common.{cond, export_named, exports_of, false, found, from_map, hierarchy_of, instances_in, interface_known, interface_of, is_composite, is_some, joined_by, kind_named, known_in, length, map, map_some, name_of}
+use Rattle.flat_laws.proofs.Common.{option_and_then, option_and_then_some, option_map, option_map_or, own_connection, own_export, part_named, part_of_body, port_in, reached, reached_by, reached_within, slice_get, subst, suc, sym, true}
+use Rattle.flat_laws.proofs.Common.{unknown_interface, wires_of, zero, ℕ, ◌∙◌, ◌∷◌, ◌≡◌}
 use Rattle.adl_hierarchy.proofs.KnownNames.{typed, no_unknown, instance_typed, export_known, end_known, IsKnown, dotted_known}
-use Rattle.adl_hierarchy.proofs.Leading.{interface_known, own_export, own_connection}
 use Rattle.adl_hierarchy.proofs.PartNames.{names_once}
 use Rattle.adl_hierarchy.proofs.Repeats.{find_once}
 use Rattle.adl_hierarchy.proofs.Whole.{parts_whole}
-use Rattle.cam_base.specs.Gather.{IsIn}
-use Rattle.cam_base.proofs.NumberedLists.{from_map, found, map_some}
 
 -- c.j in body k: an instance, and an interface that its component declares
 record IsKnownPort (s : Source) (k : ℕ) (port : Name × Name) : Type 0 where

@@ -1,6 +1,6 @@
 -- The interface that an end joins is the one that stands at its place among the members of the leaf's component.
-use Rattle.std.proofs.Common.{◌≡◌, zero, suc, Bool, true, false, cond, List, [], ◌∷◌, Option, Some, option_map, refl, sym, ◌∙◌, ap}
-use Rattle.adl_meaning.specs.Prelude.{Component, Id, Interface, Member, Name, bytes_eq, declared_by, find, flat_map, interface_of, is_interface, option_and_then, place_by, slice_get}
+use Rattle.flat_laws.proofs.Common.{Bool, Component, Id, Interface, List, Member, Name, Option, Some, [], ap, bytes_eq, cond, declared_by, false, find, flat_map, interface_of, is_interface, option_and_then, option_map, place_by, refl, slice_get, suc}
+use Rattle.flat_laws.proofs.Common.{sym, true, zero, ◌∙◌, ◌∷◌, ◌≡◌}
 use Rattle.adl_ast.specs.declared.component.Member.TheVariants as members
 use Rattle.adl_meaning.specs.Members.{Declared, an_interface, an_attribute, a_lock, as_interface}
 

@@ -1,10 +1,7 @@
 -- The ends of one connection are no more than those of all.
-use Rattle.std.proofs.Common.{◌≡◌, ◌≤◌, List, length, [], ◌∷◌, ◌++◌, Option, Some, None, option_map, refl, subst, inl, inr, arith}
-use Rattle.adl_meaning.specs.Prelude.{AreNamesSound, End, Source, Strung, connections, first_flat_fault, first_join_fault, first_size_fault, flat_end, flat_ends, flat_map, hierarchy_of, joined_by, option_or}
-use Rattle.std.proofs.lemmas.List.{length-append}
+use Rattle.flat_laws.proofs.Common.{AreInLimits, AreNamesSound, End, IsIn, List, None, Option, Some, Source, Strung, [], arith, connections, first_flat_fault, first_join_fault, first_size_fault, flat_end, flat_ends, flat_map, hierarchy_of, in_limits}
+use Rattle.flat_laws.proofs.Common.{inl, inr, joined_by, length, length-append, option_map, option_or, refl, subst, ◌++◌, ◌∷◌, ◌≡◌, ◌≤◌}
 use Rattle.cam_base.proofs.Lists.{length-filter_map}
-use Rattle.adl_hierarchy.proofs.Limits.{AreInLimits, in_limits}
-use Rattle.cam_base.specs.Gather.{IsIn}
 
 pub no_first : {X : Type 0} (a b : Option X) → option_or a b ≡ None → a ≡ None
 no_first None b e = refl

@@ -1,13 +1,6 @@
 -- The connections of a flat system and their ends, as those of the hierarchy.
-use Rattle.std.proofs.Common.{◌≡◌, ℕ, suc, List, [], ◌∷◌, ◌++◌, map, Some, option_map, refl, sym, ◌∙◌, ap, inl, inr}
-use Rattle.adl_meaning.specs.Prelude.{AreNamesSound, End, Placed, Reached, Source, Strung, connections, flat_connection, flat_end, flat_of, hierarchy_of, joined_by, leaf_number, leaf_of, leaves, slice_get}
-use Rattle.adl_meaning.specs.declared.flat.FlatConnection.{FlatConnection}
-use Rattle.adl_meaning.specs.declared.flat.FlatEnd.{FlatEnd}
-use Rattle.adl_hierarchy.proofs.DomainNames.{leaf_number_is}
-use Rattle.adl_hierarchy.proofs.Joining.{joined}
-use Rattle.adl_hierarchy.proofs.Lists.{in_get}
-use Rattle.cam_base.proofs.NumberedLists.{get_map, from_filter_map, map_some, from_get_map}
-use Rattle.cam_base.specs.Gather.{IsIn}
+use Rattle.flat_laws.proofs.Common.{AreNamesSound, End, FlatConnection, FlatEnd, IsIn, List, Placed, Reached, Some, Source, Strung, [], ap, connections, flat_connection, flat_end, flat_of, from_filter_map, from_get_map, get_map, hierarchy_of, in_get}
+use Rattle.flat_laws.proofs.Common.{inl, inr, joined, joined_by, leaf_number, leaf_number_is, leaf_of, leaves, map, map_some, option_map, refl, slice_get, suc, sym, ℕ, ◌++◌, ◌∙◌, ◌∷◌, ◌≡◌}
 
 pub place_in : {X : Type 0} (xs : List X) (x : X) → IsIn x xs → (n : ℕ) × (slice_get xs n ≡ Some x)
 place_in [] x i = absurd i

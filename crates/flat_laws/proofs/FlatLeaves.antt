@@ -1,22 +1,12 @@
 -- The leaves and domains of a flat system, by number.
-use Rattle.std.proofs.Common.{◌≡◌, ◌≤◌, ℕ, Bool, true, false, cond, List, [], ◌∷◌, map, Option, Some, None, refl, sym, ◌∙◌, ap, subst, unwrap_or, length, arith}
-use Rattle.adl_meaning.specs.Prelude.{AreNamesSound, Body, Component, HaveFewMembers, Hierarchy, Member, Part, Path, Placed, Source, body, components, domain_number, domain_of, domains, flat_domain, flat_of, hierarchy_of}
-use Rattle.adl_meaning.specs.declared.flat.Domain.{Domain}
-use Rattle.adl_meaning.specs.declared.flat.Leaf.{Leaf}
-use Rattle.adl_meaning.specs.declared.item_at.ItemAt.{ItemAt}
-use Rattle.adl_meaning.specs.Prelude.{is_hardware, item_of, leaf_of, leaves, part_named, slice_get, top_number}
-use Rattle.std.proofs.lemmas.List.{length-map}
-use Rattle.std.proofs.lemmas.Option.{option_and_then_some}
+use Rattle.flat_laws.proofs.Common.{AreNamesSound, Body, Bool, Component, Domain, HaveFewMembers, Hierarchy, IsIn, ItemAt, Leaf, List, Member, None, Option, Part, Path, Placed, Some, Source, [], all_in, ap, arith, at_place, body, body_number}
+use Rattle.flat_laws.proofs.Common.{components, cond, domain_found, domain_number, domain_number_is, domain_of, domains, domains_are, false, flat_domain, flat_of, from_get_map, get_map, hierarchy_of, in_get, is_hardware, item_of, leaf_members}
+use Rattle.flat_laws.proofs.Common.{leaf_of, leaves, leaves_of_domain, length, length-map, map, members_at, members_of_leaf, option_and_then_some, part_named, part_of_body, refl, slice_get, subst, sym, top_number, true, unwrap_or, ℕ, ◌∙◌, ◌∷◌, ◌≡◌}
+use Rattle.flat_laws.proofs.Common.{◌≤◌}
 use Rattle.adl_hierarchy.specs.PartAt.{part_at}
-use Rattle.adl_hierarchy.proofs.Bodies.{body_number, part_of_body}
-use Rattle.adl_hierarchy.proofs.DomainNames.{domains_are, leaves_of_domain, domain_number_is, domain_found}
 use Rattle.adl_hierarchy.proofs.Leaves.{leaves_stand}
 use Rattle.adl_hierarchy.proofs.ComponentNumbers.{numbers_below}
-use Rattle.adl_hierarchy.proofs.Lists.{in_get}
-use Rattle.cam_base.proofs.NumberedLists.{get_map, at_place, from_get_map, all_in}
 use Rattle.adl_hierarchy.proofs.Steps.{part_in}
-use Rattle.cam_base.specs.Gather.{IsIn}
-use Rattle.cspace_layout.specs.Members.{members_at, leaf_members, members_of_leaf}
 use Rattle.flat_laws.proofs.MembersAt.{members_there}
 
 -- ---- places

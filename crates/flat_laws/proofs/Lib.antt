@@ -1,3 +1,4 @@
+pub mod Common
 pub mod AreTyped
 pub mod AreWithin
 pub mod Counts

@@ -1,11 +1,8 @@
 -- The members of a component are those at its place in the source.
-use Rattle.std.proofs.Common.{◌≡◌, ℕ, Some, refl, ap, subst, ◌∙◌, arith}
-use Rattle.adl_meaning.specs.Prelude.{Component, Ended, Item, Source, as_component, components, enumerate_from, items_in, items_of, slice_get}
-use Rattle.adl_meaning.specs.declared.item_at.ItemAt.{ItemAt}
+use Rattle.flat_laws.proofs.Common.{Component, Ended, IsIn, Item, ItemAt, Some, Source, ap, arith, components, enumerate_from, from_enumerate, from_filter_map, from_flat_map, from_map, items_in, items_of, items_of_file, members_at, members_in}
+use Rattle.flat_laws.proofs.Common.{members_of, refl, slice_get, subst, ℕ, ◌∙◌, ◌≡◌}
+use Rattle.adl_meaning.specs.Prelude.{as_component}
 use Rattle.adl_ast.specs.declared.file.Item.TheVariants as items
-use Rattle.cam_base.proofs.NumberedLists.{from_map, from_flat_map, from_filter_map, from_enumerate}
-use Rattle.cam_base.specs.Gather.{IsIn}
-use Rattle.cspace_layout.specs.Members.{members_of, members_in, items_of_file, members_at}
 
 -- an item stands at its place
 pub item_at : (s : Source) (x : ItemAt × Item) → IsIn x (items_of s)

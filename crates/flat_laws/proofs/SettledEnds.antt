@@ -1,23 +1,13 @@
 -- Where each end joins an interface of a leaf, each has its settings.
-use Rattle.std.proofs.Common.{◌≡◌, ◌∙◌, ℕ, zero, suc, List, [], ◌∷◌, length, option_map, refl, sym, ap, Option, Some, None, inl, inr}
-use Rattle.adl_meaning.specs.Prelude.{Component, Ended, Interface, Item, Source, SourceFile, cons_option, filter_map, flat_of, hierarchy_of, option_and_then, slice_get}
-use Rattle.adl_meaning.specs.declared.flat.FlatConnection.{FlatConnection}
-use Rattle.adl_meaning.specs.declared.flat.FlatEnd.{FlatEnd}
-use Rattle.adl_meaning.specs.declared.flat.Leaf.{Leaf}
-use Rattle.std.proofs.lemmas.List.{length-map}
+use Rattle.flat_laws.proofs.Common.{AreTyped, Component, Ended, FlatConnection, FlatEnd, Interface, IsIn, IsTypedEnd, Item, Joint, Leaf, List, None, Option, Some, Source, SourceFile, [], ap, as_component, cons_option, end_settings, filter_map}
+use Rattle.flat_laws.proofs.Common.{flat_of, found_at, found_of, found_on, founds_in, get_map, hierarchy_of, in_get, inl, inr, interface_at, items_of_file, joint_at, kept, length, length-map, members_at, members_in, members_of, option_and_then}
+use Rattle.flat_laws.proofs.Common.{option_map, positioned, positioned_after, refl, settled_of, slice_get, suc, sym, zero, ℕ, ◌∙◌, ◌∷◌, ◌≡◌}
 use Rattle.adl_ast.specs.declared.component.Member.TheVariants as members
 use Rattle.adl_ast.specs.declared.file.Item.TheVariants as items
-use Rattle.cam_base.specs.Gather.{IsIn}
 use Rattle.adl_settings.specs.EndMeaning.{end_setting}
-use Rattle.adl_settings.specs.Joints.{Joint, as_component, as_interface, behind, interface_at, found_at, found_of, found_on, founds_in, joint_at, positioned, positioned_after}
+use Rattle.adl_settings.specs.Joints.{as_interface, behind}
 use Rattle.adl_settings.specs.declared.found.Found.{Found}
-use Rattle.adl_settings.specs.Settled.{end_settings, settled_of}
-use Rattle.adl_hierarchy.proofs.Lists.{in_get}
-use Rattle.cam_base.proofs.NumberedLists.{get_map}
-use Rattle.cspace_layout.specs.Members.{items_of_file, members_at, members_in, members_of}
 use Rattle.flat_laws.specs.EndSettings.{AreEndsSettled}
-use Rattle.flat_laws.specs.Typed.{AreTyped, IsTypedEnd}
-use Rattle.adl_hierarchy.proofs.Joining.{kept}
 use Rattle.adl_settings.proofs.EndNumbers.{position_of}
 use Rattle.flat_laws.proofs.FlatEnds.{place_in}
 

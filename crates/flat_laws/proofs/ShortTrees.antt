@@ -1,9 +1,6 @@
 -- A component has no more members than tokens spell its file.
-use Rattle.std.proofs.Common.{◌≡◌, ◌≤◌, ◌+◌, ℕ, Bool, true, false, ◌&&◌, ◌||◌, List, length, [], ◌∷◌, ◌++◌, refl, sym, ◌∙◌, ap, subst, arith, inl, inr}
-use Rattle.adl_meaning.specs.Prelude.{All, Component, Ended, File, HaveFewMembers, Item, Seen, Source, components, enumerate_from, items_in, items_of}
-use Rattle.adl_meaning.specs.declared.item_at.ItemAt.{ItemAt}
-use Rattle.std.proofs.lemmas.Bool.{and_parts, or_cases}
-use Rattle.std.proofs.lemmas.List.{length-append}
+use Rattle.flat_laws.proofs.Common.{All, Bool, Component, Ended, File, HaveFewMembers, IsIn, Item, ItemAt, List, Seen, Source, [], and_parts, ap, arith, components, enumerate_from, false, from_enumerate, from_flat_map, from_map, in_get, inl, inr}
+use Rattle.flat_laws.proofs.Common.{items_in, items_of, length, length-append, or_cases, refl, subst, sym, true, ℕ, ◌&&◌, ◌++◌, ◌+◌, ◌||◌, ◌∙◌, ◌∷◌, ◌≡◌, ◌≤◌}
 use Rattle.std.proofs.lemmas.List.Elements.{All-cons, All-nil}
 use Rattle.cam_base.specs.Depth.{deep}
 use Rattle.cam_base.specs.Form.{Form, Give, One, Then, Or, Many, As, Starts, Nested}
@@ -12,10 +9,7 @@ use Rattle.adl_ast.specs.Codes.{token_code}
 use Rattle.adl_ast.specs.Forms.{Rule, nested_line, flag_line, import_line, plain_port_line, buf_line, data_line, dataport_line, interface_line, attribute_line, lock_line, composition_line, configuration_line, member_line, member_form, component_line, procedure_line, assembly_line, item_line, ended_line, ended_form, file_line}
 use Rattle.adl_ast.specs.Spelling.{limit, IsSpelledBy}
 use Rattle.adl_ast.specs.declared.file.Item.TheVariants as items
-use Rattle.adl_hierarchy.proofs.Lists.{in_get}
-use Rattle.cam_base.proofs.NumberedLists.{from_map, from_flat_map, from_enumerate}
 use Rattle.adl_hierarchy.proofs.Sources.{component_item}
-use Rattle.cam_base.specs.Gather.{IsIn}
 use Rattle.flat_laws.specs.ShortFiles.{AreFilesShort}
 
 -- ---- forms

@@ -1,13 +1,8 @@
 -- The flat system of a source within its limits is small.
-use Rattle.std.proofs.Common.{◌≡◌, ◌≤◌, ℕ, zero, suc, Bool, false, ◌||◌, not, List, [], ◌∷◌, length, map, subst, Some, None, arith}
-use Rattle.std.proofs.lemmas.Bool.{cond_both}
-use Rattle.std.proofs.lemmas.List.{length-map}
+use Rattle.flat_laws.proofs.Common.{AreNamesSound, Bool, Domain, Hierarchy, List, None, Path, Placed, Some, Source, [], arith, cond_both, connections, count_by-le-length, domain_of, domains, enumerate_from, false, filter, first_flat_fault}
+use Rattle.flat_laws.proofs.Common.{first_join_fault, first_size_fault, firsts_after, flat_connection, flat_domain, flat_of, hierarchy_of, in_limits, is_hardware, is_inside, leaf_of, leaves, length, length-filter, length-map, map, not, same_path}
+use Rattle.flat_laws.proofs.Common.{slice_get, subst, suc, zero, ℕ, ◌||◌, ◌∷◌, ◌≡◌, ◌≤◌}
 use Rattle.std.proofs.lemmas.List.FromFn.{length-enumerate_from}
-use Rattle.std.proofs.lemmas.List.Sums.{count_by-le-length, length-filter}
-use Rattle.adl_meaning.specs.Prelude.{AreNamesSound, Hierarchy, Path, Placed, Source, connections, domain_of, domains, enumerate_from, filter, first_flat_fault, first_join_fault, first_size_fault, firsts_after, flat_connection, flat_domain}
-use Rattle.adl_meaning.specs.declared.flat.Domain.{Domain}
-use Rattle.adl_meaning.specs.Prelude.{flat_of, hierarchy_of, is_hardware, is_inside, leaf_of, leaves, same_path, slice_get}
-use Rattle.adl_hierarchy.proofs.Limits.{in_limits}
 use Rattle.flat_laws.specs.Small.{IsSmall}
 use Rattle.flat_laws.proofs.FewEnds.{no_first}
 

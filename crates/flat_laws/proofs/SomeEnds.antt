@@ -1,18 +1,8 @@
 -- Each connection has an end of each role, since the connector table asks for one.
-use Rattle.std.proofs.Common.{◌≡◌, ◌≤◌, ◌∙◌, ℕ, true, List, Some, None, refl, sym, ap}
+use Rattle.flat_laws.proofs.Common.{AreDotted, AreNamesSound, Connector, End, FlatConnection, FlatEnd, From, List, None, Role, Some, Source, To, all_joined, allows, and_parts, ap, at_most, count_of, end_numbers_kept, end_rule, first_type_fault}
+use Rattle.flat_laws.proofs.Common.{flat_end, flat_of, hierarchy_of, in_get, leb-true, may_have, refl, slice_get, sym, true, well_typed, ℕ, ◌∙◌, ◌≡◌, ◌≤◌}
 use Rattle.std.specs.Prelude.{nat_le}
-use Rattle.adl_meaning.specs.Prelude.{AreNamesSound, End, From, Role, Source, To, flat_end, flat_of, hierarchy_of, slice_get}
-use Rattle.adl_meaning.specs.declared.connector.Connector.{Connector}
 use Rattle.adl_meaning.specs.declared.connector.Connector.TheVariants.{Direct, Interrupt, Mmio, Notification, Rpc, SharedMemory}
-use Rattle.adl_meaning.specs.declared.flat.FlatConnection.{FlatConnection}
-use Rattle.adl_meaning.specs.declared.flat.FlatEnd.{FlatEnd}
-use Rattle.std.proofs.lemmas.Bool.{and_parts, leb-true}
-use Rattle.adl_hierarchy.specs.Leads.{AreDotted}
-use Rattle.adl_hierarchy.proofs.Joining.{all_joined, end_numbers_kept}
-use Rattle.adl_types.specs.TypeFaults.{count_of, may_have, first_type_fault}
-use Rattle.adl_types.proofs.Typed.{well_typed}
-use Rattle.adl_hierarchy.proofs.Lists.{in_get}
-use Rattle.conn_rules.specs.Ends.{allows, at_most, end_rule}
 use Rattle.conn_rules.specs.Row.{same_role}
 use Rattle.flat_laws.proofs.Counts.{first_counted}
 use Rattle.flat_laws.proofs.FlatEnds.{strung_of}

@@ -1,9 +1,6 @@
 -- What it means that an end is of the kind that the connector table has.
-use Rattle.std.proofs.Common.{◌≡◌, Bool, true, false, not, cond, [], refl}
-use Rattle.std.proofs.lemmas.Bool.{and_parts}
-use Rattle.adl_meaning.specs.Prelude.{Fault, same_kind, where_false}
+use Rattle.flat_laws.proofs.Common.{Bool, Fault, [], and_parts, cond, false, is_kind_of, not, refl, same_kind, true, where_false, ◌≡◌}
 use Rattle.adl_program.specs.LeafInterfaces.{LeafInterface}
-use Rattle.adl_types.specs.TypeFaults.{is_kind_of}
 use Rattle.conn_rules.specs.declared.end.EndRule.{EndRule}
 
 pub so : (b : Bool) (f : Fault) → where_false b f ≡ [] → b ≡ true

@@ -1,3 +1,4 @@
+pub mod Common
 pub mod OneWorld
 pub mod Possible
 pub mod Reached

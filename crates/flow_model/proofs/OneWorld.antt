@@ -1,17 +1,8 @@
 -- An act leads from a world to one world at most, and so do acts one after the other.
-use Rattle.std.proofs.Common.{◌≡◌, ℕ, Bool, List, [], ◌∷◌, ◌∙◌, Option, Some, sym, ap, subst}
+use Rattle.flow_model.proofs.Common.{Act, ActRun, ActTo, Acts, Attempt, AttemptTo, Bool, Cap, Capability, Content, List, Option, Own, SavedReply, Some, Spec, State, World, [], allowed, answer, ap, await, content_in, device, done, fire, load, message}
+use Rattle.flow_model.proofs.Common.{more, put, refused, send, signal, signals, step, store, subst, sym, tell, tell_saved, thread_of, ℕ, ◌∙◌, ◌∷◌, ◌≡◌}
 use Rattle.cap_machine.proofs.Table.{one_next}
-use Rattle.cap_machine.specs.StepTable.{Acts, Own}
-use Rattle.cap_model.specs.State.{State, content_in}
-use Rattle.cap_model.specs.declared.cap.Cap.{Cap}
-use Rattle.cap_model.specs.declared.spec.Spec.{Spec}
-use Rattle.cap_model.specs.declared.state.Content.{Content}
-use Rattle.cap_model.specs.declared.state.Content.TheVariants.{Capability, SavedReply}
 use Rattle.cap_model.specs.declared.state.Pending.{Pending}
-use Rattle.flow_model.specs.Act.{Act, Attempt, thread_of, step, store, load, send, tell, tell_saved, signal, await, allowed, refused, fire, device}
-use Rattle.flow_model.specs.ActRuns.{ActRun}
-use Rattle.flow_model.specs.ActTable.{ActTo, AttemptTo}
-use Rattle.flow_model.specs.World.{World, done, message, answer, signals, put, more}
 
 one_some : {A : Type 0} (o : Option A) (x y : A) → o ≡ Some x → o ≡ Some y → x ≡ y
 one_some o x y e f = cc

@@ -1,24 +1,14 @@
 -- The acts of the example, one by one.
-use Rattle.std.proofs.Common.{◌≡◌, ℕ, Bool, true, false, List, [], ◌∷◌, Option, Some, None, refl, sym, subst, inl, inr, arith}
+use Rattle.flow_model.proofs.Common.{Access, ActRun, ActTo, Acts, AttemptTo, Bool, Cap, Capability, Content, List, None, Option, Peer, Read, Some, State, World, Write, [], allowed, arith, await, boot, content, content_in, denied, done, false, inl}
+use Rattle.flow_model.proofs.Common.{inr, irq_at, load, message, more, put, refl, refused, send, signal, signals, step, store, subst, sym, thread_at, true, ℕ, ◌∷◌, ◌≡◌}
 use Rattle.std.proofs.lemmas.List.Elements.{Contains-push}
-use Rattle.authorities.specs.declared.authority.Authority.TheVariants.{Read, Write}
 use Rattle.cap_machine.specs.Effects.{with_space, read_write, added, called, dropped}
 use Rattle.cap_machine.specs.Sample.{sample, all}
-use Rattle.cap_machine.specs.StepTable.{Acts, Peer}
 use Rattle.cap_machine.specs.declared.step.Step.TheVariants as steps
 use Rattle.cap_model.specs.Example.{rights, plain, cap}
 use Rattle.cap_model.specs.Lessened.{lessened, both_rights}
-use Rattle.cap_model.specs.State.{State, boot, content_in, irq_at, thread_at}
-use Rattle.cap_model.specs.declared.cap.Cap.{Cap}
-use Rattle.cap_model.specs.declared.state.Content.{Content}
-use Rattle.cap_model.specs.declared.state.Content.TheVariants.{Capability}
 use Rattle.cap_model.specs.declared.state.Mapped.{Mapped}
-use Rattle.flow_model.specs.Access.{Access}
-use Rattle.flow_model.specs.Act.{step, store, load, send, signal, await, allowed, refused}
-use Rattle.flow_model.specs.ActRuns.{ActRun}
-use Rattle.flow_model.specs.ActTable.{ActTo, AttemptTo}
 use Rattle.flow_model.specs.Example.{filled, first_world, spacing, mapping, calling, dropping, taking, binding, sample_acts, sample_seen, Leaves}
-use Rattle.flow_model.specs.World.{World, done, denied, content, message, signals, put, more}
 
 -- the states on the way
 abbrev writes_and_reads : Mapped

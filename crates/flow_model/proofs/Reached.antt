@@ -1,14 +1,7 @@
 -- The states that runs of steps, and so acts, lead to from boot.
-use Rattle.std.proofs.Common.{◌≡◌, List, [], ◌∷◌, ◌++◌, refl, subst}
+use Rattle.flow_model.proofs.Common.{Act, ActRun, ActTo, Attempt, AttemptTo, IsReached, List, Spec, State, StepTo, World, [], allowed, await, boot, device, fire, load, refl, refused, send, signal, step, store, subst, tell, tell_saved, ◌++◌, ◌∷◌, ◌≡◌}
 use Rattle.cap_machine.specs.Runs.{Run}
-use Rattle.cap_machine.specs.StepTable.{StepTo}
 use Rattle.cap_machine.specs.declared.step.Step.{Step}
-use Rattle.cap_model.specs.State.{State, boot}
-use Rattle.cap_model.specs.declared.spec.Spec.{Spec}
-use Rattle.flow_model.specs.Act.{Act, Attempt, step, store, load, send, tell, tell_saved, signal, await, allowed, refused, fire, device}
-use Rattle.flow_model.specs.ActRuns.{ActRun, IsReached}
-use Rattle.flow_model.specs.ActTable.{ActTo, AttemptTo}
-use Rattle.flow_model.specs.World.{World}
 
 -- some run leads from the boot state to this state
 pub record Reached (spec : Spec) (s : State) : Type 0 where

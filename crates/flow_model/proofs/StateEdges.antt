@@ -1,34 +1,20 @@
 -- The edges that a state has by what it has where.
-use Rattle.std.proofs.Common.{◌≡◌, ℕ, ◌==◌, Bool, true, List, [], ◌∷◌, Option, Some, None, refl, sym, subst, inl, inr, arith}
+use Rattle.flow_model.proofs.Common.{ByAdded, ByBuffer, BySlot, Cap, Capability, Content, Control, LeadsDown, List, None, Option, Own, Some, Spec, State, [], arith, content_in, inl, inr, node_at, refl, subst, sym, true, ℕ, ◌==◌, ◌∷◌, ◌≡◌}
 use Rattle.std.proofs.lemmas.Map.Views.{Contains-from_lookup}
 use Rattle.std.specs.List.{Contains}
 use Rattle.cap_model.specs.ObjectLabels.{label_of}
 use Rattle.authorities.specs.declared.authority.Authority.{Authority}
-use Rattle.authorities.specs.declared.authority.Authority.TheVariants.{Control}
-use Rattle.cap_machine.specs.StepTable.{Own}
 use Rattle.cap_model.proofs.Kept.{kind_is}
 use Rattle.cap_model.specs.Auth.{Auth, table_of, of_buffer, of_table, of_mapped}
 use Rattle.cap_model.specs.Confers.{confers, kind_confers}
-use Rattle.cap_model.specs.Kinds.{is_at, is_space_root, is_root_object, kind_at}
+use Rattle.cap_model.specs.Kinds.{is_at, is_space_root, kind_at}
 use Rattle.cap_model.specs.Lookup.{object_at}
-use Rattle.cap_model.specs.State.{State, node_at, content_in}
-use Rattle.cap_model.specs.declared.cap.Cap.{Cap}
 use Rattle.cap_model.specs.declared.kind.Kind.{Kind}
 use Rattle.cap_model.specs.declared.object.Object.{Object}
 use Rattle.cap_model.specs.declared.object.Object.TheVariants as objects
-use Rattle.cap_model.specs.declared.spec.Spec.{Spec}
-use Rattle.cap_model.specs.declared.state.Content.{Content}
-use Rattle.cap_model.specs.declared.state.Content.TheVariants.{Capability}
-use Rattle.flow_model.specs.Access.{BySlot, ByAdded, ByBuffer, LeadsDown}
+use Rattle.cap_model.proofs.SpaceRoots.{root_controls}
 
 -- what controls: a capability to a space root, and one to a page table with a slot
-root_controls : (spec : Spec) (cap : Cap) → is_space_root spec cap.object ≡ true → confers spec cap Control ≡ true
-root_controls spec cap is = go (object_at spec cap.object) refl where
-  go : (o : Option Object) → object_at spec cap.object ≡ o → confers spec cap Control ≡ true
-  go None here = absurd (let w : is_root_object spec.arch None ≡ true = rw here at is in cc)
-  go (Some (objects.Pages level slots)) here = rw here refl
-  go (Some _) here = absurd (let w = rw here at is in cc)
-
 -- the object has a slot of a page table
 abbrev pub HasSlot : Spec → ℕ → Type 0
 HasSlot spec p = (i : ℕ) × (cap : Cap) × Contains (table_of (object_at spec p)) (i, cap)

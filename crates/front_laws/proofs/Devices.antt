@@ -3,28 +3,14 @@ use Rattle.front_laws.proofs.Common.{AreServed, Block, Bool, DevicePage, HasDevi
 use Rattle.front_laws.proofs.Common.{eq-eqb, eqb-true, false, filter_map, from_any, from_filter_map, get_behind, get_front, in_filter_map, in_place, inl, inr, le-leb, leb, leb-true, length, length-append, list_any, no_device, not, option_or}
 use Rattle.front_laws.proofs.Common.{place_of, refl, region_end, shared_frame, slice_get, subst, suc, sym, true, true≢false, ℕ, ◌&&◌, ◌++◌, ◌+◌, ◌==◌, ◌∙◌, ◌∷◌, ◌≡◌}
 use Rattle.std.proofs.lemmas.List.Elements.{filter_map-append}
-use Rattle.std.specs.Prelude.{◌||◌}
 use Rattle.boot_plan.specs.Devices.{device_refusal, has_page, is_needed}
 use Rattle.boot_plan.specs.declared.plan_refusal.PlanRefusal.{PlanRefusal}
 use Rattle.boot_plan.specs.declared.plan_refusal.PlanRefusal.TheVariants.{NoDevice, SharedFrame}
-use Rattle.cam_base.specs.Gather.{IsIn}
 use Rattle.front_laws.proofs.First.{IsClean, first_of, from_first, from_none, in_first, in_none}
 use Rattle.front_laws.proofs.Places.{at_split, front_get}
+use Rattle.cam_base.proofs.NumberedLists.{in_any}
 
 -- ---- tests
-
-in_any : {X : Type 0} (p : X → Bool) (xs : List X) (x : X) → IsIn x xs → p x ≡ true → list_any p xs ≡ true
-in_any p [] x i t = absurd i
-in_any {X} p (y ∷ xs) x (inl e) t = head (p y) (ap p e ∙ t)
-  where
-    head : (b : Bool) → b ≡ true → (b || list_any p xs) ≡ true
-    head true e = refl
-    head false e = cc
-in_any p (y ∷ xs) x (inr i) t = tail (p y) (in_any p xs x i t)
-  where
-    tail : (b : Bool) → list_any p xs ≡ true → (b || list_any p xs) ≡ true
-    tail true e = refl
-    tail false e = e
 
 device_there : (rs : List Untyped) (paddr : ℕ) → list_any (has_page paddr) rs ≡ true → HasDevice rs paddr
 device_there rs paddr t =

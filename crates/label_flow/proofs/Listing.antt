@@ -1,19 +1,12 @@
 -- Lists of edges, one edge more at a time.
-use Rattle.label_flow.proofs.Common.{AreBelow, Contains, Contains-push_cases, Edge, List, Some, [], ap, arith, get_or, get_or_from_slice_get, inl, inr, length, map, map-append, slice_get, slice_get_within, subst, sym, take, take_more, turned, ℕ}
+use Rattle.label_flow.proofs.Common.{AreBelow, Contains, Contains-push_cases, Edge, List, Some, [], ap, arith, get_or, inl, inr, length, map, map-append, slice_get, subst, sym, take, take_more, turned, ℕ}
 use Rattle.label_flow.proofs.Common.{◌++◌, ◌+◌, ◌<◌, ◌∙◌, ◌∷◌, ◌≡◌, ◌≤◌}
-
-taken : (table : List Edge) (at : ℕ) (e : Edge) → slice_get table at ≡ Some e → take (at + 1) table ≡ take at table ++ e ∷ []
-taken table at e got = take_more table at e (slice_get_within table at e got) ∙ ap (λ (x : Edge). take at table ++ x ∷ [])
-    (get_or_from_slice_get table at e e got)
-
-pub one_more : (table old new : List Edge) (at : ℕ) (e : Edge) → slice_get table at ≡ Some e → old ≡ take at table
-    → new ≡ old ++ e ∷ [] → new ≡ take (at + 1) table
-one_more table old new at e got is more = more ∙ ap (λ (xs : List Edge). xs ++ e ∷ []) is ∙ sym (taken table at e got)
+use Rattle.cam_base.proofs.NumberedLists.{taken_more}
 
 pub one_turned : (table old new : List Edge) (at : ℕ) (e : Edge) → slice_get table at ≡ Some e → old ≡ map turned (take at table)
     → new ≡ old ++ turned e ∷ [] → new ≡ map turned (take (at + 1) table)
 one_turned table old new at e got is more =
-    more ∙ ap (λ (xs : List Edge). xs ++ turned e ∷ []) is ∙ sym (ap (λ (xs : List Edge). map turned xs) (taken table at e got)
+    more ∙ ap (λ (xs : List Edge). xs ++ turned e ∷ []) is ∙ sym (ap (λ (xs : List Edge). map turned xs) (taken_more table at e got)
     ∙ map-append turned (take at table) (e ∷ []))
 
 pub below_more : (edges : List Edge) (i count more : ℕ) (d : Edge) → i < length edges → AreBelow count (take i edges)

@@ -1,13 +1,6 @@
 -- What one edge asks for is of the least certificate, and all of it is made.
-use Rattle.std.proofs.Common.{◌≡◌, ◌∙◌, ℕ, true, List, refl, sym, subst}
-use Rattle.std.specs.List.{filter_map}
-use Rattle.cap_model.specs.Edges.{edge}
-use Rattle.cap_model.specs.Tables.{Has, has}
-use Rattle.authorities.specs.declared.authority.Authority.{Authority}
-use Rattle.authorities.specs.declared.authority.Authority.TheVariants.{Receive, AsyncSend, Grant, Control, Call, GrantBack, Handle}
-use Rattle.cap_model.specs.declared.edge.Edge.{Edge}
-use Rattle.least_cert.specs.Closing.{AddsAll, AreAsked, AreGifts, AreOut, ArePassed, AreTo, Closure, Flows, GivesAll, Grows, IsGift, IsSound, JoinsEnds, Looks, OfLeast, from_other, passed_to, to_other}
-use Rattle.least_cert.specs.LeastCertificate.{InLeast, KeepsRules}
+use Rattle.least_cert.proofs.Common.{AddsAll, AreAsked, AreGifts, AreOut, ArePassed, AreTo, AsyncSend, Authority, Call, Closure, Control, Edge, Flows, GivesAll, Grant, GrantBack, Grows, Handle, Has, InLeast, IsGift, IsSound, JoinsEnds, KeepsRules}
+use Rattle.least_cert.proofs.Common.{List, Looks, OfLeast, Receive, edge, filter_map, from_other, has, passed_to, refl, subst, sym, to_other, true, ℕ, ◌∙◌, ◌≡◌}
 use Rattle.least_cert.proofs.Growth.{gifted_grows, grows_then, knows_grows}
 use Rattle.least_cert.proofs.LeastKeeps.{least_keeps}
 use Rattle.least_cert.proofs.Listing.{from_mapped, to_mapped}

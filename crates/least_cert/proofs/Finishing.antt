@@ -1,19 +1,11 @@
 -- Where all edges were looked at, the rules hold.
-use Rattle.std.proofs.Common.{◌≡◌, ◌≢◌, ◌∙◌, ◌⊎◌, ◌++◌, ◌||◌, ◌==◌, ◌<◌, ◌≤◌, ◌+◌, ℕ, Bool, true, false, List, [], ◌∷◌, Some, length, slice_get, take, refl, sym, ap, subst, inl, inr, arith, add-one, zero, suc, length-append}
-use Rattle.std.proofs.lemmas.Bool.{eqb-true, or_cases, or_left, or_right}
-use Rattle.std.proofs.lemmas.List.{take-append-le, take_all}
-use Rattle.cap_model.specs.Edges.{edge, same_edge}
-use Rattle.cap_model.specs.Tables.{Has, has}
-use Rattle.authorities.specs.declared.authority.Authority.{Authority}
-use Rattle.authorities.specs.declared.authority.Authority.TheVariants.{Receive, AsyncSend, Grant, Control, Call, Reply, GrantBack, Handle}
-use Rattle.cap_model.specs.declared.edge.Edge.{Edge}
-use Rattle.cap_model.proofs.TableMembers.{has_at}
-use Rattle.cap_model.specs.declared.spec.Spec.{Spec}
-use Rattle.least_cert.specs.Closing.{Begins, Closes, Closure, Gifted, Grows, HasBoot, IsCertificate, IsClosedFor, IsSound, Knows, Looks, LooksAt, leader_at}
-use Rattle.least_cert.specs.LeastCertificate.{IsLeast, KeepsRules}
+use Rattle.least_cert.proofs.Common.{AsyncSend, Authority, Begins, Bool, Call, Closes, Closure, Control, Edge, Gifted, Grant, GrantBack, Grows, Handle, Has, HasBoot, IsCertificate, IsClosedFor, IsLeast, IsSound, KeepsRules, Knows, List, Looks}
+use Rattle.least_cert.proofs.Common.{LooksAt, Receive, Reply, Some, Spec, [], ap, arith, edge, eqb-true, false, has, has_at, inl, inr, leader_at, length, length-append, or_cases, or_left, or_right, refl, same_edge, slice_get, subst, suc, sym, take}
+use Rattle.least_cert.proofs.Common.{take-append-le, take_all, true, zero, ℕ, ◌++◌, ◌+◌, ◌<◌, ◌==◌, ◌||◌, ◌∙◌, ◌∷◌, ◌≡◌, ◌≢◌, ◌≤◌, ◌⊎◌}
 use Rattle.least_cert.proofs.Growth.{gifted_grows, grows_none, grows_then, knows_grows, one_grows}
 use Rattle.least_cert.proofs.Leading.{knows_led, knows_least, led_knows, number_other}
 use Rattle.least_cert.proofs.Listing.{has_last}
+use Rattle.cam_base.proofs.NumberedLists.{taken_more}
 
 pub closed_none : (c : Closure) → IsClosedFor [] c
 closed_none c = record {
@@ -83,13 +75,6 @@ module _ (first : List Edge) (f : Edge) (c new : Closure) (closed : IsClosedFor 
   }
 
 -- ---- the front of a list
-
-pub take_at : (xs : List Edge) (n : ℕ) (x : Edge) → slice_get xs n ≡ Some x → take (n + 1) xs ≡ take n xs ++ x ∷ []
-take_at xs n x h = rw add-one (go xs n h) where
-  go : (ys : List Edge) (k : ℕ) → slice_get ys k ≡ Some x → take (suc k) ys ≡ take k ys ++ x ∷ []
-  go [] k there = absurd cc
-  go (y ∷ ys) zero there = let same : y ≡ x = cc in ap (λ (z : Edge). z ∷ []) same
-  go (y ∷ ys) (suc k) there = ap (λ (zs : List Edge). y ∷ zs) (go ys k there)
 
 pub take_front : (xs ys : List Edge) (n : ℕ) → n ≤ length xs → take n (xs ++ ys) ≡ take n xs
 take_front xs ys n le = take-append-le n xs ys le
@@ -209,7 +194,7 @@ pub looks_more : (n : ℕ) (f : Edge) (c mid new : Closure) → LooksAt n c mid 
 looks_more n f c mid new before less here looks =
     let front : take (n + 1) new.queue ≡ take n mid.queue ++ f ∷ [] =
     ap (λ (xs : List Edge). take (n + 1) xs) looks.grows.longer ∙ (take_front mid.queue looks.grows.more (n + 1) (omega arith)
-    ∙ take_at mid.queue n f here) in
+    ∙ taken_more mid.queue n f here) in
     let longer : length new.queue ≡ length mid.queue + length looks.grows.more =
     ap (λ (xs : List Edge). length xs) looks.grows.longer ∙ length-append mid.queue looks.grows.more in
     record {

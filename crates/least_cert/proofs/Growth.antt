@@ -1,17 +1,8 @@
 -- How edges in the making grow.
-use Rattle.std.proofs.Common.{◌≡◌, ◌∙◌, ◌⊎◌, ◌||◌, ◌&&◌, ◌==◌, ◌++◌, ◌<◌, ◌≤◌, ◌+◌, ◌^◌, ◌↔◌, IsTrue, ℕ, Bool, true, false, List, [], ◌∷◌, Some, length, slice_get, refl, sym, ap, subst, inl, inr, arith, append_assoc, length-append}
-use Rattle.std.specs.List.{filter_map}
-use Rattle.std.proofs.lemmas.Bool.{cases_lt}
-use Rattle.std.proofs.lemmas.Option.{slice_get_within}
-use Rattle.cap_model.proofs.TableMembers.{at_has, has_at}
-use Rattle.authorities.specs.Authorities.{number_of}
-use Rattle.cap_model.specs.Edges.{edge, same_edge}
-use Rattle.cap_model.specs.Tables.{Has, has, IsSorted}
-use Rattle.authorities.specs.declared.authority.Authority.TheVariants.{Grant, Receive}
-use Rattle.cap_model.specs.declared.edge.Edge.{Edge}
-use Rattle.cap_model.proofs.EdgeOrder.{edges_same}
-use Rattle.least_cert.specs.Closing.{Adds, AddsAll, AddsSome, AreCopies, Closure, Copies, Flows, Gifted, Gives, GivesAll, GivesSome, Grows, IsCopy, IsGift, IsLess, IsSound, Joins, Knows, OfLeast, Puts, PutsGift, Relabels, lead, leader_at, led_by, passed_to, turn}
-use Rattle.least_cert.specs.LeastCertificate.{HasMoreThan}
+use Rattle.least_cert.proofs.Common.{AddsAll, AddsSome, AreCopies, Bool, Closure, Copies, Edge, Flows, Gifted, Gives, GivesAll, GivesSome, Grant, Grows, Has, HasMoreThan, IsCopy, IsGift, IsLess, IsSorted, IsSound, IsTrue, Joins, Knows, List, OfLeast}
+use Rattle.least_cert.proofs.Common.{Puts, PutsGift, Receive, Relabels, Some, [], ap, append_assoc, arith, at_has, cases_lt, edge, edges_same, false, filter_map, has, has_at, inl, inr, lead, leader_at, led_by, length, length-append, number_of}
+use Rattle.least_cert.proofs.Common.{passed_to, refl, same_edge, slice_get, slice_get_within, subst, sym, true, turn, ℕ, ◌&&◌, ◌++◌, ◌+◌, ◌<◌, ◌==◌, ◌^◌, ◌||◌, ◌↔◌, ◌∙◌, ◌∷◌, ◌≡◌, ◌≤◌, ◌⊎◌}
+use Rattle.least_cert.specs.Closing.{Adds}
 use Rattle.least_cert.proofs.Leading.{flows_then, knows_led, lead_other, lead_reply, lead_then, led_cases, led_from, led_to, least_led, number_other, other_number, reply_or_not}
 use Rattle.least_cert.proofs.Listing.{from_mapped, has_end, has_front, has_last, has_push, put_cases, put_has, put_self, to_mapped}
 use Rattle.least_cert.proofs.Passing.{passed_is, passes_on}

@@ -1,28 +1,14 @@
 -- The held edges of the boot state are what the capabilities of CNodes confer.
-use Rattle.std.proofs.Common.{◌≡◌, ◌≢◌, ◌∙◌, ◌⊎◌, ℕ, true, List, [], map, slice_get, Some, refl, sym, subst, inl, inr, arith}
-use Rattle.std.specs.List.{Contains, filter_map}
-use Rattle.std.proofs.lemmas.Option.{slice_get-map}
-use Rattle.cap_machine.specs.Sources.{OfCap, OfObject}
+use Rattle.least_cert.proofs.Common.{Adds, AddsAll, AreHeld, AreLinks, Authority, Begins, Closure, Contains, Edge, Entry, Grant, InLeast, IsEmpty, IsSound, KeepsRules, List, OfCap, OfHolder, OfHolders, OfLeast, OfObject, OfOther, OfOthers, Some}
+use Rattle.least_cert.proofs.Common.{Spec, [], arith, between_labels, edge, filter_map, has, inl, inr, label_of, map, refl, slice_get, slice_get-map, subst, sym, true, ℕ, ◌∙◌, ◌≡◌, ◌≢◌, ◌⊎◌}
 use Rattle.cap_machine.proofs.BootSources.{auth_source, source_auth}
-use Rattle.cap_model.specs.Adds.{Adds}
-use Rattle.cap_model.specs.Edges.{edge}
-use Rattle.cap_model.specs.ObjectLabels.{label_of}
-use Rattle.cap_model.specs.Tables.{has}
-use Rattle.authorities.specs.declared.authority.Authority.{Authority}
-use Rattle.authorities.specs.declared.authority.Authority.TheVariants.{Grant}
-use Rattle.cap_model.specs.declared.edge.Edge.{Edge}
 use Rattle.cap_model.specs.Auth.{Auth, Held, Structural}
 use Rattle.cap_model.specs.State.{Node, boot, boot_node, boot_slot, no_node, node_at}
 use Rattle.cap_model.specs.declared.cap.Cap.{Cap}
 use Rattle.cap_model.specs.declared.object.Object.{Object}
 use Rattle.cap_model.specs.declared.object.Object.TheVariants.{Endpoint, Notification, CNode, Thread, Frame, Pages, Irq}
-use Rattle.cap_model.specs.declared.spec.Entry.{Entry}
-use Rattle.cap_model.specs.declared.spec.Spec.{Spec}
 use Rattle.cap_model.specs.declared.state.Content.TheVariants.{Capability}
 use Rattle.cap_model.proofs.BootPlaces.{at_contains, at_entry, contains_at, entry_at, slot_of}
-use Rattle.least_cert.specs.BootEdges.{AreHeld, AreLinks, OfHolder, OfHolders, OfOther, OfOthers, between_labels}
-use Rattle.least_cert.specs.Closing.{AddsAll, Begins, Closure, IsEmpty, IsSound, OfLeast}
-use Rattle.least_cert.specs.LeastCertificate.{InLeast, KeepsRules}
 use Rattle.least_cert.proofs.Growth.{knows_grows}
 use Rattle.least_cert.proofs.LeastKeeps.{least_keeps}
 use Rattle.least_cert.proofs.Listing.{from_mapped, to_mapped}

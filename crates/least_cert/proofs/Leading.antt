@@ -1,16 +1,6 @@
 -- Who leads whom, and the edge of a leader.
-use Rattle.std.proofs.Common.{◌≡◌, ◌≢◌, ◌∙◌, ◌⊎◌, ◌++◌, ◌==◌, ◌+◌, ◌<◌, ◌≤◌, ◌^◌, ℕ, Bool, true, false, List, [], ◌∷◌, get_or, length, map, refl, sym, ap, subst, inl, inr, zero, suc, arith, length-append}
-use Rattle.std.proofs.lemmas.Bool.{cases_lt, eqb-true, ne_eqb}
-use Rattle.std.proofs.lemmas.List.{get_or-map, get_or_past, length-map}
-use Rattle.cam_base.proofs.Orders.{same_itself}
-use Rattle.authorities.specs.Authorities.{number_of}
-use Rattle.cap_model.specs.Edges.{edge}
-use Rattle.cap_model.specs.Tables.{Has, has}
-use Rattle.authorities.specs.declared.authority.Authority.{Authority}
-use Rattle.authorities.specs.declared.authority.Authority.TheVariants.{Reply}
-use Rattle.cap_model.specs.declared.edge.Edge.{Edge}
-use Rattle.cap_model.proofs.EdgeOrder.{same_number}
-use Rattle.least_cert.specs.Closing.{Closure, Flows, IsSound, Knows, IsRelabeled, OfLeast, Widens, lead, leader_at, led_by}
+use Rattle.least_cert.proofs.Common.{Authority, Bool, Closure, Edge, Flows, Has, IsRelabeled, IsSound, Knows, List, OfLeast, Reply, Widens, [], ap, arith, cases_lt, edge, eqb-true, false, get_or, get_or-map, get_or_past, has, inl, inr, lead}
+use Rattle.least_cert.proofs.Common.{leader_at, led_by, length, length-append, length-map, map, ne_eqb, number_of, refl, same_itself, same_number, subst, suc, sym, true, zero, ℕ, ◌++◌, ◌+◌, ◌<◌, ◌==◌, ◌^◌, ◌∙◌, ◌∷◌, ◌≡◌, ◌≢◌, ◌≤◌, ◌⊎◌}
 
 -- ---- the edge of a leader
 

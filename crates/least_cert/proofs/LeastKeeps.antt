@@ -1,14 +1,8 @@
 -- The rules hold for the least certificate, and it decides whether any certificate will do.
-use Rattle.std.proofs.Common.{◌≢◌, ℕ, List}
-use Rattle.cap_model.specs.Tables.{Has}
-use Rattle.authorities.specs.declared.authority.Authority.{Authority}
-use Rattle.authorities.specs.declared.authority.Authority.TheVariants.{Receive, AsyncSend, Grant, Control, Call, Reply, GrantBack, Handle}
-use Rattle.cap_model.specs.declared.edge.Edge.{Edge}
+use Rattle.least_cert.proofs.Common.{AsyncSend, Authority, Call, Control, Edge, Grant, GrantBack, Handle, Has, InLeast, IsLeast, KeepsRules, List, Receive, Reply, Spec, ℕ, ◌≢◌}
 use Rattle.cap_machine.specs.Runs.{Reaches}
-use Rattle.cap_model.specs.declared.spec.Spec.{Spec}
 use Rattle.cert_check.specs.Valid.{Valid}
 use Rattle.cert_check.proofs.Keeps.{runs_stay}
-use Rattle.least_cert.specs.LeastCertificate.{KeepsRules, InLeast, IsLeast}
 
 pub valid_keeps : (spec : Spec) (labels : List ℕ) (policy cert : List Edge) → Valid spec labels policy cert
     → KeepsRules spec labels (Has cert)

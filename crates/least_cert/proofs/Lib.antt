@@ -1,3 +1,4 @@
+pub mod Common
 pub mod Asks
 pub mod Finishing
 pub mod Growth

@@ -1,13 +1,6 @@
 -- What lists of edges have: after a push, and after a filter.
-use Rattle.std.proofs.Common.{◌≡◌, ◌∙◌, ◌⊎◌, ◌||◌, ◌++◌, Bool, true, false, List, [], ◌∷◌, Option, Some, refl, sym, ap, inl, inr}
-use Rattle.std.specs.List.{filter_map}
-use Rattle.std.proofs.lemmas.Bool.{or_cases, or_left, or_right}
+use Rattle.least_cert.proofs.Common.{Bool, Edge, List, Option, Some, [], ap, at_has, false, filter_map, has, has_at, inl, inr, or_cases, or_left, or_right, refl, same_edge, same_edge_self, same_edge_true, sym, true, ◌++◌, ◌||◌, ◌∙◌, ◌∷◌, ◌≡◌, ◌⊎◌}
 use Rattle.cam_base.proofs.Lists.{from_filter_map, to_filter_map}
-use Rattle.cap_model.specs.Edges.{same_edge}
-use Rattle.cap_model.specs.Tables.{has}
-use Rattle.cap_model.specs.declared.edge.Edge.{Edge}
-use Rattle.cap_model.proofs.EdgeOrder.{same_edge_self, same_edge_true}
-use Rattle.cap_model.proofs.TableMembers.{at_has, has_at}
 
 pub or_assoc : (a b c : Bool) → (a || (b || c)) ≡ ((a || b) || c)
 or_assoc true b c = refl

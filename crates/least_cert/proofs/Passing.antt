@@ -1,15 +1,5 @@
 -- Which edges pass on, and what is made of the ends of two edges.
-use Rattle.std.proofs.Common.{◌≡◌, ◌≢◌, ◌==◌, ℕ, Bool, true, false, Some, None, if◌then◌else◌, refl}
-use Rattle.std.proofs.lemmas.Bool.{eq-eqb, ne_eqb}
-use Rattle.cam_base.proofs.Orders.{same_itself}
-use Rattle.authorities.specs.Authorities.{number_of}
-use Rattle.cap_model.specs.Edges.{edge}
-use Rattle.authorities.specs.declared.authority.Authority.{Authority}
-use Rattle.authorities.specs.declared.authority.Authority.TheVariants.{Reply}
-use Rattle.cap_model.specs.declared.edge.Edge.{Edge}
-use Rattle.cap_model.proofs.EdgeOrder.{same_number}
-use Rattle.least_cert.specs.BootEdges.{between_labels}
-use Rattle.least_cert.specs.Closing.{from_other, passed_to, to_other}
+use Rattle.least_cert.proofs.Common.{Authority, Bool, Edge, None, Reply, Some, between_labels, edge, eq-eqb, false, from_other, if◌then◌else◌, ne_eqb, number_of, passed_to, refl, same_itself, same_number, to_other, true, ℕ, ◌==◌, ◌≡◌, ◌≢◌}
 
 module _ {A : Type 0} where
   chosen_none : (b : Bool) (x y : A) → (if b then None else Some x) ≡ Some y → (b ≡ false) × (x ≡ y)

@@ -1,22 +1,8 @@
 -- The edges of leaders, as those of the labels that they lead, and the replies that calls ask for.
-use Rattle.std.proofs.Common.{◌≡◌, ◌∙◌, ◌||◌, ◌==◌, ◌++◌, ◌<◌, ◌≤◌, ◌+◌, ◌^◌, ℕ, Bool, true, false, List, [], Some, None, if◌then◌else◌, get_or, length, ltb, slice_get, take, refl, sym, ap, subst, inl, inr, arith}
-use Rattle.std.specs.List.{filter_map}
-use Rattle.std.proofs.lemmas.Bool.{cases_lt, eqb-true, le-ltb, or_cases, or_left, or_right}
-use Rattle.std.proofs.lemmas.List.{get_or_past, take_all, take_more}
-use Rattle.std.proofs.lemmas.Option.{get_or_from_slice_get, slice_get-get_or, slice_get_within}
-use Rattle.cap_machine.specs.Sources.{OfEach}
-use Rattle.cap_machine.proofs.Gathering.{OfFirst, first_more_at}
-use Rattle.cap_model.specs.Adds.{Adds}
-use Rattle.authorities.specs.Authorities.{number_of}
-use Rattle.cap_model.specs.Edges.{edge, same_edge}
-use Rattle.cap_model.specs.Tables.{Has, has, IsSorted}
-use Rattle.authorities.specs.declared.authority.Authority.{Authority}
-use Rattle.authorities.specs.declared.authority.Authority.TheVariants.{Call, Receive, Reply}
-use Rattle.cap_model.specs.declared.edge.Edge.{Edge}
-use Rattle.cap_model.proofs.EdgeOrder.{edges_same, same_number}
-use Rattle.cap_model.proofs.TableMembers.{at_has, has_at}
-use Rattle.least_cert.specs.Closing.{AreReceivers, AreReplies, Closure, IsAnswer, IsCertificate, IsCopy, IsLess, IsSound, IsSpread, Knows, OfLeast, from_other, lead, leader_at, receiver, stays, turn}
-use Rattle.least_cert.specs.LeastCertificate.{HasMoreThan, InLeast}
+use Rattle.least_cert.proofs.Common.{Adds, AreReceivers, AreReplies, Authority, Bool, Call, Closure, Edge, Has, HasMoreThan, InLeast, IsAnswer, IsCertificate, IsCopy, IsLess, IsSorted, IsSound, IsSpread, Knows, List, None, OfEach, OfFirst, OfLeast}
+use Rattle.least_cert.proofs.Common.{Receive, Reply, Some, [], ap, arith, at_has, cases_lt, edge, edges_same, eqb-true, false, filter_map, first_more_at, from_other, get_or, get_or_from_slice_get, get_or_past, has, has_at, if◌then◌else◌, inl, inr}
+use Rattle.least_cert.proofs.Common.{le-ltb, lead, leader_at, length, ltb, number_of, or_cases, or_left, or_right, receiver, refl, same_edge, same_number, slice_get, slice_get-get_or, slice_get_within, stays, subst, sym, take, take_all, take_more}
+use Rattle.least_cert.proofs.Common.{true, turn, ℕ, ◌++◌, ◌+◌, ◌<◌, ◌==◌, ◌^◌, ◌||◌, ◌∙◌, ◌≡◌, ◌≤◌}
 use Rattle.least_cert.proofs.Growth.{no_edge}
 use Rattle.least_cert.proofs.Leading.{knows_least, led_knows, lead_reply, lead_other, number_other, reply_or_not}
 use Rattle.least_cert.proofs.LeastKeeps.{least_keeps}

@@ -1,16 +1,7 @@
 -- What is found out of a source is what explaining answers.
-use Rattle.std.proofs.Common.{◌≡◌, ℕ, List, Result, Ok, Err, sym, subst}
+use Rattle.source_commands.proofs.Common.{Answer, SourceError, Contents, Err, FrontEnd, IsAnswer, IsExplained, IsFrontOf, List, Ok, Result, Tables, subst, sym, tables_are, tables_of, told, ℕ, ◌≡◌}
 use Rattle.std.specs.Prelude.{IfOk}
-use Rattle.arch_policy.specs.Tables.{Tables, tables_of}
 use Rattle.cam_base.specs.declared.error.NoMemory.{NoMemory}
-use Rattle.cam_io.specs.Contents.{Contents}
-use Rattle.front_end.specs.Fronts.{IsFrontOf}
-use Rattle.front_end.specs.declared.error.BuildError.{BuildError}
-use Rattle.front_end.specs.declared.phases.FrontEnd.{FrontEnd}
-use Rattle.front_end.proofs.Refusing.{tables_are}
-use Rattle.explain.specs.Answers.{IsAnswer}
-use Rattle.explain.specs.declared.answer.Answer.{Answer}
-use Rattle.source_commands.specs.Explained.{IsExplained, told}
 
 module _ (from authority to root : List ℕ) (contents : Contents) (before now : List ℕ → ℕ) where
   told_explained : (f : FrontEnd) (r : Result Answer NoMemory) → IsFrontOf root contents f
@@ -24,7 +15,7 @@ module _ (from authority to root : List ℕ) (contents : Contents) (before now :
   }
   told_explained f (Err e) front h = tt
 
-  pub front_explained : (f : FrontEnd) (r : Result Answer NoMemory) (result : Result Answer BuildError)
+  pub front_explained : (f : FrontEnd) (r : Result Answer NoMemory) (result : Result Answer SourceError)
       → IsFrontOf root contents f
       → IfOk r (λ answer. IsAnswer (tables_of f.source f.flat f.settled) from authority to answer) → result ≡ told r
       → IsExplained from authority to root contents before now result

@@ -1,3 +1,4 @@
+pub mod Common
 pub mod Explaining
 pub mod Listed
 pub mod OneAnswer

@@ -1,22 +1,8 @@
 -- What a source is assigned is what listing answers.
-use Rattle.std.proofs.Common.{◌≡◌, ◌∙◌, ◌<◌, ℕ, List, [], ◌∷◌, length, get_or, sym, ap, subst, arith}
-use Rattle.std.proofs.lemmas.Option.{slice_get-get_or}
-use Rattle.adl_ast.specs.declared.source.Source.{Source}
-use Rattle.adl_meaning.specs.Flat.{flat_of}
-use Rattle.arch_policy.specs.Labels.{label_lines, label_texts}
-use Rattle.arch_policy.specs.Policies.{IsPolicyOf}
+use Rattle.source_commands.proofs.Common.{Contents, Edge, FrontEnd, IsAssigned, IsFrontOf, IsListing, IsListingOf, IsPolicyOf, IsSorted, List, Listing, Source, [], ap, arith, flat_of, from_ones, gather, get_or, label_lines, label_texts, length}
+use Rattle.source_commands.proofs.Common.{slice_get-get_or, source_tables, subst, sym, ℕ, ◌<◌, ◌∙◌, ◌∷◌, ◌≡◌}
 use Rattle.cap_model.specs.Policies.{NumbersDiffer}
-use Rattle.cap_model.specs.Tables.{IsSorted}
-use Rattle.cap_model.specs.declared.edge.Edge.{Edge}
 use Rattle.cap_model.specs.declared.policy.Policy.{Policy}
-use Rattle.cam_io.specs.Contents.{Contents}
-use Rattle.front_end.specs.First.{source_tables}
-use Rattle.front_end.specs.Fronts.{IsAssigned, IsFrontOf}
-use Rattle.front_end.specs.declared.phases.FrontEnd.{FrontEnd}
-use Rattle.cam_base.specs.Gather.{gather}
-use Rattle.cam_base.proofs.Gathered.{from_ones}
-use Rattle.source_commands.specs.Listed.{IsListing, IsListingOf}
-use Rattle.source_commands.specs.declared.listing.Listing.{Listing}
 
 -- ---- labels that are numbered by their places
 

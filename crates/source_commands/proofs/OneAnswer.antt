@@ -1,30 +1,13 @@
 -- In given contents there is one listing and one explanation, aside from failed reads and want of memory.
-use Rattle.std.proofs.Common.{◌≡◌, ◌∙◌, ℕ, false, List, Option, Some, None, Result, Ok, Err, refl, sym, ap, subst, arith}
-use Rattle.std.proofs.lemmas.Option.{same_Some}
-use Rattle.adl_ast.specs.declared.source.Source.{Source}
-use Rattle.arch_policy.specs.Labels.{label_texts}
-use Rattle.arch_policy.specs.Reasons.{IsReasoned, Reason, by_bind, by_call, by_direct, by_lock}
-use Rattle.arch_policy.specs.Tables.{Tables}
+use Rattle.source_commands.proofs.Common.{Answer, Assigned, AtMost, Authority, SourceError, ComesFirst, Contents, Edge, Err, Explains, IsAnswer, IsAnswered, IsAsked, IsExplained, IsListed, IsListing, IsListingOf, IsReasoned, List, Listing, None}
+use Rattle.source_commands.proofs.Common.{NotAssigned, Ok, Option, Reason, Result, Some, Source, Tables, ap, arith, authority_of, by_bind, by_call, by_direct, by_lock, explanation, false, first_list_fault, has, label_texts, numbers, refl, same_Some}
+use Rattle.source_commands.proofs.Common.{source_tables, subst, sym, tell, told_of, ℕ, ◌∙◌, ◌≡◌}
 use Rattle.cap_model.proofs.TableMembers.{one_table}
-use Rattle.authorities.specs.Authorities.{authority_of}
-use Rattle.cap_model.specs.Tables.{has}
-use Rattle.authorities.specs.declared.authority.Authority.{Authority}
-use Rattle.cap_model.specs.declared.edge.Edge.{Edge}
-use Rattle.cam_io.specs.Contents.{Contents}
-use Rattle.explain.specs.Explained.{AtMost, ComesFirst, Explains, IsAsked, numbers, tell, told_of}
 use Rattle.explain.specs.declared.reason.Reason.{Reason as Told}
 use Rattle.explain.specs.declared.reason.Rule.TheVariants.{Direct, ByCall, ByBind}
 use Rattle.front_end.proofs.OneAnswer.{both, faults_same, none_faulted, one_fault, one_loaded}
-use Rattle.front_end.specs.First.{first_list_fault, source_tables}
-use Rattle.front_end.specs.Refusals.{yields}
-use Rattle.front_end.specs.declared.error.BuildError.{BuildError}
-use Rattle.front_end.specs.declared.error.BuildError.TheVariants as error
-use Rattle.explain.specs.Answers.{IsAnswer, explanation}
-use Rattle.explain.specs.declared.answer.Answer.{Answer}
-use Rattle.explain.specs.declared.answer.Answer.TheVariants.{Assigned, NotAssigned}
-use Rattle.source_commands.specs.Explained.{IsAnswered, IsExplained}
-use Rattle.source_commands.specs.Listed.{IsListed, IsListing, IsListingOf}
-use Rattle.source_commands.specs.declared.listing.Listing.{Listing}
+use Rattle.cam_base.specs.declared.error.Unread.TheVariants as error
+use Rattle.cam_base.specs.Unread.{yields}
 
 -- ---- listings
 
@@ -129,7 +112,7 @@ module _ (m : Contents) (root : List ℕ) where
       listings_of_one y.source a b (subst (λ z. IsListingOf z a) (one_loaded m root x.source y.source x.loaded y.loaded)
       x.listed) y.listed
 
-  pub one_listing : (old new later last : List ℕ → ℕ) (a b : Result Listing BuildError) → yields a ≡ false → yields b ≡ false
+  pub one_listing : (old new later last : List ℕ → ℕ) (a b : Result Listing SourceError) → yields a ≡ false → yields b ≡ false
       → IsListed root m old new a → IsListed root m later last b → a ≡ b
   one_listing old new later last (Ok f) (Ok g) p q x y = ap Ok (listings_same f g x y)
   one_listing old new later last (Ok f) (Err (error.Fault g b)) p q x y =
@@ -152,7 +135,7 @@ module _ (m : Contents) (root : List ℕ) where
         answers_one (source_tables y.source) from authority to a b
         (subst (λ (z : Source). IsAnswer (source_tables z) from authority to a) same x.answers) y.answers
 
-    pub one_explained : (old new later last : List ℕ → ℕ) (a b : Result Answer BuildError) → yields a ≡ false → yields b ≡ false
+    pub one_explained : (old new later last : List ℕ → ℕ) (a b : Result Answer SourceError) → yields a ≡ false → yields b ≡ false
         → IsExplained from authority to root m old new a → IsExplained from authority to root m later last b → a ≡ b
     one_explained old new later last (Ok f) (Ok g) p q x y = ap Ok (explained_same f g x y)
     one_explained old new later last (Ok f) (Err (error.Fault g b)) p q x y =

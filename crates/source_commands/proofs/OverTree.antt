@@ -1,46 +1,28 @@
 -- What listing and explaining answer is what the source assigns over its hierarchy.
-use Rattle.std.proofs.Common.{◌≡◌, ◌≢◌, ◌∙◌, ◌↔◌, ◌++◌, ◌+◌, ◌==◌, ℕ, Bool, true, false, List, [], ◌∷◌, map, get_or, Some, None, Ok, unwrap_or, refl, ap, subst, inl, inr, cond}
+use Rattle.source_commands.proofs.Common.{Answer, Assigned, Authority, Bool, Contents, Edge, IsAnswer, IsAnswered, IsAsked, IsIn, IsListing, IsReasoned, List, Listing, None, NotAssigned, Ok, Some, Source, [], ap, authority_of, cond, false}
+use Rattle.source_commands.proofs.Common.{first_edge_fault, first_front_fault, first_list_fault, flat_of, get_or, in_gather, in_place, inl, inr, is_assigned, label_lines, label_texts, listing_text, map, refl, slice_get-get_or, source_tables, subst}
+use Rattle.source_commands.proofs.Common.{text_of, true, unwrap_or, ℕ, ◌++◌, ◌+◌, ◌==◌, ◌↔◌, ◌∙◌, ◌∷◌, ◌≡◌, ◌≢◌}
 use Rattle.std.proofs.lemmas.Bool.{eqb-true}
 use Rattle.std.proofs.lemmas.Iterator.Adapters.{position_from-zero}
 use Rattle.std.proofs.lemmas.List.Quantifiers.{position-Some}
-use Rattle.std.proofs.lemmas.Option.{slice_get-get_or}
 use Rattle.std.proofs.lemmas.Slice.Eq.{bytes_eq-Decides}
 use Rattle.std.specs.List.{flat_map, position, position_from}
 use Rattle.std.specs.Str.{bytes_eq}
-use Rattle.adl_ast.specs.declared.source.Source.{Source}
 use Rattle.adl_hierarchy.specs.Spelled.{AreSpelled}
 use Rattle.adl_import.specs.Loaded.{IsLoaded}
-use Rattle.adl_meaning.specs.Flat.{flat_of}
 use Rattle.adl_meaning.specs.declared.flat.Flat.{Flat}
 use Rattle.arch_policy.proofs.Lists.{in_has}
-use Rattle.arch_policy.specs.Labels.{label_lines, label_texts}
-use Rattle.arch_policy.specs.Policies.{first_edge_fault}
-use Rattle.arch_policy.specs.Reasons.{IsReasoned}
 use Rattle.assigned_laws.proofs.PolicyTriples.{all_assigned, lines_of}
 use Rattle.assigned_laws.proofs.Ranked.{line_name, line_place, lines_apart}
 use Rattle.assigned_laws.proofs.TextReasons.{assigned_texts}
 use Rattle.assigned_laws.specs.Texts.{IsAssignedText}
 use Rattle.assigned_laws.specs.Triples.{name_at, triple}
-use Rattle.authorities.specs.Authorities.{authority_of, text_of}
 use Rattle.cap_model.specs.Edges.{edge}
-use Rattle.authorities.specs.declared.authority.Authority.{Authority}
-use Rattle.cap_model.specs.declared.edge.Edge.{Edge}
-use Rattle.cam_io.specs.Contents.{Contents}
 use Rattle.policy_text.specs.EdgeLines.{LabelNames, apart_line, edge_line, name_of, words_line}
-use Rattle.explain.specs.Explained.{IsAsked}
 use Rattle.flat_laws.proofs.FewEnds.{no_first}
 use Rattle.front_end.proofs.LoadedShort.{loaded_short, short_spelled}
 use Rattle.front_end.proofs.Sound.{IsFaultless, faultless}
-use Rattle.front_end.specs.First.{first_front_fault, first_list_fault, source_tables}
-use Rattle.cam_base.proofs.Gathered.{in_gather, in_place}
-use Rattle.cam_base.specs.Gather.{IsIn}
-use Rattle.explain.specs.Answers.{IsAnswer, is_assigned}
-use Rattle.explain.specs.declared.answer.Answer.{Answer}
-use Rattle.explain.specs.declared.answer.Answer.TheVariants.{Assigned, NotAssigned}
 use Rattle.source_commands.specs.Assigned.{AnswersWhether, ListsAssigned, triple_line}
-use Rattle.source_commands.specs.Explained.{IsAnswered}
-use Rattle.source_commands.specs.Listed.{IsListing, listing_text}
-use Rattle.source_commands.specs.declared.listing.Listing.{Listing}
 
 -- ---- of a source that is loaded
 

@@ -7,12 +7,12 @@ use Rattle.cam_base.specs.declared.error.NoMemory.{NoMemory}
 use Rattle.cam_io.specs.Contents.{Contents}
 use Rattle.front_end.specs.First.{first_list_fault, source_tables}
 use Rattle.front_end.specs.Refusals.{Refuses}
-use Rattle.front_end.specs.declared.error.BuildError.{BuildError}
-use Rattle.front_end.specs.declared.error.BuildError.TheVariants as error
+use Rattle.cam_base.specs.Unread.{SourceError}
+use Rattle.cam_base.specs.declared.error.Unread.TheVariants as error
 use Rattle.explain.specs.Answers.{IsAnswer}
 use Rattle.explain.specs.declared.answer.Answer.{Answer}
 
-abbrev pub told : Result Answer NoMemory → Result Answer BuildError
+abbrev pub told : Result Answer NoMemory → Result Answer SourceError
 told (Ok answer) = Ok answer
 told (Err e) = Err error.NoMemory
 
@@ -24,6 +24,6 @@ module _ (from authority to : List ℕ) where
     pub none : first_list_fault source ≡ None
     pub answers : IsAnswer (source_tables source) from authority to answer
 
-  abbrev pub IsExplained : List ℕ → Contents → (List ℕ → ℕ) → (List ℕ → ℕ) → Result Answer BuildError → Type 0
+  abbrev pub IsExplained : List ℕ → Contents → (List ℕ → ℕ) → (List ℕ → ℕ) → Result Answer SourceError → Type 0
   IsExplained root contents before now (Ok answer) = IsAnswered root contents answer
   IsExplained root contents before now (Err e) = Refuses first_list_fault root contents before now e

@@ -10,7 +10,7 @@ use Rattle.cam_io.specs.Contents.{Contents}
 use Rattle.policy_text.specs.EdgeLines.{apart_lines}
 use Rattle.front_end.specs.First.{first_list_fault, source_tables}
 use Rattle.front_end.specs.Refusals.{Refuses}
-use Rattle.front_end.specs.declared.error.BuildError.{BuildError}
+use Rattle.cam_base.specs.Unread.{SourceError}
 use Rattle.source_commands.specs.declared.listing.Listing.{Listing}
 
 -- it has the source's labels, and just the edges that are assigned, in order and each once
@@ -26,7 +26,7 @@ pub record IsListing (root : List ℕ) (contents : Contents) (listing : Listing)
   pub none : first_list_fault source ≡ None
   pub listed : IsListingOf source listing
 
-abbrev pub IsListed : List ℕ → Contents → (List ℕ → ℕ) → (List ℕ → ℕ) → Result Listing BuildError → Type 0
+abbrev pub IsListed : List ℕ → Contents → (List ℕ → ℕ) → (List ℕ → ℕ) → Result Listing SourceError → Type 0
 IsListed root contents before now (Ok listing) = IsListing root contents listing
 IsListed root contents before now (Err e) = Refuses first_list_fault root contents before now e
 

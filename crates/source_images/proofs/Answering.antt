@@ -1,5 +1,5 @@
 -- What is answered for readings, in terms of what was found.
-use Rattle.source_images.proofs.Common.{AreFound, AreImagesRead, AreTablesRead, Bool, Bor, Contents, Err, Fault, Flat, Found, IfOk, Image, Images, ImagesError, IsAnswer, IsIn, Leaf, Line, List, Name, None, Ok, Option, Place, Reading, Result, Some}
+use Rattle.source_images.proofs.Common.{AreFound, AreImagesRead, AreTablesRead, Bool, Bor, Contents, Err, Fault, Flat, Found, IfOk, Image, Images, SourceError, IsAnswer, IsIn, Leaf, Line, List, Name, None, Ok, Option, Place, Reading, Result, Some}
 use Rattle.source_images.proofs.Common.{Source, Table, [], absent, ap, arith, cond, earlier, false, file_name, files_told, first_arch, first_fault, first_missing, first_of, first_read, first_table_fault, flat_map, folder_of, get_or, image_of}
 use Rattle.source_images.proofs.Common.{images_in, images_of, least, length, length-map, line_faults, lines, listed, map, merged, missing, missing_at, missing_by, missing_reading, name_of_file, names_told, noted, noted-append, noted-none, option_map}
 use Rattle.source_images.proofs.Common.{option_map_or, precedes, reading_in, reading_of, readings_of, refl, slice_get, slice_get-get_or, slice_get_past, string_bytes, subst, suc, sym, table, table_at, table_name, table_names, tables_told, too_long}
@@ -8,7 +8,7 @@ use Rattle.adl_ast.specs.declared.source.SourceFile.{SourceFile}
 use Rattle.source_images.proofs.TableReads.{found_count}
 use Rattle.source_images.proofs.Lines.{first_line_fault, least-append, least-line_faults}
 use Rattle.source_images.proofs.Merging.{IsMerged, merged_tables}
-use Rattle.source_images.specs.declared.error.ImagesError.TheVariants as error
+use Rattle.cam_base.specs.declared.error.Unread.TheVariants as error
 
 names_are : (folder : List ℕ) (ns : List Name) → map (λ (t : Name × List ℕ). t.0) (map (table_at folder) ns) ≡ ns
 names_are folder [] = refl
@@ -116,7 +116,7 @@ module _ (root : List ℕ) (source : Source) (flat : Flat) (all : List Found) wh
   names_same n = ap (λ z. unwrap_or (slice_get (map (λ f. f.name) source.files ++ z) n) [])
       (files_are (folder_of root) (types source flat))
 
-  answer_told : (contents : Contents) (result : Result Images ImagesError) → AreFound contents (map (λ t. t.1) all_tables) all
+  answer_told : (contents : Contents) (result : Result Images SourceError) → AreFound contents (map (λ t. t.1) all_tables) all
       → IsAnswer source flat all_tables all_readings result → AreImagesRead contents root source flat result
   answer_told contents result told answer = by_result result answer
     where
@@ -126,7 +126,7 @@ module _ (root : List ℕ) (source : Source) (flat : Flat) (all : List Found) wh
       count : length all_tables ≡ length all
       count = sym (found_count contents (map (λ t. t.1) all_tables) all told ∙ length-map all_tables (λ t. t.1))
 
-      by_result : (r : Result Images ImagesError) → IsAnswer source flat all_tables all_readings r
+      by_result : (r : Result Images SourceError) → IsAnswer source flat all_tables all_readings r
           → AreImagesRead contents root source flat r
       by_result (Ok images) a =
           let made : images ≡ images_of source flat all =
@@ -144,7 +144,7 @@ module _ (root : List ℕ) (source : Source) (flat : Flat) (all : List Found) wh
 
 -- the answer, where all tables are read
 pub answered : (contents : Contents) (root : List ℕ) (source : Source) (flat : Flat) (tables : List (Name × List ℕ))
-    (readings : List Reading) (result : Result Images ImagesError)
+    (readings : List Reading) (result : Result Images SourceError)
     → tables ≡ map (table_at (folder_of root)) (types source flat)
     → (all : List Found) × AreFound contents (map (λ t. t.1) tables) all
     × (readings ≡ readings_of (length source.files) tables all)
@@ -163,13 +163,13 @@ failed contents root source flat tables file is among =
 
 -- the answer, where reading failed
 pub err_answered : (contents : Contents) (root : List ℕ) (source : Source) (flat : Flat) (tables : List (Name × List ℕ))
-    (e : ImagesError) (result : Result Images ImagesError)
+    (e : SourceError) (result : Result Images SourceError)
     → tables ≡ map (table_at (folder_of root)) (types source flat) → AreTablesRead contents (length source.files) tables (Err e)
     → result ≡ Err e → AreImagesRead contents root source flat result
 err_answered contents root source flat tables e result is read same = subst (AreImagesRead contents root source flat) (sym same)
     (by_error e read)
   where
-    by_error : (z : ImagesError) → AreTablesRead contents (length source.files) tables (Err z)
+    by_error : (z : SourceError) → AreTablesRead contents (length source.files) tables (Err z)
         → AreImagesRead contents root source flat (Err z)
     by_error (error.Fault fault f) r = absurd r
     by_error (error.ReadFault f) r = failed contents root source flat tables f is r

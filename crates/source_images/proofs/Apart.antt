@@ -1,17 +1,11 @@
 -- Sections of a domain that lie apart begin at addresses that differ.
 use Rattle.source_images.proofs.Common.{AreApart, Bool, Image, Images, IsIn, List, None, Option, Placed, Section, Some, [], and_from, and_left, and_parts, and_right, ap, arith, both_ways, cases_Bool, clashes, clashes_with, eq-eqb, eqb-true, false}
-use Rattle.source_images.proofs.Common.{from_any, from_gather, image_number, inl, inr, is_run, is_sound, list_any, lt-ltb, ltb-true, nat_eq, ne_eqb, not, not-true, option_map_or, or_left, or_right, placed, refl, runs, sections_if, sections_of}
+use Rattle.source_images.proofs.Common.{from_any, from_gather, image_number, inl, inr, is_run, is_sound, list_any, lt-ltb, ltb-true, nat_eq, ne_eqb, not, not-true, option_map_or, placed, refl, runs, sections_if, sections_of}
 use Rattle.source_images.proofs.Common.{share_page, suc, sym, true, zero, ℕ, ⊎_elim, ◌%◌, ◌&&◌, ◌+◌, ◌/◌, ◌<◌, ◌^◌, ◌∙◌, ◌∷◌, ◌≡◌}
 use Rattle.std.specs.Prelude.{IsTrue}
 use Rattle.source_images.proofs.SectionsTold.{comes_from}
 use Rattle.source_images.proofs.Sorting.{Differ, Later, later_gather, later_within}
-
--- ---- tests of lists
-
-pub any_in : {X : Type 0} (p : X → Bool) (xs : List X) (x : X) → IsIn x xs → p x ≡ true → list_any p xs ≡ true
-any_in p [] x i e = absurd i
-any_in p (y ∷ xs) x (inl s) e = or_left (p y) (list_any p xs) (ap p s ∙ e)
-any_in p (y ∷ xs) x (inr i) e = or_right (p y) (list_any p xs) (any_in p xs x i e)
+use Rattle.cam_base.proofs.NumberedLists.{in_any}
 
 -- ---- each section of a domain has numbers of its own
 
@@ -66,9 +60,9 @@ no_clash images leaves x y h i j =
     let none : clashes all x.image ≡ false = h.apart leaf.0 x.image leaf.1 leaf.2 in
     ⊎_elim
     (λ t. absurd (both_ways (clashes all x.image) none
-    (any_in (λ z. nat_eq z.image x.image && list_any (clashes_with z) all) all x i
+    (in_any (λ z. nat_eq z.image x.image && list_any (clashes_with z) all) all x i
     (and_from (nat_eq x.image x.image) (list_any (clashes_with x) all) (eq-eqb x.image x.image refl)
-    (any_in (clashes_with x) all y j t)))))
+    (in_any (clashes_with x) all y j t)))))
     (λ f. f)
     (cases_Bool (clashes_with x y))
 

@@ -1,10 +1,11 @@
 -- Where no fault of address spaces stands, sections lie apart and where they may.
 use Rattle.source_images.proofs.Common.{AreApart, AreNumbered, AreSound, Bool, Fault, Flat, Image, Images, IsIn, List, None, Placed, Some, [], arch_of, at_place, both_ways, cases_Bool, clashes, domain_faults, false, fault_at, first_space_fault}
 use Rattle.source_images.proofs.Common.{image_faults, image_number, in_place, is_inside, is_outside, leaf_faults, least-empty, list_any, none_in, not, not-false, refl, sections_end, sections_of, slice_get, space_faults, sym, true, where_true, ℕ}
-use Rattle.source_images.proofs.Common.{⊎_elim, ◌++◌, ◌<◌, ◌∙◌, ◌∷◌, ◌≡◌}
+use Rattle.source_images.proofs.Common.{⊎_elim, ◌++◌, ◌∙◌, ◌≡◌}
 use Rattle.adl_meaning.specs.declared.flat.Domain.{Domain}
 use Rattle.cam_base.specs.declared.code.Code.TheVariants as code
-use Rattle.source_images.proofs.Apart.{any_in, run_by}
+use Rattle.cam_base.proofs.NumberedLists.{in_any}
+use Rattle.source_images.proofs.Apart.{run_by}
 use Rattle.source_images.proofs.Leaves.{leaf_is}
 use Rattle.source_images.proofs.SectionsTold.{comes_from}
 
@@ -16,7 +17,7 @@ two_free false true f g e = cc
 two_free false false f g e = (refl, refl)
 
 none_any : {X : Type 0} (p : X → Bool) (xs : List X) (x : X) → list_any p xs ≡ false → IsIn x xs → p x ≡ false
-none_any p xs x e i = ⊎_elim (λ t. absurd (both_ways (list_any p xs) e (any_in p xs x i t))) (λ f. f) (cases_Bool (p x))
+none_any p xs x e i = ⊎_elim (λ t. absurd (both_ways (list_any p xs) e (in_any p xs x i t))) (λ f. f) (cases_Bool (p x))
 
 -- ---- the programs of a domain
 

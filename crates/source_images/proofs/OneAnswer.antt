@@ -1,6 +1,6 @@
 -- In given contents there is one answer.
-use Rattle.source_images.proofs.Common.{AreImagesRead, Contents, Err, Fault, Flat, Images, ImagesError, List, None, Ok, Option, Result, Some, Source, ap, false, first_table_fault, found_of, name_of_file, sym, true≢false, yields, ℕ, ◌∙◌, ◌≡◌}
-use Rattle.source_images.specs.declared.error.ImagesError.TheVariants as error
+use Rattle.source_images.proofs.Common.{AreImagesRead, Contents, Err, Fault, Flat, Images, SourceError, List, None, Ok, Option, Result, Some, Source, ap, false, first_table_fault, found_of, name_of_file, sym, true≢false, yields, ℕ, ◌∙◌, ◌≡◌}
+use Rattle.cam_base.specs.declared.error.Unread.TheVariants as error
 
 some_other : (o : Option Fault) (f : Fault) {T : Type 0} → o ≡ None → o ≡ Some f → T
 some_other o f none some = absurd (let e : None ≡ Some f = sym none ∙ some in cc)
@@ -8,7 +8,7 @@ some_other o f none some = absurd (let e : None ≡ Some f = sym none ∙ some i
 one_some : (f g : Fault) → Some f ≡ Some g → f ≡ g
 one_some f g e = cc
 
-pub one_answer : (m : Contents) (root : List ℕ) (source : Source) (flat : Flat) (a b : Result Images ImagesError)
+pub one_answer : (m : Contents) (root : List ℕ) (source : Source) (flat : Flat) (a b : Result Images SourceError)
     → yields a ≡ false → yields b ≡ false
     → AreImagesRead m root source flat a → AreImagesRead m root source flat b → a ≡ b
 one_answer m root source flat (Ok a) (Ok b) p q x y = ap (λ z. Ok z) (x.images ∙ sym y.images)

@@ -1,10 +1,10 @@
 -- Tables, read one after another.
-use Rattle.source_images.proofs.Common.{AlikeAsRead, AlikeInTables, AreFound, AreTablesRead, Bor, Contents, Err, Found, ImagesError, InAll, IsErr, IsErrAnd, IsFound, IsIn, IsTableRead, LearnsOnly, List, Name, Ok, Option, Reading, Result, Some, Table}
+use Rattle.source_images.proofs.Common.{AlikeAsRead, AlikeInTables, AreFound, AreTablesRead, Bor, Contents, Err, Found, SourceError, InAll, IsErr, IsErrAnd, IsFound, IsIn, IsTableRead, LearnsOnly, List, Name, Ok, Option, Reading, Result, Some, Table}
 use Rattle.source_images.proofs.Common.{[], add-one, ap, arith, cond, false, files_told, found_bytes, found_in, get_map, get_or, in_place, length, length-append, length-map, map, names_told, nat_lt, nat_tests, reading_of, readings_of, refl}
 use Rattle.source_images.proofs.Common.{slice_get, slice_get-get_or, string_bytes, subst, suc, sym, table, table_at, table_told, tables_told, take, too_long, zero, ℕ, ◌++◌, ◌+◌, ◌<◌, ◌∙◌, ◌∷◌, ◌≡◌, ◌≤◌}
 use Rattle.std.proofs.Math.Seq.{take-length}
 use Rattle.std.specs.FinMap.{get}
-use Rattle.source_images.specs.declared.error.ImagesError.TheVariants as error
+use Rattle.cam_base.specs.declared.error.Unread.TheVariants as error
 
 pub found_count : (contents : Contents) (names : List (List ℕ)) (all : List Found) → AreFound contents names all
     → length all ≡ length names
@@ -119,7 +119,7 @@ learns_more told tables n t a b c lt is before still one m o now old alike =
     (alike (string_bytes t.file) (failed_in (tables_told tables) n (table_told t) (string_bytes t.file)
     (table_here tables n t lt is) refl))
 
-err_told : (contents : Contents) (file : ℕ) (tables : List Table) (n : ℕ) (t : Table) (e : ImagesError) → n < length tables
+err_told : (contents : Contents) (file : ℕ) (tables : List Table) (n : ℕ) (t : Table) (e : SourceError) → n < length tables
     → t ≡ get_or tables n t → IsTableRead contents (file + n) (table_told t) (Err e)
     → AreTablesRead contents file (tables_told tables) (Err e)
 err_told contents file tables n t (error.Fault fault f) lt is h = h
@@ -128,12 +128,12 @@ err_told contents file tables n t (error.ReadFault f) lt is h = failed_in (table
 err_told contents file tables n t error.NoMemory lt is h = tt
 
 -- an error that is passed on
-pub err_is : {X : Type 0} (r : Result X ImagesError) (e : ImagesError) → IsErr r → IsErrAnd r (λ x. x ≡ e) → r ≡ Err e
+pub err_is : {X : Type 0} (r : Result X SourceError) (e : SourceError) → IsErr r → IsErrAnd r (λ x. x ≡ e) → r ≡ Err e
 err_is (Ok x) e is h = absurd h
 err_is (Err x) e is h = ap (λ z. Err z) h
 
-pub tables_failed : (contents : Contents) (file : ℕ) (tables : List Table) (n : ℕ) (t : Table) (e : ImagesError)
-    (r : Result (List Reading) ImagesError) → n < length tables → t ≡ get_or tables n t
+pub tables_failed : (contents : Contents) (file : ℕ) (tables : List Table) (n : ℕ) (t : Table) (e : SourceError)
+    (r : Result (List Reading) SourceError) → n < length tables → t ≡ get_or tables n t
     → IsTableRead contents (file + n) (table_told t) (Err e) → r ≡ Err e → AreTablesRead contents file (tables_told tables) r
 tables_failed contents file tables n t e r lt is h same = subst (AreTablesRead contents file (tables_told tables)) (sym same)
     (err_told contents file tables n t e lt is h)

@@ -10,8 +10,8 @@ use Rattle.source_images.specs.declared.images.Images.{Images}
 use Rattle.source_images.specs.Found.{found_of, table_names}
 use Rattle.source_images.specs.TableFaults.{first_table_fault, name_of_file}
 use Rattle.source_images.specs.TableImages.{images_of}
-use Rattle.source_images.specs.declared.error.ImagesError.{ImagesError}
-use Rattle.source_images.specs.declared.error.ImagesError.TheVariants as error
+use Rattle.cam_base.specs.Unread.{SourceError}
+use Rattle.cam_base.specs.declared.error.Unread.TheVariants as error
 
 -- in what the contents have under the names of the tables no fault stands: these are the images
 pub record AreImagesOf (contents : Contents) (root : List ℕ) (source : Source) (flat : Flat) (answer : Images)
@@ -26,15 +26,8 @@ pub record IsFaultOf (contents : Contents) (root : List ℕ) (source : Source) (
   pub named : file ≡ name_of_file root source flat fault.place.file
 
 -- the answer for a source whose root is the file of this name
-abbrev pub AreImagesRead : Contents → List ℕ → Source → Flat → Result Images ImagesError → Type 0
+abbrev pub AreImagesRead : Contents → List ℕ → Source → Flat → Result Images SourceError → Type 0
 AreImagesRead contents root source flat (Ok images) = AreImagesOf contents root source flat images
 AreImagesRead contents root source flat (Err (error.Fault fault file)) = IsFaultOf contents root source flat fault file
 AreImagesRead contents root source flat (Err (error.ReadFault file)) = IsIn file (table_names root source flat)
 AreImagesRead contents root source flat (Err error.NoMemory) = Unit {0}
-
--- the answers that may come in place of another
-abbrev pub yields : Result Images ImagesError → Bool
-yields (Ok images) = false
-yields (Err (error.Fault fault file)) = false
-yields (Err (error.ReadFault file)) = true
-yields (Err error.NoMemory) = true

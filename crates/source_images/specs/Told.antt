@@ -20,8 +20,8 @@ use Rattle.source_images.specs.Archs.{is_other}
 use Rattle.source_images.specs.Found.{Found, AreFound, absent, too_long, table, found_bytes, table_name}
 use Rattle.source_images.specs.TableFaults.{listed}
 use Rattle.source_images.specs.Types.{Name, type_number}
-use Rattle.source_images.specs.declared.error.ImagesError.{ImagesError}
-use Rattle.source_images.specs.declared.error.ImagesError.TheVariants as error
+use Rattle.cam_base.specs.Unread.{SourceError}
+use Rattle.cam_base.specs.declared.error.Unread.TheVariants as error
 use Rattle.source_images.specs.declared.merge.Merged.{Merged}
 use Rattle.source_images.specs.declared.reading.Reading.{Reading}
 use Rattle.source_images.specs.declared.reading.Reading.TheVariants.{Absent, TooLong, Faulty, Sound}
@@ -65,14 +65,14 @@ abbrev pub IsFound : Contents → List ℕ → Found → Type 0
 IsFound contents name x = x ≡ found_bytes (get contents name)
 
 -- the answer for one table: what is read of what is found
-abbrev pub IsTableRead : Contents → ℕ → Name × List ℕ → Result Reading ImagesError → Type 0
+abbrev pub IsTableRead : Contents → ℕ → Name × List ℕ → Result Reading SourceError → Type 0
 IsTableRead contents file t (Ok reading) = (x : Found) × IsFound contents t.1 x × (reading ≡ reading_of file t x)
 IsTableRead contents file t (Err (error.Fault fault f)) = ⊥
 IsTableRead contents file t (Err (error.ReadFault f)) = f ≡ t.1
 IsTableRead contents file t (Err error.NoMemory) = Unit {0}
 
 -- the answer for all tables
-abbrev pub AreTablesRead : Contents → ℕ → List (Name × List ℕ) → Result (List Reading) ImagesError → Type 0
+abbrev pub AreTablesRead : Contents → ℕ → List (Name × List ℕ) → Result (List Reading) SourceError → Type 0
 AreTablesRead contents file tables (Ok readings) =
     (all : List Found) × AreFound contents (map (λ t. t.1) tables) all × (readings ≡ readings_of file tables all)
 AreTablesRead contents file tables (Err (error.Fault fault f)) = ⊥
@@ -151,7 +151,7 @@ abbrev pub first_read : Source → Flat → List Reading → Option Fault
 first_read source flat readings = first_of (first_missing source flat readings) (merged readings).fault
 
 -- the answer for these readings of these tables
-abbrev pub IsAnswer : Source → Flat → List (Name × List ℕ) → List Reading → Result Images ImagesError → Type 0
+abbrev pub IsAnswer : Source → Flat → List (Name × List ℕ) → List Reading → Result Images SourceError → Type 0
 IsAnswer source flat tables readings (Ok images) =
     (first_read source flat readings ≡ None)
     × (images ≡ record { images = (merged readings).images; of_leaf = map (type_number source flat) flat.leaves })

@@ -1,5 +1,5 @@
 -- A text that grows by parts, one behind another.
-use Rattle.std.proofs.Common.{◌≡◌, ◌∙◌, ◌++◌, ℕ, List, Result, Ok, Err, ap, append_assoc}
+use Rattle.source_views.proofs.Common.{Err, List, Ok, Result, ap, append_assoc, ℕ, ◌++◌, ◌∙◌, ◌≡◌}
 use Rattle.std.specs.Result.{OnOk}
 
 pub and_then : (text mid new front part : List ℕ) → mid ≡ text ++ front → new ≡ mid ++ part → new ≡ text ++ (front ++ part)

@@ -42,12 +42,12 @@ pub use Rattle.adl_meaning.specs.declared.settled.EndSettings.{EndSettings}
 pub use Rattle.adl_meaning.specs.declared.settled.LeafSetting.{LeafSetting}
 pub use Rattle.adl_meaning.specs.declared.settled.Settled.{Settled}
 pub use Rattle.adl_settings.specs.Allowed.{badge_in, badge_kind, irq_in, is_badge_text, number_in, paddr_in, priority_in, size_in, sized, stack_in, whole_pages, within}
-pub use Rattle.adl_settings.specs.BadValue.{bad_at_end, bad_in_connection, bad_in_leaf, bad_values}
+pub use Rattle.adl_settings.specs.BadValue.{bad_at_end, bad_in_connection, bad_in_leaf}
 pub use Rattle.adl_settings.specs.EndMeaning.{badge_of, bytes_of, default_bytes, end_setting, irq_of, paddr_of}
 pub use Rattle.adl_settings.specs.IrqTwice.{irq_from, irq_twice_at, irqs_in, irqs_twice}
 pub use Rattle.adl_settings.specs.Joints.{Joint, behind, found_at, found_on, founds_in, has_badge, interface_at, is_device_event, is_device_memory, joint_at, joint_of, positioned, positioned_after}
 pub use Rattle.adl_settings.specs.Meant.{bad_unless, bad_value, meaning, meant, where_set}
-pub use Rattle.adl_settings.specs.Missing.{lacks_value, missing_at, missing_in, missing_values}
+pub use Rattle.adl_settings.specs.Missing.{lacks_value, missing_at, missing_in}
 pub use Rattle.adl_settings.specs.SettingFaults.{first_setting_fault, setting_faults, value_faults}
 pub use Rattle.adl_settings.specs.Settled.{LeafFound, end_settings, leaf_found, leaf_setting, leaves_found, settled_of}
 pub use Rattle.adl_settings.specs.declared.found.Found.{Found}

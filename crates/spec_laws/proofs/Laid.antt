@@ -2,14 +2,14 @@
 use Rattle.spec_laws.proofs.Common.{Aarch64, Arch, Arm11, CNodeOf, Cap, Connector, Domain, EndpointOf, Fill, FlatEnd, FrameInfo, FrameOf, From, Handler, IrqOf, IsFillWritten, IsFit, IsFrameWritten, IsIn, IsThere, IsThreadWritten, IsWritten, Layer}
 use Rattle.spec_laws.proofs.Common.{List, LockOf, Mapping, None, NotificationOf, Object, OfEnd, Option, OwnLock, Part, RW, Role, Series, Shape, SlotUse, Some, TableOf, Tables, ThreadOf, ThreadPlace, To, What, [], and_from, and_parts, ap, arch}
 use Rattle.spec_laws.proofs.Common.{are_slots, arith, buffer_cap, cap, decimal, end_of, eqb-true, false, false_from_ne_true, frame_at, frame_object, from_gather, from_map, if_any, in_place, inl, inr, is_fill, is_laid, is_letter, is_name, is_number}
-use Rattle.spec_laws.proofs.Common.{is_tcb, is_word, is_word_byte, layers, leaf_entry, leaf_name, leb, leb-true, length, length-append, length-decimal-le, list_all, lt-ltb, map, not, not_from_false, object, option_map_or, page_mapping, pages_at}
+use Rattle.spec_laws.proofs.Common.{is_tcb, is_word, is_word_byte, layers, leaf_entry, leaf_name, leb, length, length-append, length-decimal-le, list_all, lt-ltb, map, not, not_from_false, object, option_map_or, page_mapping, pages_at}
 use Rattle.spec_laws.proofs.Common.{part_name, place, prefix, refl, role_badge, same_Some, settled_badge, shape_of_layer, shapes, slice_get, slice_get_within, slot_of, slots_at, slots_below, slots_lead, subst, sym, table_of, tcb, threads_at, true}
 use Rattle.spec_laws.proofs.Common.{true≢false, use_cap, uses_at, ℕ, ◌&&◌, ◌++◌, ◌+◌, ◌<◌, ◌==◌, ◌^◌, ◌∙◌, ◌∷◌, ◌≡◌, ◌≤◌}
 use Rattle.std.specs.Option.{option_map}
 use Rattle.cap_model.specs.declared.object.Object.TheVariants as objects
 use Rattle.capdl_write.specs.Writable.{is_plain}
 use Rattle.capdl_text.specs.TokenFaults.{is_left_out_word}
-use Rattle.cam_base.proofs.Naming.{is_name-numbered}
+use Rattle.cam_base.proofs.Naming.{is_name-numbered, name_short}
 use Rattle.system_spec.specs.declared.series.Series.TheVariants as series
 use Rattle.spec_laws.proofs.CapsFit.{all_pass}
 use Rattle.spec_laws.proofs.Lengths.{AreShort}
@@ -93,12 +93,6 @@ name_plain (b ∷ bs) h =
     let p = and_parts (leb (length bs) 126) (is_letter b && list_all is_word_byte bs) h in
     let q = and_parts (is_letter b) (list_all is_word_byte bs) p.1 in
     and_from (not (b == 34) && not (b == 10)) (is_plain bs) (byte_plain b (word_or b q.0)) (bytes_plain bs q.1)
-
-pub name_short : (text : List ℕ) → is_name text ≡ true → length text ≤ 127
-name_short [] h = omega arith
-name_short (b ∷ bs) h =
-    let l = leb-true (length bs) 126 (and_parts (leb (length bs) 126) (is_letter b && list_all is_word_byte bs) h).0 in
-    omega (arith, l)
 
 -- ---- numbers
 

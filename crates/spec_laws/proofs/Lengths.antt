@@ -1,7 +1,7 @@
 -- How long the lines of a canonical text are, where names are short.
 use Rattle.spec_laws.proofs.Common.{Aarch64, Arch, Arm11, Bool, CNode, Cap, Directory, Endpoint, Fill, Frame, Global, IsIn, Level, List, None, Object, Option, Pages, Rights, Some, Spec, Table, Tcb, Thread, Upper, [], and_parts, ap, arch_word}
 use Rattle.spec_laws.proofs.Common.{are_slots, arith, buffer_line, cap_end, caps_of, cond_both, decimal, elf_field, entry_line, entry_text, false, fill_field, flat_map, frame_line, has_slot, holder_text, if_any, inl, inr, irq_line, irq_text, is_laid}
-use Rattle.spec_laws.proofs.Common.{is_number, is_tcb, keeps, keeps_fill, leb, leb-true, length, length-decimal-le, length_append, level_word, ltb-true, name_at, named_line, nat_lt, not, object_line, paddr_field, params, refl, slots_text, some, suc}
+use Rattle.spec_laws.proofs.Common.{is_number, is_tcb, keeps, keeps_fill, leb, leb-true, length, length_append, level_word, ltb-true, name_at, named_line, nat_lt, not, object_line, paddr_field, params, refl, slots_text, some, suc}
 use Rattle.spec_laws.proofs.Common.{sym, tcb_line, tcb_text, true, zero, ℕ, ◌&&◌, ◌*◌, ◌++◌, ◌+◌, ◌<◌, ◌==◌, ◌^◌, ◌∷◌, ◌≡◌, ◌≤◌}
 use Rattle.std.specs.Prelude.{◌/◌, ◌%◌, codes}
 use Rattle.cam_base.specs.Hex.{glyph, hex_digits, hex_text}
@@ -9,26 +9,10 @@ use Rattle.cam_base.specs.Texts.{◌⊹◌, together}
 use Rattle.cap_model.specs.Canonical.{canonical, slot_line}
 use Rattle.cap_model.specs.declared.object.Object.TheVariants.{Notification, Irq}
 use Rattle.cap_model.specs.RightsWord.{grant_letter, has_rights, letter, read_letter, reply_letter, rights_word, write_letter}
-use Rattle.spec_laws.proofs.Totals.{length_flat_map, total, total_each}
+use Rattle.spec_laws.proofs.Totals.{length_flat_map, total_each}
+use Rattle.cam_base.proofs.ShortTexts.{all_short, decimal_short}
 
 -- ---- texts in parts
-
-abbrev pub AllShort : List ℕ → List (List ℕ) → Type 0
-AllShort [] [] = Unit {0}
-AllShort [] (x ∷ xs) = ⊥
-AllShort (n ∷ ns) [] = ⊥
-AllShort (n ∷ ns) (x ∷ xs) = (length x ≤ n) × AllShort ns xs
-
-pub all_short : (ns : List ℕ) (xs : List (List ℕ)) → AllShort ns xs → length (together xs) ≤ total (λ n. n) ns
-unfolding together
-all_short [] [] h = omega arith
-all_short [] (x ∷ xs) h = absurd h
-all_short (n ∷ ns) [] h = absurd h
-all_short (n ∷ ns) (x ∷ xs) h =
-    let a = length_append x (flat_map (λ z. z) xs) in
-    let ih : length (flat_map (λ z. z) xs) ≤ total (λ n. n) ns = all_short ns xs h.1 in
-    let b = h.0 in
-    omega (arith, a, ih, b)
 
 pub joined : (a b : List ℕ) (m n : ℕ) → length a ≤ m → length b ≤ n → length (a ⊹ b) ≤ m + n
 unfolding ◌⊹◌
@@ -51,9 +35,6 @@ digits_short (suc room) n =
 hex_short : (n : ℕ) → length (hex_text n) ≤ 18
 unfolding hex_text
 hex_short n = let d = digits_short 16 n in let l = length_append (codes "0x") (hex_digits 16 n) in omega (arith, d, l)
-
-decimal_short : (n : ℕ) → n < 2 ^ 64 → length (decimal n) ≤ 20
-decimal_short n l = length-decimal-le 20 n (omega arith) (omega arith) l
 
 number : (n : ℕ) → is_number n ≡ true → n < 2 ^ 64
 number n h = ltb-true n (2 ^ 64) h

@@ -8,7 +8,8 @@ use Rattle.std.specs.Prelude.{option_map}
 use Rattle.std.proofs.lemmas.List.Sorted.{IsPermutation-sym}
 use Rattle.source_images.specs.ByAddress.{name_of}
 use Rattle.source_images.specs.Images.{runs}
-use Rattle.source_images.proofs.Apart.{any_in, run_by}
+use Rattle.cam_base.proofs.NumberedLists.{in_any}
+use Rattle.source_images.proofs.Apart.{run_by}
 use Rattle.source_images.proofs.InOrder.{name_is, order_moves}
 use Rattle.source_images.proofs.SectionsTold.{comes_from}
 use Rattle.source_images.proofs.Sorting.{in_permutation}
@@ -115,7 +116,7 @@ module _ (t : Tables) (set : AreSettled t) where
 
   is_run_by : (d m leaf : ℕ) → IsIn leaf (leaves_of t.flat d) → image_number t.images leaf ≡ Some m
       → is_run t.images (leaves_of t.flat d) m ≡ true
-  is_run_by d m leaf i e = any_in (runs t.images m) (leaves_of t.flat d) leaf i (ap (λ o. option_map_or (λ k. nat_eq k m) o false)
+  is_run_by d m leaf i e = in_any (runs t.images m) (leaves_of t.flat d) leaf i (ap (λ o. option_map_or (λ k. nat_eq k m) o false)
       e ∙ eq-eqb m m refl)
 
   pub section_there : (d v : ℕ) (write : Bool) (fill : Option Fill) → IsSectionPage t d v write fill

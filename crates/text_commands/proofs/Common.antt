@@ -4,9 +4,9 @@ pub use Rattle.boot_plan.specs.declared.untyped.Untyped.{Untyped}
 pub use Rattle.cam_base.specs.declared.error.Refused.{Refused}
 pub use Rattle.cam_base.specs.declared.text_fault.TextCode.TheVariants.{StepLimit, TooLong}
 pub use Rattle.cam_io.proofs.Kept.{keeps_twice}
-pub use Rattle.cam_io.proofs.Lines.{Wrote, lines_begin, lines_end, lines_fail, lines_step}
-pub use Rattle.cam_io.proofs.Sequence.{open_still, writes_after, writes_exit, writes_first}
+pub use Rattle.cam_io.proofs.Saying.{said_all, says_line, says_lines, says_nothing, says_then}
 pub use Rattle.cam_io.specs.Contents.{Contents}
+pub use Rattle.cam_io.specs.Saying.{Says}
 pub use Rattle.cap_audit.specs.declared.report.AuditReport.{AuditReport}
 pub use Rattle.cap_machine.specs.Checks.{checks, first_failing}
 pub use Rattle.cap_machine.specs.Runs.{Run}
@@ -49,8 +49,8 @@ pub use Rattle.text_commands.specs.Inputs.{Answers, Decided, Holds, IsAbsent, Is
 pub use Rattle.text_commands.specs.Lines.{have_line}
 pub use Rattle.text_commands.specs.OneAnswer.{AreOne, AreOneButChoice, IsAnswer, answer_but_choice, but_choice}
 pub use Rattle.text_commands.specs.Replays.{AreEdgesOf, IsReplayed, LeadsTo, StopsAt}
-pub use Rattle.text_commands.specs.declared.fault.InputError.{InputError}
-pub use Rattle.text_commands.specs.declared.fault.InputError.TheVariants.{Fault, NoMemory, ReadFault}
+pub use Rattle.text_commands.specs.InputErrors.{InputError}
+pub use Rattle.cam_base.specs.declared.error.Unread.TheVariants.{Fault, NoMemory, ReadFault}
 pub use Rattle.text_commands.specs.declared.fault.InputFault.{InputFault}
 pub use Rattle.text_commands.specs.declared.outcome.Outcome.{Outcome}
 pub use Rattle.text_commands.specs.declared.outcome.Outcome.TheVariants.{Audited, Certified, Checked, Planned, Ran, Tabled}

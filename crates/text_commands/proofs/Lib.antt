@@ -2,7 +2,6 @@ pub mod Common
 pub mod Turning
 pub mod FewSteps
 pub mod Running
-pub mod TableLengths
 pub mod OneTurn
 pub mod OneVerdict
 pub mod OneReplay

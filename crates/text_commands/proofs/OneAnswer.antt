@@ -1,7 +1,7 @@
 -- For the same contents each command has one answer.
-use Rattle.text_commands.proofs.Common.{Answers, AreOne, AreOneButChoice, AreRegions, AreSteps, Checked, Contents, Edge, Entry, Err, Image, InputError, IsAudit, IsAudited, IsCert, IsCertRead, IsCertificateOf, IsCertified, IsChecked, IsImage}
-use Rattle.text_commands.proofs.Common.{IsLabelling, IsPlan, IsPlanned, IsPolicy, IsPolicyRead, IsReplayed, IsRun, IsSystem, IsTabled, IsTold, Judged, Labels, List, None, Ok, Option, Outcome, Policy, Ran, Refused, Replayed, Result, Some, Spec, Step}
-use Rattle.text_commands.proofs.Common.{Tabled, Then, Untyped, Verdict, [], answer_but_choice, ap, codes, find, inl, inr, is_none, map, object_label, option_map, refl, subst, sym, tell_elf, tell_text, tell_untyped, unlabelled, ℕ, ◌∙◌, ◌∷◌, ◌≡◌, ◌⊎◌}
+use Rattle.text_commands.proofs.Common.{AreOne, AreOneButChoice, Checked, Contents, Entry, Err, InputError, IsAudited, IsCertRead, IsCertified, IsChecked}
+use Rattle.text_commands.proofs.Common.{IsLabelling, IsPlanned, IsPolicy, IsPolicyRead, IsReplayed, IsRun, IsSystem, IsTabled, IsTold, Judged, Labels, List, None, Ok, Option, Outcome, Policy, Ran, Refused, Replayed, Result, Some, Spec}
+use Rattle.text_commands.proofs.Common.{Tabled, Verdict, [], answer_but_choice, ap, codes, find, inl, inr, is_none, map, object_label, option_map, refl, sym, tell_elf, tell_text, tell_untyped, unlabelled, ℕ, ◌∙◌, ◌∷◌, ◌≡◌, ◌⊎◌}
 use Rattle.boot_plan.specs.UntypedTexts as untypeds
 use Rattle.cam_base.specs.declared.error.Refused.TheVariants as refused
 use Rattle.cam_base.specs.declared.text_fault.TextFault.{TextFault}
@@ -9,13 +9,14 @@ use Rattle.capdl_text.proofs.Answered.{read_text}
 use Rattle.capdl_text.proofs.Unique.{one_first_fault, one_spec}
 use Rattle.capdl_text.specs.Texts as capdl
 use Rattle.sect_table.specs.Elf as elf
-use Rattle.sect_table.specs.Faults.{class_in, first_fault}
+use Rattle.sect_table.specs.Faults.{class_in}
 use Rattle.policy_text.proofs.OneMeaning.{certs_one, policies_one}
 use Rattle.step_text.specs.StepTexts as steps
 use Rattle.text_commands.proofs.OneDecision.{audit_one, certificate_one, plan_one}
 use Rattle.text_commands.proofs.OneReplay.{replay_one}
-use Rattle.text_commands.proofs.OneTurn.{Alike, ReadsOne, answers_one, then_alike, then_one, told_one, turn_one}
+use Rattle.text_commands.proofs.OneTurn.{ReadsOne, answers_one, then_alike, then_one, told_one, turn_one}
 use Rattle.text_commands.proofs.OneVerdict.{verdict_one}
+use Rattle.cam_base.proofs.NumberedLists.{somes_one}
 
 -- ---- what is read of bytes
 
@@ -66,16 +67,6 @@ image_reads name bytes = record {
   fault = λ d e h k. cc;
   either = λ x e h k. let none = h.sound in cc;
 }
-
-somes_one : (xs ys : List ℕ) → map (λ n. Some n) xs ≡ map (λ n. Some n) ys → xs ≡ ys
-somes_one [] [] e = refl
-somes_one [] (y ∷ ys) e = absurd cc
-somes_one (x ∷ xs) [] e = absurd cc
-somes_one (x ∷ xs) (y ∷ ys) e =
-    let head : x ≡ y = cc in
-    let tail : map (λ (n : ℕ). Some n) xs ≡ map (λ n. Some n) ys = cc in
-    let same : xs ≡ ys = somes_one xs ys tail in
-    cc
 
 labels_one : (x y : Labels) → x.by_object ≡ y.by_object → x ≡ y
 labels_one x y e = let same : ◌≡◌ {A = Labels} (record { by_object = x.by_object }) (record { by_object = y.by_object }) =

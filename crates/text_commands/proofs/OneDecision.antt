@@ -1,13 +1,13 @@
 -- Of a system one thing is decided.
 use Rattle.text_commands.proofs.Common.{AreOne, AreOneButChoice, AuditReport, Audited, Certified, CloseRefused, Edge, Err, HasMoreThan, HasReport, InputFault, IsAudit, IsAuditable, IsCertificate, IsCertificateOf, IsPlan, List, None, Ok, Option}
-use Rattle.text_commands.proofs.Common.{Outcome, Planned, Result, Some, Spec, Untyped, [], answer_but_choice, ap, arith, but_choice, cases_lt, has, inl, inr, length, one_table, one_truth, refl, subst, sym, tell_audit, tell_close, tell_plan, true, ℕ}
-use Rattle.text_commands.proofs.Common.{◌*◌, ◌<◌, ◌∙◌, ◌≡◌, ◌≤◌, ◌⊎◌}
+use Rattle.text_commands.proofs.Common.{Planned, Some, Spec, Untyped, [], answer_but_choice, ap, arith, cases_lt, has, inl, inr, one_table, one_truth, refl, sym, tell_audit, tell_close, tell_plan, ℕ}
+use Rattle.text_commands.proofs.Common.{◌<◌, ◌∙◌, ◌≡◌, ◌≤◌, ◌⊎◌}
 use Rattle.boot_plan.specs.Devices.{device_refusal}
 use Rattle.boot_plan.specs.Needs.{needs}
 use Rattle.boot_plan.specs.Overlaps.{first_overlap}
 use Rattle.boot_plan.specs.Plans as plans
 use Rattle.boot_plan.specs.Rooms as rooms
-use Rattle.boot_plan.specs.Rooms.{HasRoom, LacksRoom, needed}
+use Rattle.boot_plan.specs.Rooms.{LacksRoom, needed}
 use Rattle.boot_plan.specs.declared.need.Need.{Need}
 use Rattle.boot_plan.specs.declared.plan_refusal.BootPlan.{BootPlan}
 use Rattle.boot_plan.specs.declared.plan_refusal.PlanRefusal.{PlanRefusal}
@@ -19,8 +19,8 @@ use Rattle.cap_audit.specs.Refusals.{IsFirstThread}
 use Rattle.policy_text.specs.EdgeLines.{LabelNames}
 use Rattle.least_cert.specs.declared.closing.CloseError.{CloseError}
 use Rattle.least_cert.specs.declared.closing.CloseError.TheVariants as closing
-use Rattle.text_commands.proofs.OneTurn.{DecidesOne, decided_alike}
-use Rattle.text_commands.proofs.TableLengths.{no_more}
+use Rattle.text_commands.proofs.OneTurn.{decided_alike}
+use Rattle.cap_model.proofs.EdgeLists.{no_more}
 
 -- ---- audits
 

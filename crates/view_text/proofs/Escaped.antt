@@ -1,9 +1,6 @@
 -- Escaped texts are plain.
-use Rattle.std.proofs.Common.{◌≡◌, ◌∙◌, ◌==◌, ◌&&◌, ◌||◌, not, ℕ, Bool, true, false, if◌then◌else◌, List, [], ◌∷◌, codes, refl, subst}
-use Rattle.std.specs.List.{list_all}
+use Rattle.view_text.proofs.Common.{Bool, IsPlain, List, [], codes, escaped, escaped_byte, false, if◌then◌else◌, is_markup, list_all, list_all-append, not, refl, subst, true, ℕ, ◌&&◌, ◌==◌, ◌||◌, ◌∙◌, ◌∷◌, ◌≡◌}
 use Rattle.std.proofs.lemmas.Bool.{and_from}
-use Rattle.std.proofs.lemmas.List.Folds.{list_all-append}
-use Rattle.view_text.specs.Html.{IsPlain, escaped, escaped_byte, is_markup}
 
 -- by which of the five bytes it is
 plain_by :

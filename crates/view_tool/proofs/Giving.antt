@@ -1,9 +1,5 @@
 -- What is given where a text may want memory.
-use Rattle.std.proofs.Common.{◌≡◌, ℕ, List, Result, Ok, Err, sym, ap, subst}
-use Rattle.std.specs.Prelude.{IfOk, OnErr}
-use Rattle.cam_base.specs.declared.error.NoMemory.{NoMemory}
-use Rattle.view_tool.specs.Words.{Gives}
-use Rattle.view_tool.specs.declared.answer.Answer.{Answer}
+use Rattle.view_tool.proofs.Common.{Answer, Err, Gives, IfOk, List, NoMemory, Ok, OnErr, Result, ap, subst, sym, ℕ, ◌≡◌}
 use Rattle.view_tool.specs.declared.answer.Answer.TheVariants as answers
 
 pub fault_given :

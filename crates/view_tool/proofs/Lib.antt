@@ -1,3 +1,4 @@
+pub mod Common
 mod Giving
 mod Noting
 mod Widening

@@ -1,21 +1,14 @@
 -- Notes that a loop puts together, one for each edge.
-use Rattle.std.proofs.Common.{◌≡◌, ◌∙◌, ◌<◌, ◌≤◌, ◌+◌, ℕ, leb, Bool, true, false, List, [], ◌∷◌, ◌++◌, length, take, get_or, sym, ap, subst, take_all, Result, Ok, Err}
+use Rattle.view_tool.proofs.Common.{Answer, AreFewNotes, AreNotes, ArePageNotes, Bool, Err, Explains, Grounds, IfOk, IsNote, List, NoMemory, Ok, OnErr, Page, Result, Tells, [], ap, false, get_or, graph_of, label_at, leb, length, of_build, of_front}
+use Rattle.view_tool.proofs.Common.{page_text, subst, sym, tables_of, take, take_all, true, ℕ, ◌++◌, ◌+◌, ◌<◌, ◌∙◌, ◌∷◌, ◌≡◌, ◌≤◌}
 use Rattle.std.proofs.lemmas.List.{take_more}
-use Rattle.std.specs.Prelude.{IfOk, OnErr}
-use Rattle.arch_policy.specs.Tables.{tables_of}
 use Rattle.cap_model.specs.declared.edge.Edge.{Edge}
-use Rattle.cam_base.specs.declared.error.NoMemory.{NoMemory}
-use Rattle.explain.specs.Explained.{Explains}
 use Rattle.explain.specs.declared.reason.ExplainError.{ExplainError}
 use Rattle.explain.specs.declared.reason.Reason.{Reason}
 use Rattle.front_end.specs.declared.phases.FrontEnd.{FrontEnd}
 use Rattle.arch_compile.specs.declared.building.Build.{Build}
-use Rattle.source_views.specs.Pages.{Page, page_text}
 use Rattle.system_spec.specs.declared.map_line.MapLine.{MapLine}
-use Rattle.view_text.specs.Graphs.{graph_of}
 use Rattle.view_tool.specs.Answers as answers
-use Rattle.view_tool.specs.Notes.{AreFewNotes, AreNotes, ArePageNotes, Grounds, IsNote, Tells, label_at, of_build, of_front}
-use Rattle.view_tool.specs.declared.answer.Answer.{Answer}
 use Rattle.view_tool.specs.declared.answer.Answer.TheVariants as shown
 
 module _ (g : Grounds) where

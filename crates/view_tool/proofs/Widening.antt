@@ -1,14 +1,12 @@
 -- What is answered behind a first step is answered from the beginning on.
-use Rattle.std.proofs.Common.{◌≡◌, ◌≤◌, ℕ, List, arith, inl, inr, Result}
+use Rattle.view_tool.proofs.Common.{Answer, IsRead, List, RefusesAs, Result, Wanted, arith, fault, inl, inr, page, tables, ℕ, ◌≡◌, ◌≤◌}
 use Rattle.arch_compile.specs.Compiled.{IsRefusal}
 use Rattle.cam_io.proofs.Counts.{rose_after}
 use Rattle.cam_io.specs.Causes.{NoneFell, Rose}
 use Rattle.cam_io.specs.Contents.{Contents}
 use Rattle.cam_io.specs.declared.whole.WholeError.{WholeError}
-use Rattle.front_end.specs.declared.error.BuildError.{BuildError}
-use Rattle.front_end.specs.declared.error.BuildError.TheVariants as error
-use Rattle.view_tool.specs.Answers.{IsRead, RefusesAs, Wanted, tables, page, fault}
-use Rattle.view_tool.specs.declared.answer.Answer.{Answer}
+use Rattle.cam_base.specs.Unread.{SourceError}
+use Rattle.cam_base.specs.declared.error.Unread.TheVariants as error
 
 -- a count that rose, and did not fall behind that
 pub rose_before : (before mid now : ℕ) → before ≤ mid → mid ≤ now → Rose before mid → Rose before now
@@ -16,7 +14,7 @@ rose_before before mid now k l (inl h) = inl (omega arith)
 rose_before before mid now k l (inr h) = grind arith
 
 module _ (contents : Contents) (before mid now : List ℕ → ℕ) where
-  pub refused_still : (root : List ℕ) (e : BuildError) → NoneFell before mid → NoneFell mid now
+  pub refused_still : (root : List ℕ) (e : SourceError) → NoneFell before mid → NoneFell mid now
       → IsRefusal root contents before mid e → IsRefusal root contents before now e
   refused_still root (error.Fault f file) k l h = h
   refused_still root (error.ReadFault file) k l h = (h.0, rose_before (before file) (mid file) (now file) (k file) (l file) h.1)
@@ -31,7 +29,7 @@ module _ (contents : Contents) (before mid now : List ℕ → ℕ) where
     whole_is = h.whole_is;
   }
 
-  pub refused_since : (w : Wanted) (e : BuildError) (a : Answer) → NoneFell before mid → RefusesAs contents mid now w e a
+  pub refused_since : (w : Wanted) (e : SourceError) (a : Answer) → NoneFell before mid → RefusesAs contents mid now w e a
       → RefusesAs contents before now w e a
   refused_since (tables label) e a k h = h
   refused_since page e a k h = h

@@ -31,8 +31,8 @@ use Rattle.label_flow.specs.Told.{AreLines, IsTold}
 use Rattle.label_flow.specs.declared.told.Told.{Told}
 use Rattle.label_flow.specs.declared.told.Told.TheVariants as told
 use Rattle.front_end.specs.Fronts.{IsFront}
-use Rattle.front_end.specs.declared.error.BuildError.{BuildError}
-use Rattle.front_end.specs.declared.error.BuildError.TheVariants as error
+use Rattle.cam_base.specs.Unread.{SourceError}
+use Rattle.cam_base.specs.declared.error.Unread.TheVariants as error
 use Rattle.front_end.specs.declared.phases.FrontEnd.{FrontEnd}
 use Rattle.policy_text.specs.PolicyTexts.{IsPolicyRead}
 use Rattle.system_spec.specs.MapText.{Named}
@@ -134,7 +134,7 @@ IsFlows file bytes answer = (r : Result Policy (Refusal TextFault)) × IsPolicyR
 -- ---- of a source
 
 -- why there is nothing of a source, by its line
-abbrev pub Refuses : BuildError → Answer → Type 0
+abbrev pub Refuses : SourceError → Answer → Type 0
 Refuses (error.Fault fault file) answer = Gives (Refused (fault_line file fault)) answer
 Refuses (error.ReadFault file) answer = Gives (ReadFault (read_fault file)) answer
 Refuses error.NoMemory answer = answer ≡ NoMemory
@@ -155,13 +155,13 @@ DrawsFront drawing.Reasons f answer = Explains f answer
 DrawsFront drawing.Picture f answer = Gives (Shown (picture_of f.policy (shapes_of f.flat f.policy.labels))) answer
 DrawsFront drawing.Overview f answer = Gives (Shown (overview_of f)) answer
 
-abbrev pub AnswersFront : Drawing → Result FrontEnd BuildError → Answer → Type 0
+abbrev pub AnswersFront : Drawing → Result FrontEnd SourceError → Answer → Type 0
 AnswersFront d (Ok f) answer = DrawsFront d f answer
 AnswersFront d (Err e) answer = Refuses e answer
 
 abbrev pub FitsFront : Contents → (List ℕ → ℕ) → (List ℕ → ℕ) → List ℕ → Drawing → Answer → Type 0
 FitsFront contents before now root d answer =
-    (r : Result FrontEnd BuildError) × IsFront root contents before now r × AnswersFront d r answer
+    (r : Result FrontEnd SourceError) × IsFront root contents before now r × AnswersFront d r answer
 
 -- ---- of a compiled source
 
@@ -224,24 +224,24 @@ LintsFault contents before now file f answer =
     (IsUtf8 file × LintsFile contents before now file f answer)
     ⊎ (¬ (IsUtf8 file) × Gives (Faulty (lint_line file 0 (fault_words f) [])) answer)
 
-abbrev pub Lints : Contents → (List ℕ → ℕ) → (List ℕ → ℕ) → BuildError → Answer → Type 0
+abbrev pub Lints : Contents → (List ℕ → ℕ) → (List ℕ → ℕ) → SourceError → Answer → Type 0
 Lints contents before now (error.Fault f file) answer = LintsFault contents before now file f answer
 Lints contents before now (error.ReadFault file) answer = Gives (ReadFault (read_fault file)) answer
 Lints contents before now error.NoMemory answer = answer ≡ NoMemory
 
 -- why there is nothing of a source, as it is asked
-abbrev pub RefusesAs : Contents → (List ℕ → ℕ) → (List ℕ → ℕ) → Wanted → BuildError → Answer → Type 0
+abbrev pub RefusesAs : Contents → (List ℕ → ℕ) → (List ℕ → ℕ) → Wanted → SourceError → Answer → Type 0
 RefusesAs contents before now (tables label) e answer = Refuses e answer
 RefusesAs contents before now page e answer = Refuses e answer
 RefusesAs contents before now fault e answer = Lints contents before now e answer
 
-abbrev pub AnswersBuild : Contents → (List ℕ → ℕ) → (List ℕ → ℕ) → List ℕ → Wanted → Result Build BuildError → Answer → Type 0
+abbrev pub AnswersBuild : Contents → (List ℕ → ℕ) → (List ℕ → ℕ) → List ℕ → Wanted → Result Build SourceError → Answer → Type 0
 AnswersBuild contents before now root w (Ok b) answer = ShowsBuild root w b answer
 AnswersBuild contents before now root w (Err e) answer = RefusesAs contents before now w e answer
 
 abbrev pub FitsBuild : Contents → (List ℕ → ℕ) → (List ℕ → ℕ) → List ℕ → Wanted → Answer → Type 0
 FitsBuild contents before now root w answer =
-    (r : Result Build BuildError) × IsCompiled root contents before now r × AnswersBuild contents before now root w r answer
+    (r : Result Build SourceError) × IsCompiled root contents before now r × AnswersBuild contents before now root w r answer
 
 -- ---- of words
 

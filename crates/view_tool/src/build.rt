@@ -13,10 +13,9 @@ use crate::lines::{refuse, refuse_source};
 use crate::lint::lint_error;
 use crate::reasons::{Grounds, page_notes};
 use arch_compile::{Build, compile};
-use cam_base::{List, NoMemory};
+use cam_base::{List, NoMemory, SourceError};
 use cam_io::Files;
 use domain_table::{domain_called, tables_of};
-use front_end::BuildError;
 use source_views::{Page, page_text};
 use std::alloc::Global;
 use system_spec::MapNames;
@@ -109,7 +108,7 @@ fn refuse_build<F: Files>(
     alloc: Global,
     files: &mut F,
     asked: Asked<'_>,
-    error: BuildError,
+    error: SourceError,
 ) -> Answer
     ensures kept { KeepsFiles F.told F.faults files.old files.new }
     ensures fits { InAll (F.told files.new) (λ m. RefusesAs m (F.faults files.old) (F.faults files.new) (wanted asked.entry)

@@ -7,8 +7,7 @@ ghost use Rattle.view_tool.specs.declared.answer.Answer.TheVariants as answers;
 ghost use Rattle.std.specs.Prelude.{◌≡◌, IfOk};
 
 use crate::answer::Answer;
-use cam_base::{Fault, List, NoMemory, TextFault};
-use front_end::BuildError;
+use cam_base::{Fault, List, NoMemory, SourceError, TextFault, Unread};
 use itoa::Buffer;
 use std::alloc::Global;
 use view_text::join;
@@ -98,14 +97,14 @@ pub fn read_fault(alloc: Global, file: &[u8]) -> Answer
 }
 
 /// Why there is nothing of a source.
-pub fn refuse_source(alloc: Global, error: BuildError) -> Answer
+pub fn refuse_source(alloc: Global, error: SourceError) -> Answer
     ensures { Refuses error result }
 {
     match error {
-        BuildError::Fault(fault, file) => {
+        Unread::Fault(fault, file) => {
             Answer::refused(fault_line(alloc, file.as_bytes(), &fault))
         }
-        BuildError::ReadFault(file) => read_fault(alloc, file.as_bytes()),
-        BuildError::NoMemory => Answer::NoMemory,
+        Unread::ReadFault(file) => read_fault(alloc, file.as_bytes()),
+        Unread::NoMemory => Answer::NoMemory,
     }
 }

@@ -10,9 +10,8 @@ ghost use Rattle.view_tool.specs.declared.answer.Answer.TheVariants as answers;
 
 use crate::answer::Answer;
 use crate::lines::{fault_words, read_fault};
-use cam_base::{Fault, NoMemory};
+use cam_base::{Fault, NoMemory, SourceError, Unread};
 use cam_io::{Files, WholeError, read_whole};
-use front_end::BuildError;
 use std::alloc::Global;
 use std::str::from_utf8;
 use view_text::{LIMIT, lint_line};
@@ -69,13 +68,13 @@ fn lint_fault<F: Files>(alloc: Global, files: &mut F, file: &[u8], fault: &Fault
 }
 
 /// Why there is nothing of a source, as editors read it.
-pub(crate) fn lint_error<F: Files>(alloc: Global, files: &mut F, error: BuildError) -> Answer
+pub(crate) fn lint_error<F: Files>(alloc: Global, files: &mut F, error: SourceError) -> Answer
     ensures kept { KeepsFiles F.told F.faults files.old files.new }
     ensures fits { InAll (F.told files.new) (λ m. Lints m (F.faults files.old) (F.faults files.new) error result) }
 {
     match error {
-        BuildError::Fault(fault, file) => lint_fault(alloc, files, file.as_bytes(), &fault),
-        BuildError::ReadFault(file) => read_fault(alloc, file.as_bytes()),
-        BuildError::NoMemory => Answer::NoMemory,
+        Unread::Fault(fault, file) => lint_fault(alloc, files, file.as_bytes(), &fault),
+        Unread::ReadFault(file) => read_fault(alloc, file.as_bytes()),
+        Unread::NoMemory => Answer::NoMemory,
     }
 }

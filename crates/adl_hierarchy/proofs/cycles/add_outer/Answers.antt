@@ -1,6 +1,4 @@
-use Rattle.std.proofs.Common.{◌≡◌, ◌<◌, ◌⊎◌, ◌∙◌, ◌++◌, ◌∷◌, [], ℕ, true, List, length, get_or, refl, sym, subst, ap, arith, inr}
-use Rattle.std.proofs.Math.ListN.{set, length-set}
-use Rattle.adl_meaning.specs.Graph.{has, inner_of}
+use Rattle.adl_hierarchy.proofs.Common.{List, [], ap, arith, get_or, has, inner_of, inr, length, length-set, refl, set, subst, sym, true, ℕ, ◌++◌, ◌<◌, ◌∙◌, ◌∷◌, ◌≡◌, ◌⊎◌}
 use Rattle.adl_hierarchy.proofs.CycleSearch.{turned_more}
 use Rattle.adl_hierarchy.proofs.Marks.{has_at}
 use Rattle.adl_hierarchy.proofs.Reach.{inner_at}

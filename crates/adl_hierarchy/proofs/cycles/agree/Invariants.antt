@@ -1,4 +1,4 @@
-use Rattle.std.proofs.Common.{◌≡◌, ◌<◌, ℕ, get_or}
+use Rattle.adl_hierarchy.proofs.Common.{get_or, ℕ, ◌<◌, ◌≡◌}
 use Rattle.adl_hierarchy.proofs.cycles.agree.Given as goal
 
 abbrev pub invariant-loop-x : goal.invariant-loop-x

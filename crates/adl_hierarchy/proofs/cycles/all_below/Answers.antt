@@ -1,4 +1,4 @@
-use Rattle.std.proofs.Common.{arith}
+use Rattle.adl_hierarchy.proofs.Common.{arith}
 use Rattle.adl_hierarchy.proofs.CycleSearch.{more_below}
 use Rattle.adl_hierarchy.proofs.cycles.all_below.Goals as goal
 

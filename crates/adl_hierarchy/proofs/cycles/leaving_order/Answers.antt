@@ -1,6 +1,4 @@
-use Rattle.std.proofs.Common.{◌≡◌, ◌<◌, ◌∙◌, ℕ, true, List, Vec, Global, length, sym, subst, ap, arith}
-use Rattle.adl_meaning.specs.Graph.{has, inner_of}
-use Rattle.adl_hierarchy.specs.Sets.{Numbers}
+use Rattle.adl_hierarchy.proofs.Common.{Global, List, Numbers, Vec, ap, arith, has, inner_of, length, subst, sym, true, ℕ, ◌<◌, ◌∙◌, ◌≡◌}
 use Rattle.adl_hierarchy.proofs.CycleSearch.{last_below, rest_below}
 use Rattle.adl_hierarchy.proofs.Reach.{inner_at}
 use Rattle.adl_hierarchy.proofs.cycles.leaving_order.Goals as goal

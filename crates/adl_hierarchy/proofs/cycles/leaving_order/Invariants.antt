@@ -1,5 +1,4 @@
-use Rattle.std.proofs.Common.{◌≡◌, ◌<◌, ℕ, true, length}
-use Rattle.adl_meaning.specs.Graph.{has}
+use Rattle.adl_hierarchy.proofs.Common.{has, length, true, ℕ, ◌<◌, ◌≡◌}
 use Rattle.adl_hierarchy.proofs.cycles.leaving_order.Given as goal
 
 abbrev pub invariant-loop-step : goal.invariant-loop-step

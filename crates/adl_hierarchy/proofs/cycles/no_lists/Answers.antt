@@ -1,5 +1,4 @@
-use Rattle.std.proofs.Common.{◌∙◌, ◌++◌, ◌∷◌, [], ℕ, List, ap, arith}
-use Rattle.adl_meaning.specs.Graph.{has, inner_of}
+use Rattle.adl_hierarchy.proofs.Common.{List, [], ap, arith, has, inner_of, ℕ, ◌++◌, ◌∙◌, ◌∷◌}
 use Rattle.adl_hierarchy.proofs.Waiting.{inner_of-empty}
 use Rattle.adl_hierarchy.proofs.cycles.no_lists.Goals as goal
 

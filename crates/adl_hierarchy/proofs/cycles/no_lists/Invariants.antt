@@ -1,5 +1,4 @@
-use Rattle.std.proofs.Common.{◌≡◌, ℕ, false, length}
-use Rattle.adl_meaning.specs.Graph.{has, inner_of}
+use Rattle.adl_hierarchy.proofs.Common.{false, has, inner_of, length, ℕ, ◌≡◌}
 use Rattle.adl_hierarchy.proofs.cycles.no_lists.Given as goal
 
 abbrev pub invariant-loop-list : goal.invariant-loop-list

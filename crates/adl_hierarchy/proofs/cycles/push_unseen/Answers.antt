@@ -1,6 +1,4 @@
-use Rattle.std.proofs.Common.{◌≡◌, ◌<◌, ℕ, true, subst, sym, arith}
-use Rattle.adl_meaning.specs.Graph.{has}
-use Rattle.std.proofs.Common.{Vec, Global}
+use Rattle.adl_hierarchy.proofs.Common.{Global, Vec, arith, has, subst, sym, true, ℕ, ◌<◌, ◌≡◌}
 use Rattle.adl_hierarchy.proofs.CycleSearch.{more_below}
 use Rattle.adl_hierarchy.proofs.Marks.{has_at}
 use Rattle.adl_hierarchy.proofs.cycles.push_unseen.Goals as goal

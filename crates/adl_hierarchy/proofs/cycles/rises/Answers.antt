@@ -1,5 +1,4 @@
-use Rattle.std.proofs.Common.{◌≡◌, ◌<◌, ◌⊎◌, ◌∙◌, ℕ, true, List, length, get_or, refl, sym, subst, arith, inl, inr}
-use Rattle.adl_meaning.specs.Graph.{has, inner_of}
+use Rattle.adl_hierarchy.proofs.Common.{List, arith, get_or, has, inl, inner_of, inr, length, refl, subst, sym, true, ℕ, ◌<◌, ◌∙◌, ◌≡◌, ◌⊎◌}
 use Rattle.adl_hierarchy.proofs.Reach.{inner_at, below_next}
 use Rattle.adl_hierarchy.proofs.cycles.rises.Goals as goal
 

@@ -1,5 +1,4 @@
-use Rattle.std.proofs.Common.{◌≡◌, ◌<◌, ◌⊎◌, ℕ, true, get_or}
-use Rattle.adl_meaning.specs.Graph.{has, inner_of}
+use Rattle.adl_hierarchy.proofs.Common.{get_or, has, inner_of, true, ℕ, ◌<◌, ◌≡◌, ◌⊎◌}
 use Rattle.adl_hierarchy.proofs.cycles.rises.Given as goal
 
 abbrev pub invariant-loop-component : goal.invariant-loop-component

@@ -1,4 +1,4 @@
-use Rattle.std.proofs.Common.{◌≡◌, ◌<◌, ◌⊎◌, ℕ, get_or, subst, sym, arith, inl, inr}
+use Rattle.adl_hierarchy.proofs.Common.{arith, get_or, inl, inr, subst, sym, ℕ, ◌<◌, ◌≡◌, ◌⊎◌}
 use Rattle.adl_hierarchy.proofs.Marks.{has_at}
 use Rattle.adl_hierarchy.proofs.Walks.{has_more}
 use Rattle.adl_hierarchy.proofs.cycles.rises_at.Goals as goal

@@ -1,5 +1,4 @@
-use Rattle.std.proofs.Common.{◌≡◌, ◌<◌, ◌⊎◌, ℕ, true, take, get_or}
-use Rattle.adl_meaning.specs.Graph.{has}
+use Rattle.adl_hierarchy.proofs.Common.{get_or, has, take, true, ℕ, ◌<◌, ◌≡◌, ◌⊎◌}
 use Rattle.adl_hierarchy.proofs.cycles.rises_at.Given as goal
 
 abbrev pub invariant-loop-number : goal.invariant-loop-number

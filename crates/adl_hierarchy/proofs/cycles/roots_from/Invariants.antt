@@ -1,4 +1,4 @@
-use Rattle.adl_hierarchy.specs.Cycles.{AreRoots}
+use Rattle.adl_hierarchy.proofs.Common.{AreRoots}
 use Rattle.adl_hierarchy.proofs.cycles.roots_from.Given as goal
 
 abbrev pub invariant-loop-start : goal.invariant-loop-start

@@ -1,7 +1,4 @@
-use Rattle.std.proofs.Common.{◌≡◌, ◌<◌, ◌∙◌, ◌++◌, ◌∷◌, [], ℕ, true, List, length, get_or, subst, sym, ap, arith, refl}
-use Rattle.std.proofs.lemmas.List.{get_or_default}
-use Rattle.adl_meaning.specs.Graph.{has, Holds}
-use Rattle.adl_hierarchy.specs.Cycles.{AreHeldBy}
+use Rattle.adl_hierarchy.proofs.Common.{AreHeldBy, Holds, List, [], ap, arith, get_or, get_or_default, has, length, refl, subst, sym, true, ℕ, ◌++◌, ◌<◌, ◌∙◌, ◌∷◌, ◌≡◌}
 use Rattle.adl_hierarchy.proofs.CycleSearch.{root_more, held_first}
 use Rattle.adl_hierarchy.proofs.Marks.{has_at}
 use Rattle.adl_hierarchy.proofs.cycles.spread.Goals as goal

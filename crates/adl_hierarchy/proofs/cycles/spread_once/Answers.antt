@@ -1,6 +1,4 @@
-use Rattle.std.proofs.Common.{◌≡◌, ◌<◌, ◌∙◌, ℕ, true, List, Vec, Global, length, get_or, subst, sym, arith}
-use Rattle.adl_meaning.specs.Graph.{has, inner_of, Holds}
-use Rattle.adl_hierarchy.specs.Cycles.{AreHeldBy, AreRoots}
+use Rattle.adl_hierarchy.proofs.Common.{AreHeldBy, AreRoots, Global, Holds, List, Vec, arith, get_or, has, inner_of, length, subst, sym, true, ℕ, ◌<◌, ◌∙◌, ◌≡◌}
 use Rattle.adl_hierarchy.proofs.CycleSearch.{one_more, root_more, held_more}
 use Rattle.adl_hierarchy.proofs.Marks.{has_at}
 use Rattle.adl_hierarchy.proofs.Reach.{inner_at}

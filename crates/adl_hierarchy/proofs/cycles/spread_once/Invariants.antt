@@ -1,4 +1,4 @@
-use Rattle.adl_hierarchy.specs.Cycles.{AreHeldBy, AreRoots}
+use Rattle.adl_hierarchy.proofs.Common.{AreHeldBy, AreRoots}
 use Rattle.adl_hierarchy.proofs.cycles.spread_once.Given as goal
 
 abbrev pub invariant-loop-inner : goal.invariant-loop-inner

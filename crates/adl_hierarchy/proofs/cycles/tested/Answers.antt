@@ -1,6 +1,4 @@
-use Rattle.std.proofs.Common.{◌≡◌, ◌<◌, ◌⊎◌, ℕ, true, List, length, get_or, sym, subst, refl}
-use Rattle.adl_meaning.specs.Graph.{has, inner_of}
-use Rattle.adl_hierarchy.specs.Cycles.{TellCycles}
+use Rattle.adl_hierarchy.proofs.Common.{List, TellCycles, get_or, has, inner_of, length, refl, subst, sym, true, ℕ, ◌<◌, ◌≡◌, ◌⊎◌}
 use Rattle.adl_hierarchy.proofs.CycleSearch.{told}
 use Rattle.adl_hierarchy.proofs.cycles.tested.Goals as goal
 

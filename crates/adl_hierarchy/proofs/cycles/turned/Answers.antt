@@ -1,6 +1,4 @@
-use Rattle.std.proofs.Common.{◌≡◌, ◌<◌, ◌+◌, ◌∙◌, ℕ, true, List, length, sym, subst, arith, inl, inr}
-use Rattle.std.proofs.lemmas.Bool.{both_ways}
-use Rattle.adl_meaning.specs.Graph.{has, inner_of}
+use Rattle.adl_hierarchy.proofs.Common.{List, arith, both_ways, has, inl, inner_of, inr, length, subst, sym, true, ℕ, ◌+◌, ◌<◌, ◌∙◌, ◌≡◌}
 use Rattle.adl_hierarchy.proofs.Reach.{inner_at}
 use Rattle.adl_hierarchy.proofs.cycles.turned.Goals as goal
 

@@ -1,5 +1,4 @@
-use Rattle.std.proofs.Common.{◌≡◌, ◌<◌, ℕ, true, length}
-use Rattle.adl_meaning.specs.Graph.{has, inner_of}
+use Rattle.adl_hierarchy.proofs.Common.{has, inner_of, length, true, ℕ, ◌<◌, ◌≡◌}
 use Rattle.adl_hierarchy.proofs.cycles.turned.Given as goal
 
 abbrev pub invariant-loop-component : goal.invariant-loop-component

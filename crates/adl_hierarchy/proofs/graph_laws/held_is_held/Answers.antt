@@ -1,4 +1,4 @@
-use Rattle.std.proofs.Common.{length}
+use Rattle.adl_hierarchy.proofs.Common.{length}
 use Rattle.adl_hierarchy.proofs.Through.{through_sound, through_complete}
 use Rattle.adl_hierarchy.proofs.graph_laws.held_is_held.Goals as goal
 

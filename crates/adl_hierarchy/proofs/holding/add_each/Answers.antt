@@ -1,4 +1,4 @@
-use Rattle.std.proofs.Common.{arith}
+use Rattle.adl_hierarchy.proofs.Common.{arith}
 use Rattle.adl_hierarchy.proofs.Marks.{has_at}
 use Rattle.adl_hierarchy.proofs.Reach.{more_none, more_next}
 use Rattle.adl_hierarchy.proofs.holding.add_each.Goals as goal

@@ -1,5 +1,4 @@
-use Rattle.std.proofs.Common.{take}
-use Rattle.adl_hierarchy.specs.Placing.{HasMore}
+use Rattle.adl_hierarchy.proofs.Common.{HasMore, take}
 use Rattle.adl_hierarchy.proofs.holding.add_each.Given as goal
 
 abbrev pub invariant-loop-number : goal.invariant-loop-number

@@ -1,7 +1,4 @@
-use Rattle.std.proofs.Common.{◌≡◌, ◌<◌, ◌∙◌, ℕ, true, List, length, get_or, subst, sym, ap}
-use Rattle.adl_meaning.specs.Graph.{has, inner_of}
-use Rattle.adl_hierarchy.specs.Placing.{HasMore}
-use Rattle.adl_hierarchy.specs.Sets.{Numbers, with_number}
+use Rattle.adl_hierarchy.proofs.Common.{HasMore, List, Numbers, ap, get_or, has, inner_of, length, subst, sym, true, with_number, ℕ, ◌<◌, ◌∙◌, ◌≡◌}
 use Rattle.adl_hierarchy.proofs.Marks.{has_at}
 use Rattle.adl_hierarchy.proofs.Reach.{inner_at, reach_new, reach_more, reach_end}
 use Rattle.adl_hierarchy.proofs.holding.holds.Goals as goal

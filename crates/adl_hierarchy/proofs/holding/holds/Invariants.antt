@@ -1,4 +1,4 @@
-use Rattle.std.proofs.Common.{◌-◌, length}
+use Rattle.adl_hierarchy.proofs.Common.{length, ◌-◌}
 use Rattle.adl_hierarchy.proofs.Reach.{IsReach}
 use Rattle.adl_hierarchy.proofs.holding.holds.Given as goal
 

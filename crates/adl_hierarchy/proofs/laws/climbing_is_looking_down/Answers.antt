@@ -1,5 +1,4 @@
-use Rattle.std.proofs.Common.{length}
-use Rattle.adl_meaning.specs.Prelude.{hierarchy_of}
+use Rattle.adl_hierarchy.proofs.Common.{hierarchy_of, length}
 use Rattle.adl_hierarchy.proofs.Climbing.{found_climbs, climbs_reached}
 use Rattle.adl_hierarchy.proofs.PartsAt.{at_part}
 use Rattle.adl_hierarchy.proofs.laws.climbing_is_looking_down.Goals as goal

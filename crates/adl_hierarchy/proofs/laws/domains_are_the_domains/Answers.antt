@@ -1,4 +1,4 @@
-use Rattle.adl_meaning.specs.Prelude.{hierarchy_of, top_number}
+use Rattle.adl_hierarchy.proofs.Common.{hierarchy_of, top_number}
 use Rattle.adl_hierarchy.proofs.DomainNames.{domains_are, domains_once, leaves_of_domain, domain_leaves_once}
 use Rattle.adl_hierarchy.proofs.Grouping.{group_is_outermost}
 use Rattle.adl_hierarchy.proofs.laws.domains_are_the_domains.Goals as goal

@@ -1,4 +1,4 @@
-use Rattle.adl_meaning.specs.Prelude.{hierarchy_of}
+use Rattle.adl_hierarchy.proofs.Common.{hierarchy_of}
 use Rattle.adl_hierarchy.proofs.DomainNames.{leaf_number_is, domain_number_is, domain_found}
 use Rattle.adl_hierarchy.proofs.laws.leaf_numbers_are_places.Goals as goal
 

@@ -1,4 +1,4 @@
-use Rattle.adl_meaning.specs.Prelude.{hierarchy_of, top_number}
+use Rattle.adl_hierarchy.proofs.Common.{hierarchy_of, top_number}
 use Rattle.adl_hierarchy.proofs.Leaves.{leaves_stand, paths_are_leaves}
 use Rattle.adl_hierarchy.proofs.Once.{leaf_paths_once}
 use Rattle.adl_hierarchy.proofs.PartsAt.{at_part, last_of}

@@ -1,5 +1,4 @@
-use Rattle.std.proofs.Common.{List, ℕ, refl, sym, subst}
-use Rattle.adl_meaning.specs.Graph.{IsInnerFirst}
+use Rattle.adl_hierarchy.proofs.Common.{IsInnerFirst, List, refl, subst, sym, ℕ}
 use Rattle.adl_hierarchy.proofs.Waiting.{order_at_end, ring_at_end}
 use Rattle.adl_hierarchy.proofs.Walks.{acyclic_from_order}
 use Rattle.adl_hierarchy.proofs.order.inner_first.Goals as goal

@@ -1,4 +1,4 @@
-use Rattle.std.proofs.Common.{◌≤◌, length, arith}
+use Rattle.adl_hierarchy.proofs.Common.{arith, length, ◌≤◌}
 use Rattle.adl_hierarchy.proofs.Waiting.{end_from_waits}
 use Rattle.adl_hierarchy.proofs.order.place_all.Goals as goal
 

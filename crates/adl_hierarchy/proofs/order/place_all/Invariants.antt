@@ -1,5 +1,4 @@
-use Rattle.std.proofs.Common.{◌<◌, ◌-◌, ℕ, length}
-use Rattle.adl_hierarchy.specs.Placing.{IsPlacing, Waits}
+use Rattle.adl_hierarchy.proofs.Common.{IsPlacing, Waits, length, ℕ, ◌-◌, ◌<◌}
 use Rattle.adl_hierarchy.proofs.order.place_all.Given as goal
 
 abbrev pub invariant-loop-index : goal.invariant-loop-index

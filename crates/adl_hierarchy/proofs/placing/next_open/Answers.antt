@@ -1,4 +1,4 @@
-use Rattle.std.proofs.Common.{arith}
+use Rattle.adl_hierarchy.proofs.Common.{arith}
 use Rattle.adl_hierarchy.proofs.Marks.{has_at}
 use Rattle.adl_hierarchy.proofs.placing.next_open.Goals as goal
 

@@ -1,5 +1,4 @@
-use Rattle.std.proofs.Common.{◌≡◌, ◌-◌, ℕ, true, length, take}
-use Rattle.adl_meaning.specs.Graph.{has}
+use Rattle.adl_hierarchy.proofs.Common.{has, length, take, true, ℕ, ◌-◌, ◌≡◌}
 use Rattle.adl_hierarchy.proofs.placing.next_open.Given as goal
 
 abbrev pub invariant-loop-next : goal.invariant-loop-next

@@ -1,7 +1,4 @@
-use Rattle.std.proofs.Common.{◌∙◌, ap, ◌+◌, ◌++◌, ◌-◌, ◌<◌, ◌∷◌, [], take, vec_len, length, arith}
-use Rattle.cam_base.specs.Parts.{parts_from}
-use Rattle.cam_base.specs.LineTexts.{texts}
-use Rattle.cam_base.specs.Fields.{fields}
+use Rattle.cam_base.proofs.Common.{[], ap, arith, fields, length, parts_from, take, texts, vec_len, ◌++◌, ◌+◌, ◌-◌, ◌<◌, ◌∙◌, ◌∷◌}
 use Rattle.cam_base.proofs.FieldsMore.{field_more}
 use Rattle.cam_base.proofs.field.fields.Goals as goal
 

@@ -1,7 +1,4 @@
-use Rattle.std.proofs.Common.{◌≡◌, length, ◌++◌, ◌+◌, ◌-◌, ◌≤◌, take, vec_len}
-use Rattle.cam_base.specs.Fields.{fields}
-use Rattle.cam_base.specs.Parts.{parts_from}
-use Rattle.cam_base.specs.LineTexts.{texts}
+use Rattle.cam_base.proofs.Common.{fields, length, parts_from, take, texts, vec_len, ◌++◌, ◌+◌, ◌-◌, ◌≡◌, ◌≤◌}
 use Rattle.cam_base.proofs.field.fields.Given as goal
 
 abbrev pub invariant-loop-at : goal.invariant-loop-at

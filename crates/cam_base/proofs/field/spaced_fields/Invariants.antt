@@ -1,6 +1,5 @@
-use Rattle.std.proofs.Common.{◌≡◌, ◌==◌, ◌++◌, not, length, filter, drop}
-use Rattle.cam_base.specs.Fields.{spaced_fields}
-use Rattle.cam_base.specs.LineTexts.{texts}
+use Rattle.cam_base.proofs.Common.{drop, filter, length, spaced_fields, texts, ◌++◌, ◌==◌, ◌≡◌}
+use Rattle.std.proofs.Common.{not}
 use Rattle.cam_base.proofs.field.spaced_fields.Given as goal
 
 abbrev pub invariant-loop-field : goal.invariant-loop-field

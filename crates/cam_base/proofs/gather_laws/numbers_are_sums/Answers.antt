@@ -1,4 +1,4 @@
-use Rattle.std.proofs.Common.{refl}
+use Rattle.cam_base.proofs.Common.{refl}
 use Rattle.cam_base.proofs.Gathered.{gathered}
 use Rattle.cam_base.proofs.gather_laws.numbers_are_sums.Goals as goal
 

@@ -1,6 +1,5 @@
-use Rattle.std.proofs.Common.{◌∙◌, sym, ap, ◌-◌, ◌/◌, [], ◌∷◌, ◌++◌, take, append-nil, append_assoc, arith}
-use Rattle.std.proofs.lemmas.List.{take_more_set}
-use Rattle.cam_base.specs.Hex.{hex_digits}
+use Rattle.cam_base.proofs.Common.{[], ap, append_assoc, arith, hex_digits, sym, take, take_more_set, ◌++◌, ◌-◌, ◌/◌, ◌∙◌, ◌∷◌}
+use Rattle.std.proofs.Common.{append-nil}
 use Rattle.cam_base.proofs.Digits.{hex_none, hex_last, hex_more}
 use Rattle.cam_base.proofs.number.+put_hex.Goals as goal
 

@@ -1,5 +1,5 @@
-use Rattle.std.proofs.Common.{◌≡◌, ◌∙◌, ap, refl, ℕ, ◌≤◌, List, [], ◌∷◌, ◌++◌, take, length, slice_set, arith, rules}
-use Rattle.cam_base.specs.Hex.{hex_text, hex_digits}
+use Rattle.cam_base.proofs.Common.{List, [], ap, arith, hex_digits, length, refl, rules, slice_set, take, ℕ, ◌++◌, ◌∙◌, ◌∷◌, ◌≡◌, ◌≤◌}
+use Rattle.cam_base.specs.Hex.{hex_text}
 use Rattle.cam_base.proofs.number.hex.Goals as goal
 
 two : (bs : List ℕ) → 2 ≤ length bs → take 2 (slice_set (slice_set bs 0 48) 1 120) ≡ 48 ∷ 120 ∷ []

@@ -1,8 +1,4 @@
-use Rattle.std.proofs.Common.{◌≡◌, ◌∙◌, sym, ◌+◌, ◌*◌, ◌≤◌, None, true, drop, get_or}
-use Rattle.std.proofs.lemmas.List.{at_drop_all, at_drop_more}
-use Rattle.std.specs.Char.{digit_value}
-use Rattle.std.specs.Str.Parse.{digits_value, digits_value_after}
-use Rattle.cam_base.specs.Numbers.{fits}
+use Rattle.cam_base.proofs.Common.{None, at_drop_all, at_drop_more, digit_value, digits_value, digits_value_after, drop, fits, get_or, sym, true, ◌*◌, ◌+◌, ◌∙◌, ◌≡◌, ◌≤◌}
 use Rattle.cam_base.proofs.Values.{digits_value_after_at_least, fits_none, fits_whole}
 use Rattle.cam_base.proofs.number.value_of.Goals as goal
 

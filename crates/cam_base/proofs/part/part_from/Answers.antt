@@ -1,6 +1,4 @@
-use Rattle.std.proofs.Common.{◌∙◌, ap, ◌==◌, ◌-◌, length, drop, arith}
-use Rattle.std.proofs.lemmas.List.{length-drop, length-take, take_all}
-use Rattle.std.specs.List.{before_first, position_or_len}
+use Rattle.cam_base.proofs.Common.{ap, arith, before_first, drop, length, length-drop, length-take, position_or_len, take_all, ◌-◌, ◌==◌, ◌∙◌}
 use Rattle.cam_base.proofs.part.part_from.Goals as goal
 
 pub returns : goal.returns

@@ -1,5 +1,4 @@
-use Rattle.std.proofs.Common.{◌≡◌, ◌∷◌, ◌++◌, take}
-use Rattle.std.specs.List.{flat_map}
+use Rattle.cam_base.proofs.Common.{flat_map, take, ◌++◌, ◌∷◌, ◌≡◌}
 use Rattle.cam_base.proofs.path.push_dotted.Given as goal
 
 abbrev pub invariant-loop-name : goal.invariant-loop-name

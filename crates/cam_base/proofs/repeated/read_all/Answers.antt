@@ -1,6 +1,4 @@
-use Rattle.std.proofs.Common.{sym, ◌∙◌}
-use Rattle.std.proofs.lemmas.Result.{err_from_is_err_and}
-use Rattle.cam_base.specs.Reading.{many}
+use Rattle.cam_base.proofs.Common.{err_from_is_err_and, many, sym, ◌∙◌}
 use Rattle.cam_base.proofs.Loops.{goes_on, fails, is_done}
 use Rattle.cam_base.proofs.repeated.read_all.Goals as goal
 

@@ -1,5 +1,4 @@
-use Rattle.std.proofs.Common.{◌≡◌, length}
-use Rattle.cam_base.specs.Reading.{many}
+use Rattle.cam_base.proofs.Common.{length, many, ◌≡◌}
 use Rattle.cam_base.proofs.Loops.{with_front}
 use Rattle.cam_base.proofs.repeated.read_all.Given as goal
 

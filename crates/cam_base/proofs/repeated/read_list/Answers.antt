@@ -1,6 +1,4 @@
-use Rattle.std.proofs.Common.{sym, ◌∷◌, [], ◌∙◌}
-use Rattle.std.proofs.lemmas.Result.{err_from_is_err_and}
-use Rattle.cam_base.specs.Reading.{behind_one, list_of}
+use Rattle.cam_base.proofs.Common.{[], behind_one, err_from_is_err_and, list_of, sym, ◌∙◌, ◌∷◌}
 use Rattle.cam_base.proofs.Loops.{goes_on, fails, is_done, behind_eats}
 use Rattle.cam_base.proofs.repeated.read_list.Goals as goal
 

@@ -1,5 +1,4 @@
-use Rattle.std.proofs.Common.{◌≡◌, ◌∷◌, [], length}
-use Rattle.cam_base.specs.Reading.{many, behind_one, list_of}
+use Rattle.cam_base.proofs.Common.{[], behind_one, length, list_of, many, ◌∷◌, ◌≡◌}
 use Rattle.cam_base.proofs.Loops.{with_front}
 use Rattle.cam_base.proofs.repeated.read_list.Given as goal
 

@@ -1,5 +1,4 @@
-use Rattle.std.proofs.Common.{◌∙◌, sym}
-use Rattle.cap_model.specs.Edges.{edge}
+use Rattle.cap_machine.proofs.Common.{edge, sym, ◌∙◌}
 use Rattle.cap_machine.proofs.boot_edges.direct.Goals as goal
 
 pub returns : goal.returns

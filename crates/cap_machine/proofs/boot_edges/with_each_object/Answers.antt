@@ -1,9 +1,5 @@
-use Rattle.std.proofs.Common.{refl}
-use Rattle.std.proofs.lemmas.Option.{slice_get_read}
+use Rattle.cap_machine.proofs.Common.{Entry, OfObject, label_of, refl, slice_get_read}
 use Rattle.cap_machine.proofs.Gathering.{first_more, all_first}
-use Rattle.cap_machine.specs.Sources.{OfObject}
-use Rattle.cap_model.specs.ObjectLabels.{label_of}
-use Rattle.cap_model.specs.declared.spec.Entry.{Entry}
 use Rattle.cap_machine.proofs.boot_edges.with_each_object.Goals as goal
 
 pub loop-place-preserved : goal.loop-place-preserved

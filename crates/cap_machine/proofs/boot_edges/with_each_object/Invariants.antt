@@ -1,8 +1,5 @@
-use Rattle.cap_model.specs.Adds.{Adds}
-use Rattle.cap_model.specs.ObjectLabels.{label_of}
-use Rattle.cap_machine.specs.Sources.{OfObject}
+use Rattle.cap_machine.proofs.Common.{Adds, Entry, OfObject, label_of}
 use Rattle.cap_machine.proofs.Gathering.{OfFirst}
-use Rattle.cap_model.specs.declared.spec.Entry.{Entry}
 use Rattle.cap_machine.proofs.boot_edges.with_each_object.Given as goal
 
 abbrev pub invariant-loop-place : goal.invariant-loop-place

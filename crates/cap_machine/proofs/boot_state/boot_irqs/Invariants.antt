@@ -1,6 +1,4 @@
-use Rattle.std.proofs.Common.{◌≡◌, map, take}
-use Rattle.cap_model.specs.declared.spec.Entry.{Entry}
-use Rattle.cap_model.specs.State.{boot_irq}
+use Rattle.cap_machine.proofs.Common.{Entry, boot_irq, map, take, ◌≡◌}
 use Rattle.cap_machine.proofs.boot_state.boot_irqs.Given as goal
 
 abbrev pub invariant-loop-entry : goal.invariant-loop-entry

@@ -1,6 +1,4 @@
-use Rattle.std.proofs.Common.{◌≡◌, map, take}
-use Rattle.cap_model.specs.declared.spec.Entry.{Entry}
-use Rattle.cap_model.specs.State.{boot_thread}
+use Rattle.cap_machine.proofs.Common.{Entry, boot_thread, map, take, ◌≡◌}
 use Rattle.cap_machine.proofs.boot_state.boot_threads.Given as goal
 
 abbrev pub invariant-loop-entry : goal.invariant-loop-entry

@@ -1,8 +1,5 @@
-use Rattle.std.proofs.Common.{ℕ, get_or, arith, false}
-use Rattle.std.proofs.lemmas.Option.{slice_get-get_or}
+use Rattle.cap_machine.proofs.Common.{Cap, OfCap, arith, false, get_or, slice_get-get_or, ℕ}
 use Rattle.cap_machine.proofs.Gathering.{first_more, all_first}
-use Rattle.cap_machine.specs.Sources.{OfCap}
-use Rattle.cap_model.specs.declared.cap.Cap.{Cap}
 use Rattle.cap_machine.proofs.collect.with_each_slot.Goals as goal
 
 no_slot : ℕ × Cap

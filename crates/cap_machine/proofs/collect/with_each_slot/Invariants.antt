@@ -1,8 +1,5 @@
-use Rattle.std.proofs.Common.{ℕ}
-use Rattle.cap_model.specs.Adds.{Adds}
-use Rattle.cap_machine.specs.Sources.{OfCap}
+use Rattle.cap_machine.proofs.Common.{Adds, Cap, OfCap, ℕ}
 use Rattle.cap_machine.proofs.Gathering.{OfFirst}
-use Rattle.cap_model.specs.declared.cap.Cap.{Cap}
 use Rattle.cap_machine.proofs.collect.with_each_slot.Given as goal
 
 abbrev pub invariant-loop-slot : goal.invariant-loop-slot

@@ -1,7 +1,4 @@
-use Rattle.std.proofs.Common.{ℕ, Option}
-use Rattle.cap_model.specs.ObjectLabels.{label_of}
-use Rattle.authorities.specs.declared.authority.Authority.TheVariants.{AsyncSend}
-use Rattle.cap_machine.specs.Sources.{OfOption, OfLink}
+use Rattle.cap_machine.proofs.Common.{AsyncSend, OfLink, OfOption, Option, label_of, ℕ}
 use Rattle.cap_machine.proofs.Gathering.{first_more_at, all_first}
 use Rattle.cap_machine.proofs.edges.with_irqs.Goals as goal
 

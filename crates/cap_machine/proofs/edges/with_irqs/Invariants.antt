@@ -1,9 +1,5 @@
-use Rattle.cap_model.specs.Adds.{Adds}
+use Rattle.cap_machine.proofs.Common.{Adds, AsyncSend, OfLink, OfOption, Option, label_of, ℕ}
 use Rattle.cap_machine.proofs.Gathering.{OfFirst}
-use Rattle.cap_model.specs.ObjectLabels.{label_of}
-use Rattle.std.proofs.Common.{ℕ, Option}
-use Rattle.authorities.specs.declared.authority.Authority.TheVariants.{AsyncSend}
-use Rattle.cap_machine.specs.Sources.{OfOption, OfLink}
 use Rattle.cap_machine.proofs.edges.with_irqs.Given as goal
 
 abbrev pub invariant-loop-place : goal.invariant-loop-place

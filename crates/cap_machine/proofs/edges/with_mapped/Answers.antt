@@ -1,6 +1,4 @@
-use Rattle.std.proofs.Common.{arith}
-use Rattle.cap_model.specs.declared.state.Mapped.{Mapped}
-use Rattle.cap_machine.specs.StateSources.{OfAdded}
+use Rattle.cap_machine.proofs.Common.{Mapped, OfAdded, arith}
 use Rattle.cap_machine.proofs.Gathering.{first_more_at, all_first}
 use Rattle.cap_machine.proofs.edges.with_mapped.Goals as goal
 

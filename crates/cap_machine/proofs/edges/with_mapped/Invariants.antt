@@ -1,7 +1,5 @@
-use Rattle.cap_model.specs.Adds.{Adds}
+use Rattle.cap_machine.proofs.Common.{Adds, Mapped, OfAdded}
 use Rattle.cap_machine.proofs.Gathering.{OfFirst}
-use Rattle.cap_model.specs.declared.state.Mapped.{Mapped}
-use Rattle.cap_machine.specs.StateSources.{OfAdded}
 use Rattle.cap_machine.proofs.edges.with_mapped.Given as goal
 
 abbrev pub invariant-loop-added : goal.invariant-loop-added

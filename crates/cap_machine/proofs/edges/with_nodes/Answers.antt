@@ -1,8 +1,4 @@
-use Rattle.std.proofs.Common.{refl}
-use Rattle.std.proofs.lemmas.Option.{slice_get_read}
-use Rattle.cap_model.specs.ObjectLabels.{label_of}
-use Rattle.cap_model.specs.State.{Node}
-use Rattle.cap_machine.specs.StateSources.{OfNode}
+use Rattle.cap_machine.proofs.Common.{Node, OfNode, label_of, refl, slice_get_read}
 use Rattle.cap_machine.proofs.Gathering.{first_more, all_first}
 use Rattle.cap_machine.proofs.edges.with_nodes.Goals as goal
 

@@ -1,8 +1,5 @@
-use Rattle.cap_model.specs.Adds.{Adds}
+use Rattle.cap_machine.proofs.Common.{Adds, Node, OfNode, label_of}
 use Rattle.cap_machine.proofs.Gathering.{OfFirst}
-use Rattle.cap_model.specs.ObjectLabels.{label_of}
-use Rattle.cap_model.specs.State.{Node}
-use Rattle.cap_machine.specs.StateSources.{OfNode}
 use Rattle.cap_machine.proofs.edges.with_nodes.Given as goal
 
 abbrev pub invariant-loop-place : goal.invariant-loop-place

@@ -1,8 +1,5 @@
-use Rattle.cap_model.specs.Adds.{Adds}
+use Rattle.cap_machine.proofs.Common.{Adds, Entry, OfFixed, label_of}
 use Rattle.cap_machine.proofs.Gathering.{OfFirst}
-use Rattle.cap_model.specs.ObjectLabels.{label_of}
-use Rattle.cap_model.specs.declared.spec.Entry.{Entry}
-use Rattle.cap_machine.specs.StateSources.{OfFixed}
 use Rattle.cap_machine.proofs.edges.with_spec_parts.Given as goal
 
 abbrev pub invariant-loop-place : goal.invariant-loop-place

@@ -1,6 +1,4 @@
-use Rattle.cap_model.specs.ObjectLabels.{label_of}
-use Rattle.cap_model.specs.declared.state.ThreadState.{ThreadState}
-use Rattle.cap_machine.specs.StateSources.{OfThread}
+use Rattle.cap_machine.proofs.Common.{OfThread, ThreadState, label_of}
 use Rattle.cap_machine.proofs.Gathering.{first_more_at, all_first}
 use Rattle.cap_machine.proofs.edges.with_threads.Goals as goal
 

@@ -1,4 +1,4 @@
-use Rattle.std.proofs.Common.{refl, lit<}
+use Rattle.cap_machine.proofs.Common.{lit<, refl}
 use Rattle.cap_machine.proofs.laws.answers_are_told.Goals as goal
 
 pub returns-clause-kept : goal.returns-clause-kept

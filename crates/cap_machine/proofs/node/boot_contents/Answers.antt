@@ -1,6 +1,5 @@
-use Rattle.std.proofs.Common.{ℕ}
+use Rattle.cap_machine.proofs.Common.{Cap, ℕ}
 use Rattle.std.specs.Prelude.{false}
-use Rattle.cap_model.specs.declared.cap.Cap.{Cap}
 use Rattle.cap_machine.proofs.NodeSlots.{slots_more}
 use Rattle.cap_machine.proofs.node.boot_contents.Goals as goal
 

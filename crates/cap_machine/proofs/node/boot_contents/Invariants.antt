@@ -1,7 +1,4 @@
-use Rattle.std.proofs.Common.{◌≡◌, take, map}
-use Rattle.std.specs.BTreeMap.{IsOrdered}
-use Rattle.std.specs.Ordering.{nat_cmp}
-use Rattle.cap_model.specs.State.{boot_slot}
+use Rattle.cap_machine.proofs.Common.{IsOrdered, boot_slot, map, nat_cmp, take, ◌≡◌}
 use Rattle.cap_machine.proofs.node.boot_contents.Given as goal
 
 abbrev pub invariant-loop-slot : goal.invariant-loop-slot

@@ -1,6 +1,4 @@
-use Rattle.std.proofs.Common.{◌<◌}
-use Rattle.cap_model.specs.Adds.{Adds, IsOfSet}
-use Rattle.authorities.specs.Authorities.{number_of}
+use Rattle.cap_model.proofs.Common.{Adds, IsOfSet, number_of, ◌<◌}
 use Rattle.cap_model.proofs.growth.with_set.Given as goal
 
 abbrev pub invariant-loop-number : goal.invariant-loop-number

@@ -1,13 +1,5 @@
-use Rattle.std.proofs.Common.{◌≡◌, ◌∙◌, ◌<◌, ◌-◌, ◌++◌, ℕ, List, Some, drop, take, length, slice_get, get_or, nat_le, sym, ap, subst, inl, inr, arith, true, false, rules}
-use Rattle.std.specs.List.Sorted.{IsPartitionPoint, IsPartitionedBy}
-use Rattle.std.proofs.lemmas.List.{length-take-le, length-drop}
-use Rattle.std.proofs.lemmas.List.Sorted.{IsPartitionPoint-from_clause}
-use Rattle.std.proofs.lemmas.Option.{slice_get-get_or}
-use Rattle.cap_model.specs.Making.{IsMade, IsRun}
-use Rattle.cap_model.specs.Tables.{IsSorted}
-use Rattle.authorities.specs.declared.authority.Authority.TheVariants.{Receive}
-use Rattle.cap_model.specs.declared.edge.Edge.{Edge}
-use Rattle.cap_model.specs.declared.rows.Row.{Row}
+use Rattle.cap_model.proofs.Common.{Edge, IsMade, IsPartitionPoint, IsPartitionPoint-from_clause, IsPartitionedBy, IsRun, IsSorted, List, Receive, Row, Some, ap, arith, drop, false, get_or, inl, inr, length, length-drop, length-take-le, nat_le}
+use Rattle.cap_model.proofs.Common.{rules, slice_get, slice_get-get_or, subst, sym, take, true, ℕ, ◌++◌, ◌-◌, ◌<◌, ◌∙◌, ◌≡◌}
 use Rattle.cap_model.proofs.MadeRows.{pushed}
 use Rattle.cap_model.proofs.Runs.{whole, froms_parted, next_run, some_run, behind_run, run_taken, sorted_to_run}
 use Rattle.cap_model.proofs.making.made_of.Goals as goal

@@ -1,7 +1,4 @@
-use Rattle.std.proofs.Common.{◌≡◌, ◌<◌, ◌≤◌, ◌-◌, ℕ, Some, length, take, slice_get}
-use Rattle.cap_model.specs.Making.{IsMade}
-use Rattle.cap_model.specs.declared.edge.Edge.{Edge}
-use Rattle.cap_model.specs.declared.rows.Row.{Row}
+use Rattle.cap_model.proofs.Common.{Edge, IsMade, Row, Some, length, slice_get, take, ℕ, ◌-◌, ◌<◌, ◌≡◌, ◌≤◌}
 use Rattle.cap_model.proofs.making.made_of.Given as goal
 
 abbrev pub invariant-loop-at : goal.invariant-loop-at

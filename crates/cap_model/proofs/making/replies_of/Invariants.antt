@@ -1,4 +1,4 @@
-use Rattle.std.proofs.Common.{◌≡◌, map, take}
+use Rattle.cap_model.proofs.Common.{map, take, ◌≡◌}
 use Rattle.cap_model.proofs.making.replies_of.Given as goal
 
 abbrev pub invariant-loop-edge : goal.invariant-loop-edge

@@ -1,6 +1,4 @@
-use Rattle.std.proofs.Common.{◌∙◌, Some, cond, refl, sym, ap, inl, inr, arith}
-use Rattle.std.specs.Ordering.{is_eq}
-use Rattle.cap_model.specs.Making.{place_in, list_cmp}
+use Rattle.cap_model.proofs.Common.{Some, ap, arith, cond, inl, inr, is_eq, list_cmp, place_in, refl, sym, ◌∙◌}
 use Rattle.cap_model.proofs.making.with_class.Goals as goal
 
 pub returns-in-Some : goal.returns-in-Some

@@ -1,5 +1,4 @@
-use Rattle.std.proofs.Common.{◌≡◌, ◌++◌, map, take}
-use Rattle.cap_model.specs.Making.{pair_of}
+use Rattle.cap_model.proofs.Common.{map, pair_of, take, ◌++◌, ◌≡◌}
 use Rattle.cap_model.proofs.making.with_pairs.Given as goal
 
 abbrev pub invariant-loop-edge : goal.invariant-loop-edge

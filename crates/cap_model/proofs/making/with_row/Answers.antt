@@ -1,12 +1,6 @@
-use Rattle.std.proofs.Common.{◌≡◌, ◌∙◌, ◌-◌, ◌++◌, ℕ, List, drop, take, length, map, nat_lt, nat_le, refl, sym, ap, subst, true, false, rules}
-use Rattle.std.specs.List.Sorted.{IsPartitionPoint, IsPartitionedBy}
-use Rattle.std.proofs.lemmas.List.Sorted.{IsPartitionPoint-from_clause}
-use Rattle.authorities.specs.Authorities.{number_of}
-use Rattle.cap_model.specs.Making.{pair_of}
+use Rattle.cap_model.proofs.Common.{Edge, IsPartitionPoint, IsPartitionPoint-from_clause, IsPartitionedBy, List, Row, ap, drop, false, length, map, nat_le, nat_lt, number_of, pair_of, refl, rules, subst, sym, take, true, ℕ, ◌++◌, ◌-◌, ◌∙◌, ◌≡◌}
 use Rattle.cap_model.proofs.MadeRows.{row_made}
 use Rattle.cap_model.proofs.Runs.{whole, run_rest, run_parted_lt, run_parted_le, parted_class, parted_edges, parted_replies}
-use Rattle.cap_model.specs.declared.edge.Edge.{Edge}
-use Rattle.cap_model.specs.declared.rows.Row.{Row}
 use Rattle.cap_model.proofs.making.with_row.Goals as goal
 
 pub returns : goal.returns

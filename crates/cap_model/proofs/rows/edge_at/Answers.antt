@@ -1,5 +1,4 @@
-use Rattle.std.proofs.Common.{◌≡◌, ◌∙◌, ◌-◌, ◌≤◌, ◌<◌, length, map, slice_get, ap, arith}
-use Rattle.cap_model.specs.Rows.{edge_to, reply_to}
+use Rattle.cap_model.proofs.Common.{ap, arith, edge_to, length, map, reply_to, slice_get, ◌-◌, ◌<◌, ◌∙◌, ◌≡◌, ◌≤◌}
 use Rattle.cap_model.proofs.RowEdges.{at_front, at_reply, at_back}
 use Rattle.cap_model.proofs.rows.edge_at.Goals as goal
 

@@ -1,5 +1,4 @@
-use Rattle.std.proofs.Common.{◌∙◌, ◌-◌, ℕ, slice_get, refl, sym, ap, subst, arith}
-use Rattle.cap_model.specs.Rows.{edges_of, IsRowPast}
+use Rattle.cap_model.proofs.Common.{IsRowPast, ap, arith, edges_of, refl, slice_get, subst, sym, ℕ, ◌-◌, ◌∙◌}
 use Rattle.cap_model.proofs.TableRows.{get_none, get_row, at_past, class_there}
 use Rattle.cap_model.proofs.rows.edge_in.Goals as goal
 

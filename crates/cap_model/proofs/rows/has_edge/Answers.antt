@@ -1,4 +1,4 @@
-use Rattle.std.proofs.Common.{◌∙◌, refl}
+use Rattle.cap_model.proofs.Common.{refl, ◌∙◌}
 use Rattle.cap_model.proofs.RowEdges.{reply_found, pair_found}
 use Rattle.cap_model.proofs.rows.has_edge.Goals as goal
 

@@ -1,5 +1,4 @@
-use Rattle.std.proofs.lemmas.List.Sorted.{IsPartitionPoint-from_clause}
-use Rattle.std.proofs.Common.{nat_lt, rules}
+use Rattle.cap_model.proofs.Common.{IsPartitionPoint-from_clause, nat_lt, rules}
 use Rattle.cap_model.proofs.TableRows.{labels_parted, row_from}
 use Rattle.cap_model.proofs.rows.rows_below.Goals as goal
 

@@ -1,5 +1,4 @@
-use Rattle.std.proofs.lemmas.List.Sorted.{IsPartitionPoint-from_clause}
-use Rattle.std.proofs.Common.{nat_le, rules}
+use Rattle.cap_model.proofs.Common.{IsPartitionPoint-from_clause, nat_le, rules}
 use Rattle.cap_model.proofs.TableRows.{firsts_parted, row_past}
 use Rattle.cap_model.proofs.rows.rows_up_to.Goals as goal
 

@@ -1,7 +1,4 @@
-use Rattle.std.proofs.Common.{ℕ, nat_lt, rules}
-use Rattle.std.proofs.lemmas.List.Sorted.{IsPartitionPoint-from_clause}
-use Rattle.authorities.specs.Authorities.{number_of}
-use Rattle.authorities.specs.declared.authority.Authority.{Authority}
+use Rattle.cap_model.proofs.Common.{Authority, IsPartitionPoint-from_clause, nat_lt, number_of, rules, ℕ}
 use Rattle.cap_model.proofs.SharedRows.{pairs_class, pairs_parted}
 use Rattle.cap_model.proofs.shared.class_of_pairs.Goals as goal
 

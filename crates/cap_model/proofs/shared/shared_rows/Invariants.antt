@@ -1,5 +1,4 @@
-use Rattle.std.proofs.Common.{◌≡◌, ◌*◌, take}
-use Rattle.cap_model.specs.Shared.{AreShared}
+use Rattle.cap_model.proofs.Common.{AreShared, take, ◌*◌, ◌≡◌}
 use Rattle.cap_model.proofs.shared.shared_rows.Given as goal
 
 abbrev pub invariant-loop-label : goal.invariant-loop-label

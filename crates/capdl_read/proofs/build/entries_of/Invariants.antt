@@ -1,6 +1,4 @@
-use Rattle.std.proofs.Common.{◌≡◌, drop, map, ◌++◌, List, ℕ}
-use Rattle.name_tables.specs.Naming.{spread_found}
-use Rattle.capdl_read.specs.Building.{entry_of, slots_told}
+use Rattle.capdl_read.proofs.Common.{List, drop, entry_of, map, slots_told, spread_found, ℕ, ◌++◌, ◌≡◌}
 use Rattle.capdl_read.proofs.build.entries_of.Given as goal
 
 abbrev pub invariant-loop-object : goal.invariant-loop-object

@@ -1,5 +1,4 @@
-use Rattle.std.proofs.Common.{◌≡◌, drop}
-use Rattle.capdl_read.specs.Building.{first_numbered}
+use Rattle.capdl_read.proofs.Common.{drop, first_numbered, ◌≡◌}
 use Rattle.capdl_read.proofs.build.first_numbered.Given as goal
 
 abbrev pub invariant-loop-slot : goal.invariant-loop-slot

@@ -1,4 +1,4 @@
-use Rattle.std.proofs.Common.{◌∙◌, sym, arith}
+use Rattle.capdl_read.proofs.Common.{arith, sym, ◌∙◌}
 use Rattle.capdl_read.proofs.Behind.{put_behind}
 use Rattle.capdl_read.proofs.build.rising.Goals as goal
 

@@ -1,5 +1,4 @@
-use Rattle.std.proofs.Common.{◌≡◌, drop, []}
-use Rattle.capdl_read.specs.Building.{numbered_from}
+use Rattle.capdl_read.proofs.Common.{[], drop, numbered_from, ◌≡◌}
 use Rattle.capdl_read.proofs.Behind.{AreBehind}
 use Rattle.capdl_read.proofs.build.rising.Given as goal
 

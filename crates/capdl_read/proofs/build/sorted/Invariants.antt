@@ -1,5 +1,4 @@
-use Rattle.std.proofs.Common.{◌≡◌, drop, []}
-use Rattle.capdl_read.specs.Building.{numbered_from}
+use Rattle.capdl_read.proofs.Common.{[], drop, numbered_from, ◌≡◌}
 use Rattle.capdl_read.proofs.build.sorted.Given as goal
 
 abbrev pub invariant-loop-slot : goal.invariant-loop-slot

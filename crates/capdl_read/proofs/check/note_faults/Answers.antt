@@ -1,5 +1,5 @@
+use Rattle.capdl_read.proofs.Common.{spread_found}
 use Rattle.capdl_read.proofs.Checked.{all_in_parts, same_slots}
-use Rattle.name_tables.specs.Naming.{spread_found}
 use Rattle.capdl_read.proofs.check.note_faults.Goals as goal
 
 pub returns-clause-first : goal.returns-clause-first

@@ -1,5 +1,4 @@
-use Rattle.std.proofs.Common.{◌≡◌, drop}
-use Rattle.capdl_text.specs.Meaning.{badge_said}
+use Rattle.capdl_read.proofs.Common.{badge_said, drop, ◌≡◌}
 use Rattle.capdl_read.proofs.held.badge_said.Given as goal
 
 abbrev pub invariant-loop-param : goal.invariant-loop-param

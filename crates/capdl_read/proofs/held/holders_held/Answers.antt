@@ -1,12 +1,6 @@
-use Rattle.std.proofs.Common.{◌∙◌, arith}
-use Rattle.capdl_text.specs.KindField.{off_in}
-use Rattle.capdl_text.specs.Unknown.{unknown_in}
-use Rattle.capdl_text.proofs.Noting.{noted_each}
-use Rattle.capdl_read.specs.Building.{slot_said}
-use Rattle.capdl_text.specs.declared.tree.Holder.{Holder}
+use Rattle.capdl_read.proofs.Common.{Holder, arith, noted_each, off_in, slot_said, spread_found, unknown_in, ◌∙◌}
 use Rattle.capdl_read.proofs.Repeating.{names_more}
 use Rattle.capdl_read.proofs.Tables.{slots_put}
-use Rattle.name_tables.specs.Naming.{spread_found}
 use Rattle.capdl_read.proofs.held.holders_held.Goals as goal
 
 pub loop-holder-preserved : goal.loop-holder-preserved

@@ -1,13 +1,4 @@
-use Rattle.std.proofs.Common.{◌≡◌, drop, is_some, map, List, ℕ}
-use Rattle.std.specs.List.{flat_map}
-use Rattle.capdl_text.specs.Faults.{noted}
-use Rattle.capdl_text.specs.KindField.{off_in}
-use Rattle.capdl_text.specs.Meaning.{held}
-use Rattle.capdl_text.specs.Twice.{names_after, names_twice}
-use Rattle.capdl_text.specs.Unknown.{unknown_in}
-use Rattle.capdl_text.specs.declared.tree.Holder.{Holder}
-use Rattle.capdl_read.specs.Building.{slot_said, slots_or}
-use Rattle.name_tables.specs.Naming.{spread_found}
+use Rattle.capdl_read.proofs.Common.{Holder, List, drop, flat_map, held, is_some, map, names_after, names_twice, noted, off_in, slot_said, slots_or, spread_found, unknown_in, ℕ, ◌≡◌}
 use Rattle.capdl_read.proofs.held.holders_held.Given as goal
 
 abbrev pub invariant-loop-holder : goal.invariant-loop-holder

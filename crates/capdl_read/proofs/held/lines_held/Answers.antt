@@ -1,10 +1,5 @@
-use Rattle.std.proofs.Common.{◌∙◌, arith}
-use Rattle.capdl_text.specs.KindField.{irq_off}
-use Rattle.capdl_text.specs.Unknown.{unknown}
-use Rattle.capdl_text.specs.declared.tree.IrqLine.{IrqLine}
-use Rattle.capdl_text.proofs.Noting.{noted_each}
+use Rattle.capdl_read.proofs.Common.{IrqLine, arith, irq_off, noted_each, spread_found, unknown, ◌∙◌}
 use Rattle.capdl_read.proofs.Tables.{line_put}
-use Rattle.name_tables.specs.Naming.{spread_found}
 use Rattle.capdl_read.proofs.held.lines_held.Goals as goal
 
 pub loop-line-preserved : goal.loop-line-preserved

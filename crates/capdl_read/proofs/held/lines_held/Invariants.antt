@@ -1,11 +1,4 @@
-use Rattle.std.proofs.Common.{◌≡◌, drop, []}
-use Rattle.std.specs.List.{flat_map}
-use Rattle.capdl_text.specs.Faults.{noted}
-use Rattle.capdl_text.specs.KindField.{irq_off}
-use Rattle.capdl_text.specs.Meaning.{lines_from}
-use Rattle.capdl_text.specs.Unknown.{unknown}
-use Rattle.capdl_text.specs.declared.tree.IrqLine.{IrqLine}
-use Rattle.name_tables.specs.Naming.{spread_found}
+use Rattle.capdl_read.proofs.Common.{IrqLine, [], drop, flat_map, irq_off, lines_from, noted, spread_found, unknown, ◌≡◌}
 use Rattle.capdl_read.proofs.held.lines_held.Given as goal
 
 abbrev pub invariant-loop-line : goal.invariant-loop-line

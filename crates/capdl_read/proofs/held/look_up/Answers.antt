@@ -1,10 +1,4 @@
-use Rattle.std.specs.List.{flat_map}
-use Rattle.capdl_text.specs.KindField.{irq_off, kind_off, off_in}
-use Rattle.capdl_text.specs.declared.tree.IrqLine.{IrqLine}
-use Rattle.capdl_text.specs.declared.tree.ObjectLine.{ObjectLine}
-use Rattle.capdl_text.proofs.Noting.{noted_then}
-use Rattle.std.proofs.Common.{◌++◌}
-use Rattle.name_tables.specs.Naming.{spread_found}
+use Rattle.capdl_read.proofs.Common.{IrqLine, ObjectLine, flat_map, irq_off, kind_off, noted_then, off_in, spread_found, ◌++◌}
 use Rattle.capdl_read.proofs.held.look_up.Goals as goal
 
 pub returns-clause-kind : goal.returns-clause-kind

@@ -1,5 +1,4 @@
-use Rattle.std.proofs.Common.{◌≡◌, drop}
-use Rattle.capdl_text.specs.Meaning.{rights_said}
+use Rattle.capdl_read.proofs.Common.{drop, rights_said, ◌≡◌}
 use Rattle.capdl_read.proofs.held.rights_said.Given as goal
 
 abbrev pub invariant-loop-param : goal.invariant-loop-param

@@ -1,11 +1,5 @@
-use Rattle.std.proofs.Common.{◌∙◌, arith}
-use Rattle.capdl_text.specs.KindField.{slot_off}
-use Rattle.capdl_text.specs.Unknown.{unknown}
-use Rattle.capdl_text.specs.declared.tree.SlotLine.{SlotLine}
-use Rattle.capdl_text.proofs.Noting.{noted_each}
-use Rattle.capdl_read.specs.Building.{slot_said}
+use Rattle.capdl_read.proofs.Common.{SlotLine, arith, noted_each, slot_off, slot_said, spread_found, unknown, ◌∙◌}
 use Rattle.capdl_read.proofs.Tables.{said_each}
-use Rattle.name_tables.specs.Naming.{spread_found}
 use Rattle.capdl_read.proofs.held.slots_held.Goals as goal
 
 pub loop-slot-preserved : goal.loop-slot-preserved

@@ -1,11 +1,4 @@
-use Rattle.std.proofs.Common.{◌≡◌, ◌++◌, drop, map}
-use Rattle.std.specs.List.{flat_map}
-use Rattle.capdl_text.specs.Faults.{noted}
-use Rattle.capdl_text.specs.KindField.{slot_off}
-use Rattle.capdl_text.specs.Unknown.{unknown}
-use Rattle.capdl_text.specs.declared.tree.SlotLine.{SlotLine}
-use Rattle.capdl_read.specs.Building.{slot_said}
-use Rattle.name_tables.specs.Naming.{spread_found}
+use Rattle.capdl_read.proofs.Common.{SlotLine, drop, flat_map, map, noted, slot_off, slot_said, spread_found, unknown, ◌++◌, ◌≡◌}
 use Rattle.capdl_read.proofs.held.slots_held.Given as goal
 
 abbrev pub invariant-loop-slot : goal.invariant-loop-slot

@@ -1,5 +1,4 @@
-use Rattle.std.proofs.Common.{◌≡◌, drop, None}
-use Rattle.capdl_read.specs.Rising.{rises}
+use Rattle.capdl_read.proofs.Common.{None, drop, rises, ◌≡◌}
 use Rattle.capdl_read.proofs.keyed.rise.Given as goal
 
 abbrev pub invariant-loop-item : goal.invariant-loop-item

@@ -1,9 +1,4 @@
-use Rattle.std.proofs.Common.{rules, sym, ◌∙◌}
-use Rattle.std.proofs.lemmas.Result.{err_from_is_err_and}
-use Rattle.capdl_text.specs.Codes.{token_code}
-use Rattle.capdl_text.specs.Lexemes.{sees}
-use Rattle.cam_base.specs.Reading.{many}
-use Rattle.cam_base.proofs.Loops.{goes_on, fails, is_done}
+use Rattle.capdl_read.proofs.Common.{err_from_is_err_and, fails, goes_on, is_done, many, rules, sees, sym, token_code, ◌∙◌}
 use Rattle.capdl_read.proofs.line.all.Goals as goal
 
 pub returns-in_err-item : goal.returns-in_err-item

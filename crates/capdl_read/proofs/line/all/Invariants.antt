@@ -1,8 +1,4 @@
-use Rattle.std.proofs.Common.{◌≡◌, length}
-use Rattle.capdl_text.specs.Codes.{token_code}
-use Rattle.capdl_text.specs.Lexemes.{sees}
-use Rattle.cam_base.specs.Reading.{many}
-use Rattle.cam_base.proofs.Loops.{with_front}
+use Rattle.capdl_read.proofs.Common.{length, many, sees, token_code, with_front, ◌≡◌}
 use Rattle.capdl_read.proofs.line.all.Given as goal
 
 -- what is read so far, and what the rest gives, are what all tokens give

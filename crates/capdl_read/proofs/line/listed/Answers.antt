@@ -1,10 +1,5 @@
-use Rattle.std.proofs.Common.{rules, sym, ◌∷◌, [], ◌∙◌}
-use Rattle.std.proofs.lemmas.Result.{err_from_is_err_and}
-use Rattle.capdl_text.specs.Codes.{mark_code, token_code}
-use Rattle.capdl_text.specs.Lexemes.{sees}
+use Rattle.capdl_read.proofs.Common.{[], behind_eats, behind_one, err_from_is_err_and, fails, goes_on, is_done, list_of, mark_code, rules, sees, sym, token_code, ◌∙◌, ◌∷◌}
 use Rattle.capdl_text.specs.declared.token.Mark.TheVariants as marks
-use Rattle.cam_base.specs.Reading.{behind_one, list_of}
-use Rattle.cam_base.proofs.Loops.{goes_on, fails, is_done, behind_eats}
 use Rattle.capdl_read.proofs.line.listed.Goals as goal
 
 pub returns-in_err-item : goal.returns-in_err-item

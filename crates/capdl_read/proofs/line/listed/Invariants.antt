@@ -1,9 +1,5 @@
-use Rattle.std.proofs.Common.{◌≡◌, ◌∷◌, [], length}
-use Rattle.capdl_text.specs.Codes.{mark_code, token_code}
-use Rattle.capdl_text.specs.Lexemes.{sees}
+use Rattle.capdl_read.proofs.Common.{[], behind_one, length, list_of, many, mark_code, sees, token_code, with_front, ◌∷◌, ◌≡◌}
 use Rattle.capdl_text.specs.declared.token.Mark.TheVariants as marks
-use Rattle.cam_base.specs.Reading.{many, behind_one, list_of}
-use Rattle.cam_base.proofs.Loops.{with_front}
 use Rattle.capdl_read.proofs.line.listed.Given as goal
 
 -- what is read so far, and what the rest gives, are what all tokens give

@@ -1,7 +1,4 @@
-use Rattle.std.proofs.Common.{List, subst}
-use Rattle.capdl_text.specs.Lexemes.{tokens_of}
-use Rattle.capdl_text.specs.declared.token.Lexeme.{Lexeme}
-use Rattle.capdl_read.specs.Parsing.{IsParsed, IsTreeRead}
+use Rattle.capdl_read.proofs.Common.{IsParsed, IsTreeRead, Lexeme, List, subst, tokens_of}
 use Rattle.capdl_read.proofs.PartsRead.{not_lexed, parsed, passed_on}
 use Rattle.capdl_read.proofs.parse.read_tree.Goals as goal
 

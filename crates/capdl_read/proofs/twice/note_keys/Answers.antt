@@ -1,4 +1,4 @@
-use Rattle.std.proofs.Common.{◌∙◌, arith, sym}
+use Rattle.capdl_read.proofs.Common.{arith, sym, ◌∙◌}
 use Rattle.capdl_read.proofs.Repeating.{keys_more}
 use Rattle.capdl_read.proofs.NoneTwice.{none_twice}
 use Rattle.capdl_read.proofs.twice.note_keys.Goals as goal

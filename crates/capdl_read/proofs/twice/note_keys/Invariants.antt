@@ -1,7 +1,4 @@
-use Rattle.std.proofs.Common.{◌≡◌, drop, map}
-use Rattle.capdl_text.specs.Faults.{noted}
-use Rattle.capdl_text.specs.Twice.{keys_after, keys_twice}
-use Rattle.name_tables.specs.Keys.{has_key}
+use Rattle.capdl_read.proofs.Common.{drop, has_key, keys_after, keys_twice, map, noted, ◌≡◌}
 use Rattle.capdl_read.proofs.twice.note_keys.Given as goal
 
 abbrev pub invariant-loop-item : goal.invariant-loop-item

@@ -1,5 +1,4 @@
-use Rattle.std.proofs.Common.{◌≡◌, drop}
-use Rattle.capdl_text.specs.Words.{field_among}
+use Rattle.capdl_text.proofs.Common.{drop, field_among, ◌≡◌}
 use Rattle.capdl_text.proofs.field.among.Given as goal
 
 abbrev pub invariant-loop-field : goal.invariant-loop-field

@@ -1,5 +1,4 @@
-use Rattle.std.proofs.Common.{◌≡◌, length}
-use Rattle.capdl_text.specs.Gaps.{after_close}
+use Rattle.capdl_text.proofs.Common.{after_close, length, ◌≡◌}
 use Rattle.capdl_text.proofs.gap.comment_end.Given as goal
 
 abbrev pub invariant-comment : goal.invariant-comment

@@ -1,5 +1,4 @@
-use Rattle.std.proofs.Common.{◌≡◌, length}
-use Rattle.capdl_text.specs.Gaps.{after_line}
+use Rattle.capdl_text.proofs.Common.{after_line, length, ◌≡◌}
 use Rattle.capdl_text.proofs.gap.line_end.Given as goal
 
 abbrev pub invariant-line : goal.invariant-line

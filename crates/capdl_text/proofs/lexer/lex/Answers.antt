@@ -1,12 +1,4 @@
-use Rattle.std.proofs.Common.{ℕ, List, [], ◌∷◌, ◌++◌, length, sym, ap, subst, ◌∙◌, refl, arith}
-use Rattle.std.proofs.lemmas.List.{append-nil}
-use Rattle.capdl_text.specs.declared.token.Lexeme.{Lexeme}
-use Rattle.capdl_text.specs.declared.token.Token.{Token}
-use Rattle.capdl_text.specs.Gaps.{none}
-use Rattle.capdl_text.specs.declared.token.Sort.{Sort}
-use Rattle.capdl_text.specs.Lexemes.{kind_with, token_of, tokens_of, value_at}
-use Rattle.capdl_text.specs.Lexes.{LexesFrom, here, place_of}
-use Rattle.capdl_text.specs.Pieces.{IsPiece}
+use Rattle.capdl_text.proofs.Common.{IsPiece, Lexeme, LexesFrom, List, Sort, Token, [], ap, append-nil, arith, here, kind_with, length, none, place_of, refl, subst, sym, token_of, tokens_of, value_at, ℕ, ◌++◌, ◌∙◌, ◌∷◌}
 use Rattle.capdl_text.specs.declared.piece.Piece.{Piece}
 use Rattle.capdl_text.proofs.Gaps.{gap_eats}
 use Rattle.capdl_text.proofs.Lexemes.{kind_kept, tail_past_gap, tail_past_token, tokens_more}

@@ -1,8 +1,4 @@
-use Rattle.std.proofs.Common.{◌≡◌, ℕ, List, ◌++◌, ◌≤◌, length}
-use Rattle.capdl_text.specs.declared.token.Token.{Token}
-use Rattle.capdl_text.specs.Lexemes.{tokens_of}
-use Rattle.capdl_text.specs.Lexes.{LexesFrom, Reached}
-use Rattle.capdl_text.specs.Words.{all_fields}
+use Rattle.capdl_text.proofs.Common.{LexesFrom, List, Reached, Token, all_fields, length, tokens_of, ℕ, ◌++◌, ◌≡◌, ◌≤◌}
 use Rattle.capdl_text.proofs.Lexemes.{IsTail}
 use Rattle.capdl_text.proofs.lexer.lex.Given as goal
 

@@ -1,4 +1,4 @@
-use Rattle.std.proofs.Common.{length}
+use Rattle.capdl_text.proofs.Common.{length}
 use Rattle.capdl_text.proofs.OneLexeme.{one_list}
 use Rattle.capdl_text.proofs.lexer_laws.tokens_are_one.Goals as goal
 

@@ -1,4 +1,4 @@
-use Rattle.std.proofs.Common.{length}
+use Rattle.capdl_text.proofs.Common.{length}
 use Rattle.capdl_text.proofs.OneLexeme.{no_fault_reached}
 use Rattle.capdl_text.proofs.lexer_laws.tokens_have_no_fault.Goals as goal
 

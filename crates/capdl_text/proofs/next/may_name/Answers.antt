@@ -1,8 +1,4 @@
-use Rattle.std.proofs.Common.{◌∙◌, ℕ, ap, sym}
-use Rattle.std.specs.Prelude.{leb}
-use Rattle.cam_base.specs.Form.{among}
-use Rattle.capdl_text.specs.Codes.{name_codes}
-use Rattle.capdl_text.specs.Lexemes.{sort_code}
+use Rattle.capdl_text.proofs.Common.{among, ap, leb, name_codes, sort_code, sym, ℕ, ◌∙◌}
 use Rattle.capdl_text.proofs.Lexemes.{code_with, name_code}
 use Rattle.capdl_text.proofs.next.may_name.Goals as goal
 

@@ -1,5 +1,4 @@
-use Rattle.std.proofs.Common.{◌≡◌, length}
-use Rattle.capdl_text.specs.TokenFaults.{after_run, is_line_byte}
+use Rattle.capdl_text.proofs.Common.{after_run, is_line_byte, length, ◌≡◌}
 use Rattle.capdl_text.proofs.run.line_end.Given as goal
 
 abbrev pub invariant-run : goal.invariant-run

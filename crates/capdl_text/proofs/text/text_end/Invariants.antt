@@ -1,5 +1,4 @@
-use Rattle.std.proofs.Common.{◌≡◌, length}
-use Rattle.capdl_text.specs.TokenFaults.{after_text}
+use Rattle.capdl_text.proofs.Common.{after_text, length, ◌≡◌}
 use Rattle.capdl_text.proofs.text.text_end.Given as goal
 
 abbrev pub invariant-text : goal.invariant-text

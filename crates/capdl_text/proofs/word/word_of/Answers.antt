@@ -1,4 +1,4 @@
-use Rattle.std.proofs.Common.{sym, ◌∙◌}
+use Rattle.capdl_text.proofs.Common.{sym, ◌∙◌}
 use Rattle.capdl_text.proofs.NumberedWords.{is_numbered}
 use Rattle.capdl_text.proofs.word.word_of.Goals as goal
 

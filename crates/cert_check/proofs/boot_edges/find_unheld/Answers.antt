@@ -1,6 +1,4 @@
-use Rattle.std.proofs.Common.{◌≡◌, ◌≤◌, length, slice_get, Some, get_or}
-use Rattle.std.proofs.lemmas.Option.{slice_get-get_or}
-use Rattle.cap_model.specs.declared.spec.Entry.{Entry}
+use Rattle.cert_check.proofs.Common.{Entry, Some, get_or, length, slice_get, slice_get-get_or, ◌≡◌, ◌≤◌}
 use Rattle.cert_check.proofs.Unheld.{unheld_more, unheld_end}
 use Rattle.cert_check.proofs.boot_edges.find_unheld.Goals as goal
 

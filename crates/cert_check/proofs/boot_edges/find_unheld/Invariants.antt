@@ -1,4 +1,4 @@
-use Rattle.cap_model.specs.Tables.{Finds}
+use Rattle.cert_check.proofs.Common.{Finds}
 use Rattle.cert_check.proofs.Unheld.{LackBelow}
 use Rattle.cert_check.proofs.boot_edges.find_unheld.Given as goal
 

@@ -1,9 +1,7 @@
-use Rattle.std.proofs.Common.{◌≡◌, ℕ, length, arith, get_or}
-use Rattle.std.proofs.lemmas.Option.{slice_get-get_or}
+use Rattle.cert_check.proofs.Common.{Cap, arith, get_or, length, slice_get-get_or, ℕ, ◌≡◌}
 use Rattle.std.specs.Prelude.{false}
 use Rattle.cert_check.proofs.boot_edges.slots_lack.Goals as goal
 use Rattle.cert_check.proofs.LeastEdges.{slots_more}
-use Rattle.cap_model.specs.declared.cap.Cap.{Cap}
 
 nothing : ℕ × Cap
 nothing = (0, record { object = 0; rights = record { read = false; write = false; grant = false; reply = false }; badge = 0 })

@@ -1,7 +1,5 @@
-use Rattle.std.proofs.Common.{◌⊎◌}
+use Rattle.cert_check.proofs.Common.{BufferLack, Control, LinkLack, ◌⊎◌}
 use Rattle.cert_check.proofs.boot_edges.thread_lack.Goals as goal
-use Rattle.authorities.specs.declared.authority.Authority.TheVariants.{Control}
-use Rattle.cert_check.specs.Parts.{LinkLack, BufferLack}
 use Rattle.cert_check.proofs.LeastEdges.{finds_either}
 
 pub returns : goal.returns

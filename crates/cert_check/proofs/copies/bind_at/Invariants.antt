@@ -1,4 +1,4 @@
-use Rattle.cert_check.specs.Violations.{BreaksBind}
+use Rattle.cert_check.proofs.Common.{BreaksBind}
 use Rattle.cert_check.proofs.Search.{NoneUpTo}
 use Rattle.cert_check.proofs.FirstFound.{AtFirst, second_of}
 use Rattle.cert_check.proofs.copies.bind_at.Given as goal

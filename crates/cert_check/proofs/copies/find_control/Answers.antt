@@ -1,7 +1,4 @@
-use Rattle.std.proofs.Common.{arith, length}
-use Rattle.authorities.specs.declared.authority.Authority.TheVariants.{Control}
-use Rattle.cap_model.proofs.TableMembers.{has_at}
-use Rattle.cert_check.specs.Violations.{BreaksControl}
+use Rattle.cert_check.proofs.Common.{BreaksControl, Control, arith, has_at, length}
 use Rattle.cert_check.proofs.FirstFound.{edge_found, edge_none}
 use Rattle.cert_check.proofs.Search.{none_more, none_on}
 use Rattle.cert_check.proofs.Violations.{first_of}

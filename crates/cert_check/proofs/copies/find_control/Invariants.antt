@@ -1,5 +1,4 @@
-use Rattle.std.proofs.Common.{◌-◌, length}
-use Rattle.cert_check.specs.Violations.{BreaksControl}
+use Rattle.cert_check.proofs.Common.{BreaksControl, length, ◌-◌}
 use Rattle.cert_check.proofs.Search.{NoneUpTo}
 use Rattle.cert_check.proofs.copies.find_control.Given as goal
 use Rattle.cert_check.proofs.Violations.{first_of}

@@ -1,7 +1,5 @@
-use Rattle.std.proofs.Common.{◌≡◌, ◌∙◌, ◌==◌, ℕ, true, Option, Some, None, refl, sym, ap, subst}
+use Rattle.cert_check.proofs.Common.{IsClassOf, None, Option, Some, ap, eqb-true, refl, subst, sym, true, ℕ, ◌==◌, ◌∙◌, ◌≡◌}
 use Rattle.std.specs.Option.{option_eq}
-use Rattle.std.proofs.lemmas.Bool.{eqb-true}
-use Rattle.cap_model.specs.Classes.{IsClassOf}
 use Rattle.cap_model.proofs.ClassNumbers.{class_alike}
 use Rattle.cert_check.proofs.copies.same_class.Goals as goal
 

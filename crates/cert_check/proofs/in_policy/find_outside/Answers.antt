@@ -1,4 +1,4 @@
-use Rattle.std.proofs.Common.{arith}
+use Rattle.cert_check.proofs.Common.{arith}
 use Rattle.cert_check.proofs.FirstFound.{outside_found, outside_none}
 use Rattle.cert_check.proofs.in_policy.find_outside.Goals as goal
 

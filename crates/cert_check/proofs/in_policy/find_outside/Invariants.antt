@@ -1,4 +1,4 @@
-use Rattle.cert_check.specs.Violations.{BreaksPolicy}
+use Rattle.cert_check.proofs.Common.{BreaksPolicy}
 use Rattle.cert_check.proofs.Search.{NoneUpTo}
 use Rattle.cert_check.proofs.FirstFound.{itself}
 use Rattle.cert_check.proofs.in_policy.find_outside.Given as goal

@@ -1,4 +1,4 @@
-use Rattle.std.proofs.Common.{arith}
+use Rattle.cert_check.proofs.Common.{arith}
 use Rattle.cert_check.proofs.Walks.{covers_more, covers_end}
 use Rattle.cert_check.proofs.meeting_walk.find_meeting.Goals as goal
 

@@ -1,4 +1,4 @@
-use Rattle.std.proofs.Common.{◌-◌, length}
+use Rattle.cert_check.proofs.Common.{length, ◌-◌}
 use Rattle.cert_check.proofs.Walks.{Covers}
 use Rattle.cert_check.proofs.meeting_walk.find_meeting.Given as goal
 

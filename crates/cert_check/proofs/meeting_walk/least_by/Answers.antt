@@ -1,6 +1,4 @@
-use Rattle.std.proofs.Common.{◌∙◌, arith, length}
-use Rattle.cap_model.proofs.TableMembers.{has_at}
-use Rattle.cert_check.specs.Meetings.{OfPartners, first_authority}
+use Rattle.cert_check.proofs.Common.{OfPartners, arith, first_authority, has_at, length, ◌∙◌}
 use Rattle.cert_check.proofs.FirstFound.{edge_none, edge_found}
 use Rattle.cert_check.proofs.Pairs.{first_has, first_is}
 use Rattle.cert_check.proofs.Search.{none_on}

@@ -1,4 +1,4 @@
-use Rattle.std.proofs.Common.{◌-◌, length}
+use Rattle.cert_check.proofs.Common.{length, ◌-◌}
 use Rattle.cert_check.proofs.Walks.{Walked}
 use Rattle.cert_check.proofs.meeting_walk.least_by.Given as goal
 

@@ -1,6 +1,4 @@
-use Rattle.std.proofs.Common.{◌≡◌, ◌≤◌, ◌<◌, ap, arith, get_or, length, slice_get, Some}
-use Rattle.std.proofs.lemmas.Option.{slice_get-get_or}
-use Rattle.cap_model.specs.Edges.{edge}
+use Rattle.cert_check.proofs.Common.{Some, ap, arith, edge, get_or, length, slice_get, slice_get-get_or, ◌<◌, ◌≡◌, ◌≤◌}
 use Rattle.cert_check.proofs.Walks.{taken_start, taken_more, taken_end}
 use Rattle.cert_check.proofs.meeting_walk.least_of.Goals as goal
 

@@ -1,4 +1,4 @@
-use Rattle.std.proofs.Common.{◌≡◌, ℕ, ◌+◌, ◌<◌, slice_get, Some}
+use Rattle.cert_check.proofs.Common.{Some, slice_get, ℕ, ◌+◌, ◌<◌, ◌≡◌}
 use Rattle.cert_check.proofs.meeting_walk.meet_too.Given as goal
 
 abbrev pub invariant-loop-k : goal.invariant-loop-k

@@ -1,6 +1,4 @@
-use Rattle.std.proofs.Common.{◌∙◌, ◌≤◌, length, arith}
-use Rattle.std.proofs.lemmas.Option.{slice_get-get_or}
-use Rattle.authorities.specs.declared.authority.Authority.TheVariants.{Reply}
+use Rattle.cert_check.proofs.Common.{Reply, arith, length, slice_get-get_or, ◌∙◌, ◌≤◌}
 use Rattle.cert_check.proofs.Missed.{found, is_reply, is_there, none_more, none_start, none_end, other_label}
 use Rattle.cert_check.proofs.missing.missing_copy.Goals as goal
 use Rattle.cert_check.proofs.missing.missing_copy.Goals.{in-Some+then-edge-from+then-not-is_of+else-not-has, in-Some+else-edge-from, else-edge-from-via-then-edge-from+else-not-is_of, else-edge-from-via-else-edge-from, in_default}

@@ -1,5 +1,4 @@
-use Rattle.std.proofs.Common.{◌≤◌, ◌-◌, length}
-use Rattle.cert_check.specs.Parts.{AreOthers}
+use Rattle.cert_check.proofs.Common.{AreOthers, length, ◌-◌, ◌≤◌}
 use Rattle.cert_check.proofs.places.next_of.Given as goal
 
 abbrev pub invariant-loop-at : goal.invariant-loop-at

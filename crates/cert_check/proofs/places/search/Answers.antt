@@ -1,5 +1,4 @@
-use Rattle.std.proofs.Common.{◌<◌, ◌≤◌, ℕ, ◌+◌, ◌-◌, ◌/◌, length, arith}
-use Rattle.std.proofs.lemmas.Option.{slice_get-get_or}
+use Rattle.cert_check.proofs.Common.{arith, length, slice_get-get_or, ℕ, ◌+◌, ◌-◌, ◌/◌, ◌<◌, ◌≤◌}
 use Rattle.cert_check.proofs.Halving.{halved_up, halved_down, halved_end}
 use Rattle.cert_check.proofs.places.search.Goals as goal
 

@@ -1,5 +1,4 @@
-use Rattle.std.proofs.Common.{◌-◌}
-use Rattle.cert_check.specs.Meetings.{Halved}
+use Rattle.cert_check.proofs.Common.{Halved, ◌-◌}
 use Rattle.cert_check.proofs.places.search.Given as goal
 
 abbrev pub invariant-loop-low : goal.invariant-loop-low

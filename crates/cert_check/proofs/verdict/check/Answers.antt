@@ -1,4 +1,4 @@
-use Rattle.std.proofs.Common.{refl}
+use Rattle.cert_check.proofs.Common.{refl}
 use Rattle.cert_check.specs.declared.rule.Rule.TheVariants as rules
 use Rattle.cert_check.proofs.Keeps.{runs_stay}
 use Rattle.cert_check.proofs.Verdicts.{none_earlier, before_control, before_grant, before_call, before_grant_back, before_bind, before_policy, all_hold, judged_no, judged_yes}

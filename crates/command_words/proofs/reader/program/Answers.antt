@@ -1,9 +1,5 @@
-use Rattle.std.proofs.Common.{◌≡◌, ◌∙◌, ap, ap₂, List, [], ◌∷◌, codes, Bor}
-use Rattle.std.proofs.lemmas.Result.{IfOk-weaker}
-use Rattle.clap.specs.Simple.{App}
-use Rattle.clap.specs.Walk.{Text}
-use Rattle.clap.specs.Words.{with_subcommand}
-use Rattle.command_words.specs.Clap.{leaf}
+use Rattle.command_words.proofs.Common.{App, IfOk-weaker, List, Text, [], ap, ap₂, codes, leaf, with_subcommand, ◌∙◌, ◌∷◌, ◌≡◌}
+use Rattle.std.proofs.Common.{Bor}
 use Rattle.command_words.proofs.Building.{texts}
 use Rattle.command_words.proofs.reader.program.Goals as goal
 

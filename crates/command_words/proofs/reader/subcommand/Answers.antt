@@ -1,6 +1,4 @@
-use Rattle.std.proofs.Common.{◌≡◌, ◌∙◌, ◌≤◌, ◌||◌, ℕ, false, map, take_all, ap, ap₂, rules, arith, List, [], length}
-use Rattle.std.specs.Borrow.{Bor}
-use Rattle.command_words.specs.Clap.{leaf}
+use Rattle.command_words.proofs.Common.{Bor, List, [], ap, ap₂, arith, false, leaf, length, map, rules, take_all, ℕ, ◌||◌, ◌∙◌, ◌≡◌, ◌≤◌}
 use Rattle.command_words.proofs.Building.{rule_required, slot_added}
 use Rattle.command_words.proofs.reader.subcommand.Goals as goal
 

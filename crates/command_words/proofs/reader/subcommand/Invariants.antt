@@ -1,8 +1,5 @@
-use Rattle.std.proofs.Common.{◌≡◌, false, map, [], take, List, ℕ}
-use Rattle.std.specs.Borrow.{Bor}
-use Rattle.clap.specs.Words.{app_of}
+use Rattle.command_words.proofs.Common.{Bor, List, [], app_of, false, leaf, map, take, ℕ, ◌≡◌}
 use Rattle.clap.specs.declared.builder.command.Command.TheViews.{out-Command as fields_of}
-use Rattle.command_words.specs.Clap.{leaf}
 use Rattle.command_words.proofs.reader.subcommand.Given as goal
 
 abbrev pub invariant-loop-slot : goal.invariant-loop-slot

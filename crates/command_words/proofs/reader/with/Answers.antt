@@ -1,4 +1,4 @@
-use Rattle.std.proofs.lemmas.Result.{IfOk-weaker}
+use Rattle.command_words.proofs.Common.{IfOk-weaker}
 use Rattle.command_words.proofs.Building.{command_added}
 use Rattle.command_words.proofs.reader.with.Goals as goal
 

@@ -1,5 +1,4 @@
-use Rattle.std.proofs.Common.{◌≡◌, Bool, true, false, true≢false, refl, cond, codes, None, Option}
-use Rattle.command_words.specs.declared.command.Command.{Command}
+use Rattle.command_words.proofs.Common.{Bool, Command, None, Option, codes, cond, false, refl, true, true≢false, ◌≡◌}
 use Rattle.command_words.proofs.Readings.{differs}
 use Rattle.command_words.proofs.reading.command_from.Goals as goal
 

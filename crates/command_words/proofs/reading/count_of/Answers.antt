@@ -1,8 +1,4 @@
-use Rattle.std.proofs.Common.{◌∙◌, ap, sym}
-use Rattle.std.specs.Prelude.{option_and_then}
-use Rattle.clap.specs.Words.{found_of}
-use Rattle.clap.proofs.WalkLemmas.{first_value-rows}
-use Rattle.command_words.specs.Words.{count_of}
+use Rattle.command_words.proofs.Common.{ap, count_of, first_value-rows, found_of, option_and_then, sym, ◌∙◌}
 use Rattle.command_words.proofs.reading.count_of.Goals as goal
 
 pub returns-in_default : goal.returns-in_default

@@ -1,9 +1,5 @@
-use Rattle.std.proofs.Common.{◌≡◌, ◌∙◌, ap, sym, List, map, string_bytes, [], subst}
-use Rattle.clap.specs.Kinds.{HasKind}
-use Rattle.std.proofs.lemmas.Result.{MatchResult-weaker}
+use Rattle.command_words.proofs.Common.{HasKind, List, MatchResult-weaker, Text, [], ap, map, reader, string_bytes, subst, sym, ◌∙◌, ◌≡◌}
 use Rattle.clap.specs.Words.{App, fault_of, is_simple, is_simple_and_free, subcommand_of}
-use Rattle.clap.specs.Walk.{Text}
-use Rattle.command_words.specs.Clap.{reader}
 use Rattle.command_words.proofs.Readings.{are_texts, made_texts, met_is, read_fails, read_ok, reader_has_matches, reader_is_simple}
 use Rattle.command_words.proofs.reading.read_words.Goals as goal
 

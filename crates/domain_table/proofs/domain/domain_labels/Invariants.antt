@@ -1,4 +1,4 @@
-use Rattle.std.proofs.Common.{◌≡◌, map, take}
+use Rattle.domain_table.proofs.Common.{map, take, ◌≡◌}
 use Rattle.cam_base.specs.Paths.{joined}
 use Rattle.domain_table.proofs.domain.domain_labels.Given as goal
 

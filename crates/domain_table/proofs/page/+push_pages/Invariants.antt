@@ -1,6 +1,4 @@
-use Rattle.std.proofs.Common.{◌≡◌, ◌++◌, length, take}
-use Rattle.std.specs.List.{flat_map}
-use Rattle.domain_table.specs.Pages.{address, page_rows}
+use Rattle.domain_table.proofs.Common.{address, flat_map, length, page_rows, take, ◌++◌, ◌≡◌}
 use Rattle.domain_table.proofs.page.+push_pages.Given as goal
 
 abbrev pub decreases-push_pages : goal.decreases-push_pages

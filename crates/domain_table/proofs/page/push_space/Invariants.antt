@@ -1,6 +1,4 @@
-use Rattle.std.proofs.Common.{◌≡◌, ◌++◌, take}
-use Rattle.std.specs.List.{flat_map}
-use Rattle.domain_table.specs.Pages.{address, page_rows}
+use Rattle.domain_table.proofs.Common.{address, flat_map, page_rows, take, ◌++◌, ◌≡◌}
 use Rattle.domain_table.proofs.page.push_space.Given as goal
 
 abbrev pub invariant-loop-slot : goal.invariant-loop-slot

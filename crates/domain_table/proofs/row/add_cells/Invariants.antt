@@ -1,6 +1,4 @@
-use Rattle.std.proofs.Common.{◌≡◌, ◌++◌, take}
-use Rattle.std.specs.List.{flat_map}
-use Rattle.domain_table.specs.Rows.{cell}
+use Rattle.domain_table.proofs.Common.{cell, flat_map, take, ◌++◌, ◌≡◌}
 use Rattle.domain_table.proofs.row.add_cells.Given as goal
 
 abbrev pub invariant-loop-cell : goal.invariant-loop-cell

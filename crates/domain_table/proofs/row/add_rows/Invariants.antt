@@ -1,6 +1,4 @@
-use Rattle.std.proofs.Common.{◌≡◌, ◌++◌, take}
-use Rattle.std.specs.List.{flat_map}
-use Rattle.domain_table.specs.Rows.{row_line}
+use Rattle.domain_table.proofs.Common.{flat_map, row_line, take, ◌++◌, ◌≡◌}
 use Rattle.domain_table.proofs.row.add_rows.Given as goal
 
 abbrev pub invariant-loop-row : goal.invariant-loop-row

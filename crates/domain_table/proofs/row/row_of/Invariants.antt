@@ -1,4 +1,4 @@
-use Rattle.std.proofs.Common.{◌≡◌, map, take}
+use Rattle.domain_table.proofs.Common.{map, take, ◌≡◌}
 use Rattle.domain_table.proofs.row.row_of.Given as goal
 
 abbrev pub invariant-loop-cell : goal.invariant-loop-cell

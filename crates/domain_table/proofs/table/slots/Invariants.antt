@@ -1,7 +1,4 @@
-use Rattle.std.proofs.Common.{◌≡◌, take}
-use Rattle.std.specs.List.{flat_map}
-use Rattle.domain_table.specs.Tables.{slot_line}
-use Rattle.system_spec.specs.MapText.{named}
+use Rattle.domain_table.proofs.Common.{flat_map, named, slot_line, take, ◌≡◌}
 use Rattle.domain_table.proofs.table.slots.Given as goal
 
 abbrev pub invariant-loop-line : goal.invariant-loop-line

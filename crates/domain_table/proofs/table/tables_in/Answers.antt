@@ -1,5 +1,5 @@
+use Rattle.domain_table.proofs.Common.{named}
 use Rattle.domain_table.proofs.Tabled.{tabled}
-use Rattle.system_spec.specs.MapText.{named}
 use Rattle.domain_table.proofs.table.tables_in.Goals as goal
 
 pub returns : goal.returns

@@ -1,7 +1,4 @@
-use Rattle.std.proofs.Common.{◌∙◌, ◌++◌, ℕ, List, ap}
-use Rattle.domain_table.specs.Tables.{tables_in, tables_text}
-use Rattle.domain_table.specs.declared.table.DomainTables.{DomainTables}
-use Rattle.system_spec.specs.MapText.{named}
+use Rattle.domain_table.proofs.Common.{DomainTables, List, ap, named, tables_in, tables_text, ℕ, ◌++◌, ◌∙◌}
 use Rattle.domain_table.proofs.table.tables_of.Goals as goal
 
 pub returns : goal.returns

@@ -1,7 +1,4 @@
-use Rattle.std.proofs.Common.{◌≡◌, take}
-use Rattle.std.specs.List.{flat_map}
-use Rattle.domain_table.specs.Tables.{thread_line}
-use Rattle.system_spec.specs.MapText.{named}
+use Rattle.domain_table.proofs.Common.{flat_map, named, take, thread_line, ◌≡◌}
 use Rattle.domain_table.proofs.table.threads.Given as goal
 
 abbrev pub invariant-loop-line : goal.invariant-loop-line

@@ -1,5 +1,5 @@
 use Rattle.label_flow.proofs.Common.{Receive, arith, slice_get-get_or, sym, ◌∙◌}
-use Rattle.label_flow.proofs.Listing.{one_more}
+use Rattle.cam_base.proofs.NumberedLists.{one_more}
 use Rattle.label_flow.proofs.edges.listed.Goals as goal
 use Rattle.label_flow.proofs.edges.listed.Goals.{in-Some+in_ok-push, in_default}
 

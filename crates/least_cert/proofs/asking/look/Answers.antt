@@ -1,7 +1,4 @@
-use Rattle.std.proofs.Common.{◌≡◌, ◌∙◌, true, List, subst}
-use Rattle.cap_model.specs.Tables.{has}
-use Rattle.cap_model.specs.declared.edge.Edge.{Edge}
-use Rattle.least_cert.specs.Closing.{AddsAll, GivesAll}
+use Rattle.least_cert.proofs.Common.{AddsAll, Edge, GivesAll, List, has, subst, true, ◌∙◌, ◌≡◌}
 use Rattle.least_cert.proofs.Asks.{looks_at}
 use Rattle.least_cert.proofs.Growth.{gift_moves, least_moves}
 use Rattle.least_cert.proofs.asking.look.Goals as goal

@@ -1,9 +1,4 @@
-use Rattle.std.proofs.Common.{◌≡◌, Some, slice_get, refl}
-use Rattle.std.proofs.lemmas.Option.{slice_get_read}
-use Rattle.cap_machine.proofs.Gathering.{first_more, all_first}
-use Rattle.cap_model.specs.ObjectLabels.{label_of}
-use Rattle.cap_model.specs.declared.spec.Entry.{Entry}
-use Rattle.least_cert.specs.BootEdges.{OfHolder, OfOther}
+use Rattle.least_cert.proofs.Common.{Entry, OfHolder, OfOther, Some, all_first, first_more, label_of, refl, slice_get, slice_get_read, ◌≡◌}
 use Rattle.least_cert.proofs.boot.gathered.Goals as goal
 
 pub loop-place-preserved : goal.loop-place-preserved

@@ -1,9 +1,4 @@
-use Rattle.std.proofs.Common.{[]}
-use Rattle.cap_model.specs.Adds.{Adds}
-use Rattle.cap_model.specs.ObjectLabels.{label_of}
-use Rattle.cap_machine.proofs.Gathering.{OfFirst}
-use Rattle.cap_model.specs.declared.spec.Entry.{Entry}
-use Rattle.least_cert.specs.BootEdges.{OfHolder, OfOther}
+use Rattle.least_cert.proofs.Common.{Adds, Entry, OfFirst, OfHolder, OfOther, [], label_of}
 use Rattle.least_cert.proofs.boot.gathered.Given as goal
 
 abbrev pub invariant-loop-place : goal.invariant-loop-place

@@ -1,7 +1,4 @@
-use Rattle.std.proofs.Common.{◌≡◌, true, List, subst}
-use Rattle.cap_model.specs.Tables.{has}
-use Rattle.cap_model.specs.declared.edge.Edge.{Edge}
-use Rattle.least_cert.specs.Closing.{AddsAll}
+use Rattle.least_cert.proofs.Common.{AddsAll, Edge, List, has, subst, true, ◌≡◌}
 use Rattle.least_cert.proofs.Holding.{are_held, are_links, begins_so, empty_sound, held_least, links_least}
 use Rattle.least_cert.proofs.close.begun.Goals as goal
 

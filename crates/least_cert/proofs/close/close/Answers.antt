@@ -1,5 +1,4 @@
-use Rattle.std.proofs.Common.{arith}
-use Rattle.cap_model.proofs.TableMembers.{has_at}
+use Rattle.least_cert.proofs.Common.{arith, has_at}
 use Rattle.least_cert.proofs.Finishing.{looks_all, looks_more, looks_none}
 use Rattle.least_cert.proofs.close.close.Goals as goal
 

@@ -1,5 +1,4 @@
-use Rattle.std.proofs.Common.{◌-◌}
-use Rattle.least_cert.specs.Closing.{LooksAt}
+use Rattle.least_cert.proofs.Common.{LooksAt, ◌-◌}
 use Rattle.least_cert.proofs.close.close.Given as goal
 
 abbrev pub invariant-loop-done : goal.invariant-loop-done

@@ -1,4 +1,4 @@
-use Rattle.std.proofs.Common.{◌≡◌, ◌++◌, ◌∷◌, [], arith, rules}
+use Rattle.least_cert.proofs.Common.{[], arith, rules, ◌++◌, ◌∷◌, ◌≡◌}
 use Rattle.least_cert.proofs.Leading.{widens_all, widens_more}
 use Rattle.least_cert.proofs.closing.widened.Goals as goal
 

@@ -1,4 +1,4 @@
-use Rattle.std.proofs.Common.{◌≤◌, ◌^◌}
+use Rattle.least_cert.proofs.Common.{◌^◌, ◌≤◌}
 use Rattle.least_cert.proofs.Leading.{WidensTo}
 use Rattle.least_cert.proofs.closing.widened.Given as goal
 

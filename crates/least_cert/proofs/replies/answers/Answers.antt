@@ -1,8 +1,4 @@
-use Rattle.std.proofs.Common.{[], List, arith, subst, sym}
-use Rattle.cap_machine.proofs.Gathering.{OfFirst, all_first, first_more_at, none_first}
-use Rattle.cap_model.specs.Adds.{Adds}
-use Rattle.cap_model.specs.declared.edge.Edge.{Edge}
-use Rattle.least_cert.specs.Closing.{IsAnswer}
+use Rattle.least_cert.proofs.Common.{Adds, Edge, IsAnswer, List, OfFirst, [], all_first, arith, first_more_at, none_first, subst, sym}
 use Rattle.least_cert.proofs.Growth.{no_edge}
 use Rattle.least_cert.proofs.Spreading.{are_replies, first_answers, receivers_less}
 use Rattle.least_cert.proofs.replies.answers.Goals as goal

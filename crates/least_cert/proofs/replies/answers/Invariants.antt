@@ -1,8 +1,4 @@
-use Rattle.std.proofs.Common.{[]}
-use Rattle.cap_machine.proofs.Gathering.{OfFirst}
-use Rattle.cap_model.specs.Adds.{Adds}
-use Rattle.cap_model.specs.declared.edge.Edge.{Edge}
-use Rattle.least_cert.specs.Closing.{IsAnswer}
+use Rattle.least_cert.proofs.Common.{Adds, Edge, IsAnswer, OfFirst, []}
 use Rattle.least_cert.proofs.replies.answers.Given as goal
 
 abbrev pub invariant-loop-edge : goal.invariant-loop-edge

@@ -1,7 +1,4 @@
-use Rattle.std.proofs.Common.{◌≡◌, ◌∙◌, List, ap, subst, sym, true}
-use Rattle.cap_model.specs.Tables.{has}
-use Rattle.cap_model.specs.declared.edge.Edge.{Edge}
-use Rattle.least_cert.specs.Closing.{AreReplies, IsSpread}
+use Rattle.least_cert.proofs.Common.{AreReplies, Edge, IsSpread, List, ap, has, subst, sym, true, ◌∙◌, ◌≡◌}
 use Rattle.least_cert.proofs.Spreading.{all_least, made}
 use Rattle.least_cert.proofs.replies.certificate.Goals as goal
 

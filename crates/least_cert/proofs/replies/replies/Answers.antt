@@ -1,6 +1,4 @@
-use Rattle.std.proofs.Common.{List, subst, sym}
-use Rattle.cap_model.specs.declared.edge.Edge.{Edge}
-use Rattle.least_cert.specs.Closing.{AreReplies}
+use Rattle.least_cert.proofs.Common.{AreReplies, Edge, List, subst, sym}
 use Rattle.least_cert.proofs.replies.replies.Goals as goal
 
 pub returns-clause-replies : goal.returns-clause-replies

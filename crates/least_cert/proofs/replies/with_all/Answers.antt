@@ -1,4 +1,4 @@
-use Rattle.std.proofs.Common.{arith}
+use Rattle.least_cert.proofs.Common.{arith}
 use Rattle.least_cert.proofs.Growth.{no_edge}
 use Rattle.least_cert.proofs.Spreading.{put_all, put_more, put_none}
 use Rattle.least_cert.proofs.replies.with_all.Goals as goal

@@ -1,6 +1,4 @@
-use Rattle.std.proofs.Common.{◌≡◌, ◌||◌, take}
-use Rattle.cap_model.specs.Tables.{has}
-use Rattle.cap_model.specs.declared.edge.Edge.{Edge}
+use Rattle.least_cert.proofs.Common.{Edge, has, take, ◌||◌, ◌≡◌}
 use Rattle.least_cert.proofs.replies.with_all.Given as goal
 
 abbrev pub invariant-loop-edge : goal.invariant-loop-edge

@@ -1,5 +1,4 @@
-use Rattle.std.proofs.Common.{sym, subst, refl, inl, inr, arith}
-use Rattle.cam_base.specs.Gather.{IsIn}
+use Rattle.page_tables.proofs.Common.{IsIn, arith, inl, inr, refl, subst, sym}
 use Rattle.page_tables.proofs.counts.+levels_from.Goals as goal
 
 pub levels_from-requires : goal.levels_from-requires

@@ -1,4 +1,4 @@
-use Rattle.std.proofs.Common.{◌≡◌, ◌++◌, replicate}
+use Rattle.page_tables.proofs.Common.{replicate, ◌++◌, ◌≡◌}
 use Rattle.page_tables.proofs.counts.push_levels.Given as goal
 
 abbrev pub invariant-loop : goal.invariant-loop

@@ -1,7 +1,4 @@
-use Rattle.std.proofs.Common.{◌<◌, ◌^◌, ◌∙◌, ap, inl, inr, length, refl, subst, sym, arith}
-use Rattle.cam_base.specs.Gather.{IsIn}
-use Rattle.page_tables.specs.Levels.{layers, sizes, uppers}
-use Rattle.page_tables.specs.Runs.{runs}
+use Rattle.page_tables.proofs.Common.{IsIn, ap, arith, inl, inr, layers, length, refl, runs, sizes, subst, sym, uppers, ◌<◌, ◌^◌, ◌∙◌}
 use Rattle.page_tables.proofs.Fitting.{few_tables, span_some}
 use Rattle.page_tables.proofs.layer.+push_layers.Goals as goal
 

@@ -1,4 +1,4 @@
-use Rattle.std.proofs.Common.{length}
+use Rattle.page_tables.proofs.Common.{length}
 use Rattle.page_tables.proofs.layer.+push_layers.Given as goal
 
 abbrev pub decreases-push_layers : goal.decreases-push_layers

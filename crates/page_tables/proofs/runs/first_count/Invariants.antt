@@ -1,5 +1,4 @@
-use Rattle.std.proofs.Common.{◌≡◌, ◌+◌, drop, length}
-use Rattle.page_tables.specs.Runs.{front}
+use Rattle.page_tables.proofs.Common.{drop, front, length, ◌+◌, ◌≡◌}
 use Rattle.page_tables.proofs.runs.first_count.Given as goal
 
 abbrev pub invariant-loop-count : goal.invariant-loop-count

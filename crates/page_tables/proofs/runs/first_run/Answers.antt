@@ -1,6 +1,4 @@
-use Rattle.std.proofs.Common.{◌≡◌, ◌∙◌, List, IfOk, ap, length, subst, sym, take}
-use Rattle.page_tables.specs.declared.mapping.Mapping.{Mapping}
-use Rattle.page_tables.specs.Runs.{first_run, head_of}
+use Rattle.page_tables.proofs.Common.{IfOk, List, Mapping, ap, first_run, head_of, length, subst, sym, take, ◌∙◌, ◌≡◌}
 use Rattle.page_tables.proofs.Running.{front_taken}
 use Rattle.page_tables.proofs.runs.first_run.Goals as goal
 

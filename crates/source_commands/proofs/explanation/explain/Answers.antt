@@ -1,4 +1,4 @@
-use Rattle.front_end.proofs.Refusing.{front_sound}
+use Rattle.source_commands.proofs.Common.{front_sound}
 use Rattle.front_end.proofs.Within.{few_labels, sound_within}
 use Rattle.source_commands.proofs.Explaining.{front_explained}
 use Rattle.source_commands.proofs.explanation.explain.Goals as goal

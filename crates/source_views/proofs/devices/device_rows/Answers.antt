@@ -1,9 +1,6 @@
-use Rattle.std.proofs.Common.{◌∙◌, ◌++◌, [], ap, refl, List}
+use Rattle.source_views.proofs.Common.{List, [], ap, connection_rows, gather_turn, named, refl, settings_in, ◌++◌, ◌∙◌}
 use Rattle.adl_meaning.specs.declared.flat.FlatConnection.{FlatConnection}
 use Rattle.adl_meaning.specs.declared.settled.EndSetting.{EndSetting}
-use Rattle.cam_base.proofs.Gathered.{gather_turn}
-use Rattle.source_views.specs.Devices.{connection_rows, settings_in}
-use Rattle.system_spec.specs.MapText.{named}
 use Rattle.source_views.proofs.devices.device_rows.Goals as goal
 
 pub loop-place-preserved : goal.loop-place-preserved

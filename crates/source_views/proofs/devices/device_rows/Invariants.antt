@@ -1,7 +1,4 @@
-use Rattle.std.proofs.Common.{◌≡◌, take}
-use Rattle.cam_base.specs.Gather.{gather}
-use Rattle.system_spec.specs.MapText.{named}
-use Rattle.source_views.specs.Devices.{connection_rows, settings_in}
+use Rattle.source_views.proofs.Common.{connection_rows, gather, named, settings_in, take, ◌≡◌}
 use Rattle.source_views.proofs.devices.device_rows.Given as goal
 
 abbrev pub invariant-loop-place : goal.invariant-loop-place

@@ -1,9 +1,5 @@
-use Rattle.std.proofs.Common.{refl, slice_get}
-use Rattle.std.proofs.lemmas.List.{get_or_default}
+use Rattle.source_views.proofs.Common.{end_rows, gather_turn, get_or_default, named, refl, slice_get}
 use Rattle.adl_meaning.specs.declared.flat.FlatEnd.{FlatEnd}
-use Rattle.cam_base.proofs.Gathered.{gather_turn}
-use Rattle.source_views.specs.Devices.{end_rows}
-use Rattle.system_spec.specs.MapText.{named}
 use Rattle.source_views.proofs.devices.push_connection.Goals as goal
 
 pub loop-place-preserved : goal.loop-place-preserved

@@ -1,7 +1,4 @@
-use Rattle.std.proofs.Common.{◌≡◌, ◌++◌, slice_get, take}
-use Rattle.cam_base.specs.Gather.{gather}
-use Rattle.system_spec.specs.MapText.{named}
-use Rattle.source_views.specs.Devices.{end_rows}
+use Rattle.source_views.proofs.Common.{end_rows, gather, named, slice_get, take, ◌++◌, ◌≡◌}
 use Rattle.source_views.proofs.devices.push_connection.Given as goal
 
 abbrev pub invariant-loop-place : goal.invariant-loop-place

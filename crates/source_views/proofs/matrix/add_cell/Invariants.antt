@@ -1,6 +1,4 @@
-use Rattle.std.proofs.Common.{◌≡◌, ◌++◌, codes, take}
-use Rattle.std.specs.List.{flat_map}
-use Rattle.source_views.specs.Matrix.{mark_in}
+use Rattle.source_views.proofs.Common.{codes, flat_map, mark_in, take, ◌++◌, ◌≡◌}
 use Rattle.source_views.proofs.matrix.add_cell.Given as goal
 
 abbrev pub invariant-loop-mark : goal.invariant-loop-mark

@@ -1,6 +1,4 @@
-use Rattle.std.proofs.Common.{◌≡◌, ◌++◌, take}
-use Rattle.std.specs.List.{flat_map}
-use Rattle.source_views.specs.Matrix.{cell_text}
+use Rattle.source_views.proofs.Common.{cell_text, flat_map, take, ◌++◌, ◌≡◌}
 use Rattle.source_views.proofs.matrix.add_cells.Given as goal
 
 abbrev pub invariant-loop-column : goal.invariant-loop-column

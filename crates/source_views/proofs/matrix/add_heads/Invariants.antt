@@ -1,6 +1,4 @@
-use Rattle.std.proofs.Common.{◌≡◌, ◌++◌, codes, take}
-use Rattle.std.specs.List.{flat_map}
-use Rattle.view_text.specs.Html.{tagged}
+use Rattle.source_views.proofs.Common.{codes, flat_map, tagged, take, ◌++◌, ◌≡◌}
 use Rattle.source_views.proofs.matrix.add_heads.Given as goal
 
 abbrev pub invariant-loop-column : goal.invariant-loop-column

@@ -1,7 +1,5 @@
-use Rattle.std.proofs.Common.{◌++◌, codes}
+use Rattle.source_views.proofs.Common.{authority_text, codes, escaped, ◌++◌}
 use Rattle.source_views.proofs.Adding.{and_last, and_then}
-use Rattle.source_views.specs.Matrix.{authority_text}
-use Rattle.view_text.specs.Html.{escaped}
 use Rattle.source_views.proofs.matrix.add_mark.Goals as goal
 
 pub returns : goal.returns

@@ -1,8 +1,5 @@
-use Rattle.std.proofs.Common.{◌++◌, ℕ, List, codes}
-use Rattle.std.specs.List.{flat_map}
+use Rattle.source_views.proofs.Common.{List, codes, flat_map, label_row, matrix_head, tagged, ℕ, ◌++◌}
 use Rattle.source_views.proofs.Adding.{and_last, and_then}
-use Rattle.source_views.specs.Matrix.{label_row, matrix_head}
-use Rattle.view_text.specs.Html.{tagged}
 use Rattle.source_views.proofs.matrix.add_matrix_by.Goals as goal
 
 pub returns : goal.returns

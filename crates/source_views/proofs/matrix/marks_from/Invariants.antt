@@ -1,6 +1,4 @@
-use Rattle.std.proofs.Common.{◌≡◌, ◌==◌, take}
-use Rattle.std.specs.List.{flat_map}
-use Rattle.arch_policy.specs.Where.{where_true}
+use Rattle.source_views.proofs.Common.{flat_map, take, where_true, ◌==◌, ◌≡◌}
 use Rattle.source_views.proofs.matrix.marks_from.Given as goal
 
 abbrev pub invariant-loop-mark : goal.invariant-loop-mark

@@ -1,8 +1,4 @@
-use Rattle.std.proofs.Common.{◌∙◌, ◌∷◌, [], ◌++◌, ℕ, List, sym, ap, refl, arith}
-use Rattle.std.proofs.lemmas.Option.{get_or_from_slice_get, slice_get-get_or}
-use Rattle.authorities.specs.declared.authority.Authority.TheVariants.{Receive}
-use Rattle.cam_base.proofs.Gathered.{gather_turn}
-use Rattle.source_views.specs.Matrix.{mark_at, marked}
+use Rattle.source_views.proofs.Common.{List, Receive, [], ap, arith, gather_turn, get_or_from_slice_get, mark_at, marked, refl, slice_get-get_or, sym, ℕ, ◌++◌, ◌∙◌, ◌∷◌}
 use Rattle.source_views.proofs.matrix.marks_of.Goals as goal
 use Rattle.source_views.proofs.matrix.marks_of.Goals.{in-Some+in_ok-push_mark, in_default}
 

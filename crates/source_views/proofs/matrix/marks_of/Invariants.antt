@@ -1,6 +1,4 @@
-use Rattle.std.proofs.Common.{◌≡◌, take}
-use Rattle.cam_base.specs.Gather.{gather}
-use Rattle.source_views.specs.Matrix.{mark_at}
+use Rattle.source_views.proofs.Common.{gather, mark_at, take, ◌≡◌}
 use Rattle.source_views.proofs.matrix.marks_of.Given as goal
 
 abbrev pub invariant-loop-at : goal.invariant-loop-at

@@ -1,7 +1,4 @@
-use Rattle.std.proofs.Common.{◌≡◌, take}
-use Rattle.std.specs.List.{flat_map}
-use Rattle.arch_policy.specs.Where.{where_true}
-use Rattle.source_views.specs.Matrix.{is_target}
+use Rattle.source_views.proofs.Common.{flat_map, is_target, take, where_true, ◌≡◌}
 use Rattle.source_views.proofs.matrix.targets.Given as goal
 
 abbrev pub invariant-loop-label : goal.invariant-loop-label

@@ -1,7 +1,4 @@
-use Rattle.std.proofs.Common.{refl}
-use Rattle.cam_base.proofs.Gathered.{gather_turn}
-use Rattle.source_views.specs.Pages.{domain_part}
-use Rattle.system_spec.specs.MapText.{named}
+use Rattle.source_views.proofs.Common.{domain_part, gather_turn, named, refl}
 use Rattle.source_views.proofs.page.add_domains.Goals as goal
 
 pub loop-number-preserved : goal.loop-number-preserved

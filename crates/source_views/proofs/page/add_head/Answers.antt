@@ -1,7 +1,5 @@
-use Rattle.std.proofs.Common.{◌++◌, codes}
+use Rattle.source_views.proofs.Common.{codes, page_start, style, tagged, ◌++◌}
 use Rattle.source_views.proofs.Adding.{and_last, and_then}
-use Rattle.source_views.specs.Pages.{page_start, style}
-use Rattle.view_text.specs.Html.{tagged}
 use Rattle.source_views.proofs.page.add_head.Goals as goal
 
 pub returns : goal.returns

@@ -1,7 +1,5 @@
-use Rattle.std.proofs.Common.{◌++◌, codes}
+use Rattle.source_views.proofs.Common.{codes, matrix_of, matrix_words, ◌++◌}
 use Rattle.source_views.proofs.Adding.{and_last, and_then}
-use Rattle.source_views.specs.Matrix.{matrix_of}
-use Rattle.source_views.specs.Pages.{matrix_words}
 use Rattle.source_views.proofs.page.add_matrix_part.Goals as goal
 
 pub returns : goal.returns

@@ -1,7 +1,6 @@
-use Rattle.std.proofs.Common.{◌++◌, codes}
+use Rattle.source_views.proofs.Common.{codes, devices_part, domain_parts, files_part, matrix_part, page_head, summary_part, theorem, told, ◌++◌}
 use Rattle.arch_compile.specs.Summary.{summary_of}
 use Rattle.source_views.proofs.Adding.{and_last, and_then}
-use Rattle.source_views.specs.Pages.{devices_part, domain_parts, files_part, matrix_part, page_head, summary_part, theorem, told}
 use Rattle.source_views.proofs.page.add_parts.Goals as goal
 
 pub returns : goal.returns

@@ -1,5 +1,4 @@
-use Rattle.std.proofs.Common.{◌≡◌, map, take}
-use Rattle.source_views.specs.Pages.{file_row}
+use Rattle.source_views.proofs.Common.{file_row, map, take, ◌≡◌}
 use Rattle.source_views.proofs.page.file_rows.Given as goal
 
 abbrev pub invariant-loop-file : goal.invariant-loop-file

@@ -1,5 +1,4 @@
-use Rattle.std.proofs.Common.{◌∙◌, ◌++◌, ap}
-use Rattle.source_views.specs.Pages.{page_text, told}
+use Rattle.source_views.proofs.Common.{ap, page_text, told, ◌++◌, ◌∙◌}
 use Rattle.source_views.proofs.page.page_text.Goals as goal
 
 pub returns : goal.returns

@@ -1,6 +1,4 @@
-use Rattle.std.proofs.Common.{◌≡◌, take}
-use Rattle.std.specs.List.{flat_map}
-use Rattle.source_views.specs.Shapes.{device_label}
+use Rattle.source_views.proofs.Common.{device_label, flat_map, take, ◌≡◌}
 use Rattle.source_views.proofs.shapes.device_labels.Given as goal
 
 abbrev pub invariant-loop-leaf : goal.invariant-loop-leaf

@@ -1,7 +1,4 @@
-use Rattle.std.proofs.Common.{◌∷◌, [], refl}
-use Rattle.std.proofs.lemmas.List.{get_or_default}
-use Rattle.cam_base.proofs.Gathered.{gather_turn}
-use Rattle.source_views.specs.Shapes.{kept_as}
+use Rattle.source_views.proofs.Common.{[], gather_turn, get_or_default, kept_as, refl, ◌∷◌}
 use Rattle.view_text.specs.declared.shape.Shape.{Shape}
 use Rattle.source_views.proofs.shapes.overview.Goals as goal
 

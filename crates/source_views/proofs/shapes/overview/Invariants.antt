@@ -1,6 +1,4 @@
-use Rattle.std.proofs.Common.{◌≡◌, ◌∷◌, [], take}
-use Rattle.cam_base.specs.Gather.{gather}
-use Rattle.source_views.specs.Shapes.{kept_as}
+use Rattle.source_views.proofs.Common.{[], gather, kept_as, take, ◌∷◌, ◌≡◌}
 use Rattle.source_views.proofs.shapes.overview.Given as goal
 
 abbrev pub invariant-loop-label : goal.invariant-loop-label

@@ -1,9 +1,5 @@
-use Rattle.std.proofs.Common.{◌∙◌, ◌∷◌, [], ◌++◌, sym, ap, refl, arith}
-use Rattle.std.proofs.lemmas.Option.{get_or_from_slice_get, slice_get-get_or}
-use Rattle.authorities.specs.declared.authority.Authority.TheVariants.{Receive}
+use Rattle.source_views.proofs.Common.{Receive, [], ap, arith, gather_turn, get_or_from_slice_get, partner, refl, slice_get-get_or, sym, ◌++◌, ◌∙◌, ◌∷◌}
 use Rattle.cap_model.specs.declared.edge.Edge.{Edge}
-use Rattle.cam_base.proofs.Gathered.{gather_turn}
-use Rattle.source_views.specs.Shapes.{partner}
 use Rattle.source_views.proofs.shapes.partners.Goals as goal
 use Rattle.source_views.proofs.shapes.partners.Goals.{in-Some+in_ok-push_partner, in_default}
 

@@ -1,6 +1,4 @@
-use Rattle.std.proofs.Common.{◌≡◌, take}
-use Rattle.cam_base.specs.Gather.{gather}
-use Rattle.source_views.specs.Shapes.{partner}
+use Rattle.source_views.proofs.Common.{gather, partner, take, ◌≡◌}
 use Rattle.source_views.proofs.shapes.partners.Given as goal
 
 abbrev pub invariant-loop-at : goal.invariant-loop-at

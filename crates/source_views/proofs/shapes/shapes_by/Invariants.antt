@@ -1,5 +1,4 @@
-use Rattle.std.proofs.Common.{◌≡◌, map, take}
-use Rattle.source_views.specs.Shapes.{shape_of}
+use Rattle.source_views.proofs.Common.{map, shape_of, take, ◌≡◌}
 use Rattle.source_views.proofs.shapes.shapes_by.Given as goal
 
 abbrev pub invariant-loop-label : goal.invariant-loop-label

@@ -1,9 +1,4 @@
-use Rattle.std.proofs.Common.{◌≡◌, ◌∙◌, sym, refl, ap, arith, take_all, ◌++◌}
-use Rattle.std.proofs.lemmas.Option.{get_or_from_slice_get, slice_get-get_or}
-use Rattle.authorities.specs.declared.authority.Authority.TheVariants.{Receive}
-use Rattle.cam_base.specs.Gather.{gather}
-use Rattle.cam_base.proofs.Gathered.{gather_turn}
-use Rattle.view_text.specs.Graphs.{arrow_line, note_at}
+use Rattle.view_text.proofs.Common.{Receive, ap, arith, arrow_line, gather, gather_turn, get_or_from_slice_get, note_at, refl, slice_get-get_or, sym, take_all, ◌++◌, ◌∙◌, ◌≡◌}
 use Rattle.view_text.proofs.graph.add_arrows.Goals as goal
 use Rattle.view_text.proofs.graph.add_arrows.Goals.{in-Some+in_ok-add_arrow, in_default}
 

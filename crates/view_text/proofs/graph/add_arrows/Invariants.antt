@@ -1,6 +1,4 @@
-use Rattle.std.proofs.Common.{◌≡◌, ◌++◌, take}
-use Rattle.cam_base.specs.Gather.{gather}
-use Rattle.view_text.specs.Graphs.{arrow_line, note_at}
+use Rattle.view_text.proofs.Common.{arrow_line, gather, note_at, take, ◌++◌, ◌≡◌}
 use Rattle.view_text.proofs.graph.add_arrows.Given as goal
 
 abbrev pub invariant-loop-at : goal.invariant-loop-at

@@ -1,6 +1,4 @@
-use Rattle.std.proofs.Common.{◌≡◌, ◌++◌, take}
-use Rattle.std.specs.List.{flat_map}
-use Rattle.view_text.specs.Graphs.{node_line}
+use Rattle.view_text.proofs.Common.{flat_map, node_line, take, ◌++◌, ◌≡◌}
 use Rattle.view_text.proofs.graph.add_nodes.Given as goal
 
 abbrev pub invariant-loop-label : goal.invariant-loop-label

@@ -1,6 +1,4 @@
-use Rattle.std.proofs.Common.{◌≡◌, take}
-use Rattle.std.specs.List.{flat_map}
-use Rattle.view_text.specs.Graphs.{quoted_byte}
+use Rattle.view_text.proofs.Common.{flat_map, quoted_byte, take, ◌≡◌}
 use Rattle.view_text.proofs.graph.quoted.Given as goal
 
 abbrev pub invariant-loop-byte : goal.invariant-loop-byte

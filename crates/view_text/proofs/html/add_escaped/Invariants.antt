@@ -1,6 +1,4 @@
-use Rattle.std.proofs.Common.{◌≡◌, ◌++◌, take}
-use Rattle.std.specs.List.{flat_map}
-use Rattle.view_text.specs.Html.{escaped_byte}
+use Rattle.view_text.proofs.Common.{escaped_byte, flat_map, take, ◌++◌, ◌≡◌}
 use Rattle.view_text.proofs.html.add_escaped.Given as goal
 
 abbrev pub invariant-loop-byte : goal.invariant-loop-byte

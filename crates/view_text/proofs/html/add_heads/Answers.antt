@@ -1,7 +1,4 @@
-use Rattle.std.proofs.Common.{◌∙◌, ap, sym, ◌++◌, Bor, List, ℕ, codes, take_all}
-use Rattle.std.specs.List.{flat_map}
-use Rattle.std.proofs.lemmas.List.Folds.{flat_map-map}
-use Rattle.view_text.specs.Html.{tagged}
+use Rattle.view_text.proofs.Common.{Bor, List, ap, codes, flat_map, flat_map-map, sym, tagged, take_all, ℕ, ◌++◌, ◌∙◌}
 use Rattle.view_text.proofs.html.add_heads.Goals as goal
 
 pub returns : goal.returns

@@ -1,6 +1,4 @@
-use Rattle.std.proofs.Common.{◌≡◌, ◌++◌, codes, take}
-use Rattle.std.specs.List.{flat_map}
-use Rattle.view_text.specs.Html.{table_row}
+use Rattle.view_text.proofs.Common.{codes, flat_map, table_row, take, ◌++◌, ◌≡◌}
 use Rattle.view_text.proofs.html.add_rows.Given as goal
 
 abbrev pub invariant-loop-row : goal.invariant-loop-row

@@ -1,8 +1,4 @@
-use Rattle.std.proofs.Common.{◌∙◌, sym, refl, arith}
-use Rattle.std.proofs.lemmas.Option.{get_or_from_slice_get, slice_get-get_or}
-use Rattle.authorities.specs.declared.authority.Authority.TheVariants.{Receive}
-use Rattle.cam_base.proofs.Gathered.{gather_turn}
-use Rattle.view_text.specs.Pictures.{arrow_of}
+use Rattle.view_text.proofs.Common.{Receive, arith, arrow_of, gather_turn, get_or_from_slice_get, refl, slice_get-get_or, sym, ◌∙◌}
 use Rattle.view_text.proofs.picture.add_arrows.Goals as goal
 use Rattle.view_text.proofs.picture.add_arrows.Goals.{in-Some+in_ok-add_arrow, in_default}
 

@@ -1,6 +1,4 @@
-use Rattle.std.proofs.Common.{◌≡◌, ◌++◌, take}
-use Rattle.cam_base.specs.Gather.{gather}
-use Rattle.view_text.specs.Pictures.{arrow_of}
+use Rattle.view_text.proofs.Common.{arrow_of, gather, take, ◌++◌, ◌≡◌}
 use Rattle.view_text.proofs.picture.add_arrows.Given as goal
 
 abbrev pub invariant-loop-at : goal.invariant-loop-at

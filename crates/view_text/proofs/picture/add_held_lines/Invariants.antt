@@ -1,6 +1,4 @@
-use Rattle.std.proofs.Common.{◌≡◌, ◌++◌, take}
-use Rattle.std.specs.List.{flat_map}
-use Rattle.view_text.specs.Pictures.{held_line}
+use Rattle.view_text.proofs.Common.{flat_map, held_line, take, ◌++◌, ◌≡◌}
 use Rattle.view_text.proofs.picture.add_held_lines.Given as goal
 
 abbrev pub invariant-loop-authority : goal.invariant-loop-authority

@@ -1,6 +1,4 @@
-use Rattle.std.proofs.Common.{◌≡◌, ◌++◌, take}
-use Rattle.std.specs.List.{flat_map}
-use Rattle.view_text.specs.Pictures.{node_of, shape_at}
+use Rattle.view_text.proofs.Common.{flat_map, node_of, shape_at, take, ◌++◌, ◌≡◌}
 use Rattle.view_text.proofs.picture.add_nodes.Given as goal
 
 abbrev pub invariant-loop-label : goal.invariant-loop-label

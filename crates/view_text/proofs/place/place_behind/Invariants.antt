@@ -1,5 +1,4 @@
-use Rattle.std.proofs.Common.{◌≡◌, ◌≤◌, ◌+◌, take}
-use Rattle.view_text.specs.Spots.{place_behind}
+use Rattle.view_text.proofs.Common.{place_behind, take, ◌+◌, ◌≡◌, ◌≤◌}
 use Rattle.view_text.proofs.place.place_behind.Given as goal
 
 abbrev pub invariant-loop-byte : goal.invariant-loop-byte

@@ -1,5 +1,4 @@
-use Rattle.std.proofs.Common.{◌∙◌, ap, sym, ◌++◌, Bor, List, ℕ, take_all}
-use Rattle.std.specs.List.{flat_map}
+use Rattle.view_text.proofs.Common.{Bor, List, ap, flat_map, sym, take_all, ℕ, ◌++◌, ◌∙◌}
 use Rattle.cam_base.proofs.Joined.{together_map}
 use Rattle.view_text.proofs.texts.add.Goals as goal
 

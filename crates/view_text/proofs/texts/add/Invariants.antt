@@ -1,5 +1,4 @@
-use Rattle.std.proofs.Common.{◌≡◌, ◌++◌, take}
-use Rattle.std.specs.List.{flat_map}
+use Rattle.view_text.proofs.Common.{flat_map, take, ◌++◌, ◌≡◌}
 use Rattle.view_text.proofs.texts.add.Given as goal
 
 abbrev pub invariant-loop-part : goal.invariant-loop-part

@@ -1,5 +1,4 @@
-use Rattle.std.proofs.Common.{◌≡◌, ◌++◌, map, take}
-use Rattle.view_text.specs.Spots.{drawn}
+use Rattle.view_text.proofs.Common.{drawn, map, take, ◌++◌, ◌≡◌}
 use Rattle.view_text.proofs.view.add_drawn.Given as goal
 
 abbrev pub invariant-loop-byte : goal.invariant-loop-byte

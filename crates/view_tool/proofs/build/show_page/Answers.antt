@@ -1,4 +1,4 @@
-use Rattle.source_views.specs.Pages.{page_text}
+use Rattle.view_tool.proofs.Common.{page_text}
 use Rattle.view_tool.proofs.Noting.{page_drawn, page_shown}
 use Rattle.view_tool.proofs.build.show_page.Goals as goal
 

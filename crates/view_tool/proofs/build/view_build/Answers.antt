@@ -1,7 +1,4 @@
-use Rattle.std.proofs.Common.{Ok, Err, arith}
-use Rattle.front_end.proofs.Refusing.{meaning_sound}
-use Rattle.front_end.proofs.Within.{few_labels}
-use Rattle.view_tool.specs.Answers.{wanted}
+use Rattle.view_tool.proofs.Common.{Err, Ok, arith, few_labels, meaning_sound, wanted}
 use Rattle.view_tool.proofs.Widening.{refused_since, refused_still}
 use Rattle.view_tool.proofs.build.view_build.Goals as goal
 

@@ -1,6 +1,4 @@
-use Rattle.std.proofs.Common.{codes, subst, List, ℕ}
-use Rattle.view_tool.specs.Lines.{refusal}
-use Rattle.view_tool.specs.Words.{Gives}
+use Rattle.view_tool.proofs.Common.{Gives, List, codes, refusal, subst, ℕ}
 use Rattle.view_tool.specs.declared.answer.Answer.TheVariants as answers
 use Rattle.view_tool.proofs.fault.hindered.Goals as goal
 

@@ -1,4 +1,4 @@
-use Rattle.view_tool.specs.Lines.{read_fault}
+use Rattle.view_tool.proofs.Common.{read_fault}
 use Rattle.view_tool.proofs.Giving.{fault_given}
 use Rattle.view_tool.proofs.lines.read_fault.Goals as goal
 

@@ -1,5 +1,4 @@
-use Rattle.std.proofs.Common.{ℕ, List, inl, inr, subst}
-use Rattle.view_tool.specs.Answers.{LintsFile}
+use Rattle.view_tool.proofs.Common.{LintsFile, List, inl, inr, subst, ℕ}
 use Rattle.view_tool.proofs.lint.lint_fault.Goals as goal
 
 pub returns-in-Ok-clause-fits : goal.returns-in-Ok-clause-fits

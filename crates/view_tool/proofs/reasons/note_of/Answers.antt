@@ -1,8 +1,4 @@
-use Rattle.std.proofs.Common.{◌≡◌, ◌∙◌, ℕ, List, ap, subst}
-use Rattle.arch_policy.specs.Tables.{tables_of}
-use Rattle.explain.specs.Explained.{Explains}
-use Rattle.front_end.proofs.Within.{few_labels, sound_within}
-use Rattle.view_tool.specs.Notes.{label_at, told}
+use Rattle.view_tool.proofs.Common.{Explains, List, ap, few_labels, label_at, sound_within, subst, tables_of, told, ℕ, ◌∙◌, ◌≡◌}
 use Rattle.view_tool.proofs.Noting.{note_is}
 use Rattle.view_tool.proofs.reasons.note_of.Goals as goal
 

@@ -1,7 +1,6 @@
-use Rattle.std.proofs.Common.{◌∙◌, sym, arith}
+use Rattle.view_tool.proofs.Common.{arith, sym, told, ◌∙◌}
 use Rattle.std.proofs.lemmas.Option.{get_or_from_slice_get, slice_get-get_or}
 use Rattle.authorities.specs.declared.authority.Authority.TheVariants.{Receive}
-use Rattle.view_tool.specs.Notes.{told}
 use Rattle.view_tool.proofs.Noting.{notes_all, notes_turn}
 use Rattle.view_tool.proofs.reasons.notes_of.Goals as goal
 use Rattle.view_tool.proofs.reasons.notes_of.Goals.{in-Some+in_ok-note+in_ok-push, in_default}

@@ -1,5 +1,4 @@
-use Rattle.std.proofs.Common.{take}
-use Rattle.view_tool.specs.Notes.{AreNotes, told}
+use Rattle.view_tool.proofs.Common.{AreNotes, take, told}
 use Rattle.view_tool.proofs.reasons.notes_of.Given as goal
 
 abbrev pub invariant-loop-at : goal.invariant-loop-at

@@ -1,5 +1,4 @@
-use Rattle.std.proofs.Common.{◌∙◌, sym}
-use Rattle.view_tool.specs.Notes.{told}
+use Rattle.view_tool.proofs.Common.{sym, told, ◌∙◌}
 use Rattle.view_tool.proofs.Noting.{few_notes, no_notes}
 use Rattle.view_tool.proofs.reasons.page_notes.Goals as goal
 

@@ -1,6 +1,4 @@
-use Rattle.std.proofs.Common.{◌≡◌, subst}
-use Rattle.std.specs.Prelude.{IfOk}
-use Rattle.view_text.specs.Graphs.{graph_of}
+use Rattle.view_tool.proofs.Common.{IfOk, graph_of, subst, ◌≡◌}
 use Rattle.view_tool.proofs.Noting.{notes_drawn}
 use Rattle.view_tool.proofs.source.draw_reasons.Goals as goal
 

@@ -1,5 +1,4 @@
-use Rattle.std.proofs.Common.{Ok, Err}
-use Rattle.front_end.proofs.Refusing.{front_sound}
+use Rattle.view_tool.proofs.Common.{Err, Ok, front_sound}
 use Rattle.view_tool.proofs.source.view_front.Goals as goal
 
 pub draw-requires : goal.draw-requires

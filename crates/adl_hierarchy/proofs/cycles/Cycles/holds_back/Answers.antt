@@ -1,7 +1,5 @@
-use Rattle.std.proofs.Common.{◌≡◌, ◌<◌, ◌∙◌, ℕ, true, false, List, length, get_or, subst, ap, Option}
+use Rattle.adl_hierarchy.proofs.Common.{Holds, List, MayTell, Option, TellCycles, ap, false, get_or, has, inner_of, is_held, length, subst, true, ℕ, ◌<◌, ◌∙◌, ◌≡◌}
 use lib.Dec.{eqb}
-use Rattle.adl_meaning.specs.Graph.{has, inner_of, Holds, is_held}
-use Rattle.adl_hierarchy.specs.Cycles.{MayTell, TellCycles}
 use Rattle.adl_hierarchy.proofs.CycleSearch.{told_test}
 use Rattle.adl_hierarchy.proofs.Through.{held_test}
 use Rattle.adl_hierarchy.proofs.cycles.Cycles.holds_back.Goals as goal

@@ -1,4 +1,4 @@
-use Rattle.std.proofs.Common.{sym, ap}
+use Rattle.adl_hierarchy.proofs.Common.{ap, sym}
 use Rattle.adl_hierarchy.proofs.Marks.{marks_more}
 use Rattle.adl_hierarchy.proofs.number_set.NumberSet.insert.Goals as goal
 

@@ -1,5 +1,4 @@
-use Rattle.std.proofs.Common.{◌≡◌, ◌<◌, ℕ, true}
-use Rattle.adl_meaning.specs.Graph.{has}
+use Rattle.adl_hierarchy.proofs.Common.{has, true, ℕ, ◌<◌, ◌≡◌}
 use Rattle.adl_hierarchy.proofs.number_set.NumberSet.is_full.Given as goal
 
 abbrev pub invariant-loop-number : goal.invariant-loop-number

@@ -1,4 +1,4 @@
-use Rattle.std.proofs.Common.{rules}
+use Rattle.adl_hierarchy.proofs.Common.{rules}
 use Rattle.adl_hierarchy.proofs.Marks.{marks_new}
 use Rattle.adl_hierarchy.proofs.number_set.NumberSet.new.Goals as goal
 

@@ -1,5 +1,4 @@
-use Rattle.std.proofs.Common.{◌≡◌, ℕ, false, length}
-use Rattle.adl_meaning.specs.Graph.{has, inner_of}
+use Rattle.adl_hierarchy.proofs.Common.{false, has, inner_of, length, ℕ, ◌≡◌}
 use Rattle.adl_hierarchy.proofs.placing.Placing.new.Given as goal
 
 abbrev pub invariant-loop : goal.invariant-loop

@@ -1,10 +1,4 @@
-use Rattle.std.proofs.Common.{◌≡◌, ◌<◌, ◌∙◌, [], ℕ, true, List, length, get_or, refl, subst, ap, arith}
-use Rattle.std.proofs.Math.ListN.{set}
-use Rattle.std.proofs.lemmas.Result.{on_ok_weaker}
-use Rattle.std.specs.Vec.{with_item}
-use Rattle.adl_meaning.specs.Graph.{has, inner_of}
-use Rattle.adl_hierarchy.specs.Placing.{Settles}
-use Rattle.adl_hierarchy.specs.declared.placing.Placing.{Placing}
+use Rattle.adl_hierarchy.proofs.Common.{List, Placing, Settles, [], ap, arith, get_or, has, inner_of, length, on_ok_weaker, refl, set, subst, true, with_item, ℕ, ◌<◌, ◌∙◌, ◌≡◌}
 use Rattle.adl_hierarchy.proofs.Reach.{inner_at}
 use Rattle.adl_hierarchy.proofs.Waiting.{placed_at, placing_taken, waits_released}
 use Rattle.adl_hierarchy.proofs.placing.Placing.release.Goals as goal

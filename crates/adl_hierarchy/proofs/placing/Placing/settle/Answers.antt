@@ -1,11 +1,4 @@
-use Rattle.std.proofs.Common.{◌≡◌, ◌<◌, ◌≤◌, ◌∙◌, ◌++◌, ◌∷◌, [], ℕ, true, List, length, take, get_or, refl, sym, subst, ap, arith}
-use Rattle.std.proofs.Math.ListN.{set}
-use Rattle.std.specs.Vec.{with_item}
-use Rattle.std.proofs.lemmas.List.{get_or_default}
-use Rattle.std.proofs.lemmas.Result.{on_ok_weaker}
-use Rattle.adl_meaning.specs.Graph.{has, inner_of}
-use Rattle.adl_hierarchy.specs.Sets.{Numbers}
-use Rattle.adl_hierarchy.specs.declared.placing.Placing.{Placing}
+use Rattle.adl_hierarchy.proofs.Common.{List, Numbers, Placing, [], ap, arith, get_or, get_or_default, has, inner_of, length, on_ok_weaker, refl, set, subst, sym, take, true, with_item, ℕ, ◌++◌, ◌<◌, ◌∙◌, ◌∷◌, ◌≡◌, ◌≤◌}
 use Rattle.adl_hierarchy.proofs.Marks.{has_at}
 use Rattle.adl_hierarchy.proofs.Reach.{inner_at}
 use Rattle.adl_hierarchy.proofs.Waiting.{placing_waits, settles_waits, placing_placed, settles_placed}

@@ -1,5 +1,4 @@
-use Rattle.std.proofs.Common.{◌≡◌, ◌<◌, ℕ, length, subst, arith}
-use Rattle.adl_hierarchy.specs.Placing.{Settles}
+use Rattle.adl_hierarchy.proofs.Common.{Settles, arith, length, subst, ℕ, ◌<◌, ◌≡◌}
 use Rattle.adl_hierarchy.proofs.Waiting.{settles_none, settles_next}
 use Rattle.adl_hierarchy.proofs.placing.Placing.settle_all.Goals as goal
 

@@ -1,5 +1,4 @@
-use Rattle.std.proofs.Common.{◌<◌}
-use Rattle.adl_hierarchy.specs.Placing.{IsPlacing, Settles}
+use Rattle.adl_hierarchy.proofs.Common.{IsPlacing, Settles, ◌<◌}
 use Rattle.adl_hierarchy.proofs.placing.Placing.settle_all.Given as goal
 
 abbrev pub invariant-loop-component : goal.invariant-loop-component

@@ -1,8 +1,4 @@
-use Rattle.std.proofs.Common.{◌≡◌, ℕ, true, List, subst, arith}
-use Rattle.std.proofs.lemmas.Bool.{false≢true}
-use Rattle.std.proofs.lemmas.List.{take_all}
-use Rattle.adl_meaning.specs.Graph.{has}
-use Rattle.adl_hierarchy.specs.Placing.{Settles}
+use Rattle.adl_hierarchy.proofs.Common.{List, Settles, arith, false≢true, has, subst, take_all, true, ℕ, ◌≡◌}
 use Rattle.adl_hierarchy.proofs.Marks.{has_at}
 use Rattle.adl_hierarchy.proofs.Waiting.{settles_none, settles_more}
 use Rattle.adl_hierarchy.proofs.placing.Placing.settle_each.Goals as goal

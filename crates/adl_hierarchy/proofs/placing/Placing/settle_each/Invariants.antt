@@ -1,6 +1,4 @@
-use Rattle.std.proofs.Common.{◌≡◌, true, take}
-use Rattle.adl_meaning.specs.Graph.{has}
-use Rattle.adl_hierarchy.specs.Placing.{IsPlacing, Settles}
+use Rattle.adl_hierarchy.proofs.Common.{IsPlacing, Settles, has, take, true, ◌≡◌}
 use Rattle.adl_hierarchy.proofs.placing.Placing.settle_each.Given as goal
 
 abbrev pub invariant-loop-component : goal.invariant-loop-component

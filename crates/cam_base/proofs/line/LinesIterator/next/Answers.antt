@@ -1,4 +1,4 @@
-use Rattle.std.proofs.Common.{◌∙◌, ap, sym, length, arith}
+use Rattle.cam_base.proofs.Common.{ap, arith, length, sym, ◌∙◌}
 use Rattle.cam_base.proofs.Telling.{told_silent, told_line}
 use Rattle.cam_base.proofs.line.LinesIterator.next.Goals as goal
 

@@ -1,4 +1,4 @@
-use Rattle.std.proofs.Common.{◌≡◌, length, ◌+◌, ◌-◌}
+use Rattle.cam_base.proofs.Common.{length, ◌+◌, ◌-◌, ◌≡◌}
 use Rattle.cam_base.specs.LinesLeft.{lines_left}
 use Rattle.cam_base.proofs.line.LinesIterator.next.Given as goal
 

@@ -1,4 +1,4 @@
-use Rattle.std.proofs.Common.{◌≡◌, ◌++◌, take}
+use Rattle.cam_base.proofs.Common.{take, ◌++◌, ◌≡◌}
 use Rattle.cam_base.proofs.path.Path.extend.Given as goal
 
 abbrev pub invariant-loop-name : goal.invariant-loop-name

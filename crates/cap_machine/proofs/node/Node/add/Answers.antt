@@ -1,4 +1,4 @@
-use Rattle.std.proofs.Common.{refl}
+use Rattle.cap_machine.proofs.Common.{refl}
 use Rattle.cap_machine.proofs.NodeSlots.{insert_last, below_last}
 use Rattle.cap_machine.proofs.node.Node.add.Goals as goal
 

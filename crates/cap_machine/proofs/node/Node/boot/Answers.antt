@@ -1,5 +1,4 @@
-use Rattle.std.proofs.Common.{◌≡◌, ◌≤◌, ◌*◌, ◌^◌, ◌%◌, arith}
-use Rattle.std.proofs.Math.Pow.{pow_mono}
+use Rattle.cap_machine.proofs.Common.{arith, pow_mono, ◌%◌, ◌*◌, ◌^◌, ◌≡◌, ◌≤◌}
 use Rattle.cap_machine.proofs.NodeSlots.{boot_below}
 use Rattle.cap_machine.proofs.node.Node.boot.Goals as goal
 

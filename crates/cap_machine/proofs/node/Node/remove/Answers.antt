@@ -1,4 +1,4 @@
-use Rattle.std.proofs.Common.{refl}
+use Rattle.cap_machine.proofs.Common.{refl}
 use Rattle.cap_machine.proofs.NodeSlots.{remove-filter, below_filter}
 use Rattle.cap_machine.proofs.node.Node.remove.Goals as goal
 

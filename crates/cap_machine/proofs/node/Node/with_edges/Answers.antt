@@ -1,11 +1,7 @@
-use Rattle.std.proofs.Common.{◌≡◌, ◌≤◌, ◌∙◌, ℕ, length, ap, arith, List}
+use Rattle.cap_machine.proofs.Common.{Content, List, Node, OfContent, ap, arith, length, length_push, ℕ, ◌∙◌, ◌≡◌, ◌≤◌}
 use Rattle.std.specs.Map.Iter.{deref_pair}
-use Rattle.std.proofs.lemmas.List.{length_push}
 use Rattle.std.proofs.lemmas.Map.Iter.{iter_turn, iter_end}
 use Rattle.cap_machine.proofs.Gathering.{first_more, all_first}
-use Rattle.cap_model.specs.State.{Node}
-use Rattle.cap_model.specs.declared.state.Content.{Content}
-use Rattle.cap_machine.specs.StateSources.{OfContent}
 use Rattle.cap_machine.proofs.node.Node.with_edges.Goals as goal
 
 pub loop-content-preserved : goal.loop-content-preserved

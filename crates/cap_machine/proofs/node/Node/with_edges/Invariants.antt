@@ -1,8 +1,5 @@
-use Rattle.std.proofs.Common.{ℕ, length}
-use Rattle.cap_model.specs.Adds.{Adds}
+use Rattle.cap_machine.proofs.Common.{Adds, Content, OfContent, length, ℕ}
 use Rattle.cap_machine.proofs.Gathering.{OfFirst}
-use Rattle.cap_model.specs.declared.state.Content.{Content}
-use Rattle.cap_machine.specs.StateSources.{OfContent}
 use Rattle.cap_machine.proofs.node.Node.with_edges.Given as goal
 
 abbrev pub invariant-loop-content : goal.invariant-loop-content

@@ -1,9 +1,4 @@
-use Rattle.std.proofs.Common.{◌≡◌, Ok, subst, sym, ap}
-use Rattle.cap_model.specs.State.{State}
-use Rattle.cap_machine.specs.Decide.{decide}
-use Rattle.cap_machine.specs.Perform.{parts}
-use Rattle.cap_machine.specs.Progress.{Progress}
-use Rattle.cap_machine.specs.StepTable.{StepTo}
+use Rattle.cap_machine.proofs.Common.{Ok, Progress, State, StepTo, ap, decide, parts, subst, sym, ◌≡◌}
 use Rattle.cap_machine.proofs.Applied.{nexts_fit, turned}
 use Rattle.cap_machine.proofs.Fitting.{step_fits}
 use Rattle.cap_machine.proofs.Table.{decided, answered, no_next}

@@ -1,8 +1,4 @@
-use Rattle.std.proofs.Common.{◌≡◌, ◌∙◌, ◌↔◌, true, List, ap, rules, subst, sym}
-use Rattle.std.specs.List.{filter}
-use Rattle.cap_model.specs.Tables.{has, IsSorted}
-use Rattle.cap_model.specs.declared.edge.Edge.{Edge}
-use Rattle.cap_model.specs.Between.{IsBetween}
+use Rattle.cap_model.proofs.Common.{Edge, IsBetween, IsSorted, List, ap, filter, has, rules, subst, sym, true, ◌↔◌, ◌∙◌, ◌≡◌}
 use Rattle.cap_model.proofs.Ranges.{between_is, between_sorted, forward, lies_between}
 use Rattle.cap_model.proofs.edge_set.EdgeSet.between.Goals as goal
 

@@ -1,5 +1,4 @@
-use Rattle.std.proofs.Common.{◌∙◌, ap}
-use Rattle.cap_model.specs.Tables.{has}
+use Rattle.cap_model.proofs.Common.{ap, has, ◌∙◌}
 use Rattle.cap_model.proofs.Comparing.{contains_same}
 use Rattle.cap_model.proofs.edge_set.EdgeSet.contains.Goals as goal
 

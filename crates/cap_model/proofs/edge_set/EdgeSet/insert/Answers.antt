@@ -1,7 +1,4 @@
-use Rattle.std.proofs.Common.{◌∙◌, ◌||◌, ◌+◌, ap, length, List}
-use Rattle.cap_model.specs.Edges.{same_edge}
-use Rattle.cap_model.specs.Tables.{has}
-use Rattle.cap_model.specs.declared.edge.Edge.{Edge}
+use Rattle.cap_model.proofs.Common.{Edge, List, ap, has, length, same_edge, ◌+◌, ◌||◌, ◌∙◌}
 use Rattle.cap_model.proofs.Comparing.{inserted_length, inserted_same}
 use Rattle.cap_model.proofs.edge_set.EdgeSet.insert.Goals as goal
 

@@ -1,5 +1,4 @@
-use Rattle.std.proofs.Common.{◌≡◌, rules, subst, sym}
-use Rattle.cap_model.specs.Tables.{IsSorted}
+use Rattle.cap_model.proofs.Common.{IsSorted, rules, subst, sym, ◌≡◌}
 use Rattle.cap_model.proofs.edge_set.EdgeSet.listed.Goals as goal
 use Rattle.cap_model.proofs.TableSorting.{sorted_by_place}
 

@@ -1,4 +1,4 @@
-use Rattle.cap_model.specs.Edges.{edge}
+use Rattle.cap_model.proofs.Common.{edge}
 use Rattle.cap_model.proofs.Ranges.{label_with, with_forward, with_label}
 use Rattle.cap_model.proofs.edge_set.EdgeSet.out_with.Goals as goal
 

@@ -1,7 +1,5 @@
-use Rattle.std.proofs.Common.{◌∙◌, List, ap, subst}
+use Rattle.cap_model.proofs.Common.{Edge, IsSorted, List, ap, has, subst, ◌∙◌}
 use Rattle.cap_model.proofs.TableMembers.{one_table}
-use Rattle.cap_model.specs.Tables.{has, IsSorted}
-use Rattle.cap_model.specs.declared.edge.Edge.{Edge}
 use Rattle.cap_model.proofs.edge_set.EdgeSet.table.Goals as goal
 
 pub returns : goal.returns

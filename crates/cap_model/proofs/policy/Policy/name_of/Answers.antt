@@ -1,5 +1,4 @@
-use Rattle.std.proofs.Common.{refl}
-use Rattle.std.proofs.lemmas.Option.{slice_get_read}
+use Rattle.cap_model.proofs.Common.{refl, slice_get_read}
 use Rattle.cap_model.proofs.LabelLookups.{label_name-there, label_name-found_now}
 use Rattle.cap_model.proofs.policy.Policy.name_of.Goals as goal
 

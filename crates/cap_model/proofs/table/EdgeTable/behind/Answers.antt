@@ -1,10 +1,5 @@
-use Rattle.std.proofs.Common.{◌≤◌, ◌≡◌, ◌+◌, ℕ, List, Some, length, slice_get, refl, sym, subst}
-use Rattle.std.proofs.lemmas.Option.{slice_get_read}
-use Rattle.cap_model.specs.Rows.{table_edges, IsRowFrom}
-use Rattle.cap_model.specs.Tables.{IsFirstFrom}
+use Rattle.cap_model.proofs.Common.{Edge, IsFirstFrom, IsRowFrom, List, Row, Some, length, refl, slice_get, slice_get_read, subst, sym, table_edges, ℕ, ◌+◌, ◌≡◌, ◌≤◌}
 use Rattle.cap_model.proofs.TableRows.{place_from, place_past}
-use Rattle.cap_model.specs.declared.edge.Edge.{Edge}
-use Rattle.cap_model.specs.declared.rows.Row.{Row}
 use Rattle.cap_model.proofs.table.EdgeTable.behind.Goals as goal
 
 pub returns-in-Some : goal.returns-in-Some

@@ -1,7 +1,5 @@
-use Rattle.std.proofs.Common.{List, None, subst}
-use Rattle.cap_model.specs.Classes.{IsClassOf}
+use Rattle.cap_model.proofs.Common.{Edge, IsClassOf, List, None, subst}
 use Rattle.cap_model.proofs.TableRows.{row_in, none_in, class_there, class_number, no_class}
-use Rattle.cap_model.specs.declared.edge.Edge.{Edge}
 use Rattle.cap_model.proofs.table.EdgeTable.class_near.Goals as goal
 
 pub returns-in-Some : goal.returns-in-Some

@@ -1,8 +1,5 @@
-use Rattle.std.proofs.Common.{◌∙◌, List, sym, ap}
-use Rattle.cap_model.specs.Rows.{edges_of}
-use Rattle.cap_model.specs.Tables.{has}
+use Rattle.cap_model.proofs.Common.{Edge, List, ap, edges_of, has, sym, ◌∙◌}
 use Rattle.cap_model.proofs.TableRows.{row_in, none_in, class_there, has_of_row, lacks_row}
-use Rattle.cap_model.specs.declared.edge.Edge.{Edge}
 use Rattle.cap_model.proofs.table.EdgeTable.contains.Goals as goal
 
 pub has_edge-requires-clause-class : goal.has_edge-requires-clause-class

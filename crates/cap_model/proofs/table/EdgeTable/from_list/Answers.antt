@@ -1,6 +1,4 @@
-use Rattle.std.proofs.Common.{◌≡◌, List, Result, Ok, Err, IfOk, subst, sym}
-use Rattle.cap_model.specs.Tables.{has, IsSorted}
-use Rattle.cap_model.specs.declared.edge.Edge.{Edge}
+use Rattle.cap_model.proofs.Common.{Edge, Err, IfOk, IsSorted, List, Ok, Result, has, subst, sym, ◌≡◌}
 use Rattle.cap_model.proofs.TableSorting.{sorted_then_dedup, has-sorted_then_dedup}
 use Rattle.cap_model.proofs.table.EdgeTable.from_list.Goals as goal
 

@@ -1,4 +1,4 @@
-use Rattle.authorities.specs.declared.authority.Authority.TheVariants.{Receive}
+use Rattle.cap_model.proofs.Common.{Receive}
 use Rattle.cap_model.proofs.TablePlaces.{firsts_in_order}
 use Rattle.cap_model.proofs.table.EdgeTable.out_of.Goals as goal
 

@@ -1,8 +1,4 @@
-use Rattle.std.proofs.Common.{◌≡◌, ◌∙◌, ◌<◌, ◌*◌, ◌++◌, ◌==◌, ℕ, Bool, false, List, [], ◌∷◌, length, sym, ap, subst, arith}
-use Rattle.std.proofs.lemmas.Bool.Decides.{nat_tests}
-use Rattle.cap_model.specs.Rows.{table_edges, IsTable}
-use Rattle.cap_model.specs.Tables.{IsSorted}
-use Rattle.cap_model.specs.declared.rows.Class.{Class}
+use Rattle.cap_model.proofs.Common.{Bool, Class, IsSorted, IsTable, List, [], ap, arith, false, length, nat_tests, subst, sym, table_edges, ℕ, ◌*◌, ◌++◌, ◌<◌, ◌==◌, ◌∙◌, ◌∷◌, ◌≡◌}
 use Rattle.cap_model.proofs.SharedRows.{edges_shared, table_shared, shared_long, shared_sorted}
 use Rattle.cap_model.proofs.table.EdgeTable.shared.Goals as goal
 

@@ -1,8 +1,5 @@
-use Rattle.std.proofs.Common.{◌≡◌, true, sym, subst, ◌∙◌}
+use Rattle.cert_check.proofs.Common.{Edge, has, has_at, subst, sym, true, ◌∙◌, ◌≡◌}
 use Rattle.cap_model.proofs.EdgeCompare.{eq-same}
-use Rattle.cap_model.proofs.TableMembers.{has_at}
-use Rattle.cap_model.specs.Tables.{has}
-use Rattle.cap_model.specs.declared.edge.Edge.{Edge}
 use Rattle.cert_check.proofs.beside.Beside.has.Goals as goal
 
 pub returns-in-Some : goal.returns-in-Some

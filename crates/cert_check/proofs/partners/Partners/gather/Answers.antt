@@ -1,4 +1,4 @@
-use Rattle.std.proofs.Common.{length, ap, arith, ◌∙◌}
+use Rattle.cert_check.proofs.Common.{ap, arith, length, ◌∙◌}
 use Rattle.arrayvec.proofs.ArrayVecLemmas.{items-with_items}
 use Rattle.cert_check.proofs.Walks.{partners_on, partners_past, partners_more, partners_sorted, rising_of}
 use Rattle.cert_check.proofs.partners.Partners.gather.Goals as goal

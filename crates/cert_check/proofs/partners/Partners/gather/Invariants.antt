@@ -1,5 +1,4 @@
-use Rattle.std.proofs.Common.{◌≤◌, ◌+◌, ◌-◌, length}
-use Rattle.cert_check.specs.Meetings.{HasPartners}
+use Rattle.cert_check.proofs.Common.{HasPartners, length, ◌+◌, ◌-◌, ◌≤◌}
 use Rattle.cert_check.proofs.partners.Partners.gather.Given as goal
 
 abbrev pub invariant-loop-past : goal.invariant-loop-past

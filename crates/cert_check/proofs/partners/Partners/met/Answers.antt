@@ -1,5 +1,4 @@
-use Rattle.std.proofs.Common.{nat_lt, nat_le, rules}
-use Rattle.std.proofs.lemmas.List.Sorted.{IsPartitionPoint-from_clause, IsPartitionedBy-ltb, IsPartitionedBy-leb}
+use Rattle.cert_check.proofs.Common.{IsPartitionPoint-from_clause, IsPartitionedBy-leb, IsPartitionedBy-ltb, nat_le, nat_lt, rules}
 use Rattle.cert_check.proofs.Walks.{reach_of}
 use Rattle.cert_check.proofs.partners.Partners.met.Goals as goal
 

@@ -1,4 +1,4 @@
-use Rattle.std.proofs.Common.{◌∙◌, length, sym}
+use Rattle.least_cert.proofs.Common.{length, sym, ◌∙◌}
 use Rattle.least_cert.proofs.Growth.{known_adds, not_over, put_adds, put_many}
 use Rattle.least_cert.proofs.closing.Closing.add.Goals as goal
 

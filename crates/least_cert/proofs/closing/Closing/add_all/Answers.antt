@@ -1,6 +1,4 @@
-use Rattle.std.proofs.Common.{arith, get_or}
-use Rattle.std.proofs.lemmas.Option.{slice_get-get_or}
-use Rattle.cap_model.proofs.TableMembers.{has_at}
+use Rattle.least_cert.proofs.Common.{arith, get_or, has_at, slice_get-get_or}
 use Rattle.least_cert.proofs.Growth.{adds_all, adds_more, adds_none, least_moves, no_edge}
 use Rattle.least_cert.proofs.closing.Closing.add_all.Goals as goal
 

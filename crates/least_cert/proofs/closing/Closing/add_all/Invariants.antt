@@ -1,4 +1,4 @@
-use Rattle.least_cert.specs.Closing.{AddsSome}
+use Rattle.least_cert.proofs.Common.{AddsSome}
 use Rattle.least_cert.proofs.closing.Closing.add_all.Given as goal
 
 abbrev pub invariant-loop-edge : goal.invariant-loop-edge

@@ -1,7 +1,4 @@
-use Rattle.std.proofs.Common.{◌≡◌, ◌<◌, ◌^◌, true, subst}
-use Rattle.cap_model.specs.Tables.{has}
-use Rattle.cap_model.specs.declared.edge.Edge.{Edge}
-use Rattle.least_cert.specs.Closing.{Closure}
+use Rattle.least_cert.proofs.Common.{Closure, Edge, has, subst, true, ◌<◌, ◌^◌, ◌≡◌}
 use Rattle.least_cert.proofs.Growth.{are_copies}
 use Rattle.least_cert.proofs.closing.Closing.copies.Goals as goal
 

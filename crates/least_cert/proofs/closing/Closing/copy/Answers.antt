@@ -1,7 +1,4 @@
-use Rattle.std.proofs.Common.{◌≡◌, List, subst, true}
-use Rattle.cap_model.specs.Tables.{has}
-use Rattle.cap_model.specs.declared.edge.Edge.{Edge}
-use Rattle.least_cert.specs.Closing.{AddsAll}
+use Rattle.least_cert.proofs.Common.{AddsAll, Edge, List, has, subst, true, ◌≡◌}
 use Rattle.least_cert.proofs.Growth.{copies_made, copy_least}
 use Rattle.least_cert.proofs.closing.Closing.copy.Goals as goal
 

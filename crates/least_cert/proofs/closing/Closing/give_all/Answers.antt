@@ -1,6 +1,4 @@
-use Rattle.std.proofs.Common.{arith, get_or}
-use Rattle.std.proofs.lemmas.Option.{slice_get-get_or}
-use Rattle.cap_model.proofs.TableMembers.{has_at}
+use Rattle.least_cert.proofs.Common.{arith, get_or, has_at, slice_get-get_or}
 use Rattle.least_cert.proofs.Growth.{gift_moves, gives_all, gives_more, gives_none, no_edge}
 use Rattle.least_cert.proofs.closing.Closing.give_all.Goals as goal
 

@@ -1,4 +1,4 @@
-use Rattle.least_cert.specs.Closing.{GivesSome}
+use Rattle.least_cert.proofs.Common.{GivesSome}
 use Rattle.least_cert.proofs.closing.Closing.give_all.Given as goal
 
 abbrev pub invariant-loop-gift : goal.invariant-loop-gift

@@ -1,6 +1,4 @@
-use Rattle.std.proofs.Common.{◌≡◌, ◌∙◌, subst, sym, true}
-use Rattle.cap_model.specs.Tables.{has}
-use Rattle.cap_model.specs.declared.edge.Edge.{Edge}
+use Rattle.least_cert.proofs.Common.{Edge, has, subst, sym, true, ◌∙◌, ◌≡◌}
 use Rattle.least_cert.proofs.Growth.{gives_joined, gives_known, gives_same}
 use Rattle.least_cert.proofs.closing.Closing.give_led.Goals as goal
 

@@ -1,6 +1,4 @@
-use Rattle.std.proofs.Common.{subst}
-use Rattle.cap_model.specs.declared.edge.Edge.{Edge}
-use Rattle.least_cert.specs.Closing.{IsLess, PutsGift}
+use Rattle.least_cert.proofs.Common.{Edge, IsLess, PutsGift, subst}
 use Rattle.least_cert.proofs.Growth.{gift_given}
 use Rattle.least_cert.proofs.closing.Closing.hand.Goals as goal
 

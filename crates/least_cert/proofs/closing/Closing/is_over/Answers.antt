@@ -1,6 +1,4 @@
-use Rattle.std.proofs.Common.{subst}
-use Rattle.cap_model.specs.Tables.{IsSorted}
-use Rattle.least_cert.specs.Closing.{Closure}
+use Rattle.least_cert.proofs.Common.{Closure, IsSorted, subst}
 use Rattle.least_cert.proofs.closing.Closing.is_over.Goals as goal
 
 pub returns-clause-sorted : goal.returns-clause-sorted

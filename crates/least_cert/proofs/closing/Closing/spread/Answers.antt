@@ -1,10 +1,4 @@
-use Rattle.cap_machine.proofs.Gathering.{OfFirst, all_first, first_more_at, none_first}
-use Rattle.std.specs.List.{filter_map}
-use Rattle.std.proofs.Common.{◌≡◌, ◌+◌, true, List, arith, length, refl, subst, sym}
-use Rattle.cap_model.specs.Adds.{Adds}
-use Rattle.cap_model.specs.Tables.{has}
-use Rattle.cap_model.specs.declared.edge.Edge.{Edge}
-use Rattle.least_cert.specs.Closing.{stays}
+use Rattle.least_cert.proofs.Common.{Adds, Edge, List, OfFirst, all_first, arith, filter_map, first_more_at, has, length, none_first, refl, stays, subst, sym, true, ◌+◌, ◌≡◌}
 use Rattle.least_cert.proofs.Spreading.{copy_at, each_knows, is_spread, some_knows, spread_least}
 use Rattle.least_cert.proofs.closing.Closing.spread.Goals as goal
 

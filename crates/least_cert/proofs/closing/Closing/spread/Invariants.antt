@@ -1,8 +1,4 @@
-use Rattle.std.specs.List.{filter_map}
-use Rattle.std.proofs.Common.{length}
-use Rattle.cap_machine.proofs.Gathering.{OfFirst}
-use Rattle.cap_model.specs.Adds.{Adds}
-use Rattle.least_cert.specs.Closing.{stays}
+use Rattle.least_cert.proofs.Common.{Adds, OfFirst, filter_map, length, stays}
 use Rattle.least_cert.proofs.Spreading.{copy_at}
 use Rattle.least_cert.proofs.closing.Closing.spread.Given as goal
 

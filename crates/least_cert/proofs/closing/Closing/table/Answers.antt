@@ -1,4 +1,4 @@
-use Rattle.std.proofs.Common.{◌∙◌, arith, sym}
+use Rattle.least_cert.proofs.Common.{arith, sym, ◌∙◌}
 use Rattle.least_cert.proofs.Spreading.{many}
 use Rattle.least_cert.proofs.closing.Closing.table.Goals as goal
 

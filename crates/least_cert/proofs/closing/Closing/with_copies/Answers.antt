@@ -1,7 +1,4 @@
-use Rattle.std.proofs.Common.{List, subst, sym}
-use Rattle.cap_model.specs.Adds.{Adds}
-use Rattle.cap_model.specs.declared.edge.Edge.{Edge}
-use Rattle.least_cert.specs.Closing.{IsCopy}
+use Rattle.least_cert.proofs.Common.{Adds, Edge, IsCopy, List, subst, sym}
 use Rattle.least_cert.proofs.Spreading.{appended}
 use Rattle.least_cert.proofs.closing.Closing.with_copies.Goals as goal
 
