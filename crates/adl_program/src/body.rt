@@ -1,6 +1,6 @@
 //! Bodies: components and the assembly.
 
-ghost use Rattle.adl_meaning.specs.Prelude.{Id as Word, attribute_of, body_of, bytes_eq, configurations, declared_by, interface_of, is_device, is_group, is_interface, list_any, option_and_then, option_copied, option_map_or, option_or, parts_in, place_by, slice_get, top_of, wires_of};
+ghost use Rattle.adl_meaning.specs.Prelude.{Id as Word, attribute_of, body_of, bytes_eq, configurations, declared_by, flat_map, interface_of, is_device, is_group, is_interface, list_any, option_and_then, option_copied, option_map_or, option_or, parts_in, place_by, slice_get, top_of, wires_of};
 ghost use Rattle.adl_meaning.specs.Members.{Declared as Told};
 ghost use Rattle.name_tables.specs.ByName.{found};
 ghost use Rattle.adl_items.specs.Declaring.{declaring_told};
@@ -8,7 +8,7 @@ ghost use Rattle.adl_items.specs.Firsts.{first_named};
 ghost use Rattle.adl_items.specs.Located.{located};
 ghost use Rattle.adl_program.specs.LeafInterfaces.{leaf_at};
 ghost use Rattle.adl_program.specs.Seen.{AreMembers, IsComposed, part_from};
-ghost use Rattle.std.specs.Prelude.{IfOk, List as Seq, OnOk, Some, false, is_some, option_map, ℕ, ◌++◌, ◌≡◌};
+ghost use Rattle.std.specs.Prelude.{IfOk, List as Seq, OnOk, Some, false, is_some, length, option_map, unwrap_or, ℕ, ◌++◌, ◌≡◌};
 
 use crate::part::{Part, PartAt, Wire, parts_of, wires_of};
 use adl_ast::{Assembly, Attribute, Component, Composition, Configuration, Interface, Member};
@@ -275,23 +275,45 @@ fn declare<'a>(member: &'a Member, table: &mut NameTable<'a, Declared<'a>>) -> R
     }
 }
 
-/// What stands among the members of a component. The first of a name counts.
+/// What members declare, by name. The first of a name counts.
 #[tactic(auto, using(crate::proofs::Tables::filling, std::proofs::lemmas::Grind::common_steps))]
-fn members_of<'a>(alloc: Global, component: &'a Component) -> Result<Members<'a>, NoMemory>
-    ensures { IfOk result (λ t. AreMembers (Some component.entry.now) t) }
+fn declared_in<'a>(
+    alloc: Global,
+    members: &'a [Member],
+) -> Result<NameTable<'a, Declared<'a>>, NoMemory>
+    ensures { IfOk result (λ t. (n : Seq ℕ) → declaring_told t n ≡ first_named (flat_map declared_by members.entry.now) n) }
 {
-    let mut declared = NameTable::new(alloc);
-    let mut places = NameTable::new(alloc);
-    for (place, member) in component.members.as_slice().iter().enumerate() {
+    let mut declared = NameTable::with_room(alloc, members.len())?;
+    for member in members {
         declare(member, &mut declared)?;
+    }
+    Ok(declared)
+}
+
+/// Where interfaces stand among members, by name. The first of a name counts.
+#[tactic(auto, using(crate::proofs::Tables::filling, std::proofs::lemmas::Grind::common_steps))]
+fn places_in<'a>(alloc: Global, members: &'a [Member]) -> Result<NameTable<'a, usize>, NoMemory>
+    ensures { IfOk result (λ t. (n : Seq ℕ) → unwrap_or (found t n) (length members.entry.now)
+        ≡ place_by (is_interface n) members.entry.now) }
+{
+    let mut places = NameTable::with_room(alloc, members.len())?;
+    for (place, member) in members.iter().enumerate() {
         if let Member::Interface(interface) = member {
             places.add(&interface.id.name, place)?;
         }
     }
+    Ok(places)
+}
+
+/// What stands among the members of a component.
+fn members_of<'a>(alloc: Global, component: &'a Component) -> Result<Members<'a>, NoMemory>
+    ensures { IfOk result (λ t. AreMembers (Some component.entry.now) t) }
+{
+    let members = component.members.as_slice();
     Ok(Members {
-        declared,
-        places,
-        count: component.members.len(),
+        declared: declared_in(alloc, members)?,
+        places: places_in(alloc, members)?,
+        count: members.len(),
         hardware: is_device(component),
     })
 }
