@@ -86,7 +86,7 @@ fn is_unled<'a>(tables: &SourceTables<'a>, port: Option<Port<'a>>) -> bool
         return false;
     };
     let name = port.interface;
-    table.interface(name).is_some() && (table.holding().is_some() && !table.exports(name))
+    table.holding().is_some() && (!table.exports(name) && table.interface(name).is_some())
 }
 
 /// Takes the port, where its component declares the interface, and answers whether it was taken.

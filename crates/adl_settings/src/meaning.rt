@@ -106,7 +106,8 @@ impl<'a> Found<'a> {
     pub fn paddr(&self) -> Option<u64>
         ensures { result ≡ paddr_of self.now }
     {
-        paddr_in(self.counted_bytes(), self.paddr.as_ref()?.value)
+        let value = self.paddr.as_ref()?.value;
+        paddr_in(self.counted_bytes(), value)
     }
 
     /// The number of the interrupt that is meant.

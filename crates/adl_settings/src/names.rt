@@ -1,11 +1,11 @@
 //! The names that have a value anywhere.
 
-ghost use Rattle.adl_meaning.specs.Prelude.{Name as Bytes, bytes_eq, list_any};
-ghost use Rattle.adl_settings.specs.Named.{AreNames, gives, is_attribute, is_named, is_valued, members_of, sets_name};
+ghost use Rattle.adl_meaning.specs.Prelude.{Name as Bytes, bytes_eq};
+ghost use Rattle.adl_settings.specs.Named.{AreNames, gives, is_named, is_valued, members_of};
 ghost use Rattle.std.specs.Prelude.{IfOk, OnOk, option_map, ◌||◌, ◌≡◌};
 
 use crate::tables::settings_of;
-use adl_ast::{Member, Setting};
+use adl_ast::Member;
 use adl_items::last_name;
 use adl_program::{Bodies, Body};
 use cam_base::NoMemory;
@@ -19,39 +19,6 @@ fn add<'a>(name: &'a [u8], names: &mut IndexSet<&'a [u8]>) -> Result<(), NoMemor
     Ok(())
 }
 
-/// Adds the last words of settings.
-fn add_settings<'a>(settings: &'a [Setting], names: &mut IndexSet<&'a [u8]>) -> Result<(), NoMemory>
-    ensures { OnOk result ((n : Bytes) → is_named names.new.keys n
-        ≡ (is_named names.old.keys n || list_any (sets_name n) settings.entry.now)) }
-{
-    for setting in settings {
-        add(last_name(setting.words.as_slice()), names)?;
-    }
-    Ok(())
-}
-
-/// Adds the name of a member that is an attribute.
-fn add_member<'a>(member: &'a Member, names: &mut IndexSet<&'a [u8]>) -> Result<(), NoMemory>
-    ensures { OnOk result ((n : Bytes) → is_named names.new.keys n
-        ≡ (is_named names.old.keys n || is_attribute n member.entry.now)) }
-{
-    match member {
-        Member::Attribute(attribute) => add(attribute.id.name.as_bytes(), names),
-        _ => Ok(()),
-    }
-}
-
-/// Adds the names of attributes.
-fn add_members<'a>(members: &'a [Member], names: &mut IndexSet<&'a [u8]>) -> Result<(), NoMemory>
-    ensures { OnOk result ((n : Bytes) → is_named names.new.keys n
-        ≡ (is_named names.old.keys n || list_any (is_attribute n) members.entry.now)) }
-{
-    for member in members {
-        add_member(member, names)?;
-    }
-    Ok(())
-}
-
 fn members_of<'a>(body: &Body<'a>) -> &'a [Member]
     ensures { result.now ≡ members_of body.now }
 {
@@ -59,11 +26,19 @@ fn members_of<'a>(body: &Body<'a>) -> &'a [Member]
     component.map_or(&[], |component| component.members.as_slice())
 }
 
+/// Adds the last words of a body's settings, and the names of its attributes.
 fn add_body<'a>(body: &Body<'a>, names: &mut IndexSet<&'a [u8]>) -> Result<(), NoMemory>
     ensures { OnOk result ((n : Bytes) → is_named names.new.keys n ≡ (is_named names.old.keys n || gives n body.now)) }
 {
-    add_settings(settings_of(body), names)?;
-    add_members(members_of(body), names)
+    for setting in settings_of(body) {
+        add(last_name(setting.words.as_slice()), names)?;
+    }
+    for member in members_of(body) {
+        if let Member::Attribute(attribute) = member {
+            add(attribute.id.name.as_bytes(), names)?;
+        }
+    }
+    Ok(())
 }
 
 /// The names of the settings of all bodies, and of all attributes.

@@ -68,7 +68,7 @@ impl<'t, 'a> Lookup<'t, 'a> {
     {
         match &self.names {
             None => true,
-            Some(names) => names.contains(name),
+            Some(names) => !names.is_empty() && names.contains(name),
         }
     }
 
