@@ -1,6 +1,7 @@
 pub mod Common
 pub mod Bounding
 pub mod Counted
+pub mod PutInRows
 pub mod Crossing
 pub mod Given
 pub mod Labelled

@@ -1,4 +1,5 @@
 pub mod Bound
+pub mod Dealt
 pub mod Ends
 pub mod Gives
 pub mod Labels

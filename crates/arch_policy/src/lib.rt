@@ -8,6 +8,7 @@
 
 mod bound;
 mod cert;
+mod dealing;
 mod edges;
 mod labels;
 mod laws;

@@ -1,4 +1,4 @@
-use Rattle.arch_policy.proofs.Common.{label_texts, length, subst, sym, ◌<◌, ◌^◌, ◌∙◌, ◌≡◌}
+use Rattle.arch_policy.proofs.Common.{label_texts, length, subst, sym, ◌<◌, ◌^◌, ◌≡◌}
 use Rattle.arch_policy.proofs.Labelled.{few_texts}
 use Rattle.arch_policy.proofs.policy.policy_of.Goals as goal
 
