@@ -45,15 +45,16 @@ fn mapping(frames: u32, page: Page) -> Mapping
 }
 
 /// The pages as mappings.
-fn mappings(alloc: Global, frames: u32, pages: &[Page]) -> Result<List<Mapping>, NoMemory>
+fn mappings(alloc: Global, frames: u32, pages: &[Page]) -> Result<Vec<Mapping>, NoMemory>
     requires { AreShown frames pages.now }
-    ensures { IfOk result (λ mappings. mappings ≡ map (page_mapping frames) pages.now) }
+    ensures { IfOk result (λ mappings. mappings.items ≡ map (page_mapping frames) pages.now) }
 {
-    let mut mappings = List::from_vec(Vec::with_capacity(alloc, pages.len())?);
-    for page in pages {
-        mappings.push(mapping(frames, *page))?;
-    }
-    Ok(mappings)
+    Ok(
+        pages
+            .iter()
+            .map(|page| mapping(frames, *page))
+            .collect(alloc)?,
+    )
 }
 
 /// The page tables of a domain, where the first of them and frame 0 stand at these places.
@@ -69,18 +70,14 @@ pub fn tables_at(
     ensures { IfOk result (λ objects. objects ≡ tables_at (told tables.now) first frames domain) }
 {
     let mappings = mappings(alloc, frames, pages_at(tables, domain))?;
-    tables_of(alloc, tables.images.arch(), first, mappings.as_slice())
+    tables_of(alloc, tables.images.arch(), first, &mappings)
 }
 
 /// The addresses of pages.
-fn addresses(alloc: Global, pages: &[Page]) -> Result<List<u64>, NoMemory>
-    ensures { IfOk result (λ addresses. addresses ≡ map (λ p. p.vaddr) pages.now) }
+fn addresses(alloc: Global, pages: &[Page]) -> Result<Vec<u64>, NoMemory>
+    ensures { IfOk result (λ addresses. addresses.items ≡ map (λ p. p.vaddr) pages.now) }
 {
-    let mut addresses = List::from_vec(Vec::with_capacity(alloc, pages.len())?);
-    for page in pages {
-        addresses.push(page.vaddr)?;
-    }
-    Ok(addresses)
+    Ok(pages.iter().map(|page| page.vaddr).collect(alloc)?)
 }
 
 /// The levels of the page tables of a domain.
@@ -88,7 +85,7 @@ fn levels_at(alloc: Global, tables: &Tables<'_>, domain: u32) -> Result<List<Lev
     ensures { IfOk result (λ levels. levels ≡ map level_of (tables_at (told tables.now) 0 0 domain)) }
 {
     let addresses = addresses(alloc, pages_at(tables, domain))?;
-    levels_of(alloc, tables.images.arch(), addresses.as_slice())
+    levels_of(alloc, tables.images.arch(), &addresses)
 }
 
 /// Puts the page tables of a domain, which have these levels, behind the others.

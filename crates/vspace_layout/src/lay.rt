@@ -48,11 +48,11 @@ fn mapped_of(
     let base = sections_end(images.arch());
     let sections = section_pages(alloc, images, leaves)?;
     let count = region_pages(regions).saturating_add(sections.len() as u64);
-    let mut pages = List::from_vec(Vec::with_capacity(alloc, count as usize)?);
+    let mut pages = Vec::with_capacity(alloc, count as usize)?;
     push_sections(alloc, sections, &mut pages)?;
     let starts = starts_of(alloc, base, regions)?;
     push_regions(wiring, starts.as_slice(), regions, &mut pages)?;
-    Ok(pages)
+    Ok(List::from_vec(pages))
 }
 
 /// The pages of each domain, whose outlines these are.

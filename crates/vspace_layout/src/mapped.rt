@@ -46,9 +46,9 @@ fn section_page(alloc: Global, page: SectionPage) -> Result<MappedPage, NoMemory
 pub fn push_sections(
     alloc: Global,
     sections: List<SectionPage>,
-    pages: &mut List<MappedPage>,
+    pages: &mut Vec<MappedPage>,
 ) -> Result<(), NoMemory>
-    ensures { OnOk result (pages.new ≡ pages.old ++ map section_page sections) }
+    ensures { OnOk result (pages.new.items ≡ pages.old.items ++ map section_page sections) }
 {
     for page in sections.into_vec() {
         pages.push(section_page(alloc, page)?)?;
@@ -112,14 +112,17 @@ fn push_region(
     wiring: &Wiring<'_>,
     start: u64,
     region: Region,
-    pages: &mut List<MappedPage>,
+    pages: &mut Vec<MappedPage>,
 ) -> Result<(), NoMemory>
     requires { start + 4096 * region.pages < 2 ^ 64 }
-    ensures { OnOk result (pages.new ≡ pages.old ++ pages_from wiring.now.settled start region) }
+    ensures { OnOk result (pages.new.items ≡ pages.old.items ++ pages_from wiring.now.settled start region) }
 {
-    for page in 0..region.pages {
-        pages.push(region_page(wiring, region.content, start + 4096 * page, page))?;
-    }
+    let Region {
+        content,
+        pages: count,
+    } = region;
+    let all = (0..count).map(|page| region_page(wiring, content, start + 4096 * page, page));
+    pages.extend(all)?;
     Ok(())
 }
 
@@ -128,11 +131,11 @@ pub fn push_regions(
     wiring: &Wiring<'_>,
     starts: &[u64],
     regions: &[Region],
-    pages: &mut List<MappedPage>,
+    pages: &mut Vec<MappedPage>,
 ) -> Result<(), NoMemory>
     requires each { length starts.now ≡ length regions.now }
     requires fit { RegionsFit starts.now regions.now }
-    ensures { OnOk result (pages.new ≡ pages.old ++ gather (starting wiring.now.settled starts.now) regions.now) }
+    ensures { OnOk result (pages.new.items ≡ pages.old.items ++ gather (starting wiring.now.settled starts.now) regions.now) }
 {
     for (number, region) in regions.iter().enumerate() {
         push_region(wiring, starts[number], *region, pages)?;

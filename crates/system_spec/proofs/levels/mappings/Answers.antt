@@ -1,5 +1,11 @@
-use Rattle.system_spec.proofs.Common.{read_in}
+use Rattle.std.proofs.lemmas.Iterator.{YieldsList-from_slice}
+use Rattle.std.proofs.lemmas.Iterator.Adapters.{serves_from_places}
+use Rattle.system_spec.proofs.Common.{read_in, rules}
 use Rattle.system_spec.proofs.levels.mappings.Goals as goal
 
-pub mapping-requires : goal.mapping-requires
-mapping-requires c = c.requires _ (read_in c.args.pages.now c.loop-page.page-index _ c.loop-page-test.true)
+pub collect-requires-clause-can : goal.collect-requires-clause-can
+collect-requires-clause-can c = (
+  tt,
+  serves_from_places (YieldsList-from_slice c.args.pages.now cc) (λ x q r. search rules)
+      (λ x k below at. let here = c.requires _ (read_in c.args.pages.now k x.now below) in search rules),
+)

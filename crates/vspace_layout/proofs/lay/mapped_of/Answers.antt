@@ -20,12 +20,12 @@ returns c =
     let settled = c.args.wiring.now.settled in
     let end = sections_end (arch_of c.args.images.now.images) in
     let base = c.sections_end-base.ensures ∙ ap sections_end c.arch.ensures in
-    let none : c.from_vec-pages.result ≡ [] = search rules in
-    let front : c.push_sections.new.pages ≡ section_part c.args.images.now c.args.leaves.now =
+    let none : c.in_ok-pages.pages.items ≡ [] = search rules in
+    let front : c.push_sections.new.pages.items ≡ section_part c.args.images.now c.args.leaves.now =
     c.in_ok-push_sections.ensures ∙ ap (λ z. z ++ map section_page c.in_ok-sections.sections) none
     ∙ ap (map section_page) c.in_ok-sections.ensures in
-    c.in_ok-push_regions.ensures
-    ∙ ap (λ z. c.push_sections.new.pages ++ gather (starting settled z) rs) (c.as_slice.ensures ∙ c.in_ok-starts.ensures
+    c.from_vec.ensures ∙ c.in_ok-push_regions.ensures
+    ∙ ap (λ z. c.push_sections.new.pages.items ++ gather (starting settled z) rs) (c.as_slice.ensures ∙ c.in_ok-starts.ensures
     ∙ ap (λ b. starts_in b rs) base)
-    ∙ ap (λ z. c.push_sections.new.pages ++ z) (starting_same settled end rs)
+    ∙ ap (λ z. c.push_sections.new.pages.items ++ z) (starting_same settled end rs)
     ∙ ap (λ z. z ++ region_part settled end rs) front

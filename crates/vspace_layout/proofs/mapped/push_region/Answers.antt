@@ -1,12 +1,13 @@
-use Rattle.vspace_layout.proofs.Common.{[], ap, append_assoc, arith, map, map-range_with_len_more, page_of, range_with_len, sym, ◌++◌, ◌+◌, ◌∙◌, ◌∷◌, ◌≡◌}
+use Rattle.std.proofs.Common.{Ok, arith, rules, ℕ}
+use Rattle.std.proofs.lemmas.Iterator.{YieldsList-from_map, YieldsList-from_range}
+use Rattle.std.proofs.lemmas.Iterator.Adapters.{items_from_extend}
+use Rattle.vspace_layout.proofs.Common.{page_of}
 use Rattle.vspace_layout.proofs.mapped.push_region.Goals as goal
 
-pub loop-page-preserved : goal.loop-page-preserved
-loop-page-preserved c =
-    let f = page_of c.args.wiring.now.settled c.args.start c.args.region in
-    let k = c.loop-page.page in
-    let at : 0 + k ≡ k = omega arith in
-    c.in_ok-push.ensures.ok ∙ ap (λ z. z ++ c.region_page.result ∷ []) c.loop-page.invariant ∙ append_assoc c.args.pages.now
-    (map f (range_with_len 0 k)) (c.region_page.result ∷ [])
-    ∙ ap (λ z. c.args.pages.now ++ z) (ap (λ z. map f (range_with_len 0 k) ++ z ∷ []) c.region_page.ensures
-    ∙ sym (map-range_with_len_more f 0 k k at))
+pub returns : goal.returns
+returns c =
+    let n = c.args.region.pages in
+    let all = items_from_extend {E = ℕ} (Ok c.in_ok-extend.field-0) c.in_ok-extend.ensures.ran
+    (YieldsList-from_map _ (page_of c.args.wiring.now.settled c.args.start c.args.region)
+    (YieldsList-from_range 0 n n c.map-all.ensures.source (omega arith)) c.map-all.ensures.closure (λ x r q k. search rules)) in
+    all.0
