@@ -117,8 +117,8 @@ of_asked m (Some (Plan cdl untypeds)) old new a status x none e =
 of_asked m (Some (Sections elf)) old new a status x none e =
     of_texts (IsTabled m old new elf) a status (λ file h. none file (table_rose m old new elf file h)) x e
 
-pub exact_status : (m : Contents) (asked : Option Command) (old new : List ℕ → ℕ) (answer : Answer) (status : ℕ) (sink left : Sink)
-    (before now : ℕ)
+pub exact_status : (m : Contents) (asked : Option Command) (old new : List ℕ → ℕ) (answer : Answer) (status : ℕ)
+    (sink left : Sink) (before now : ℕ)
     → Fits asked m old new answer → Tells answer status sink left before now → NoneRose old new → ¬ Rose before now
     → IsStatus m old new asked status
 exact_status m asked old new answer status sink left before now fits tells none kept = elim tells.told [

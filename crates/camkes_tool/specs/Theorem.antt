@@ -190,7 +190,8 @@ Replays m before now cdl policy spec names steps AreSuch =
 -- labels that runs of the system reach. Where its steps are no more than `replay` takes, `replay` makes all of them, and shows
 -- each edge behind some front of them. Where the two files are written of a build, the lines of its edges are what `list` prints
 -- of the source.
-pub record IsReportOf (m : Contents) (cdl policy : List ℕ) (report : AuditReport) (spec : Spec) (names : LabelNames) : Type 0 where
+pub record IsReportOf (m : Contents) (cdl policy : List ℕ) (report : AuditReport) (spec : Spec) (names : LabelNames)
+    : Type 0 where
   pub allowed : Policy
   pub labels : Labels
   pub held : HoldSystem m cdl policy spec allowed labels
@@ -200,7 +201,8 @@ pub record IsReportOf (m : Contents) (cdl policy : List ℕ) (report : AuditRepo
       → IsListText root sources (apart_lines names report.edges)
   pub replayed : length report.steps ≤ steps_limit → (before now : List ℕ → ℕ)
       → Replays m before now cdl policy spec names report.steps (λ edges. Unit {0})
-  pub shown : length report.steps ≤ steps_limit → (before now : List ℕ → ℕ) (l : ℕ) (a : Authority) (x : ℕ) → Has report.edges l a x
+  pub shown : length report.steps ≤ steps_limit → (before now : List ℕ → ℕ) (l : ℕ) (a : Authority) (x : ℕ)
+      → Has report.edges l a x
       → (front back : List Step) × (report.steps ≡ front ++ back)
       × Replays m before now cdl policy spec names front (λ edges. Has edges l a x)
 

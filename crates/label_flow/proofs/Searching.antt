@@ -223,7 +223,8 @@ in_row edges count exits k e l m are is (from_holder goes same also) =
 in_row edges count exits k e l m are is (to_holder goes same also) =
     subst (λ (n : ℕ). Contains (exits_of exits n) k) (sym same) (are.all k e (slice_get_within edges k e is) is).1
 
-pub looks_last : (edges : List Edge) (from count : ℕ) (s : Search) (at i : ℕ) (h : Found) (exits : List (List ℕ)) (leaving : List ℕ)
+pub looks_last : (edges : List Edge) (from count : ℕ) (s : Search) (at i : ℕ) (h : Found) (exits : List (List ℕ))
+    (leaving : List ℕ)
     → AreExits edges count (length edges) exits → leaving ≡ exits_of exits h.label → length leaving ≤ i
     → Looks edges from count s at h leaving i → Searches edges from count s (at + 1)
 looks_last edges from count s at i h exits leaving are whole all looks = record {

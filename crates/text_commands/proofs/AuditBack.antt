@@ -28,7 +28,8 @@ record IsAuditOf (m : Contents) (old new : List ℕ → ℕ) (cdl policy : List 
   pub named : names ≡ allowed.labels
   pub has : HasReport spec labels.by_object report
 
-audit_of : (m : Contents) (old new : List ℕ → ℕ) (cdl policy : List ℕ) (report : AuditReport) (spec : Spec) (names : lines.LabelNames)
+audit_of : (m : Contents) (old new : List ℕ → ℕ) (cdl policy : List ℕ) (report : AuditReport) (spec : Spec)
+    (names : lines.LabelNames)
     → IsAudited m old new cdl policy (Ok (Audited report spec names))
     → IsAuditOf m old new cdl policy report spec names
 audit_of m old new cdl policy report spec names
