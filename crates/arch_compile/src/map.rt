@@ -21,5 +21,5 @@ pub fn write_map<O: Outputs>(build: &Build, out: &mut O, channel: u8) -> Result<
     };
     let mut to = Writer::new(out, channel);
     write_lines(&names, build.map.as_slice(), &mut to);
-    to.close()
+    to.flush()
 }

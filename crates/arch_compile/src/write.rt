@@ -22,7 +22,7 @@ pub fn write_texts<O: Outputs>(names: &TextNames, build: &Build, out: &mut O) ->
     let summary = Summary::of(&build.meaning.flat, &build.spec, &build.policy.edges);
     let mut to = Writer::new(out, 0);
     write_summary(summary, &mut to);
-    to.close()
+    to.flush()
 }
 
 fn write_capdl<O: Outputs>(name: &str, spec: &Spec, out: &mut O) -> Result<(), Failed>

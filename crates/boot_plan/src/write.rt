@@ -81,7 +81,7 @@ pub fn write_plan<O: Outputs>(
         b" bytes\n",
     ]);
     write_places(spec, places, &mut to);
-    to.close()
+    to.flush()
 }
 
 fn write_places<O: Outputs>(spec: &Spec, places: &[Option<u64>], to: &mut Writer<O>)

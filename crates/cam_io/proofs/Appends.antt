@@ -1,6 +1,6 @@
 -- Bytes at the end of a channel, one piece after another.
-use Rattle.std.proofs.Common.{◌≡◌, ◌≤◌, refl, sym, ap, ◌∙◌, subst, ◌+◌, ◌-◌, length, length-drop, arith, take, drop, IsTrue, ℕ, Bool, true, false, cond, ◌==◌, List, [], ◌++◌, Option, None, Some, append_assoc, append-nil}
-use Rattle.std.proofs.lemmas.List.{take_all, drop_all, drop-drop, drop-append-le, take-append-drop}
+use Rattle.std.proofs.Common.{◌≡◌, refl, sym, ap, ◌∙◌, subst, ◌+◌, ◌-◌, length, length-drop, arith, take, drop, IsTrue, ℕ, Bool, true, false, cond, ◌==◌, List, [], ◌++◌, Option, None, Some, append_assoc, append-nil}
+use Rattle.std.proofs.lemmas.List.{take_all}
 use Rattle.std.proofs.Math.Seq.{take-add}
 use Rattle.cam_io.specs.Sinks.{Sink, more, appended, is_open}
 
@@ -54,25 +54,3 @@ appended_slice old mid new c i n bytes e f =
 pub open_appended : (old new : Sink) (c k : ℕ) (bytes : List ℕ) → new ≡ appended old c bytes → IsTrue (is_open old k)
     → IsTrue (is_open new k)
 open_appended old new c k bytes e h = subst (λ s. IsTrue (is_open s k)) (sym e) (rw (begun_appended old c bytes) h)
-
--- what is sent of the bytes that wait is still told once
-pub appended_sent : (s t : Sink) (c i n : ℕ) (bytes : List ℕ) → t ≡ appended s c (take n (take (length bytes - i) (drop i bytes)))
-    → appended t c (drop (i + n) bytes) ≡ appended s c (drop i bytes)
-appended_sent s t c i n bytes e =
-    let whole : take (length bytes - i) (drop i bytes) ≡ drop i bytes = take_all (length bytes - i) (drop i bytes)
-    (omega (arith, length-drop i bytes)) in
-    ap (λ u. appended u c (drop (i + n) bytes)) (e ∙ ap (λ p. appended s c (take n p)) whole)
-    ∙ (appended_twice s c (take n (drop i bytes)) (drop (i + n) bytes)
-    ∙ ap (appended s c) (ap (λ ys. take n (drop i bytes) ++ ys) (sym (drop-drop n i bytes)) ∙ take-append-drop n (drop i bytes)))
-
--- where nothing waits, the outputs hold all
-pub appended_none : (s : Sink) (c i : ℕ) (bytes : List ℕ) → i ≡ length bytes → appended s c (drop i bytes) ≡ s
-appended_none s c i bytes e = ap (appended s c) (drop_all i bytes (omega (arith, e))) ∙ appended_nil s c
-
--- the bytes of a piece behind those that wait
-pub appended_behind : (s : Sink) (c i : ℕ) (bytes piece : List ℕ) → i ≤ length bytes
-    → appended s c (drop i (bytes ++ piece)) ≡ appended (appended s c (drop i bytes)) c (take (length piece) piece)
-appended_behind s c i bytes piece h =
-    ap (appended s c) (drop-append-le i bytes piece h)
-    ∙ sym (ap (appended (appended s c (drop i bytes)) c) (take_all (length piece) piece (omega arith))
-    ∙ appended_twice s c (drop i bytes) piece)

@@ -1,10 +1,8 @@
 pub mod Appends
-pub mod Buffering
 pub mod Channels
 pub mod Counts
 pub mod Fronts
 pub mod Learning
-pub mod Lines
 pub mod Lookups
 pub mod Puts
 pub mod Saying

@@ -2,10 +2,10 @@
 use Rattle.std.proofs.Common.{◌≡◌, ◌∙◌, subst, ℕ, ◌-◌, ◌≤◌, List, [], ◌∷◌, take, drop, Result, Ok, Err, IsErr, arith, length, length-drop}
 use Rattle.std.proofs.lemmas.List.{take_all, take-append-drop}
 use Rattle.cam_io.specs.Causes.{Rose}
-use Rattle.cam_io.specs.Sinks.{Sink, IsOpen, Writes, appended}
+use Rattle.cam_io.specs.Sinks.{Sink, Writes, appended}
 use Rattle.cam_base.specs.Texts.{◌⊹◌}
 use Rattle.cam_io.proofs.Counts.{rose_after}
-use Rattle.cam_io.proofs.Writing.{wrote_nothing, ok_then, cut_first, cut_then, open_after}
+use Rattle.cam_io.proofs.Writing.{wrote_nothing, ok_then, cut_first, cut_then}
 
 module _ {E : Type 0} {c : ℕ} where
   -- nothing written
@@ -66,7 +66,3 @@ module _ {E : Type 0} {c : ℕ} where
       → Writes {E = E} (Err e) c a s u m k → Writes r c a s u m k
   writes_exit {r = Ok x} h w = cc
   writes_exit {r = Err x} h w = record { ok = tt; err = w.err; later = w.later; failed = w.failed }
-
-  pub open_still : {s t : Sink} {m n : ℕ} {a : List ℕ} {o : Unit {0}} → Writes {E = E} (Ok o) c a s t m n
-      → IsOpen s c → IsOpen t c
-  open_still {s} {t} {a = a} w h = record { may = open_after s t c a w.ok h.may }

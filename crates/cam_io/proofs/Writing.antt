@@ -1,6 +1,6 @@
 -- Texts that are written in pieces: what a writer cites of one piece after another.
-use Rattle.std.proofs.Common.{◌≡◌, ℕ, ◌+◌, ◌≤◌, ◌<◌, min, List, [], ◌∷◌, ◌++◌, take, drop, get_or, length, IsTrue, sym, ap, ◌∙◌, subst, refl, arith, append-nil}
-use Rattle.std.proofs.lemmas.List.{take-append-le, take-append-drop, take_all, take_more, take_min}
+use Rattle.std.proofs.Common.{◌≡◌, ℕ, ◌+◌, ◌<◌, min, List, [], ◌∷◌, ◌++◌, take, get_or, length, IsTrue, sym, ap, ◌∙◌, refl, arith, append-nil}
+use Rattle.std.proofs.lemmas.List.{take-append-le, take_more, take_min}
 use Rattle.std.proofs.Math.Seq.{take-append-add}
 use Rattle.std.specs.List.{flat_map}
 use Rattle.std.proofs.lemmas.Grind.{flat_map-append}
@@ -42,33 +42,6 @@ module _ {X : Type 0} (f : X → List ℕ) where
       ∙ (flat_map-append f (take i xs) (get_or xs i x ∷ [])
       ∙ (ap (λ ys. flat_map f (take i xs) ++ ys) (append-nil (f (get_or xs i x)))
       ∙ ap (λ y. flat_map f (take i xs) ++ f y) (sym is)))
-
-  lines_split : (xs : List X) (i : ℕ) → flat_map f (take i xs) ++ flat_map f (drop i xs) ≡ flat_map f xs
-  lines_split xs i = sym (flat_map-append f (take i xs) (drop i xs)) ∙ ap (flat_map f) (take-append-drop i xs)
-
-  -- one line more of a list
-  pub line_more : (old mid new : Sink) (c : ℕ) (xs : List X) (i : ℕ) (x : X) → i < length xs → x ≡ get_or xs i x
-      → mid ≡ appended old c (flat_map f (take i xs)) → new ≡ appended mid c (f x)
-      → new ≡ appended old c (flat_map f (take (i + 1) xs))
-  line_more old mid new c xs i x h is e n = ok_after old mid new c (flat_map f (take i xs)) (f x) e n
-      ∙ ap (appended old c) (sym (lines_more xs i x h is))
-
-  -- a front of a line is a front of the lines
-  pub line_cut : (old mid new : Sink) (c : ℕ) (xs : List X) (i : ℕ) (x : X) → i < length xs → x ≡ get_or xs i x
-      → mid ≡ appended old c (flat_map f (take i xs)) → IsCut mid c (f x) new → IsCut old c (flat_map f xs) new
-  line_cut old mid new c xs i x h is e n =
-      subst (λ (all : List ℕ). IsCut old c all new) (lines_split xs (i + 1))
-      (cut_more old new c (flat_map f (take (i + 1) xs)) (flat_map f (drop (i + 1) xs))
-      (subst (λ (some : List ℕ). IsCut old c some new) (sym (lines_more xs i x h is))
-      (cut_after old mid new c (flat_map f (take i xs)) (f x) e n)))
-
-  -- after the last line all are written
-  pub lines_all : (old new : Sink) (c : ℕ) (xs : List X) (i : ℕ) → length xs ≤ i → new ≡ appended old c (flat_map f (take i xs))
-      → new ≡ appended old c (flat_map f xs)
-  lines_all old new c xs i h e = e ∙ ap (λ ys. appended old c (flat_map f ys)) (take_all i xs h)
-
-  pub no_line : (old : Sink) (c : ℕ) (xs : List X) → old ≡ appended old c (flat_map f (take 0 xs))
-  no_line old c xs = sym (appended_nil old c)
 
 pub beside : (a b : List ℕ) → a ⊹ b ≡ a ++ b
 unfolding ◌⊹◌

@@ -1,4 +1,3 @@
-pub mod Buffered
 pub mod Causes
 pub mod Channels
 pub mod Contents
@@ -13,6 +12,5 @@ pub mod Saying
 pub mod Scripts
 pub mod Seen
 pub mod Sinks
-pub mod Waiting
 pub mod Whole
 pub use Rattle.cam_base.specs.Texts

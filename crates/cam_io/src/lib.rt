@@ -1,8 +1,8 @@
 //! Files and outputs: what a command reads from and writes to, with what each call did as a value.
 //!
 //! `Files` tells what its files hold and how often reads of a name have failed; `Outputs` tells which channels are
-//! begun, under which names, and what each holds. `see_whole`, `read_whole`, `write_all` and `write_parts` are the loops over
-//! them, `Writer` says a text to one open channel, and `FileBytes` lends what the files keep.
+//! begun, under which names, and what each holds. `see_whole`, `read_whole` and `write_all` are the loops over them, `Writer`
+//! says a text to one open channel in few calls, and `FileBytes` lends what the files keep.
 //! There are files and outputs in memory, whose faults are stated beforehand, and those of the host: its files keep what
 //! they have answered, and tell the contents that have it; its outputs tell only which channels are begun. That a read of
 //! the host gives a file's bytes, and that a write puts them there, is trusted.
@@ -12,7 +12,6 @@
 //! `proofs/Saying.antt`, `proofs/Sequence.antt` and `proofs/Scripted.antt`.
 #![tactic(auto)]
 
-mod buffered;
 mod digits;
 mod file_bytes;
 mod files;
@@ -29,7 +28,6 @@ mod whole;
 mod write;
 mod writer;
 
-pub use buffered::Buffered;
 pub use digits::hexadecimal;
 pub use file_bytes::FileBytes;
 pub use files::{Failed, Files, Got};
@@ -40,5 +38,5 @@ pub use mem_files::MemFiles;
 pub use mem_outputs::MemOutputs;
 pub use outputs::Outputs;
 pub use whole::{WholeError, read_whole, see_whole};
-pub use write::{write_all, write_parts};
+pub use write::write_all;
 pub use writer::Writer;

@@ -1,21 +1,23 @@
 ghost use Rattle.cam_base.specs.Texts.{together};
 ghost use Rattle.cam_io.specs.Sinks.{IsOpen, is_open};
-ghost use Rattle.std.specs.Prelude.{◌≡◌, IsTrue, [], map};
+ghost use Rattle.std.specs.Prelude.{◌≡◌, IsTrue, [], false, map};
 
 use crate::{Failed, Outputs, write_all};
+use arrayvec::ArrayVec;
 
-/// Outputs and one of their channels, open, to which a text is written piece by piece. After a failed write nothing more is
-/// written. Takes no memory.
+/// Outputs and one of their channels, open, to which a text is written piece by piece. What is written waits until it is
+/// much, and goes on in few calls; `flush` sends the rest. After a failed call nothing more is written.
 #[derive(Drop)]
 pub struct Writer<'a, O: Outputs> {
     out: &'a mut O,
     channel: u8,
+    waiting: ArrayVec<u8, 16384>,
     failed: bool,
     ghost is_open: { IsTrue (is_open (O.sink out.now) channel) },
 }
 
 impl<'a, O: Outputs> Writer<'a, O> {
-    ghost use Rattle.cam_io.specs.Saying.{Said, Says, outcome};
+    ghost use Rattle.cam_io.specs.Saying.{Flushes, Said, Says};
 
     /// Nothing is written yet.
     #[inline(always)]
@@ -28,6 +30,7 @@ impl<'a, O: Outputs> Writer<'a, O> {
         Writer {
             out,
             channel,
+            waiting: ArrayVec::new(),
             failed: false,
         }
     }
@@ -37,8 +40,9 @@ impl<'a, O: Outputs> Writer<'a, O> {
     pub fn text(&mut self, text: &[u8])
         ensures { Says self.old text.now self.new }
     {
-        if !self.failed {
-            self.failed = write_all(self.out, self.channel, text).is_err();
+        match self.waiting.try_extend_from_slice(text) {
+            Ok(()) => {}
+            Err(_) => self.text_behind(text),
         }
     }
 
@@ -52,12 +56,39 @@ impl<'a, O: Outputs> Writer<'a, O> {
         }
     }
 
-    /// Lets the outputs go. `Failed` where a write has failed.
-    #[inline(always)]
-    pub fn close(self) -> Result<(), Failed>
-        ensures result { result ≡ outcome self.entry.failed }
-        ensures same { self.exit.0.now ≡ self.entry.out.now }
+    /// Sends what waits, so that there is room for a piece, which is written through where it is longer than that.
+    #[cold]
+    fn text_behind(&mut self, text: &[u8])
+        ensures { Says self.old text.now self.new }
     {
-        if self.failed { Err(Failed) } else { Ok(()) }
+        match self.flush() {
+            Ok(()) => self.text_alone(text),
+            Err(Failed) => {}
+        }
+    }
+
+    /// Writes a piece where nothing waits.
+    fn text_alone(&mut self, text: &[u8])
+        requires going { self.old.failed ≡ false }
+        requires none { self.old.waiting.items ≡ [] }
+        ensures { Says self.old text.now self.new }
+    {
+        match self.waiting.try_extend_from_slice(text) {
+            Ok(()) => {}
+            Err(_) => self.failed = write_all(self.out, self.channel, text).is_err(),
+        }
+    }
+
+    /// Sends what waits. `Failed` where a call has failed.
+    pub fn flush(&mut self) -> Result<(), Failed>
+        ensures { Flushes self.old result self.new }
+    {
+        if self.failed {
+            return Err(Failed);
+        }
+        let sent = write_all(self.out, self.channel, self.waiting.as_slice());
+        self.failed = sent.is_err();
+        self.waiting.clear();
+        sent
     }
 }

@@ -1,24 +1,24 @@
 //! The program: it hands its words, the host's files and the host's outputs to the top call, and ends with its status.
 //!
 //! Nothing here decides anything but what to say of words that can't be read: words that aren't UTF-8 are no command, and
-//! want of memory is status 6. `finish` answers status 5 where the outputs can't hold what was written.
+//! want of memory is status 6.
 #![tactic(auto)]
 
-use cam_io::{Buffered, HostFiles, HostOutputs, write_all};
-use camkes_tool::{finish, run};
+use cam_io::{HostFiles, HostOutputs, write_all};
+use camkes_tool::run;
 use std::io::ErrorKind;
 use std::process::ExitCode;
 use std::{env, io};
 
 fn main(rt: HostRuntime) -> io::Result<ExitCode> {
     let mut files = HostFiles::new(rt.clone()?);
-    let mut out = Buffered::new(HostOutputs::new(rt.clone()?));
+    let mut out = HostOutputs::new(rt.clone()?);
     let status = match words(&rt) {
         Ok(words) => run(rt.alloc(), &words, &mut files, &mut out),
         Err(error) if error.kind() == ErrorKind::OutOfMemory => no_memory(&mut out),
         Err(_) => run(rt.alloc(), &[], &mut files, &mut out),
     };
-    Ok(ExitCode::from(finish(status, &mut out)))
+    Ok(ExitCode::from(status))
 }
 
 /// The words behind the program's name.
@@ -32,7 +32,7 @@ fn words(rt: &HostRuntime) -> io::Result<Vec<String>> {
     Ok(words)
 }
 
-fn no_memory(out: &mut Buffered<HostOutputs>) -> u8 {
+fn no_memory(out: &mut HostOutputs) -> u8 {
     match write_all(out, 1, b"no memory\n") {
         Ok(()) => 6,
         Err(_) => 5,

@@ -1,6 +1,6 @@
 //! Files and outputs in memory that fail, called outside of a command.
 
-use cam_io::{Failed, FixedFiles, MemFiles, MemOutputs, WholeError, read_whole, write_parts};
+use cam_io::{Failed, FixedFiles, MemFiles, MemOutputs, WholeError, Writer, read_whole};
 use std::alloc::Global;
 use std::test::Fail;
 
@@ -52,10 +52,11 @@ fn a_fixed_file(rt: HostRuntime) -> Result<(), Fail> {
 #[test]
 fn a_full_channel(rt: HostRuntime) -> Result<(), Fail> {
     let mut out = MemOutputs::new(rt.alloc(), 4)?;
-    let first = write_parts(&mut out, 1, &[b"ab", b"", b"c"]);
-    assert!(rt; matches!(first, Ok(())));
-    let second = write_parts(&mut out, 1, &[b"de"]);
-    assert!(rt; matches!(second, Err(Failed)));
+    let mut to = Writer::new(&mut out, 1);
+    to.texts(&[b"ab", b"", b"c"]);
+    assert!(rt; matches!(to.flush(), Ok(())));
+    to.text(b"de");
+    assert!(rt; matches!(to.flush(), Err(Failed)));
     assert!(rt; out.bytes(1) == b"abcd".as_slice());
     Ok(())
 }

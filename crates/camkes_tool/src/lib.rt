@@ -1,7 +1,7 @@
 //! The top call: what the program does with its words, over any files and outputs.
 //!
 //! `run` decides first and then performs. Deciding reads the files, takes memory, and answers with a value (`Answer`);
-//! performing does what that answer's script says and takes no memory. `finish` sends what waits behind a buffer at the end.
+//! performing does what that answer's script says and takes no memory.
 //! `specs/Answers.antt` says when each answer comes and what it does, `specs/Learning.antt` which files it may look at; the words
 //! stand in `command_words`, and what is compiled in `arch_compile`.
 //!
@@ -15,7 +15,6 @@ mod asking;
 mod build_flow;
 mod decide;
 mod files;
-mod finishing;
 mod generate_laws;
 mod generation;
 mod laws;
@@ -28,7 +27,6 @@ pub use build_flow::{
     builds_are_separated, checked_texts_are_separated, memory_of_builds_is_static,
 };
 pub use files::{ROOT, generated};
-pub use finishing::finish;
 pub use generate_laws::generated_answers_are_one;
 pub use generation::generate;
 pub use laws::{

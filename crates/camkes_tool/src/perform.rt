@@ -7,7 +7,7 @@ ghost use Rattle.camkes_tool.specs.Lines.{fault_line, read_fault_line};
 use crate::{Answer, write_generated};
 use arch_compile::write_texts;
 use cam_base::Fault;
-use cam_io::{Failed, Outputs, Writer, write_all, write_parts};
+use cam_io::{Failed, Outputs, Writer, write_all};
 use command_words::usage_line;
 use itoa::Buffer;
 use source_commands::write_listing;
@@ -44,11 +44,13 @@ fn write_fault<O: Outputs>(out: &mut O, file: &[u8], fault: &Fault) -> Result<()
     write_place(file, fault.place.first, fault.place.end, &mut to);
     to.text(b"E");
     write_code(number, title, fault.name.as_bytes(), &mut to);
-    to.close()
+    to.flush()
 }
 
 fn write_read_fault<O: Outputs>(out: &mut O, file: &[u8]) -> Result<(), Failed>
     ensures { Writes result 1 (read_fault_line file.now) (O.sink out.old) (O.sink out.new) (O.faults out.old) (O.faults out.new) }
 {
-    write_parts(out, 1, &[b"read fault ", file, b"\n"])
+    let mut to = Writer::new(out, 1);
+    to.texts(&[b"read fault ", file, b"\n"]);
+    to.flush()
 }

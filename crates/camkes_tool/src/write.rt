@@ -14,5 +14,5 @@ pub fn write_generated<O: Outputs>(summary: Summary, out: &mut O, channel: u8) -
     let mut to = Writer::new(out, channel);
     write_summary(summary, &mut to);
     to.text(b"check yes\n");
-    to.close()
+    to.flush()
 }

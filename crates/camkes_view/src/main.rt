@@ -3,7 +3,7 @@
 //! What is answered to which words, and what is written of it, is `view_tool`'s.
 #![tactic(auto)]
 
-use cam_io::{Buffered, HostFiles, HostOutputs};
+use cam_io::{HostFiles, HostOutputs};
 use std::io::ErrorKind;
 use std::process::ExitCode;
 use std::{env, io};
@@ -12,16 +12,15 @@ use view_tool::{Answer, decide};
 
 fn main(rt: HostRuntime) -> io::Result<ExitCode> {
     let mut files = HostFiles::new(rt.clone()?);
-    let mut out = Buffered::new(HostOutputs::new(rt.clone()?));
+    let mut out = HostOutputs::new(rt.clone()?);
     let answer = match words(&rt) {
         Ok(words) => decide(rt.alloc(), &words, &mut files),
         Err(error) if error.kind() == ErrorKind::OutOfMemory => Answer::NoMemory,
         Err(_) => Answer::Usage,
     };
-    let written = answer.write(&mut out);
-    match (written, out.flush()) {
-        (Ok(()), Ok(())) => Ok(ExitCode::from(answer.status())),
-        _ => Ok(ExitCode::from(5)),
+    match answer.write(&mut out) {
+        Ok(()) => Ok(ExitCode::from(answer.status())),
+        Err(_) => Ok(ExitCode::from(5)),
     }
 }
 

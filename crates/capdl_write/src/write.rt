@@ -23,7 +23,7 @@ pub fn write_spec<O: Outputs>(spec: &Spec, out: &mut O, channel: u8) -> Result<(
     to.text(b"}\n\nirq maps {\n");
     write_irqs(spec, spec.irqs.as_slice(), &mut to);
     to.text(b"}\n");
-    to.close()
+    to.flush()
 }
 
 fn arch_word(arch: &Arch) -> &[u8]

@@ -4,8 +4,8 @@
 //! prints what it prints, and its status behind it.
 #![tactic(auto)]
 
-use cam_io::{Buffered, HostFiles, HostOutputs};
-use camkes_tool::{finish, run};
+use cam_io::{HostFiles, HostOutputs};
+use camkes_tool::run;
 use std::process::ExitCode;
 use std::{fs, io};
 
@@ -34,8 +34,7 @@ fn call(rt: &HostRuntime, line: &str) -> io::Result<()> {
         words.push(String::from_str(rt.alloc(), word)?)?;
     }
     let mut files = HostFiles::new(rt.clone()?);
-    let mut out = Buffered::new(HostOutputs::new(rt.clone()?));
+    let mut out = HostOutputs::new(rt.clone()?);
     let status = run(rt.alloc(), &words, &mut files, &mut out);
-    let status = finish(status, &mut out);
     println!(rt; "status {status}")
 }

@@ -22,7 +22,7 @@ pub fn write_policy<O: Outputs>(policy: &Policy, out: &mut O, channel: u8) -> Re
     write_labels(policy.labels.as_slice(), &mut to);
     write_objects(policy.objects.as_slice(), &mut to);
     write_edges(&policy.edges, &mut to);
-    to.close()
+    to.flush()
 }
 
 /// Writes the text of a certificate to an open channel: `specs/PolicyLines.antt`. After a failure the channel has a front of it.
@@ -33,7 +33,7 @@ pub fn write_cert<O: Outputs>(cert: &EdgeTable, out: &mut O, channel: u8) -> Res
     let mut to = Writer::new(out, channel);
     to.text(b"certificate 1\n");
     write_edges(cert, &mut to);
-    to.close()
+    to.flush()
 }
 
 fn write_labels<O: Outputs>(labels: &[(u32, Text)], to: &mut Writer<O>)

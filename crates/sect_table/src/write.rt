@@ -25,7 +25,7 @@ pub fn write_sections<O: Outputs>(image: &Image, out: &mut O, channel: u8) -> Re
         entry_end(image.arch),
     ]);
     write_lines(image.sections.as_slice(), &mut to);
-    to.close()
+    to.flush()
 }
 
 /// The architecture, unless it is the one that a table has by itself, and the end of the line.

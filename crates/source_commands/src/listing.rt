@@ -67,5 +67,5 @@ pub fn write_listing<O: Outputs>(listing: &Listing, out: &mut O, channel: u8) ->
 {
     let mut to = Writer::new(out, channel);
     write_edges(&listing.edges, &listing.names, &mut to);
-    to.close()
+    to.flush()
 }

@@ -25,7 +25,7 @@ pub fn write_steps<O: Outputs>(
 {
     let mut to = Writer::new(out, channel);
     write_step_lines(spec, steps.as_slice(), &mut to);
-    to.close()
+    to.flush()
 }
 
 /// Writes steps, a line for each.

@@ -7,7 +7,7 @@ ghost use Rattle.std.specs.List.{flat_map};
 ghost use Rattle.text_commands.specs.Lines.{code_text, fault_line, have_line, illegal_text, number_text, place_text, refusal_text, report_text, run_text, space_before, why_of};
 
 use crate::InputFault;
-use cam_io::{Failed, Outputs, Writer, write_parts};
+use cam_io::{Failed, Outputs, Writer};
 use cap_audit::AuditReport;
 use cap_machine::Why;
 use cap_model::{Edge, EdgeTable, Spec};
@@ -36,7 +36,7 @@ pub fn write_fault<O: Outputs>(
     let mut to = Writer::new(out, channel);
     write_place(file, fault.first, fault.end, &mut to);
     write_code(word, title, fault.name.as_bytes(), &mut to);
-    to.close()
+    to.flush()
 }
 
 /// Writes the place of a fault in a file, and a colon behind it.
@@ -91,7 +91,7 @@ pub fn write_refusal<O: Outputs>(
     to.texts(&[b"no V", digits.format(rule).as_bytes(), b"\n"]);
     write_haves(have, names, &mut to);
     write_edge(b"lack ", lack, names, &mut to);
-    to.close()
+    to.flush()
 }
 
 /// Writes how many steps were made, and the edges of the last state.
@@ -110,7 +110,7 @@ pub fn write_run<O: Outputs>(
     let mut to = Writer::new(out, channel);
     to.texts(&[b"ok ", digits.format(count).as_bytes(), b" steps\n"]);
     write_edges(edges, names, &mut to);
-    to.close()
+    to.flush()
 }
 
 /// The word of an answer of the table, with a space behind it where a number follows, and the number.
@@ -159,18 +159,16 @@ pub fn write_illegal<O: Outputs>(
 {
     let (mut digits, mut buffer) = (Buffer::new(), Buffer::new());
     let (word, named) = why_parts(why);
-    write_parts(
-        out,
-        channel,
-        &[
-            b"illegal ",
-            digits.format(number).as_bytes(),
-            b" ",
-            word.as_bytes(),
-            number_text(named, &mut buffer),
-            b"\n",
-        ],
-    )
+    let mut to = Writer::new(out, channel);
+    to.texts(&[
+        b"illegal ",
+        digits.format(number).as_bytes(),
+        b" ",
+        word.as_bytes(),
+        number_text(named, &mut buffer),
+        b"\n",
+    ]);
+    to.flush()
 }
 
 /// Writes how many edges runs reach and how many steps show them, the edges, and the steps.
@@ -196,5 +194,5 @@ pub fn write_report<O: Outputs>(
     ]);
     write_edges(&report.edges, names, &mut to);
     write_step_lines(spec, report.steps.as_slice(), &mut to);
-    to.close()
+    to.flush()
 }

@@ -1,12 +1,13 @@
 //! What is found, and how it is written.
 
 ghost use Rattle.cam_io.specs.Sinks.{Writes};
+ghost use Rattle.view_tool.specs.Lines.{usage};
 ghost use Rattle.view_tool.specs.Words.{channel_of, status_of, text_of};
 ghost use Rattle.view_tool.specs.declared.answer.Answer.TheVariants as answers;
 ghost use Rattle.std.specs.Prelude.{◌≡◌, IfOk, OnErr};
 
 use cam_base::{List, NoMemory};
-use cam_io::{Failed, Outputs, write_all, write_parts};
+use cam_io::{Failed, Outputs, Writer, write_all};
 
 /// What is found, before anything is written.
 #[derive(Drop)]
@@ -95,15 +96,19 @@ impl Answer {
             Answer::Shown(text) | Answer::Faulty(text) => write_all(out, 0, text.as_slice()),
             Answer::Refused(text) | Answer::ReadFault(text) => write_all(out, 1, text.as_slice()),
             Answer::NoFlow => write_all(out, 0, b"no flow\n"),
-            Answer::Usage => write_parts(
-                out,
-                1,
-                &[
-                    b"usage: camkes_view fault [LINE] | lint ROOT | graph POLICY | picture ROOT | overview ROOT | reasons ROOT",
-                    b" | table ROOT LABEL | page ROOT | flow POLICY FROM TO | flows POLICY\n",
-                ],
-            ),
+            Answer::Usage => write_usage(out),
             Answer::NoMemory => write_all(out, 1, b"no memory\n"),
         }
     }
+}
+
+fn write_usage<O: Outputs>(out: &mut O) -> Result<(), Failed>
+    ensures { Writes result 1 usage (O.sink out.old) (O.sink out.new) (O.faults out.old) (O.faults out.new) }
+{
+    let mut to = Writer::new(out, 1);
+    to.texts(&[
+        b"usage: camkes_view fault [LINE] | lint ROOT | graph POLICY | picture ROOT | overview ROOT | reasons ROOT",
+        b" | table ROOT LABEL | page ROOT | flow POLICY FROM TO | flows POLICY\n",
+    ]);
+    to.flush()
 }

@@ -5,4 +5,4 @@ use Rattle.arch_compile.proofs.map.write_map.Goals as goal
 pub returns : goal.returns
 returns g c =
     let lines = rw c.as_slice.ensures at c.write_map.ensures in
-    said_all c.new-to.ensures.channel c.new-to.ensures.said lines c.close.ensures.result (search rules)
+    said_all c.new-to.ensures.channel c.new-to.ensures.said lines c.flush.ensures (search rules)

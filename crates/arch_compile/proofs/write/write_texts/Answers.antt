@@ -25,5 +25,5 @@ returns g c =
     let cert = rw c.as_str-3.ensures.value at c.in_ok-write_certificate.ensures in
     let map = rw c.as_str-4.ensures.value at c.in_ok-write_places.ensures in
     let line = rw c.of-summary.ensures at c.write_summary.ensures in
-    let summary = said_all c.new-to.ensures.channel c.new-to.ensures.said line c.close.ensures.result (search rules) in
+    let summary = said_all c.new-to.ensures.channel c.new-to.ensures.said line c.flush.ensures (search rules) in
     acts_then capdl (acts_then policy (acts_then cert (acts_then map (acts_one summary))))

@@ -15,4 +15,4 @@ returns g c =
       c.as_slice-places.ensures,
     ) at c.texts.ensures in
     let lines = rw c.as_slice-places.ensures at c.write_places.ensures in
-    said_all c.new-to.ensures.channel c.new-to.ensures.said (says_then planned lines) c.close.ensures.result (search rules)
+    said_all c.new-to.ensures.channel c.new-to.ensures.said (says_then planned lines) c.flush.ensures (search rules)

@@ -12,4 +12,4 @@ returns g c =
     let lines = rw c.as_slice-3.ensures at c.write_irqs.ensures in
     let front = says_then (says_then (says_then head objects) c.text.ensures) holders in
     let all = says_then (says_then (says_then front c.text-2.ensures) lines) c.text-3.ensures in
-    said_all c.new-to.ensures.channel c.new-to.ensures.said all c.close.ensures.result (search rules)
+    said_all c.new-to.ensures.channel c.new-to.ensures.said all c.flush.ensures (search rules)

@@ -7,4 +7,4 @@ pub returns : goal.returns
 unfolding cert_text
 returns g c =
     let all = says_then c.text.ensures c.write_edges.ensures in
-    said_all c.new-to.ensures.channel c.new-to.ensures.said all c.close.ensures.result (search rules)
+    said_all c.new-to.ensures.channel c.new-to.ensures.said all c.flush.ensures (search rules)

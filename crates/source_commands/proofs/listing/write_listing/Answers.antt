@@ -4,4 +4,4 @@ use Rattle.source_commands.proofs.listing.write_listing.Goals as goal
 
 pub returns : goal.returns
 returns g c =
-    said_all c.new-to.ensures.channel c.new-to.ensures.said c.write_edges.ensures c.close.ensures.result (search rules)
+    said_all c.new-to.ensures.channel c.new-to.ensures.said c.write_edges.ensures c.flush.ensures (search rules)

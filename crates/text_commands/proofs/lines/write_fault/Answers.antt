@@ -8,4 +8,4 @@ returns g c =
     let title = rw (c.as_bytes-title.ensures.value ∙ c.title.ensures) at word in
     let name = rw c.as_bytes.ensures at title in
     let all = says_then c.write_place.ensures name in
-    said_all c.new-to.ensures.channel c.new-to.ensures.said all c.close.ensures.result (search rules)
+    said_all c.new-to.ensures.channel c.new-to.ensures.said all c.flush.ensures (search rules)

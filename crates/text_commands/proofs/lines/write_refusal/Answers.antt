@@ -6,4 +6,4 @@ pub returns : goal.returns
 returns g c =
     let rule = rw (c.as_bytes.ensures.value, c.format.ensures.text) at c.texts.ensures in
     let all = says_then (says_then rule c.write_haves.ensures) c.write_edge.ensures in
-    said_all c.new-to.ensures.channel c.new-to.ensures.said all c.close.ensures.result (search rules)
+    said_all c.new-to.ensures.channel c.new-to.ensures.said all c.flush.ensures (search rules)

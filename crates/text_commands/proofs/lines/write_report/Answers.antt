@@ -14,4 +14,4 @@ returns g c =
     ) at c.texts.ensures in
     let steps = rw c.as_slice.ensures at c.write_step_lines.ensures in
     let all = says_then (says_then reach c.write_edges.ensures) steps in
-    said_all c.new-to.ensures.channel c.new-to.ensures.said all c.close.ensures.result (search rules)
+    said_all c.new-to.ensures.channel c.new-to.ensures.said all c.flush.ensures (search rules)

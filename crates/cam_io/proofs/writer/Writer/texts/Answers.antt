@@ -1,8 +1,7 @@
 use Rattle.std.proofs.Common.{◌≤◌, ℕ, List, [], ap, sym, length, get_or, arith, Bor, take_all}
 use Rattle.std.specs.List.{flat_map}
 use Rattle.cam_base.proofs.Joined.{together_map}
-use Rattle.cam_io.proofs.Lines.{read_is}
-use Rattle.cam_io.proofs.Saying.{says_line}
+use Rattle.cam_io.proofs.Saying.{read_is, says_line}
 use Rattle.cam_io.proofs.writer.Writer.texts.Goals as goal
 
 pub loop-text-preserved : goal.loop-text-preserved
