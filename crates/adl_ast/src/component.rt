@@ -1,5 +1,5 @@
-use crate::{Boxed, Composition, Configuration, Id, Import, Value, Words};
-use cam_base::{List, Place};
+use crate::{Composition, Configuration, Id, Import, Value, Words};
+use cam_base::{Boxed, List, Place};
 
 /// A component: what its instances offer and need.
 #[derive(Drop)]

@@ -2,8 +2,8 @@ ghost use Rattle.adl_ast.specs.Counts.{is_item, is_import, is_procedure, is_comp
 ghost use Rattle.std.specs.List.{count_by};
 ghost use Rattle.std.specs.Prelude.{◌≡◌};
 
-use crate::{Assembly, Boxed, Component, Procedure};
-use cam_base::{List, Place, Text};
+use crate::{Assembly, Component, Procedure};
+use cam_base::{Boxed, List, Place, Text};
 
 /// A file: its items in order.
 #[derive(Drop)]

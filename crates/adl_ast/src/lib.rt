@@ -5,7 +5,6 @@
 //! usually written in `specs/Written.antt`.
 #![tactic(auto)]
 
-mod boxed;
 mod byte_count;
 mod component;
 mod composition;
@@ -20,7 +19,6 @@ mod value;
 mod words;
 mod written;
 
-pub use boxed::Boxed;
 pub use byte_count::ByteCount;
 pub use component::{Attribute, Component, Interface, InterfaceKind, Lock, LockKind, Member};
 pub use composition::{

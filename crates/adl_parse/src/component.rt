@@ -18,10 +18,8 @@ use crate::{
     Adl, WordKind, id_of, next_has, next_is, number_of, read_composition, read_configuration,
     read_value, take, take_of, word,
 };
-use adl_ast::{
-    Attribute, Boxed, Component, Id, Interface, InterfaceKind, Lock, LockKind, Member, Value,
-};
-use cam_base::{Keyword, Kind, Mark, Place, ReadError, Repeated, Token, read_all};
+use adl_ast::{Attribute, Component, Id, Interface, InterfaceKind, Lock, LockKind, Member, Value};
+use cam_base::{Boxed, Keyword, Kind, Mark, Place, ReadError, Repeated, Token, read_all};
 use std::alloc::Global;
 
 /// The kind, the word, the size and the name of an interface.

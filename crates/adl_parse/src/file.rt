@@ -12,9 +12,10 @@ use crate::component::read_component;
 use crate::import::read_import;
 use crate::procedure::read_procedure;
 use crate::{Adl, next_is, read_assembly, refusal_of, take};
-use adl_ast::{Boxed, Ended, File, Item};
+use adl_ast::{Ended, File, Item};
 use cam_base::{
-    Fault, Keyword, Kind, Mark, ReadError, Refused, Repeated, Stop, Token, Tokens, Why, read_all,
+    Boxed, Fault, Keyword, Kind, Mark, ReadError, Refused, Repeated, Stop, Token, Tokens, Why,
+    read_all,
 };
 use std::alloc::Global;
 

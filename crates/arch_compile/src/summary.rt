@@ -70,7 +70,7 @@ fn caps_in(object: &Object) -> u64
 {
     match object {
         Object::CNode { slots, .. } | Object::Pages { slots, .. } => slots.len() as u64,
-        Object::Thread(tcb) => tcb_caps(tcb),
+        Object::Thread(tcb) => tcb_caps(tcb.get()),
         Object::Irq { notification } => one_if(notification),
         _ => 0,
     }

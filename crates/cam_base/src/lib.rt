@@ -9,6 +9,7 @@
 //!   exact faults (`specs/Parsed.antt`). `docs/grammars.md` is the guide.
 #![tactic(auto)]
 
+mod boxed;
 mod code;
 mod error;
 mod field;
@@ -28,6 +29,7 @@ mod text;
 mod text_fault;
 mod token;
 
+pub use boxed::Boxed;
 pub use code::Code;
 pub use error::{NoMemory, Refused, SourceError, Unread};
 pub use field::{fields, spaced_fields};

@@ -144,7 +144,7 @@ fn root_of(object: &Object) -> Option<u32>
     ensures { result ≡ root_of (Some object.now) }
 {
     match object {
-        Object::Thread(tcb) => tcb.cspace,
+        Object::Thread(tcb) => tcb.get().cspace,
         _ => None,
     }
 }

@@ -60,7 +60,7 @@ pub fn with_object(
     match object {
         Object::CNode { slots, .. } => with_each_slot(edges, spec, labels, from, slots.as_slice()),
         Object::Pages { slots, .. } => with_each_slot(edges, spec, labels, from, slots.as_slice()),
-        Object::Thread(tcb) => with_tcb(edges, spec, labels, from, tcb),
+        Object::Thread(tcb) => with_tcb(edges, spec, labels, from, tcb.get()),
         Object::Irq { notification } => {
             with_optional_link(edges, labels, from, Authority::AsyncSend, *notification)
         }

@@ -28,8 +28,8 @@ fn boot_thread(object: &Object) -> ThreadState
 {
     match object {
         Object::Thread(tcb) => ThreadState {
-            root: tcb.cspace,
-            space: tcb.vspace,
+            root: tcb.get().cspace,
+            space: tcb.get().vspace,
             pending: None,
             waits: false,
         },

@@ -169,7 +169,7 @@ fn with_fixed(
     ensures { IfOk result (λ new. Adds (OfFixed spec.now labels.now.by_object from object.now) edges.items new.items) }
 {
     match object {
-        Object::Thread(tcb) => with_optional_cap(edges, spec, labels, from, &tcb.buffer),
+        Object::Thread(tcb) => { with_optional_cap(edges, spec, labels, from, &tcb.get().buffer) }
         Object::Pages { slots, .. } => with_each_slot(edges, spec, labels, from, slots.as_slice()),
         _ => Ok(edges),
     }

@@ -2,10 +2,10 @@ ghost use Rattle.cap_model.specs.Kinds.{kind_of_object};
 ghost use Rattle.std.specs.Prelude.{◌≡◌};
 
 use crate::{Cap, Kind, Level};
-use cam_base::{List, Text};
+use cam_base::{Boxed, List, Text};
 
 /// What a frame is filled with: so many bytes of a file, from `at` on, put at an offset of the frame.
-#[derive(Debug, Drop)]
+#[derive(Drop)]
 pub struct Fill {
     pub offset: u64,
     pub length: u64,
@@ -36,10 +36,10 @@ pub enum Object {
         bits: u8,
         slots: List<(u64, Cap)>,
     },
-    Thread(Tcb),
+    Thread(Boxed<Tcb>),
     Frame {
         paddr: Option<u64>,
-        fill: Option<Fill>,
+        fill: Option<Boxed<Fill>>,
     },
     Pages {
         level: Level,

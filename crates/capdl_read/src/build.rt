@@ -9,7 +9,7 @@ ghost use Rattle.std.specs.Prelude.{◌≡◌, ℕ, [], map, slice_get, Some as 
 
 use crate::held::Slot;
 use crate::keyed::is_above;
-use cam_base::{List, Name, NoMemory, Text};
+use cam_base::{Boxed, List, Name, NoMemory, Text};
 use cap_model::{Cap, Entry, Fill, Object, Tcb};
 use capdl_text::{
     FillLine, FrameField, FrameValue, KindLine, ObjectLine, SlotKey, ThreadField, ThreadValue,
@@ -160,16 +160,16 @@ fn fill_of(alloc: Global, fill: &FillLine) -> Result<Fill, NoMemory>
     })
 }
 
-fn maybe_fill(alloc: Global, fill: Option<&FillLine>) -> Result<Option<Fill>, NoMemory>
+fn maybe_fill(alloc: Global, fill: Option<&FillLine>) -> Result<Option<Boxed<Fill>>, NoMemory>
     ensures { IfOk result (λ made. made ≡ option_map fill_of (option_copied fill.entry)) }
 {
     match fill {
         None => Ok(None),
-        Some(fill) => Ok(Some(fill_of(alloc, fill)?)),
+        Some(fill) => Ok(Some(Boxed::new(alloc, fill_of(alloc, fill)?)?)),
     }
 }
 
-fn fill_said(alloc: Global, fields: &[FrameField]) -> Result<Option<Fill>, NoMemory>
+fn fill_said(alloc: Global, fields: &[FrameField]) -> Result<Option<Boxed<Fill>>, NoMemory>
     ensures { IfOk result (λ made. made ≡ fill_said fields.now) }
 {
     for field in fields {
@@ -207,7 +207,8 @@ fn object_of(alloc: Global, kind: &KindLine, slots: &[Slot]) -> Result<Object, N
             })
         }
         KindLine::Thread(fields) => {
-            Ok(Object::Thread(thread_of(alloc, fields.as_slice(), slots)?))
+            let thread = thread_of(alloc, fields.as_slice(), slots)?;
+            Ok(Object::Thread(Boxed::new(alloc, thread)?))
         }
         KindLine::Frame(fields) => {
             let fill = fill_said(alloc, fields.as_slice())?;

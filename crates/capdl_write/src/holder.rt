@@ -26,7 +26,7 @@ fn write_holder<O: Outputs>(spec: &Spec, entry: &Entry, to: &mut Writer<O>)
         Object::CNode { slots, .. } | Object::Pages { slots, .. } => {
             write_slots(spec, name, slots.as_slice(), to)
         }
-        Object::Thread(tcb) => write_tcb_slots(spec, name, tcb, to),
+        Object::Thread(tcb) => write_tcb_slots(spec, name, tcb.get(), to),
         Object::Irq { notification } => write_irq_slot(spec, name, *notification, to),
         Object::Endpoint => {}
         Object::Notification => {}

@@ -3,9 +3,9 @@ ghost use Rattle.cam_base.specs.Texts.{together};
 ghost use Rattle.cam_io.specs.Saying.{Says};
 ghost use Rattle.cap_model.specs.Canonical.{level_word, elf_field, tcb_line, paddr_field, fill_field, frame_line, entry_line};
 ghost use Rattle.std.specs.List.{flat_map};
-ghost use Rattle.std.specs.Prelude.{◌≡◌, [], ◌∷◌, None, codes};
+ghost use Rattle.std.specs.Prelude.{◌≡◌, [], ◌∷◌, None, Some, codes};
 
-use cam_base::Text;
+use cam_base::{Boxed, Text};
 use cam_io::{Outputs, Writer, hexadecimal};
 use cap_model::{Entry, Fill, Level, Object, Tcb};
 use itoa::Buffer;
@@ -33,7 +33,7 @@ fn write_object<O: Outputs>(entry: &Entry, to: &mut Writer<O>)
             digits.format(*bits).as_bytes(),
             b" bits)\n",
         ]),
-        Object::Thread(tcb) => write_tcb(name, tcb, to),
+        Object::Thread(tcb) => write_tcb(name, tcb.get(), to),
         Object::Frame { paddr, fill } => write_frame(name, *paddr, fill, to),
         Object::Pages { level, .. } => { to.texts(&[name, b" = ", level_word(level), b"\n"]) }
         Object::Irq { .. } => to.texts(&[name, b" = irq\n"]),
@@ -85,12 +85,17 @@ fn write_elf<O: Outputs>(elf: &Option<Text>, to: &mut Writer<O>)
     }
 }
 
-fn write_frame<O: Outputs>(name: &[u8], paddr: Option<u64>, fill: &Option<Fill>, to: &mut Writer<O>)
+fn write_frame<O: Outputs>(
+    name: &[u8],
+    paddr: Option<u64>,
+    fill: &Option<Boxed<Fill>>,
+    to: &mut Writer<O>,
+)
     ensures { Says to.old (frame_line name.now paddr fill.now) to.new }
 {
     match fill {
         None => write_zeros(name, paddr, to),
-        Some(_) => write_filled(name, paddr, fill, to),
+        Some(fill) => write_filled(name, paddr, fill.get(), to),
     }
 }
 
@@ -109,13 +114,8 @@ fn write_zeros<O: Outputs>(name: &[u8], paddr: Option<u64>, to: &mut Writer<O>)
     }
 }
 
-fn write_filled<O: Outputs>(
-    name: &[u8],
-    paddr: Option<u64>,
-    fill: &Option<Fill>,
-    to: &mut Writer<O>,
-)
-    ensures { Says to.old (frame_line name.now paddr fill.now) to.new }
+fn write_filled<O: Outputs>(name: &[u8], paddr: Option<u64>, fill: &Fill, to: &mut Writer<O>)
+    ensures { Says to.old (frame_line name.now paddr (Some fill.now)) to.new }
 {
     to.texts(&[name, b" = frame (4k"]);
     write_paddr(paddr, to);
@@ -133,22 +133,19 @@ fn write_paddr<O: Outputs>(paddr: Option<u64>, to: &mut Writer<O>)
     }
 }
 
-fn write_fill<O: Outputs>(fill: &Option<Fill>, to: &mut Writer<O>)
-    ensures { Says to.old (fill_field fill.now) to.new }
+fn write_fill<O: Outputs>(fill: &Fill, to: &mut Writer<O>)
+    ensures { Says to.old (fill_field (Some fill.now)) to.new }
 {
     let (mut offset, mut length, mut at) = (Buffer::new(), Buffer::new(), [0; 18]);
-    match fill {
-        None => {}
-        Some(fill) => to.texts(&[
-            b", fill: [{",
-            offset.format(fill.offset).as_bytes(),
-            b" ",
-            length.format(fill.length).as_bytes(),
-            b" CDL_FrameFill_FileData \"",
-            fill.file.as_bytes(),
-            b"\" ",
-            hexadecimal(fill.at, &mut at),
-            b"}]",
-        ]),
-    }
+    to.texts(&[
+        b", fill: [{",
+        offset.format(fill.offset).as_bytes(),
+        b" ",
+        length.format(fill.length).as_bytes(),
+        b" CDL_FrameFill_FileData \"",
+        fill.file.as_bytes(),
+        b"\" ",
+        hexadecimal(fill.at, &mut at),
+        b"}]",
+    ]);
 }

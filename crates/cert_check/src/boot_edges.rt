@@ -43,7 +43,7 @@ fn object_lack(
         Object::Pages { slots, .. } => {
             slots_lack(spec, labels, cert, false, from, slots.as_slice())
         }
-        Object::Thread(tcb) => thread_lack(spec, labels, cert, from, tcb),
+        Object::Thread(tcb) => thread_lack(spec, labels, cert, from, tcb.get()),
         Object::Irq { notification } => {
             link_lack(labels, cert, from, Authority::AsyncSend, *notification)
         }

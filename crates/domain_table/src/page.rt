@@ -7,7 +7,7 @@ ghost use Rattle.std.specs.Option.{option_map};
 ghost use Rattle.std.specs.Prelude.{◌≡◌, ◌++◌, ◌∷◌, [], IfOk, OnOk};
 
 use crate::row::push_row;
-use cam_base::{List, NoMemory, Text, hex};
+use cam_base::{Boxed, List, NoMemory, Text, hex};
 use cap_model::{Arch, Cap, Fill, Object, Rights, Spec};
 use itoa::Buffer;
 use std::alloc::Global;
@@ -56,12 +56,13 @@ fn paddr_text(alloc: Global, paddr: Option<u64>) -> Result<List<u8>, NoMemory>
     join(alloc, &[b"at ", hexadecimal(paddr, &mut digits)])
 }
 
-fn fill_text(alloc: Global, fill: &Option<Fill>) -> Result<List<u8>, NoMemory>
+fn fill_text(alloc: Global, fill: &Option<Boxed<Fill>>) -> Result<List<u8>, NoMemory>
     ensures { IfOk result (λ text. text ≡ fill_text fill.now) }
 {
     let Some(fill) = fill else {
         return Ok(List::new(alloc));
     };
+    let fill = fill.get();
     let mut digits = [0; 18];
     let mut number = Buffer::new();
     let at = hexadecimal(fill.at, &mut digits);

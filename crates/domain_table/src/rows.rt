@@ -108,7 +108,7 @@ fn push_thread(
 {
     match spec.object(tcb) {
         Some(Object::Thread(registers)) => {
-            push_registers(alloc, rows, what, spec.name(tcb), registers)
+            push_registers(alloc, rows, what, spec.name(tcb), registers.get())
         }
         _ => Ok(()),
     }

@@ -11,7 +11,7 @@ ghost use Rattle.std.specs.Prelude.{◌≡◌, ◌<◌, ◌-◌, ◌^◌, ◌++�
 
 use crate::images::Images;
 use crate::sections::{Placed, page_count, sections_of};
-use cam_base::{List, Name, NoMemory, Text};
+use cam_base::{Boxed, List, Name, NoMemory, Text};
 use cap_model::Fill;
 use sect_table::Section;
 use std::alloc::Global;
@@ -22,7 +22,7 @@ pub struct SectionPage {
     pub vaddr: u64,
     pub write: bool,
     /// Its bytes of the program's file; without it the page is zeros.
-    pub fill: Option<Fill>,
+    pub fill: Option<Boxed<Fill>>,
 }
 
 /// What page `number` of a section is filled with, from the file of that name.
@@ -31,7 +31,7 @@ fn fill_of(
     file: &Name,
     section: &Section,
     number: u64,
-) -> Result<Option<Fill>, NoMemory>
+) -> Result<Option<Boxed<Fill>>, NoMemory>
     requires sound { IsTrue (is_sound section.now) }
     requires number { number < page_count section.now }
     ensures { IfOk result (λ r. r ≡ fill_of file.now section.now number) }
@@ -40,12 +40,13 @@ fn fill_of(
         return Ok(None);
     };
     let before = 4096 * number;
-    Ok(Some(Fill {
+    let fill = Fill {
         offset: 0,
         length: (section.size - before).min(4096),
         file: Text::new(alloc, file.as_bytes())?,
         at: at + before,
-    }))
+    };
+    Ok(Some(Boxed::new(alloc, fill)?))
 }
 
 /// Page `number` of a section.

@@ -14,10 +14,10 @@ use crate::caps::{caps_of, number_at};
 use crate::landmarks::{Landmarks, SpaceTables};
 use crate::tables::{Tables, uses_at};
 use crate::tcbs::thread_object;
-use cam_base::{List, NoMemory};
+use cam_base::{Boxed, List, NoMemory};
 use cap_model::{Fill, Object};
 use std::alloc::Global;
-use vspace_layout::{Filling, FrameInfo};
+use vspace_layout::FrameInfo;
 
 fn cnode(
     alloc: Global,
@@ -84,18 +84,20 @@ fn page_table(
     }
 }
 
-fn copied_fill(alloc: Global, filling: &Filling) -> Result<Option<Fill>, NoMemory>
-    ensures { IfOk result (λ made. made ≡ filling.now) }
+fn copied_fill(alloc: Global, fill: &Option<Boxed<Fill>>) -> Result<Option<Boxed<Fill>>, NoMemory>
+    ensures { IfOk result (λ made. made ≡ fill.now) }
 {
-    match filling.get() {
-        Some(fill) => Ok(Some(Fill {
-            offset: fill.offset,
-            length: fill.length,
-            file: fill.file.copy(alloc)?,
-            at: fill.at,
-        })),
-        None => Ok(None),
-    }
+    let Some(fill) = fill else {
+        return Ok(None);
+    };
+    let fill = fill.get();
+    let copy = Fill {
+        offset: fill.offset,
+        length: fill.length,
+        file: fill.file.copy(alloc)?,
+        at: fill.at,
+    };
+    Ok(Some(Boxed::new(alloc, copy)?))
 }
 
 fn frame_of(alloc: Global, frame: &FrameInfo) -> Result<Object, NoMemory>

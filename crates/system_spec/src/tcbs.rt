@@ -15,7 +15,7 @@ ghost use Rattle.vspace_layout.specs.declared.spaces.Page.{Page};
 use crate::caps::lock_rights;
 use crate::landmarks::{Landmarks, SpaceTables};
 use crate::tables::{Tables, leaf_entry, leaf_name, pages_at, priority, threads_at};
-use cam_base::{NoMemory, Text};
+use cam_base::{Boxed, NoMemory, Text};
 use cap_model::{Cap, Object, Tcb};
 use std::alloc::Global;
 use vspace_layout::{Page, ThreadPlace};
@@ -96,7 +96,10 @@ pub fn thread_object(
     ensures { IfOk result (λ made. made ≡ object (told tables.now) (ThreadOf domain number)) }
 {
     match threads_at(tables, domain).get(number as usize) {
-        Some(thread) => Ok(Object::Thread(tcb(alloc, tables, marks, domain, thread)?)),
+        Some(thread) => {
+            let tcb = tcb(alloc, tables, marks, domain, thread)?;
+            Ok(Object::Thread(Boxed::new(alloc, tcb)?))
+        }
         None => Ok(Object::Endpoint),
     }
 }

@@ -49,7 +49,7 @@ fn mapped_of(
     let sections = section_pages(alloc, images, leaves)?;
     let count = region_pages(regions).saturating_add(sections.len() as u64);
     let mut pages = Vec::with_capacity(alloc, count as usize)?;
-    push_sections(alloc, sections, &mut pages)?;
+    push_sections(sections, &mut pages)?;
     let starts = starts_of(alloc, base, regions)?;
     push_regions(wiring, starts.as_slice(), regions, &mut pages)?;
     Ok(List::from_vec(pages))

@@ -8,7 +8,6 @@
 #![tactic(auto)]
 
 mod counts;
-mod filling;
 mod frames;
 mod laws;
 mod lay;
@@ -23,7 +22,6 @@ mod spaces;
 mod starts;
 mod thread;
 
-pub use filling::Filling;
 pub use laws::{
     addresses_are_low, frames_stand_at_their_numbers, limits_are_told_in_order, pages_are_counted,
     pages_rise, regions_and_frames_are_few, regions_are_apart, sections_stand_apart,

@@ -6,10 +6,10 @@ ghost use Rattle.vspace_layout.specs.MappedPages.{may_read, may_write, window_pa
 ghost use Rattle.vspace_layout.specs.MappedPages.{pages_from, region_page, section_page};
 ghost use Rattle.vspace_layout.specs.Outlines.{RegionsFit, starting};
 
-use crate::filling::Filling;
 use crate::region::{Content, Region};
 use adl_meaning::EndSetting;
-use cam_base::{List, NoMemory};
+use cam_base::{Boxed, List, NoMemory};
+use cap_model::Fill;
 use cspace_layout::Wiring;
 use source_images::SectionPage;
 use std::alloc::Global;
@@ -17,7 +17,7 @@ use std::alloc::Global;
 /// What a page shows: a frame of the domain's own, or a page of a connection's memory.
 #[derive(Drop)]
 pub enum Shown {
-    Own(Filling),
+    Own(Option<Boxed<Fill>>),
     Memory { connection: u32, page: u64 },
 }
 
@@ -30,28 +30,27 @@ pub struct MappedPage {
     pub shown: Shown,
 }
 
-fn section_page(alloc: Global, page: SectionPage) -> Result<MappedPage, NoMemory>
-    ensures { IfOk result (λ mapped. mapped ≡ section_page page) }
+fn section_page(page: SectionPage) -> MappedPage
+    ensures { result ≡ section_page page }
 {
     let SectionPage { vaddr, write, fill } = page;
-    Ok(MappedPage {
+    MappedPage {
         at: vaddr,
         read: true,
         write,
-        shown: Shown::Own(Filling::of(alloc, fill)?),
-    })
+        shown: Shown::Own(fill),
+    }
 }
 
 /// Maps the pages of sections.
 pub fn push_sections(
-    alloc: Global,
     sections: List<SectionPage>,
     pages: &mut Vec<MappedPage>,
 ) -> Result<(), NoMemory>
     ensures { OnOk result (pages.new.items ≡ pages.old.items ++ map section_page sections) }
 {
     for page in sections.into_vec() {
-        pages.push(section_page(alloc, page)?)?;
+        pages.push(section_page(page))?;
     }
     Ok(())
 }
@@ -94,7 +93,7 @@ fn zero_page(at: u64) -> MappedPage
         at,
         read: true,
         write: true,
-        shown: Shown::Own(Filling::zeros()),
+        shown: Shown::Own(None),
     }
 }
 

@@ -10,7 +10,6 @@ ghost use Rattle.vspace_layout.specs.Frames.{memory_part, register_part, shared_
 ghost use Rattle.vspace_layout.specs.Memory.{memory_paddr, memory_pages};
 ghost use Rattle.vspace_layout.specs.Ports.{first_numbers};
 
-use crate::filling::Filling;
 use crate::memory::{is_shared, memory_paddr, memory_pages, registers};
 use crate::owner::Owner;
 use crate::ports::first_numbers;
@@ -36,7 +35,7 @@ fn push_pages(number: u32, pages: u64, frames: &mut List<FrameInfo>) -> Result<(
         frames.push(FrameInfo {
             owner: Owner::OfConnection(number),
             paddr: None,
-            fill: Filling::zeros(),
+            fill: None,
         })?;
     }
     Ok(())
@@ -90,7 +89,7 @@ fn push_device_pages(
         frames.push(FrameInfo {
             owner: Owner::OfLeaf(leaf),
             paddr: Some(paddr + 4096 * page),
-            fill: Filling::zeros(),
+            fill: None,
         })?;
     }
     Ok(())

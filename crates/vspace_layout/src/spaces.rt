@@ -1,6 +1,6 @@
-use crate::filling::Filling;
 use crate::owner::Owner;
-use cam_base::List;
+use cam_base::{Boxed, List};
+use cap_model::Fill;
 use cspace_layout::EndAt;
 
 /// A page that is mapped in a space.
@@ -48,7 +48,7 @@ pub struct FrameInfo {
     /// Its physical address, where it is a device's.
     pub paddr: Option<u64>,
     /// What it is filled with.
-    pub fill: Filling,
+    pub fill: Option<Boxed<Fill>>,
 }
 
 /// The spaces of all domains, and all frames.

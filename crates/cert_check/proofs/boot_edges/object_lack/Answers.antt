@@ -14,7 +14,7 @@ returns-in-Pages c =
 pub returns-in-Thread : goal.returns-in-Thread
 returns-in-Thread c =
     rw c.in-Thread.is (tcb_lack c.args.spec.now c.args.labels.now.by_object c.args.cert.now c.args.from c.in-Thread.tcb _
-    c.thread_lack.ensures)
+    (rw c.get.ensures at c.thread_lack.ensures))
 
 pub returns-in-Irq : goal.returns-in-Irq
 returns-in-Irq c =

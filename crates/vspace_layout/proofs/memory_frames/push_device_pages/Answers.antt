@@ -1,4 +1,4 @@
-use Rattle.vspace_layout.proofs.Common.{OfLeaf, Some, [], ap, append_assoc, arith, device_frame, frame, map, map-range_with_len_more, range_with_len, sym, ◌*◌, ◌++◌, ◌+◌, ◌∙◌, ◌∷◌, ◌≡◌}
+use Rattle.vspace_layout.proofs.Common.{[], ap, append_assoc, arith, device_frame, map, map-range_with_len_more, range_with_len, sym, ◌++◌, ◌+◌, ◌∙◌, ◌∷◌, ◌≡◌}
 use Rattle.vspace_layout.proofs.memory_frames.push_device_pages.Goals as goal
 
 pub loop-page-preserved : goal.loop-page-preserved
@@ -6,8 +6,6 @@ loop-page-preserved c =
     let f = device_frame c.args.leaf c.args.paddr in
     let k = c.loop-page.page in
     let at : 0 + k ≡ k = omega arith in
-    c.in_ok-push.ensures.ok
-    ∙ ap (λ z. c.loop-page.frames ++ frame (OfLeaf c.args.leaf) (Some (c.args.paddr + 4096 * c.loop-page.page)) z ∷ [])
-    c.zeros.ensures
-    ∙ ap (λ z. z ++ f k ∷ []) c.loop-page.invariant ∙ append_assoc c.args.frames.now (map f (range_with_len 0 k)) (f k ∷ [])
+    c.in_ok-push.ensures.ok ∙ ap (λ z. z ++ f k ∷ []) c.loop-page.invariant
+    ∙ append_assoc c.args.frames.now (map f (range_with_len 0 k)) (f k ∷ [])
     ∙ ap (λ z. c.args.frames.now ++ z) (sym (map-range_with_len_more f 0 k k at))

@@ -1,10 +1,10 @@
 ghost use Rattle.std.specs.Prelude.{◌≡◌, IfOk};
 
-use cam_base::NoMemory;
+use crate::NoMemory;
 use std::alloc::Global;
 use std::marker::Model;
 
-/// A part of a tree in memory of its own: where it could stand and doesn't, it takes no room. Contracts see it as the part.
+/// A part of a value in memory of its own: where it could stand and doesn't, it takes no room. Contracts see it as the part.
 #[derive(Drop)]
 pub struct Boxed<T> {
     part: Box<T>,
