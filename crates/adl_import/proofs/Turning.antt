@@ -2,10 +2,9 @@
 use Rattle.std.proofs.Common.{◌≡◌, ◌∙◌, refl, sym, ap, subst, inl, inr, ◌⊎◌, Bool, true, false, cond, ℕ, zero, suc, ◌+◌, ◌-◌, ◌<◌, ◌≤◌, List, [], ◌∷◌, ◌++◌, length, Option, None, Some, Result, Ok, Err, codes, arith}
 use Rattle.std.proofs.lemmas.Bool.{ltb-true}
 use Rattle.std.proofs.lemmas.List.{length-append}
-use Rattle.std.proofs.lemmas.Option.{slice_get_within, slice_get-get_or}
+use Rattle.std.proofs.lemmas.Option.{slice_get_within}
 use Rattle.std.specs.FinMap.{get}
 use Rattle.std.specs.List.{slice_get}
-use Rattle.std.specs.Result.{IsErr, IsErrAnd}
 use Rattle.std.specs.Str.{IsUtf8}
 use Rattle.cam_base.specs.declared.code.Code.TheVariants.{NoFile, Limit}
 use Rattle.cam_base.specs.declared.error.Refused.TheVariants as refused
@@ -21,8 +20,8 @@ use Rattle.adl_ast.specs.Spelling.{IsFileSpelled}
 use Rattle.adl_lexer.specs.Lexes.{Lexes, IsFirstFault}
 use Rattle.adl_parse.specs.Files.{IsFileIn}
 use Rattle.adl_import.specs.Imports.{imports_of, is_built_in, name_given}
-use Rattle.adl_import.specs.Sources.{Meeting, IsFileOf, is_known, root_place, file_limit, files_limit}
-use Rattle.adl_import.specs.Taking.{AlikeInNext, Each, AreUtf8, IsParsed, IsRead, IsTakenIn, IsTurn}
+use Rattle.adl_import.specs.Sources.{Meeting, is_known, root_place, file_limit, files_limit}
+use Rattle.adl_import.specs.Taking.{AlikeInNext, AreUtf8, IsParsed, IsRead, IsTakenIn, IsTurn}
 use Rattle.adl_import.specs.Turns.{and_then, fault_at, meet, meet_given, take_import, take_imports, met_in, Turns, first, next, IsReadFault, absent, too_long, lexing, parsing, IsTurnFault, reading, importing}
 use Rattle.cam_base.specs.Unread.{SourceError}
 use Rattle.cam_base.specs.declared.error.Unread.TheVariants as error
@@ -65,12 +64,8 @@ read_absent m files name place e is h = subst (λ (x : SourceError). IsRead m fi
 pub read_too_long : (m : Contents) (files : List SourceFile) (name : List ℕ) (place : Place) (e : SourceError)
     → e ≡ error.Fault (fault_at Limit place (codes "file size")) (met_in files name place)
     → (bytes : List ℕ) × (get m name ≡ Some bytes) × (file_limit < length bytes) → IsRead m files name place (Err e)
-read_too_long m files name place e is h = subst (λ (x : SourceError). IsRead m files name place (Err x)) (sym is) (too_long h.1 h.2)
-
--- an error that is passed on
-pub err_is : {X : Type 0} (r : Result X SourceError) (e : SourceError) → IsErr r → IsErrAnd r (λ x. x ≡ e) → r ≡ Err e
-err_is (Ok x) e is h = absurd h
-err_is (Err x) e is h = ap Err h
+read_too_long m files name place e is h =
+    subst (λ (x : SourceError). IsRead m files name place (Err x)) (sym is) (too_long h.1 h.2)
 
 -- a turn that stops at its reading
 pub turn_unread : (m : Contents) (root : List ℕ) (files : List SourceFile) (known : List Meeting) (name : List ℕ) (place : Place)

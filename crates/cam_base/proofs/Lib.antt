@@ -29,3 +29,4 @@ pub mod Cutting
 pub mod FieldsMore
 pub mod Telling
 pub mod ShortTexts
+pub mod Errors

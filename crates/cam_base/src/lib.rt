@@ -1,4 +1,4 @@
-//! Lists, texts, names, paths, places and faults; numbers as text; the lines of a text; and grammars.
+//! Lists, boxes, texts, names, paths, places and faults; numbers as text; the lines of a text; and grammars.
 //!
 //! Nothing here reads a file, writes an output or knows a rule of the language or of capDL beyond its words and numbers.
 //!

@@ -47,7 +47,7 @@ impl Path {
         self.names.as_slice()
     }
 
-    /// The names, joined by dots.
+    /// The names, joined by dots. Room for all of them is taken at once.
     pub fn text(&self, alloc: Global) -> Result<Text, NoMemory>
         ensures { IfOk result (λ text. text ≡ joined self.now) }
     {
@@ -88,7 +88,11 @@ impl Path {
 fn join_names(alloc: Global, names: &[Name]) -> Result<Text, NoMemory>
     ensures { IfOk result (λ text. text ≡ joined names.now) }
 {
-    let mut bytes = List::new(alloc);
+    let mut room: usize = 0;
+    for name in names {
+        room = room.saturating_add(name.as_bytes().len() + 1);
+    }
+    let mut bytes = List::from_vec(Vec::with_capacity(alloc, room)?);
     if let [first, rest @ ..] = names {
         bytes.extend(first.as_bytes())?;
         push_dotted(rest, &mut bytes)?;

@@ -43,7 +43,7 @@ pub use Rattle.cam_base.specs.Unread.{SourceError, yields}
 pub use Rattle.source_images.specs.declared.images.Images.{Images}
 pub use Rattle.source_images.specs.declared.reading.Reading.{Reading}
 pub use Rattle.source_images.specs.declared.tables.Table.{Table}
-pub use Rattle.std.proofs.Common.{Bool, Err, IsErr, IsTrue, List, None, Ok, Option, Result, Some, [], add-one, ap, append_assoc, arith, cond, drop, false, get_or, inl, inr, is_some, length, lit<, map, nat_eq, nat_lt, not, refl, replicate, rules, set}
+pub use Rattle.std.proofs.Common.{Bool, Err, IsTrue, List, None, Ok, Option, Result, Some, [], add-one, ap, append_assoc, arith, cond, drop, false, get_or, inl, inr, is_some, length, lit<, map, nat_eq, nat_lt, not, refl, replicate, rules, set}
 pub use Rattle.std.proofs.Common.{subst, suc, sym, take, true, true≢false, zero, ℕ, ⊎_elim, ◌%◌, ◌&&◌, ◌*◌, ◌++◌, ◌+◌, ◌-◌, ◌/◌, ◌<◌, ◌^◌, ◌||◌, ◌∙◌, ◌∷◌, ◌≡◌, ◌≢◌, ◌≤◌, ◌⊎◌}
 pub use Rattle.std.proofs.lemmas.Bool.{and_cases, and_from, and_left, and_parts, and_right, both_ways, cases_Bool, cases_eq, eq-eqb, eqb-true, leb-false, leb-true, lt-ltb, ltb-false, ltb-true, ne_eqb, not-false, not-true, or_left, or_right}
 pub use Rattle.std.proofs.lemmas.Bool.Decides.{nat_tests}
@@ -57,5 +57,5 @@ pub use Rattle.std.specs.Borrow.{Bor}
 pub use Rattle.std.specs.List.{All, AllPairs, cons_option, filter_map, flat_map, fold, list_all, list_any, position, position_from, range_with_len, slice_get, slice_range, sum_by, zip}
 pub use Rattle.std.specs.List.Sorted.{IsNonDecreasingBy, IsPermutation}
 pub use Rattle.std.specs.Option.{option_and_then, option_map, option_map_or, option_or}
-pub use Rattle.std.specs.Prelude.{IfOk, IsErrAnd, OnOk, leb, min, string_bytes, sum, unwrap_or}
+pub use Rattle.std.specs.Prelude.{IfOk, OnOk, leb, min, string_bytes, sum, unwrap_or}
 pub use Rattle.std.specs.Str.{IsUtf8, bytes_eq}

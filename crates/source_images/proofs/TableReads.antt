@@ -1,5 +1,5 @@
 -- Tables, read one after another.
-use Rattle.source_images.proofs.Common.{AlikeAsRead, AlikeInTables, AreFound, AreTablesRead, Bor, Contents, Err, Found, SourceError, InAll, IsErr, IsErrAnd, IsFound, IsIn, IsTableRead, LearnsOnly, List, Name, Ok, Option, Reading, Result, Some, Table}
+use Rattle.source_images.proofs.Common.{AlikeAsRead, AlikeInTables, AreFound, AreTablesRead, Bor, Contents, Err, Found, SourceError, InAll, IsFound, IsIn, IsTableRead, LearnsOnly, List, Name, Ok, Option, Reading, Result, Some, Table}
 use Rattle.source_images.proofs.Common.{[], add-one, ap, arith, cond, false, files_told, found_bytes, found_in, get_map, get_or, in_place, length, length-append, length-map, map, names_told, nat_lt, nat_tests, reading_of, readings_of, refl}
 use Rattle.source_images.proofs.Common.{slice_get, slice_get-get_or, string_bytes, subst, suc, sym, table, table_at, table_told, tables_told, take, too_long, zero, ℕ, ◌++◌, ◌+◌, ◌<◌, ◌∙◌, ◌∷◌, ◌≡◌, ◌≤◌}
 use Rattle.std.proofs.Math.Seq.{take-length}
@@ -126,11 +126,6 @@ err_told contents file tables n t (error.Fault fault f) lt is h = h
 err_told contents file tables n t (error.ReadFault f) lt is h = failed_in (tables_told tables) n (table_told t) f
     (table_here tables n t lt is) h
 err_told contents file tables n t error.NoMemory lt is h = tt
-
--- an error that is passed on
-pub err_is : {X : Type 0} (r : Result X SourceError) (e : SourceError) → IsErr r → IsErrAnd r (λ x. x ≡ e) → r ≡ Err e
-err_is (Ok x) e is h = absurd h
-err_is (Err x) e is h = ap (λ z. Err z) h
 
 pub tables_failed : (contents : Contents) (file : ℕ) (tables : List Table) (n : ℕ) (t : Table) (e : SourceError)
     (r : Result (List Reading) SourceError) → n < length tables → t ≡ get_or tables n t

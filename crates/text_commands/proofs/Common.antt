@@ -32,7 +32,7 @@ pub use Rattle.least_cert.specs.LeastCertificate.{CloseRefused, HasMoreThan, IsL
 pub use Rattle.policy_text.specs.Labelled.{IsLabelling, object_label, unlabelled}
 pub use Rattle.policy_text.specs.PolicyTexts.{IsCertRead, IsCertText, IsPolicyRead, IsPolicyText}
 pub use Rattle.sect_table.specs.declared.image.Image.{Image}
-pub use Rattle.std.proofs.Common.{Bool, Err, IsErr, IsErrAnd, List, None, Ok, Option, Result, Some, [], ap, arith, false, find, get_or, inl, inr, length, map, nat_lt, refl, slice_get, subst, suc, sym, take, take_all, true, zero, ℕ, ◌&&◌, ◌*◌, ◌++◌}
+pub use Rattle.std.proofs.Common.{Bool, Err, List, None, Ok, Option, Result, Some, [], ap, arith, false, find, get_or, inl, inr, length, map, nat_lt, refl, slice_get, subst, suc, sym, take, take_all, true, zero, ℕ, ◌&&◌, ◌*◌, ◌++◌}
 pub use Rattle.std.proofs.Common.{◌+◌, ◌<◌, ◌^◌, ◌||◌, ◌∙◌, ◌∷◌, ◌≡◌, ◌≢◌, ◌≤◌, ◌⊎◌}
 pub use Rattle.std.proofs.lemmas.Bool.{and_parts, cases_lt}
 pub use Rattle.std.proofs.lemmas.Bool.Decides.{Decides-eqb, nat_tests}

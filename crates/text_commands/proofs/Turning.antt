@@ -1,12 +1,8 @@
 -- Turns of inputs, with other counts: what was read stays so, and a read fault from a later count is one from an earlier.
-use Rattle.text_commands.proofs.Common.{Contents, Err, Fault, InputError, InputFault, IsErr, IsErrAnd, IsErrorOf, IsInput, IsTooLong, List, NoMemory, Ok, Option, ReadFault, Refused, Result, TooLong, Turn, arith, inl, inr, of_file, ℕ, ◌∙◌, ◌≡◌, ◌≤◌}
+use Rattle.text_commands.proofs.Common.{Contents, Err, Fault, InputError, InputFault, IsErrorOf, IsInput, IsTooLong, List, NoMemory, Ok, ReadFault, Refused, Result, TooLong, Turn, arith, inl, inr, of_file, ℕ}
 use Rattle.cam_io.proofs.Counts.{rose_after}
-use Rattle.cam_io.specs.Causes.{NoneFell, Rose}
+use Rattle.cam_io.specs.Causes.{NoneFell}
 use Rattle.cam_io.specs.Reading.{KeepsFiles}
-
-pub is_err : {A : Type 0} (r : Result A InputError) (e : InputError) → IsErr r → IsErrAnd r (λ y. y ≡ e) → r ≡ Err e
-is_err (Ok x) e is and = absurd cc
-is_err (Err y) e is and = cc
 
 none_fell : (a b c : List ℕ → ℕ) → NoneFell a b → NoneFell b c → NoneFell a c
 none_fell a b c x y = λ name. let l = x name in let m = y name in omega arith

@@ -1,7 +1,8 @@
 use Rattle.std.proofs.Common.{◌≡◌, ◌∙◌, refl, sym, subst, arith, ℕ, List, Ok, Err}
 use Rattle.std.specs.Str.{IsUtf8}
 use Rattle.adl_import.specs.Loaded.{IsLoadedFrom}
-use Rattle.adl_import.proofs.Turning.{err_is, learns_next, loaded_err, loaded_none, turn_of, turns_first, turns_few, turns_utf8, turns_next, turns_smaller}
+use Rattle.cam_base.proofs.Errors.{err_is}
+use Rattle.adl_import.proofs.Turning.{learns_next, loaded_err, loaded_none, turn_of, turns_first, turns_few, turns_utf8, turns_next, turns_smaller}
 use Rattle.adl_import.proofs.loading.load_from.Goals as goal
 use Rattle.cam_io.proofs.Kept.{keeps_twice}
 
@@ -28,8 +29,7 @@ take_turn-requires-clause-utf8 g c =
 
 pub returns-in_err-file-clause-loaded : goal.returns-in_err-file-clause-loaded
 returns-in_err-file-clause-loaded g c m told =
-    let is = err_is c.from_residual-in_err-file.result c.in_err-file.field-0.0 c.from_residual-in_err-file.ensures.0
-    c.from_residual-in_err-file.ensures.1 in
+    let is = err_is c.from_residual-in_err-file.result c.in_err-file.field-0.0 c.from_residual-in_err-file.ensures.1 in
     let turn = turn_of m c.as_bytes-top.result.now c.loop-room.done c.as_slice.result.now c.loop-room.known.entries
     c.take_turn.new.known.entries (Err c.in_err-file.field-0.0)
     c.as_slice.ensures (c.in_err-file.ensures.turn m told) in

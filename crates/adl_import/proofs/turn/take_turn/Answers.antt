@@ -1,6 +1,7 @@
 use Rattle.std.proofs.Common.{◌≡◌, ◌∙◌, sym, ap, Some, length}
 use Rattle.std.specs.List.{slice_get}
-use Rattle.adl_import.proofs.Turning.{each_at, err_is, turn_unread, turn_stopped, turn_done}
+use Rattle.cam_base.proofs.Errors.{err_is}
+use Rattle.adl_import.proofs.Turning.{each_at, turn_unread, turn_stopped, turn_done}
 use Rattle.adl_import.proofs.turn.take_turn.Goals as goal
 
 pub read_file-requires-clause-utf8 : goal.read_file-requires-clause-utf8
@@ -10,7 +11,7 @@ read_file-requires-clause-utf8 g c =
 
 pub returns-in_err-file-clause-turn : goal.returns-in_err-file-clause-turn
 returns-in_err-file-clause-turn g c m told =
-    let is = err_is c.from_residual.result c.in_err-file.field-0.0 c.from_residual.ensures.0 c.from_residual.ensures.1 in
+    let is = err_is c.from_residual.result c.in_err-file.field-0.0 c.from_residual.ensures.1 in
     rw is
     (turn_unread m c.args.root.now c.args.done.now c.args.known.now.entries c.in-Some.name.now c.in-Some.place.now
     c.in_err-file.field-0.0
@@ -19,7 +20,7 @@ returns-in_err-file-clause-turn g c m told =
 pub returns-in_err-take_imports_of-clause-turn : goal.returns-in_err-take_imports_of-clause-turn
 returns-in_err-take_imports_of-clause-turn g c m told =
     let is = err_is c.from_residual-in_err-take_imports_of.result c.in_err-take_imports_of.field-0.0
-    c.from_residual-in_err-take_imports_of.ensures.0 c.from_residual-in_err-take_imports_of.ensures.1 in
+    c.from_residual-in_err-take_imports_of.ensures.1 in
     rw is
     (turn_stopped m c.args.root.now c.args.done.now c.args.known.now.entries c.take_imports_of.new.known.entries c.in_ok-file.file
     c.in-Some.name.now c.in-Some.place.now c.in_err-take_imports_of.field-0.0 (sym c.in-Some.ensures.entry)

@@ -1,6 +1,7 @@
 use Rattle.source_images.proofs.Common.{AlikeInTables, AreTablesRead, Err, IsAnswer, LearnsOnly, Ok, ap, arith, length, subst, sym, tables_told, ◌∙◌}
 use Rattle.source_images.proofs.Answering.{answered, err_answered, files_named, tables_are}
-use Rattle.source_images.proofs.TableReads.{err_is, same_length}
+use Rattle.cam_base.proofs.Errors.{err_is}
+use Rattle.source_images.proofs.TableReads.{same_length}
 use Rattle.source_images.proofs.read.read_images.Goals as goal
 
 pub read_tables-requires : goal.read_tables-requires
@@ -24,8 +25,7 @@ returns-in_err-readings-clause-read g c m told =
     c.in_ok-tables.ensures c.folder_of.ensures c.as_slice.ensures.value c.in_ok-types.ensures.names)
     (subst (λ n. AreTablesRead m n (tables_told c.as_slice-2.result.now) (Err c.in_err-readings.field-0.0)) c.len.ensures
     (c.in_err-readings.ensures.read m told))
-    (err_is c.from_residual-in_err-readings.result c.in_err-readings.field-0.0 c.from_residual-in_err-readings.ensures.0
-    c.from_residual-in_err-readings.ensures.1)
+    (err_is c.from_residual-in_err-readings.result c.in_err-readings.field-0.0 c.from_residual-in_err-readings.ensures.1)
 
 pub returns-clause-read : goal.returns-clause-read
 returns-clause-read g c m told =

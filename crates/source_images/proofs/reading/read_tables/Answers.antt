@@ -1,5 +1,6 @@
 use Rattle.source_images.proofs.Common.{arith, subst, sym, tables_told}
-use Rattle.source_images.proofs.TableReads.{AreRead, err_is, learns_more, none_read, tables_failed, tables_more}
+use Rattle.cam_base.proofs.Errors.{err_is}
+use Rattle.source_images.proofs.TableReads.{AreRead, learns_more, none_read, tables_failed, tables_more}
 use Rattle.source_images.proofs.reading.read_tables.Goals as goal
 use Rattle.cam_io.proofs.Kept.{keeps_twice}
 
@@ -16,7 +17,7 @@ returns-in_err-read_table-clause-read g c m told =
     tables_failed m c.args.file c.args.tables.now c.loop-number.number c.index-tables-number.result c.in_err-read_table.field-0.0
     c.from_residual.result
     c.loop-number-test.true c.index-tables-number.is (c.in_err-read_table.ensures.read m told)
-    (err_is c.from_residual.result c.in_err-read_table.field-0.0 c.from_residual.ensures.0 c.from_residual.ensures.1)
+    (err_is c.from_residual.result c.in_err-read_table.field-0.0 c.from_residual.ensures.1)
 
 pub loop-number-preserved : goal.loop-number-preserved
 loop-number-preserved g c = record {

@@ -1,17 +1,17 @@
 use Rattle.text_commands.proofs.Common.{Err, IsPolicyRead, Ok, inl, inr, refl, tell_text}
 use Rattle.capdl_text.specs.Texts as capdl
-use Rattle.text_commands.proofs.Turning.{is_err, turn_after, turn_until}
+use Rattle.cam_base.proofs.Errors.{err_is}
+use Rattle.text_commands.proofs.Turning.{turn_after, turn_until}
 use Rattle.text_commands.proofs.commands.certify_texts.Goals as goal
 
 pub returns-in_err-spec-clause-certified : goal.returns-in_err-spec-clause-certified
 returns-in_err-spec-clause-certified g c m told =
-    rw (is_err c.from_residual.result c.in_err-spec.field-0.0 c.from_residual.ensures.0 c.from_residual.ensures.1)
+    rw (err_is c.from_residual.result c.in_err-spec.field-0.0 c.from_residual.ensures.1)
     (inr (c.in_err-spec.field-0.0, (c.in_err-spec.ensures.system m told), refl))
 
 pub returns-in_err-allowed-clause-certified : goal.returns-in_err-allowed-clause-certified
 returns-in_err-allowed-clause-certified g c m told =
-    rw (is_err c.from_residual-in_err-allowed.result c.in_err-allowed.field-0.0 c.from_residual-in_err-allowed.ensures.0
-    c.from_residual-in_err-allowed.ensures.1)
+    rw (err_is c.from_residual-in_err-allowed.result c.in_err-allowed.field-0.0 c.from_residual-in_err-allowed.ensures.1)
     (inl (
       c.in_ok-spec.spec,
       (turn_until m g.F.Files.faults tell_text capdl.IsRead c.args.cdl.now c.args.files.now c.read_system.new.files
@@ -28,8 +28,7 @@ returns-in_err-allowed-clause-certified g c m told =
 
 pub returns-in_err-labels-clause-certified : goal.returns-in_err-labels-clause-certified
 returns-in_err-labels-clause-certified g c m told =
-    rw (is_err c.from_residual-in_err-labels.result c.in_err-labels.field-0.0 c.from_residual-in_err-labels.ensures.0
-    c.from_residual-in_err-labels.ensures.1)
+    rw (err_is c.from_residual-in_err-labels.result c.in_err-labels.field-0.0 c.from_residual-in_err-labels.ensures.1)
     (inl (
       c.in_ok-spec.spec,
       (turn_until m g.F.Files.faults tell_text capdl.IsRead c.args.cdl.now c.args.files.now c.read_system.new.files

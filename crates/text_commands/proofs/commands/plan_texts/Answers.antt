@@ -1,18 +1,18 @@
 use Rattle.text_commands.proofs.Common.{Err, Ok, inl, inr, refl, tell_text, tell_untyped}
 use Rattle.boot_plan.specs.UntypedTexts as untypeds
 use Rattle.capdl_text.specs.Texts as capdl
-use Rattle.text_commands.proofs.Turning.{is_err, turn_after, turn_until}
+use Rattle.cam_base.proofs.Errors.{err_is}
+use Rattle.text_commands.proofs.Turning.{turn_after, turn_until}
 use Rattle.text_commands.proofs.commands.plan_texts.Goals as goal
 
 pub returns-in_err-spec-clause-planned : goal.returns-in_err-spec-clause-planned
 returns-in_err-spec-clause-planned g c m told =
-    rw (is_err c.from_residual.result c.in_err-spec.field-0.0 c.from_residual.ensures.0 c.from_residual.ensures.1)
+    rw (err_is c.from_residual.result c.in_err-spec.field-0.0 c.from_residual.ensures.1)
     (inr (c.in_err-spec.field-0.0, (c.in_err-spec.ensures.system m told), refl))
 
 pub returns-in_err-regions-clause-planned : goal.returns-in_err-regions-clause-planned
 returns-in_err-regions-clause-planned g c m told =
-    rw (is_err c.from_residual-in_err-regions.result c.in_err-regions.field-0.0 c.from_residual-in_err-regions.ensures.0
-    c.from_residual-in_err-regions.ensures.1)
+    rw (err_is c.from_residual-in_err-regions.result c.in_err-regions.field-0.0 c.from_residual-in_err-regions.ensures.1)
     (inl (
       c.in_ok-spec.spec,
       (turn_until m g.F.Files.faults tell_text capdl.IsRead c.args.cdl.now c.args.files.now c.read_system.new.files

@@ -1,18 +1,18 @@
 use Rattle.text_commands.proofs.Common.{Err, IsPolicyRead, IsReplayed, NoMemory, Ok, Ran, ap, inl, inr, keeps_twice, refl, subst, tell_text}
 use Rattle.capdl_text.specs.Texts as capdl
 use Rattle.step_text.specs.StepTexts as steps
-use Rattle.text_commands.proofs.Turning.{is_err, turn_after, turn_until}
+use Rattle.cam_base.proofs.Errors.{err_is}
+use Rattle.text_commands.proofs.Turning.{turn_after, turn_until}
 use Rattle.text_commands.proofs.commands.replay_texts.Goals as goal
 
 pub returns-in_err-spec-clause-ran : goal.returns-in_err-spec-clause-ran
 returns-in_err-spec-clause-ran g c m told =
-    rw (is_err c.from_residual.result c.in_err-spec.field-0.0 c.from_residual.ensures.0 c.from_residual.ensures.1)
+    rw (err_is c.from_residual.result c.in_err-spec.field-0.0 c.from_residual.ensures.1)
     (inr (c.in_err-spec.field-0.0, (c.in_err-spec.ensures.system m told), refl))
 
 pub returns-in_err-allowed-clause-ran : goal.returns-in_err-allowed-clause-ran
 returns-in_err-allowed-clause-ran g c m told =
-    rw (is_err c.from_residual-in_err-allowed.result c.in_err-allowed.field-0.0 c.from_residual-in_err-allowed.ensures.0
-    c.from_residual-in_err-allowed.ensures.1)
+    rw (err_is c.from_residual-in_err-allowed.result c.in_err-allowed.field-0.0 c.from_residual-in_err-allowed.ensures.1)
     (inl (
       c.in_ok-spec.spec,
       (turn_until m g.F.Files.faults tell_text capdl.IsRead c.args.cdl.now c.args.files.now c.read_system.new.files
@@ -30,8 +30,7 @@ returns-in_err-allowed-clause-ran g c m told =
 pub returns-in_err-list-clause-ran : goal.returns-in_err-list-clause-ran
 returns-in_err-list-clause-ran g c m told =
     let before = c.in_err-list.ensures.kept.told_still m told in
-    rw (is_err c.from_residual-in_err-list.result c.in_err-list.field-0.0 c.from_residual-in_err-list.ensures.0
-    c.from_residual-in_err-list.ensures.1)
+    rw (err_is c.from_residual-in_err-list.result c.in_err-list.field-0.0 c.from_residual-in_err-list.ensures.1)
     (inl (
       c.in_ok-spec.spec,
       (turn_until m g.F.Files.faults tell_text capdl.IsRead c.args.cdl.now c.args.files.now c.read_system.new.files
@@ -58,8 +57,7 @@ returns-in_err-list-clause-ran g c m told =
 pub returns-in_err-labels-clause-ran : goal.returns-in_err-labels-clause-ran
 returns-in_err-labels-clause-ran g c m told =
     let before = c.in_ok-list.ensures.kept.told_still m told in
-    rw (is_err c.from_residual-in_err-labels.result c.in_err-labels.field-0.0 c.from_residual-in_err-labels.ensures.0
-    c.from_residual-in_err-labels.ensures.1)
+    rw (err_is c.from_residual-in_err-labels.result c.in_err-labels.field-0.0 c.from_residual-in_err-labels.ensures.1)
     (inl (
       c.in_ok-spec.spec,
       (turn_until m g.F.Files.faults tell_text capdl.IsRead c.args.cdl.now c.args.files.now c.read_system.new.files
@@ -89,8 +87,7 @@ of-requires g c = c.in_ok-allowed.ensures.apart
 pub returns-in_err-replayed-clause-ran : goal.returns-in_err-replayed-clause-ran
 returns-in_err-replayed-clause-ran g c m told =
     let before = c.in_ok-list.ensures.kept.told_still m told in
-    rw (is_err c.from_residual-in_err-replayed.result NoMemory c.from_residual-in_err-replayed.ensures.0
-    c.from_residual-in_err-replayed.ensures.1)
+    rw (err_is c.from_residual-in_err-replayed.result NoMemory c.from_residual-in_err-replayed.ensures.1)
     (inl (
       c.in_ok-spec.spec,
       (turn_until m g.F.Files.faults tell_text capdl.IsRead c.args.cdl.now c.args.files.now c.read_system.new.files
