@@ -8,7 +8,6 @@ pub use Rattle.adl_meaning.specs.declared.flat.FlatConnection.{FlatConnection}
 pub use Rattle.adl_meaning.specs.declared.flat.FlatEnd.{FlatEnd}
 pub use Rattle.adl_meaning.specs.declared.flat.Leaf.{Leaf}
 pub use Rattle.arch_policy.specs.Bound.{IsBound, IsBoundAt, IsBoundBy, bound_to}
-pub use Rattle.arch_policy.specs.Dealt.{rows_have}
 pub use Rattle.arch_policy.specs.Ends.{EndAt, IsEnd, LockAt}
 pub use Rattle.arch_policy.specs.Gives.{gives, leaves, opposite, same_object}
 pub use Rattle.arch_policy.specs.Labels.{comes_before, connection_numbers, device_numbers, domain_numbers, in_order, label_numbers, label_texts, put_before, put_in, rank}
@@ -40,7 +39,7 @@ pub use Rattle.conn_rules.specs.declared.rule.ObjectKind.{ObjectKind}
 pub use Rattle.conn_rules.specs.declared.rule.ObjectKind.TheVariants.{NoObject, OfDevice, OfEndpoint, OfFrames, OfIrq, OfNotification}
 pub use Rattle.cspace_layout.specs.Members.{is_lock, members_at}
 pub use Rattle.std.proofs.Common.{Bool, Equal, Greater, Less, List, None, Option, Ordering, Some, [], ap, append-nil, arith, cond, false, get_or, inl, inr, length, not, refl, rules, subst, suc, sym, take, true, true≢false, zero, ℕ, ⊎_elim, ◌&&◌}
-pub use Rattle.std.proofs.Common.{◌++◌, ◌+◌, ◌-◌, ◌<◌, ◌==◌, ◌^◌, ◌||◌, ◌↔◌, ◌∙◌, ◌∷◌, ◌≡◌, ◌≢◌, ◌≤◌, ◌⊎◌}
+pub use Rattle.std.proofs.Common.{◌++◌, ◌+◌, ◌<◌, ◌==◌, ◌^◌, ◌||◌, ◌↔◌, ◌∙◌, ◌∷◌, ◌≡◌, ◌≢◌, ◌≤◌, ◌⊎◌}
 pub use Rattle.std.proofs.lemmas.Bool.{and_from, and_parts, cases_lt, eq-eqb, eqb-true}
 pub use Rattle.std.proofs.lemmas.List.{get_or_default, take_all, take_more}
 pub use Rattle.std.proofs.lemmas.List.Sorted.{Contains-permutation, IsPartitionPoint-from_clause, IsPermutation-sym, list_any-IsPermutation}

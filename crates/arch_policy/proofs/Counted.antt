@@ -1,5 +1,5 @@
 -- A table that has the listed edges has as many as there are different ones.
-use Rattle.arch_policy.proofs.Common.{Adds, Bool, Edge, IsBound, IsIn, IsPolicyOf, IsSorted, List, Tables, [], ap, arith, bound_edges, cases_lt, edge_count, false, filter, has, in_append, in_left}
+use Rattle.arch_policy.proofs.Common.{Adds, Bool, Edge, IsBound, IsIn, IsPolicyOf, IsSorted, List, Tables, [], ap, arith, bound_edges, cases_lt, edge_count, filter, has, in_append, in_left}
 use Rattle.arch_policy.proofs.Common.{in_right, inl, inr, length, refl, same_edge, same_edge_self, same_edge_true, sym, triples, true, true≢false, ◌++◌, ◌<◌, ◌∙◌, ◌∷◌, ◌≡◌}
 use Rattle.std.specs.Cmp.Derive.{one_truth}
 use Rattle.cap_model.proofs.EdgeLists.{distinct, member_has, same_laws}

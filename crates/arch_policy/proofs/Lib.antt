@@ -1,7 +1,6 @@
 pub mod Common
 pub mod Bounding
 pub mod Counted
-pub mod PutInRows
 pub mod Crossing
 pub mod Given
 pub mod Labelled

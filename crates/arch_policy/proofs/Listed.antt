@@ -1,5 +1,5 @@
 -- The listed edges are those that have a reason.
-use Rattle.arch_policy.proofs.Common.{AsyncSend, Authority, Bool, Connector, Control, Edge, EndAt, FlatConnection, FlatEnd, From, Handle, Interrupt, IsBound, IsEnd, IsIn, IsPolicyOf, Leaf, List, LockAt, NoObject, None, Notification, ObjectKind}
+use Rattle.arch_policy.proofs.Common.{AsyncSend, Authority, Bool, Connector, Edge, EndAt, FlatConnection, FlatEnd, From, Handle, Interrupt, IsBound, IsEnd, IsIn, IsPolicyOf, Leaf, List, LockAt, NoObject, None, Notification, ObjectKind}
 use Rattle.arch_policy.proofs.Common.{OfDevice, OfEndpoint, OfFrames, OfIrq, OfNotification, Option, Reply, Role, Rpc, Some, Tables, To, [], and_from, and_parts, ap, authorities, bound_edges, cond, connection_label, crossed, crossed_at}
 use Rattle.arch_policy.proofs.Common.{crossed_edges, direct_edges, domain_label, edge, end_edges, eq-eqb, eqb-true, false, from_any, from_gather, gather, given_edges, gives, handle_edges, has, in_append, in_gather, in_left, in_place, in_right, inl}
 use Rattle.arch_policy.proofs.Common.{inr, is_lock, labels_in_role, leads_out, leaf_label, leaves, list_any, lock_edge, lock_edges, members_at, opposite, place_of, refl, reply_edges, row_edges, row_gives, rows_of, same_connector, same_object}

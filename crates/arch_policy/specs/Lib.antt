@@ -1,5 +1,4 @@
 pub mod Bound
-pub mod Dealt
 pub mod Ends
 pub mod Gives
 pub mod Labels

@@ -1,6 +1,6 @@
 //! What bound interrupts give devices.
 
-ghost use Rattle.arch_policy.specs.Bound.{IsBound, IsBoundAt, IsBoundBy, bound_to};
+ghost use Rattle.arch_policy.specs.Bound.{IsBound, IsBoundBy, bound_to};
 ghost use Rattle.cap_model.specs.Adds.{Adds};
 ghost use Rattle.std.specs.Prelude.{◌≡◌, ◌++◌, OnOk};
 
@@ -30,19 +30,6 @@ fn push_bound_by(handle: Edge, signals: &EdgeTable, edges: &mut List<Edge>) -> R
     Ok(())
 }
 
-fn push_bound_at(
-    handle: Option<Edge>,
-    signals: &EdgeTable,
-    edges: &mut List<Edge>,
-) -> Result<(), NoMemory>
-    ensures { OnOk result (Adds (IsBoundAt handle signals.now) edges.old edges.new) }
-{
-    match handle {
-        Some(handle) => push_bound_by(handle, signals, edges),
-        None => Ok(()),
-    }
-}
-
 /// Puts what a device may signal, by the edges of handlers and those by which they signal, behind the others.
 pub fn push_bound(
     handles: &EdgeTable,
@@ -51,8 +38,8 @@ pub fn push_bound(
 ) -> Result<(), NoMemory>
     ensures { OnOk result (Adds (IsBound handles.now signals.now) edges.old edges.new) }
 {
-    for at in 0..handles.len() {
-        push_bound_at(handles.get(at), signals, edges)?;
+    for handle in handles.iter() {
+        push_bound_by(handle, signals, edges)?;
     }
     Ok(())
 }

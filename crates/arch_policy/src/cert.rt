@@ -14,7 +14,7 @@ use crate::edges::has_lock;
 use crate::{Tables, domain_label};
 use adl_meaning::Leaf;
 use cam_base::NoMemory;
-use cap_model::{Authority, AuthoritySet, Edge, EdgeTable, Hint, with_set};
+use cap_model::{Authority, AuthoritySet, Edge, EdgeTable, with_set};
 use cspace_layout::members_at;
 use std::alloc::Global;
 
@@ -63,11 +63,8 @@ fn edges_of(alloc: Global, table: &EdgeTable) -> Result<Vec<Edge>, NoMemory>
     ensures { IfOk result (λ edges. edges.items ≡ table.now) }
 {
     let mut edges = Vec::with_capacity(alloc, table.len())?;
-    let mut hint = Hint::first();
-    for at in 0..table.len() {
-        if let Some(edge) = table.get_near(at, &mut hint) {
-            edges.push(edge)?;
-        }
+    for edge in table.iter() {
+        edges.push(edge)?;
     }
     Ok(edges)
 }

@@ -8,7 +8,6 @@
 
 mod bound;
 mod cert;
-mod dealing;
 mod edges;
 mod labels;
 mod laws;

@@ -12,7 +12,6 @@ ghost use Rattle.std.specs.List.{filter};
 ghost use Rattle.std.specs.Prelude.{◌≡◌, ◌+◌, ◌<◌, ◌^◌, ◌++◌, [], if◌then◌else◌, nat_lt, codes, length, slice_get, IfOk, None, Some, ℕ};
 
 use crate::bound::push_bound;
-use crate::dealing::dealt;
 use crate::edges::{direct_edges, push_crossed_edges, signals_of};
 use crate::labels::{Labelling, label_lines, labels_of};
 use crate::{LabelNumbers, Tables};
@@ -79,14 +78,13 @@ fn reasoned_edges(alloc: Global, tables: &Tables<'_>) -> Result<List<Edge>, NoMe
     reasoned_with(alloc, tables, &handlers, &signallers)
 }
 
-/// The edges that lead out of their labels, in order.
-fn leading_out(alloc: Global, edges: List<Edge>) -> Result<List<Edge>, NoMemory>
-    ensures { IfOk result (λ kept. (e : Triple) → has kept e ≡ has (filter leads_out edges) e) }
+/// The edges that lead out of their labels.
+fn leading_out(edges: List<Edge>) -> Vec<Edge>
+    ensures { result.items ≡ filter leads_out edges }
 {
     let mut kept = edges.into_vec();
     kept.retain(|edge| edge.from != edge.to);
-    let kept = dealt(alloc, kept.as_slice())?;
-    Ok(kept)
+    kept
 }
 
 /// The table of the assigned edges.
@@ -97,7 +95,7 @@ fn assigned_edges(alloc: Global, tables: &Tables<'_>) -> Result<EdgeTable, NoMem
     ensures same { IfOk result (λ table. (e : Triple) → has table e ≡ has (triples (told tables.now)) e) }
 {
     let edges = reasoned_edges(alloc, tables)?;
-    let kept = leading_out(alloc, edges)?;
+    let kept = leading_out(edges);
     let table = EdgeTable::from_list(alloc, kept.as_slice())?;
     Ok(table)
 }

@@ -257,10 +257,6 @@ pub taken_more : {X : Type 0} (xs : List X) (n : ℕ) (x : X) → slice_get xs n
 taken_more xs n x h = take_more xs n x (slice_get_within xs n x h)
     ∙ ap (λ z. take n xs ++ z ∷ []) (get_or_from_slice_get xs n x x h)
 
-pub one_more : {X : Type 0} (xs old new : List X) (n : ℕ) (x : X) → slice_get xs n ≡ Some x → old ≡ take n xs
-    → new ≡ old ++ x ∷ [] → new ≡ take (n + 1) xs
-one_more xs old new n x h is more = more ∙ ap (λ z. z ++ x ∷ []) is ∙ sym (taken_more xs n x h)
-
 pub in_any : {X : Type 0} (p : X → Bool) (xs : List X) (x : X) → IsIn x xs → p x ≡ true → list_any p xs ≡ true
 in_any p [] x i e = absurd i
 in_any p (y ∷ xs) x (inl s) e = ap (λ b. b || list_any p xs) (ap p s ∙ e)

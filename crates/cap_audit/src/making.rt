@@ -318,18 +318,6 @@ impl<'a> Making<'a> {
         Ok(())
     }
 
-    fn note_some(&mut self, edge: Option<Edge>) -> Result<(), NoMemory>
-        ensures { OnOk result (Notes (λ e. edge ≡ Some e) self.old self.new) }
-    {
-        match edge {
-            Some(edge) => {
-                self.note(edge)?;
-                Ok(())
-            }
-            None => Ok(()),
-        }
-    }
-
     /// Puts edges in, where they lie between different labels.
     pub fn note_all(&mut self, edges: &[Edge]) -> Result<(), NoMemory>
         ensures { OnOk result (Notes (λ e. has edges.now e ≡ true) self.old self.new) }
@@ -344,8 +332,8 @@ impl<'a> Making<'a> {
     pub fn note_table(&mut self, table: &EdgeTable) -> Result<(), NoMemory>
         ensures { OnOk result (Notes (λ e. has table.now e ≡ true) self.old self.new) }
     {
-        for place in 0..table.len() {
-            self.note_some(table.get(place))?;
+        for edge in table.iter() {
+            self.note(edge)?;
         }
         Ok(())
     }

@@ -24,3 +24,4 @@ pub mod Comparing
 pub mod Ranges
 pub mod EdgeLists
 pub mod SpaceRoots
+pub mod EdgesLeft

@@ -21,3 +21,4 @@ pub mod Rows
 pub mod Shared
 pub mod Tables
 pub mod Between
+pub mod EdgesLeft

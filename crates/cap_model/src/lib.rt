@@ -27,6 +27,7 @@ mod shared;
 mod spec;
 mod state;
 mod table;
+mod walk;
 
 pub use authorities::{Authority, AuthoritySet};
 pub use cap::Cap;
@@ -49,3 +50,4 @@ pub use rights::Rights;
 pub use spec::{Entry, Spec};
 pub use state::{Content, Mapped, Pending, ThreadState};
 pub use table::EdgeTable;
+pub use walk::Edges;

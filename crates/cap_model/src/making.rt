@@ -98,7 +98,7 @@ fn pairs_of(
 ) -> Result<Vec<(Authority, u32)>, NoMemory>
     ensures { IfOk result (λ pairs. pairs.items ≡ map pair_of before.now ++ map pair_of behind.now) }
 {
-    let pairs = with_pairs(Vec::new(alloc), before)?;
+    let pairs = with_pairs(Vec::with_capacity(alloc, before.len())?, before)?;
     with_pairs(pairs, behind)
 }
 
@@ -115,7 +115,7 @@ fn with_pairs(pairs: Vec<(Authority, u32)>, run: &[Edge]) -> Result<Vec<(Authori
 fn replies_of(alloc: Global, run: &[Edge]) -> Result<Vec<u32>, NoMemory>
     ensures { IfOk result (λ replies. replies.items ≡ map (λ e. e.to) run.now) }
 {
-    let mut replies = Vec::new(alloc);
+    let mut replies = Vec::with_capacity(alloc, run.len())?;
     for edge in run {
         replies.push(edge.to)?;
     }

@@ -11,6 +11,7 @@ use crate::rows::{
     Class, Row, edge_in, has_edge, row_near, row_of, rows_behind, rows_below, rows_near,
 };
 use crate::shared::{class_of_pairs, shared_rows};
+use crate::walk::Edges;
 use crate::{Authority, Edge};
 use cam_base::NoMemory;
 use std::alloc::Global;
@@ -38,6 +39,8 @@ impl Model for EdgeTable {
 }
 
 impl EdgeTable {
+    ghost use Rattle.cap_model.specs.EdgesLeft.{edges_left};
+
     /// The table without edges. Takes no memory.
     pub fn empty(alloc: Global) -> EdgeTable
         ensures { result ≡ [] }
@@ -121,6 +124,14 @@ impl EdgeTable {
         let rows = self.rows.as_slice();
         hint.past = rows_near(rows, at, hint.past);
         edge_in(rows, self.classes.as_slice(), hint.past, at)
+    }
+
+    /// Its edges, in order. Takes no memory.
+    pub fn iter(&self) -> Edges<'_>
+        ensures edges { edges_left result ≡ self.now }
+        ensures sorted { IsSorted self.now }
+    {
+        Edges::of(self.rows.as_slice(), self.classes.as_slice())
     }
 
     /// Whether the table has the edge. Takes no memory.

@@ -4,20 +4,17 @@ ghost use Rattle.cap_model.specs.Tables.{Finds};
 ghost use Rattle.cert_check.specs.Violations.{BreaksPolicy};
 
 use crate::beside::Beside;
-use cap_model::{Edge, EdgeTable, Hint};
+use cap_model::{Edge, EdgeTable};
 
 /// The least edge of the certificate between different labels that the policy lacks. The edges of both are walked side by
 /// side.
 pub fn find_outside(policy: &EdgeTable, cert: &EdgeTable) -> Option<Edge>
     ensures { Finds (BreaksPolicy policy.now cert.now) result }
 {
-    let mut hint = Hint::first();
     let mut beside = Beside::at(0);
-    for i in 0..cert.len() {
-        if let Some(edge) = cert.get_near(i, &mut hint) {
-            if edge.from != edge.to && !beside.has(policy, &edge) {
-                return Some(edge);
-            }
+    for edge in cert.iter() {
+        if edge.from != edge.to && !beside.has(policy, &edge) {
+            return Some(edge);
         }
     }
     None

@@ -1,13 +1,5 @@
--- Lists of edges, one edge more at a time.
-use Rattle.label_flow.proofs.Common.{AreBelow, Contains, Contains-push_cases, Edge, List, Some, [], ap, arith, get_or, inl, inr, length, map, map-append, slice_get, subst, sym, take, take_more, turned, ℕ}
-use Rattle.label_flow.proofs.Common.{◌++◌, ◌+◌, ◌<◌, ◌∙◌, ◌∷◌, ◌≡◌, ◌≤◌}
-use Rattle.cam_base.proofs.NumberedLists.{taken_more}
-
-pub one_turned : (table old new : List Edge) (at : ℕ) (e : Edge) → slice_get table at ≡ Some e → old ≡ map turned (take at table)
-    → new ≡ old ++ turned e ∷ [] → new ≡ map turned (take (at + 1) table)
-one_turned table old new at e got is more =
-    more ∙ ap (λ (xs : List Edge). xs ++ turned e ∷ []) is ∙ sym (ap (λ (xs : List Edge). map turned xs) (taken_more table at e got)
-    ∙ map-append turned (take at table) (e ∷ []))
+-- Labels below a bound, one edge more at a time.
+use Rattle.label_flow.proofs.Common.{AreBelow, Contains, Contains-push_cases, Edge, List, arith, get_or, inl, inr, length, subst, take, take_more, ℕ, ◌+◌, ◌<◌, ◌≤◌}
 
 pub below_more : (edges : List Edge) (i count more : ℕ) (d : Edge) → i < length edges → AreBelow count (take i edges)
     → count ≤ more → (get_or edges i d).from < more → (get_or edges i d).to < more

@@ -4,7 +4,7 @@ ghost use Rattle.label_flow.specs.Edges.{AreBelow, turned};
 ghost use Rattle.std.specs.Prelude.{◌≡◌, ◌<◌, ◌≤◌, map, IfOk};
 
 use cam_base::NoMemory;
-use cap_model::{Edge, EdgeTable, Hint};
+use cap_model::{Edge, EdgeTable};
 use std::alloc::Global;
 
 /// The edges of a table, in order.
@@ -12,11 +12,8 @@ pub fn listed(alloc: Global, table: &EdgeTable) -> Result<Vec<Edge>, NoMemory>
     ensures { IfOk result (λ edges. edges.items ≡ table.now) }
 {
     let mut edges = Vec::new(alloc);
-    let mut hint = Hint::first();
-    for at in 0..table.len() {
-        if let Some(edge) = table.get_near(at, &mut hint) {
-            edges.push(edge)?;
-        }
+    for edge in table.iter() {
+        edges.push(edge)?;
     }
     Ok(edges)
 }
@@ -26,15 +23,12 @@ pub fn all_turned(alloc: Global, table: &EdgeTable) -> Result<Vec<Edge>, NoMemor
     ensures { IfOk result (λ edges. edges.items ≡ map turned table.now) }
 {
     let mut edges = Vec::new(alloc);
-    let mut hint = Hint::first();
-    for at in 0..table.len() {
-        if let Some(edge) = table.get_near(at, &mut hint) {
-            edges.push(Edge {
-                from: edge.to,
-                authority: edge.authority,
-                to: edge.from,
-            })?;
-        }
+    for edge in table.iter() {
+        edges.push(Edge {
+            from: edge.to,
+            authority: edge.authority,
+            to: edge.from,
+        })?;
     }
     Ok(edges)
 }

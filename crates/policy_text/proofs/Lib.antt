@@ -18,3 +18,4 @@ pub mod TextsKept
 pub mod WordsAdded
 pub mod WrittenMeans
 pub mod WrittenRight
+pub mod Saying

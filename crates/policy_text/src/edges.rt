@@ -5,7 +5,7 @@ ghost use Rattle.policy_text.specs.EdgeLines.{apart_line, apart_lines, edge_line
 
 use crate::Names;
 use cam_io::{Outputs, Writer};
-use cap_model::{Edge, EdgeTable, Hint};
+use cap_model::{Edge, EdgeTable};
 
 /// Writes an edge behind a word.
 pub fn write_edge<O: Outputs>(word: &[u8], edge: &Edge, names: &Names, to: &mut Writer<O>)
@@ -47,10 +47,7 @@ fn write_apart<O: Outputs>(edge: &Edge, names: &Names, to: &mut Writer<O>)
 pub fn write_edges<O: Outputs>(edges: &EdgeTable, names: &Names, to: &mut Writer<O>)
     ensures { Says to.old (apart_lines names.now edges.now) to.new }
 {
-    let mut hint = Hint::first();
-    for at in 0..edges.len() {
-        if let Some(edge) = edges.get_near(at, &mut hint) {
-            write_apart(&edge, names, to);
-        }
+    for edge in edges.iter() {
+        write_apart(&edge, names, to);
     }
 }

@@ -8,7 +8,7 @@ ghost use Rattle.std.specs.Prelude.{◌≡◌};
 
 use cam_base::{Name, Text};
 use cam_io::{Failed, Outputs, Writer};
-use cap_model::{Edge, EdgeTable, Hint, Policy};
+use cap_model::{Edge, EdgeTable, Policy};
 use itoa::Buffer;
 
 /// Writes the text of a policy to an open channel: `specs/PolicyLines.antt`. After a failure the channel has a front of it.
@@ -71,11 +71,8 @@ fn write_object<O: Outputs>(object: &(Name, u32), to: &mut Writer<O>)
 fn write_edges<O: Outputs>(edges: &EdgeTable, to: &mut Writer<O>)
     ensures { Says to.old (flat_map edge_line edges.now) to.new }
 {
-    let mut hint = Hint::first();
-    for at in 0..edges.len() {
-        if let Some(edge) = edges.get_near(at, &mut hint) {
-            write_edge(edge, to);
-        }
+    for edge in edges.iter() {
+        write_edge(edge, to);
     }
 }
 

@@ -117,10 +117,8 @@ fn partners(
     ensures { IfOk result (λ found. found ≡ partners shapes.now edges.now label) }
 {
     let mut found = List::new(alloc);
-    for at in 0..edges.len() {
-        if let Some(edge) = edges.get(at) {
-            push_partner(&mut found, shapes, label, &edge)?;
-        }
+    for edge in edges.iter() {
+        push_partner(&mut found, shapes, label, &edge)?;
     }
     Ok(found)
 }

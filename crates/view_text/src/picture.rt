@@ -200,10 +200,8 @@ fn add_arrows(
 ) -> Result<(), NoMemory>
     ensures { OnOk result (text.new ≡ text.old ++ gather (λ at e. arrow_of shapes.now edges.now e) edges.now) }
 {
-    for at in 0..edges.len() {
-        if let Some(edge) = edges.get(at) {
-            add_arrow(alloc, text, shapes, edges, &edge)?;
-        }
+    for edge in edges.iter() {
+        add_arrow(alloc, text, shapes, edges, &edge)?;
     }
     Ok(())
 }

@@ -1,5 +1,6 @@
-use Rattle.arch_policy.proofs.Common.{take, ◌≡◌}
+use Rattle.arch_policy.proofs.Common.{◌++◌, ◌≡◌}
+use Rattle.cap_model.specs.EdgesLeft.{edges_left}
 use Rattle.arch_policy.proofs.cert.edges_of.Given as goal
 
-abbrev pub invariant-loop-at : goal.invariant-loop-at
-invariant-loop-at l = l.edges.items ≡ take l.at l.table
+abbrev pub invariant-loop-edge : goal.invariant-loop-edge
+invariant-loop-edge l = l.edges.items ++ edges_left l.edge-iterator ≡ l.table

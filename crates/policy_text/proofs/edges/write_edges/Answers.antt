@@ -1,22 +1,21 @@
-use Rattle.policy_text.proofs.Common.{Receive, apart_line, arith, get_or_from_slice_get, slice_get-get_or, sym, ◌∙◌}
-use Rattle.cam_io.proofs.Saying.{says_line, says_lines, says_nothing}
+use Rattle.cam_io.proofs.Saying.{says_nothing}
+use Rattle.cap_model.specs.EdgesLeft.{edges_left}
+use Rattle.policy_text.proofs.Common.{[], apart_line, ap, append_assoc, sym, ◌++◌, ◌∙◌, ◌∷◌}
+use Rattle.std.proofs.Common.{rules}
+use Rattle.policy_text.proofs.Saying.{says_end, says_next}
 use Rattle.policy_text.proofs.edges.write_edges.Goals as goal
-use Rattle.policy_text.proofs.edges.write_edges.Goals.{in-Some, in_default}
 
-pub loop-at-init : goal.loop-at-init
-loop-at-init g c = says_nothing
+pub loop-edge-init : goal.loop-edge-init
+loop-edge-init g c = record { all = search rules; said = says_nothing }
 
-pub loop-at-preserved : goal.loop-at-preserved
-loop-at-preserved g c = elim c.match-get_near.branch [
-  | in-Some w ↦
-      let here = sym (get_or_from_slice_get c.args.edges.now c.loop-at.at w.in-Some.edge w.in-Some.edge
-      (sym w.in-Some.ensures)) in
-      rw w.to-is (says_line (apart_line c.args.names.now) c.args.edges.now c.loop-at.at w.in-Some.edge (omega arith) here
-      c.loop-at.invariant w.write_apart.ensures)
-  | in_default w ↦
-      absurd (w.in_default.not-Some _ (c.get_near.ensures ∙ slice_get-get_or c.args.edges.now c.loop-at.at
-      (record { from = 0; authority = Receive; to = 0 }) (omega arith)))
-]
+pub loop-edge-preserved : goal.loop-edge-preserved
+loop-edge-preserved g c = record {
+  all = append_assoc c.loop-edge.yielded (c.in-Some.edge ∷ []) (edges_left c.next.new.self)
+      ∙ ap (λ es. c.loop-edge.yielded ++ es) (sym c.in-Some.ensures.steps) ∙ c.loop-edge.invariant.all;
+  said = says_next (apart_line c.args.names.now) c.loop-edge.yielded c.in-Some.edge c.loop-edge.invariant.said
+      c.write_apart.ensures;
+}
 
 pub returns : goal.returns
-returns g c = says_lines (apart_line c.args.names.now) c.args.edges.now c.loop-at.at (omega arith) c.loop-at.invariant
+returns g c = says_end (apart_line c.args.names.now) c.loop-edge.yielded (edges_left c.loop-edge.edge-iterator) c.args.edges.now
+    c.loop-edge.invariant.all c.in-None.ensures.steps.0 c.loop-edge.invariant.said

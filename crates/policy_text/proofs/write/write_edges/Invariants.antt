@@ -1,6 +1,10 @@
 use Rattle.cam_io.specs.Saying.{Says}
-use Rattle.policy_text.proofs.Common.{edge_line, flat_map, take}
+use Rattle.cap_model.specs.EdgesLeft.{edges_left}
+use Rattle.policy_text.proofs.Common.{edge_line, flat_map, ◌++◌, ◌≡◌}
 use Rattle.policy_text.proofs.write.write_edges.Given as goal
 
-abbrev pub invariant-loop-at : goal.invariant-loop-at
-invariant-loop-at g l = Says l.fn.to (flat_map edge_line (take l.at l.edges)) l.to
+abbrev pub invariant-loop-edge : goal.invariant-loop-edge
+invariant-loop-edge g l = record {
+  all : l.yielded ++ edges_left l.edge-iterator ≡ l.edges;
+  said : Says l.fn.to (flat_map edge_line l.yielded) l.to;
+}

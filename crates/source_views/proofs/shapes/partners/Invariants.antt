@@ -1,5 +1,7 @@
-use Rattle.source_views.proofs.Common.{gather, partner, take, ◌≡◌}
+use Rattle.cap_model.specs.EdgesLeft.{edges_left}
+use Rattle.source_views.proofs.Common.{gather, partner, ◌++◌, ◌≡◌}
 use Rattle.source_views.proofs.shapes.partners.Given as goal
 
-abbrev pub invariant-loop-at : goal.invariant-loop-at
-invariant-loop-at l = l.found ≡ gather (λ at e. partner l.shapes l.label e) (take l.at l.edges)
+abbrev pub invariant-loop-edge : goal.invariant-loop-edge
+invariant-loop-edge l = l.found ++ gather (λ at e. partner l.shapes l.label e) (edges_left l.edge-iterator)
+    ≡ gather (λ at e. partner l.shapes l.label e) l.edges

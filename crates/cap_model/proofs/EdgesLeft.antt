@@ -1,0 +1,40 @@
+-- The edges that are left once a row is begun.
+use Rattle.cap_model.proofs.Common.{Authority, Class, List, Row, Some, [], ap, append_assoc, arith, drop, edge_to, edges_of, get_or, length, map, refl, reply_to, slice_get, subst, suc, sym, table_edges, take, take_all, ℕ, ◌++◌, ◌-◌, ◌<◌, ◌∙◌, ◌∷◌, ◌≡◌, ◌≤◌}
+
+module _ (rows : List Row) (r : Row) (some : 1 ≤ length rows) (first : r ≡ get_or rows 0 r) where
+  pub head_rest : rows ≡ r ∷ take (length rows - 1) (drop 1 rows)
+  head_rest = go rows refl
+    where
+      go : (rs : List Row) → rows ≡ rs → rows ≡ r ∷ take (length rows - 1) (drop 1 rows)
+      go [] e = absurd (let l : length rows ≡ 0 = ap (λ (xs : List Row). length xs) e in omega arith)
+      go (x ∷ xs) e =
+          let is : r ≡ x = first ∙ ap (λ (ys : List Row). get_or ys 0 r) e in
+          let rest : take (length (x ∷ xs) - 1) (drop 1 (x ∷ xs)) ≡ xs = take_all (length (x ∷ xs) - 1) xs (omega arith) in
+          subst (λ (ys : List Row). ys ≡ r ∷ take (length ys - 1) (drop 1 ys)) (sym e) (rw (is, rest) refl)
+
+  pub head_at : slice_get rows 0 ≡ Some r
+  head_at = ap (λ (ys : List Row). slice_get ys 0) head_rest
+
+  pub later_at : (i : ℕ) (s : Row) → slice_get (take (length rows - 1) (drop 1 rows)) i ≡ Some s
+      → slice_get rows (suc i) ≡ Some s
+  later_at i s e = ap (λ (ys : List Row). slice_get ys (suc i)) head_rest ∙ e
+
+  pub begun : (classes : List Class) (c : Class) (label : ℕ) (before behind front back : List (Authority × ℕ))
+      (replies ms : List ℕ)
+      → slice_get classes r.class ≡ Some c → length before < 1 → length replies < 1 → length behind < 1
+      → front ≡ take c.before c.pairs.items → back ≡ drop c.before c.pairs.items → ms ≡ r.replies.items
+      → map (edge_to r.label) front ++ (map (reply_to r.label) ms ++ (map (edge_to r.label) back
+      ++ table_edges classes (take (length rows - 1) (drop 1 rows))))
+      ≡ map (edge_to label) before ++ (map (reply_to label) replies ++ (map (edge_to label) behind ++ table_edges classes rows))
+  begun classes c label [] [] front back [] ms there lb lr lh f b m =
+      let rest = take (length rows - 1) (drop 1 rows) in
+      rw (f, b, m) (
+      ap (λ es. map (edge_to r.label) (take c.before c.pairs.items) ++ es)
+      (sym (append_assoc (map (reply_to r.label) r.replies.items) (map (edge_to r.label) (drop c.before c.pairs.items)) (table_edges classes rest)))
+      ∙ sym (append_assoc (map (edge_to r.label) (take c.before c.pairs.items)) (map (reply_to r.label) r.replies.items
+      ++ map (edge_to r.label) (drop c.before c.pairs.items)) (table_edges classes rest))
+      ∙ ap (λ o. edges_of o r ++ table_edges classes rest) (sym there)
+      ∙ ap (λ (ys : List Row). table_edges classes ys) (sym head_rest))
+  begun classes c label (p ∷ ps) behind front back replies ms there lb lr lh f b m = absurd (omega (arith, lb))
+  begun classes c label [] (p ∷ ps) front back replies ms there lb lr lh f b m = absurd (omega (arith, lh))
+  begun classes c label [] [] front back (n ∷ ns) ms there lb lr lh f b m = absurd (omega (arith, lr))
