@@ -14,6 +14,7 @@ mod id;
 mod laws;
 mod procedure;
 mod seen;
+mod short_place;
 mod source;
 mod value;
 mod words;
@@ -34,6 +35,7 @@ pub use laws::{
 };
 pub use procedure::{Direction, Method, Param, ProcMember, Procedure};
 pub use seen::Seen;
+pub use short_place::ShortPlace;
 pub use source::{Source, SourceFile};
 pub use value::{Value, ValueKind};
 pub use words::Words;

@@ -52,7 +52,12 @@ fn note_all_unjoined<'a>(
             if let Member::Interface(interface) = member {
                 let is_joined = may_stay(interface) || ends.is_joined(number, place);
                 let id = &interface.id;
-                first.note(!is_joined, Code::Unconnected, id.place, id.name.as_bytes());
+                first.note(
+                    !is_joined,
+                    Code::Unconnected,
+                    id.place.get(),
+                    id.name.as_bytes(),
+                );
             }
         }
     }
@@ -65,7 +70,12 @@ fn note_devices<'a>(program: &Program<'_>, leaves: &[PlacedLeaf<'a>], first: &mu
     for leaf in leaves {
         let is_misplaced = program.body(leaf.kind).is_hardware() && leaf.home.is_some();
         let id = &leaf.instance.id;
-        first.note(is_misplaced, Code::Placement, id.place, id.name.as_bytes());
+        first.note(
+            is_misplaced,
+            Code::Placement,
+            id.place.get(),
+            id.name.as_bytes(),
+        );
     }
 }
 
@@ -115,7 +125,12 @@ fn note_calls<'a>(leaves: &[Leaf], connections: &[PlacedConnection<'a>], first: 
         let is_one = in_one_domain(leaves, connection.ends.as_slice());
         let is_parted = is_direct(connection.connector) && !is_one;
         let id = &connection.connection.id;
-        first.note(is_parted, Code::Placement, id.place, id.name.as_bytes());
+        first.note(
+            is_parted,
+            Code::Placement,
+            id.place.get(),
+            id.name.as_bytes(),
+        );
     }
 }
 

@@ -14,6 +14,17 @@ pub enum Declared<'a> {
     Lock(&'a Lock),
 }
 
+/// How many names are declared among members.
+pub fn count_declared(members: &[Member]) -> usize {
+    let names = members.iter().filter(|m| {
+        matches!(
+            m,
+            Member::Interface(_) | Member::Attribute(_) | Member::Lock(_)
+        )
+    });
+    names.count()
+}
+
 fn is_hardware(member: &Member) -> bool
     ensures { result ≡ is_hardware member.now }
 {

@@ -1,3 +1,4 @@
 pub mod BodyLists
 pub mod Common
+pub mod Leaves
 pub mod Rising

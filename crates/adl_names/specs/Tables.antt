@@ -1,7 +1,7 @@
 -- What tables of trees tell, as definitions speak of it.
-use Rattle.adl_meaning.specs.Prelude.{Bor, Component, Composition, Fault, Id, Instance, Name, a_connection, a_group, an_instance, compositions, declared_as, held_as, is_exported, noted, option_or, repeats_after, slice_get}
+use Rattle.adl_meaning.specs.Prelude.{Bor, Component, Composition, Fault, Id, Instance, Name, a_connection, a_group, an_instance, compositions, declared_as, held_as, is_exported, noted, option_or, repeats_after}
 use Rattle.adl_names.specs.Words.{Declared, declaring_told, first_named, found, is_among}
-use Rattle.std.specs.Prelude.{Bool, List, Option, is_some, map, option_map, ◌++◌, ◌≡◌}
+use Rattle.std.specs.Prelude.{Bool, List, Option, Some, is_some, map, option_map, ◌++◌, ◌≡◌}
 use Rattle.adl_names.specs.declared.tables.Held.{Held}
 use Rattle.adl_meaning.specs.Holding as holding
 use Rattle.adl_names.specs.declared.tables.Held.TheVariants as held
@@ -38,12 +38,11 @@ AreNamed {X} old xs new = (n : Name) (more : List (Id × X)) → naming new more
 abbrev pub holding_told : List (Name × Held) → Name → Option holding.Held
 holding_told table n = option_map held_told (found table n)
 
-abbrev pub IsHolding : List (Name × Held) → Composition → Type 0
-IsHolding table k = (n : Name) → holding_told table n ≡ held_as k n
+pub record IsHolding (table : List (Name × Held)) (targets : List Name) (k : Composition) : Type 0 where
+  pub holds : (n : Name) → holding_told table n ≡ held_as k n
+  pub exports : (n : Name) → is_among targets n ≡ is_exported (Some k) n
 
 -- the tables tell what the names of a component stand for
-pub record AreTold (declared : List (Name × Declared)) (holdings : List Composition) (targets : List Name)
-    (c : Component) : Type 0 where
+pub record AreTold (declared : List (Name × Declared)) (holdings : List Composition) (c : Component) : Type 0 where
   pub declares : (n : Name) → declaring_told declared n ≡ declared_as c n
   pub holds : holdings ≡ compositions c
-  pub exports : (n : Name) → is_among targets n ≡ is_exported (slice_get holdings 0) n

@@ -10,7 +10,7 @@ use crate::tables::{ComponentTable, Holding};
 use adl_ast::{Assembly, Import, Item, Procedure, Source};
 use adl_items::SourceItems;
 use adl_meaning::Earliest;
-use cam_base::{Name, NoMemory};
+use cam_base::{Boxed, Name, NoMemory};
 use name_tables::NameTable;
 use std::alloc::Global;
 use std::marker::Model;
@@ -22,7 +22,7 @@ pub enum Body<'a> {
     Procedure(&'a Procedure),
     Component(ComponentTable<'a>),
     /// An assembly, and its composition.
-    Assembly(&'a Assembly, Holding<'a>),
+    Assembly(&'a Assembly, Boxed<Holding<'a>>),
 }
 
 /// A source with what its names stand for. Contracts see it as the source.
@@ -70,7 +70,7 @@ fn body_of<'a>(
         Item::Assembly(it) => {
             let assembly = it.get();
             let holding = Holding::of(alloc, &assembly.composition, first)?;
-            Ok(Body::Assembly(assembly, holding))
+            Ok(Body::Assembly(assembly, Boxed::new(alloc, holding)?))
         }
     }
 }
@@ -84,7 +84,7 @@ fn bodies<'a>(
     ensures noted { OnOk result (first.new ≡ noted first.old (flat_map (λ x. duplicates_in_item x.1) (items_of items.now))) }
     ensures bodies { IfOk result (λ v. map item_of v.items ≡ map (λ x. x.1) (items_of items.now)) }
 {
-    let mut bodies = Vec::new(alloc);
+    let mut bodies = Vec::with_capacity(alloc, items.items().len())?;
     for x in items.items() {
         bodies.push(body_of(alloc, x.item, first)?)?;
     }
@@ -101,7 +101,7 @@ fn numbers<'a>(
     ensures numbers { IfOk result (λ t. (n : Seq ℕ) → found t n ≡ item_number (map (λ x. x.1) (items_of items.now)) n) }
 {
     let all = items.items();
-    let mut numbers = NameTable::with_room(alloc, all.len())?;
+    let mut numbers = NameTable::with_room(alloc, items.components().len())?;
     for (number, x) in all.iter().enumerate() {
         if let Item::Component(it) = x.item {
             put(&it.id, number, &mut numbers, first)?;
@@ -120,7 +120,7 @@ impl<'a> SourceTables<'a> {
         ensures noted { OnOk result (first.new ≡ noted first.old (duplicates items.now)) }
         ensures tables { IfOk result (λ t. t ≡ items.now) }
     {
-        let mut procedures = NameTable::new(alloc);
+        let mut procedures = NameTable::with_room(alloc, items.procedures().len())?;
         for x in items.procedures() {
             put(&x.item.id, (), &mut procedures, first)?;
         }

@@ -106,7 +106,10 @@ fn take<'a>(
     if interface_at(tables, port).is_none() {
         return Ok(false);
     }
-    let is_new = inners.insert((taken.instance.id.place.first, taken.interface.as_bytes()))?;
+    let is_new = inners.insert((
+        taken.instance.id.place.get().first,
+        taken.interface.as_bytes(),
+    ))?;
     Ok(!is_new)
 }
 
@@ -198,7 +201,9 @@ pub fn note_misfits<'a>(
                     note_composition(alloc, tables, Some(table), holding, first)?;
                 }
             }
-            Body::Assembly(_, holding) => note_composition(alloc, tables, None, holding, first)?,
+            Body::Assembly(_, holding) => {
+                note_composition(alloc, tables, None, holding.get(), first)?
+            }
         }
     }
     Ok(())

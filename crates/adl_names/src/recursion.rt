@@ -1,12 +1,12 @@
 //! Instances whose type is the component that they stand in, or holds it.
 
-ghost use Rattle.adl_meaning.specs.Prelude.{graph_of, instances_of, noted, recursive_types};
+ghost use Rattle.adl_meaning.specs.Prelude.{composition_of, graph_of, instances_of, list_all, noted, recursive_types};
 ghost use Rattle.adl_names.specs.Words.{found, pointed, trees};
-ghost use Rattle.std.specs.Prelude.{IfOk, OnOk, ◌≡◌};
+ghost use Rattle.std.specs.Prelude.{IfOk, OnOk, is_none, ◌≡◌};
 
 use adl_ast::{Component, Instance, Member};
 use adl_hierarchy::Cycles;
-use adl_items::{Located, SourceItems, component_numbers, instances_by};
+use adl_items::{Located, SourceItems, component_numbers, composition_of, instances_by};
 use adl_meaning::Earliest;
 use cam_base::{Code, List, NoMemory};
 use name_tables::NameTable;
@@ -27,6 +27,13 @@ fn instances<'a>(alloc: Global, component: &'a Component) -> Result<Vec<&'a Inst
         }
     }
     Ok(found)
+}
+
+/// Whether no component has a composition.
+fn are_leaves(components: &[Located<'_, Component>]) -> bool
+    ensures { result ≡ list_all (λ x. is_none (composition_of x.item.now)) components.now }
+{
+    components.iter().all(|x| composition_of(x.item).is_none())
 }
 
 /// The components by number, with the types of their instances.
@@ -52,7 +59,7 @@ fn graph_of(
 }
 
 /// Notes each instance whose type is the component that it stands in, or holds it. The components that hold each other
-/// are found once, so that this takes time along the size of the source.
+/// are found once, so that this takes time along the size of the source. Where all are leaves none is numbered.
 pub fn note_recursive<'a>(
     alloc: Global,
     items: &SourceItems<'a>,
@@ -61,6 +68,9 @@ pub fn note_recursive<'a>(
     ensures { OnOk result (first.new ≡ noted first.old (recursive_types items.now)) }
 {
     let components = items.components();
+    if are_leaves(components) {
+        return Ok(());
+    }
     let numbers = &component_numbers(alloc, components)?;
     let graph = graph_of(alloc, numbers, components)?;
     let cycles = &Cycles::of(alloc, graph)?;
@@ -70,7 +80,12 @@ pub fn note_recursive<'a>(
             let word = &instance.component;
             if let Some(inner) = numbers.get(&word.name) {
                 let held = cycles.holds_back(alloc, i as u32, *inner)?;
-                first.note(held, Code::Recursive, word.place, word.name.as_bytes());
+                first.note(
+                    held,
+                    Code::Recursive,
+                    word.place.get(),
+                    word.name.as_bytes(),
+                );
             }
         }
     }

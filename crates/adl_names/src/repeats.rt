@@ -25,7 +25,7 @@ pub fn put<'a, V: Drop>(
         ≡ option_or (found table.old n) (found ((id.entry.now.name, value) ∷ []) n)) }
 {
     let is_met = table.put(&id.name, value)?;
-    first.note(is_met, Code::Duplicate, id.place, id.name.as_bytes());
+    first.note(is_met, Code::Duplicate, id.place.get(), id.name.as_bytes());
     Ok(())
 }
 

@@ -2,13 +2,13 @@
 
 ghost use Rattle.adl_meaning.specs.Prelude.{Fault, a_group, attribute_of, composition_of, compositions, declared_as, declared_by, declared_in, duplicates_in_component, duplicates_in_composition, flat_map, held_as, held_by, interface_of, is_exported, member_of, noted, option_and_then, option_copied, repeats};
 ghost use Rattle.adl_names.specs.Words.{declaring_told, is_among};
-ghost use Rattle.std.specs.Prelude.{IfOk, List as Seq, OnOk, map, option_map, ℕ, ◌++◌, ◌≡◌};
+ghost use Rattle.std.specs.Prelude.{IfOk, List as Seq, OnOk, Some, map, option_map, ℕ, ◌++◌, ◌≡◌};
 ghost use Rattle.adl_names.specs.Bodies.{owner_of};
 ghost use Rattle.adl_names.specs.Tables.{AreNamed, AreNoted, held_told, holding_told};
 
 use crate::repeats::{note_again, put};
 use adl_ast::{Attribute, Component, Composition, Group, Instance, Interface, Line, Member};
-use adl_items::{Declared, composition_of};
+use adl_items::{Declared, count_declared};
 use adl_meaning::Earliest;
 use cam_base::{Name, NoMemory};
 use name_tables::{NameSet, NameTable};
@@ -29,6 +29,8 @@ pub enum Held<'a> {
 pub struct Holding<'a> {
     pub composition: &'a Composition,
     held: NameTable<'a, Held<'a>>,
+    /// The targets of its exports.
+    targets: NameSet<'a>,
 }
 
 impl<'a> Model for Holding<'a> {
@@ -39,7 +41,7 @@ impl<'a> Model for Holding<'a> {
 
     ghost view = { λ h. h.composition.now };
 
-    ghost invariant = { λ h. IsHolding h.held h.composition.now };
+    ghost invariant = { λ h. IsHolding h.held h.targets h.composition.now };
 }
 
 /// A component with what its names stand for. Contracts see it as the component.
@@ -49,8 +51,6 @@ pub struct ComponentTable<'a> {
     declared: NameTable<'a, Declared<'a>>,
     /// What its compositions hold, in their order.
     holdings: Vec<Holding<'a>>,
-    /// The targets of the exports of the first.
-    targets: NameSet<'a>,
 }
 
 impl<'a> Model for ComponentTable<'a> {
@@ -65,7 +65,7 @@ impl<'a> Model for ComponentTable<'a> {
 
     ghost view = { λ t. t.component.now };
 
-    ghost invariant = { λ t. AreTold t.declared t.holdings.items t.targets t.component.now };
+    ghost invariant = { λ t. AreTold t.declared t.holdings.items t.component.now };
 }
 
 /// The instances of a group by name, of which the first counts.
@@ -102,6 +102,19 @@ fn add_line<'a>(
     }
 }
 
+/// The targets of the exports of a composition.
+fn targets<'a>(alloc: Global, composition: &'a Composition) -> Result<NameSet<'a>, NoMemory>
+    ensures { IfOk result (λ t. (n : Seq ℕ) → is_among t n ≡ is_exported (Some composition.entry.now) n) }
+{
+    let mut targets = NameSet::new(alloc);
+    for line in composition.lines.as_slice() {
+        if let Line::Export(export) = line {
+            targets.insert(&export.target.name)?;
+        }
+    }
+    Ok(targets)
+}
+
 impl<'a> Holding<'a> {
     /// The table of a composition. Notes the names that stand twice.
     pub fn of(
@@ -117,7 +130,11 @@ impl<'a> Holding<'a> {
         for line in composition.lines.as_slice() {
             add_line(alloc, line, &mut held, first)?;
         }
-        Ok(Holding { composition, held })
+        Ok(Holding {
+            composition,
+            held,
+            targets: targets(alloc, composition)?,
+        })
     }
 
     /// The first that the composition holds under the name.
@@ -125,6 +142,13 @@ impl<'a> Holding<'a> {
         ensures { option_map held_told (option_copied result) ≡ held_as self.now name.now }
     {
         self.held.get(name)
+    }
+
+    /// Whether one of its exports has the name as target.
+    fn exports(&self, name: &Name) -> bool
+        ensures { result ≡ is_exported (Some self.now) name.now }
+    {
+        self.targets.contains(name)
     }
 }
 
@@ -153,7 +177,8 @@ fn declaring<'a>(
     ensures noted { OnOk result (first.new ≡ noted first.old (repeats (map (λ d. d.0) (declared_in component.entry.now)))) }
     ensures declared { IfOk result (λ t. (n : Seq ℕ) → declaring_told t n ≡ declared_as component.entry.now n) }
 {
-    let mut table = NameTable::with_room(alloc, component.members.len())?;
+    let room = count_declared(component.members.as_slice());
+    let mut table = NameTable::with_room(alloc, room)?;
     for member in component.members.as_slice() {
         declare(member, &mut table, first)?;
     }
@@ -179,21 +204,6 @@ fn holdings<'a>(
     Ok(holdings)
 }
 
-/// The targets of the exports of a composition that may be absent.
-fn targets<'a>(alloc: Global, composition: Option<&'a Composition>) -> Result<NameSet<'a>, NoMemory>
-    ensures { IfOk result (λ t. (n : Seq ℕ) → is_among t n ≡ is_exported (option_copied composition.entry) n) }
-{
-    let mut targets = NameSet::new(alloc);
-    if let Some(composition) = composition {
-        for line in composition.lines.as_slice() {
-            if let Line::Export(export) = line {
-                targets.insert(&export.target.name)?;
-            }
-        }
-    }
-    Ok(targets)
-}
-
 impl<'a> ComponentTable<'a> {
     /// The table of a component. Notes the names that stand twice, and second compositions and configurations.
     pub fn of(
@@ -206,13 +216,11 @@ impl<'a> ComponentTable<'a> {
     {
         let declared = declaring(alloc, component, first)?;
         note_again(component, first);
-        let targets = targets(alloc, composition_of(component))?;
         let holdings = holdings(alloc, component, first)?;
         Ok(ComponentTable {
             component,
             declared,
             holdings,
-            targets,
         })
     }
 
@@ -254,7 +262,10 @@ impl<'a> ComponentTable<'a> {
     pub fn exports(&self, name: &Name) -> bool
         ensures { result ≡ is_exported (composition_of self.now) name.now }
     {
-        self.targets.contains(name)
+        match self.holding() {
+            None => false,
+            Some(holding) => holding.exports(name),
+        }
     }
 }
 

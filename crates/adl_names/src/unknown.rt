@@ -16,7 +16,12 @@ use name_tables::NameTable;
 fn note_unless<'a>(known: bool, word: &'a Id, first: &mut Earliest<'a>)
     ensures { first.new ≡ noted first.old (unless_known known word.entry.now) }
 {
-    first.note(!known, Code::Unknown, word.place, word.name.as_bytes());
+    first.note(
+        !known,
+        Code::Unknown,
+        word.place.get(),
+        word.name.as_bytes(),
+    );
 }
 
 fn note_interface<'a>(table: Option<&ComponentTable<'a>>, word: &'a Id, first: &mut Earliest<'a>)
@@ -243,6 +248,7 @@ fn note_body<'t, 'a>(tables: &'t SourceTables<'a>, body: &'t Body<'a>, first: &m
             }
         }
         Body::Assembly(assembly, holding) => {
+            let holding = holding.get();
             note_composition(tables, None, holding, first);
             if let Some(it) = &assembly.configuration {
                 note_configuration(tables, None, Scope::Within(holding), it, first);

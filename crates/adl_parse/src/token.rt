@@ -11,7 +11,7 @@ ghost use Rattle.cam_base.specs.Reading.{starts, one};
 ghost use Rattle.cam_base.specs.declared.token.Mark.TheVariants as marks;
 ghost use Rattle.std.specs.Prelude.{◌≡◌, ◌==◌, ◌∷◌, [], ℕ, List as Seq, IfOk};
 
-use adl_ast::{Id, Seen};
+use adl_ast::{Id, Seen, ShortPlace};
 use cam_base::{
     Keyword, Kind, Language, Mark, Name, NoMemory, Place, ReadError, Stop, Text, Token, Why,
     is_name,
@@ -288,7 +288,7 @@ pub fn id_of(alloc: Global, bytes: &[u8], token: Token) -> Result<Id, NoMemory>
 {
     Ok(Id {
         name: name_of(alloc, text_at(bytes, token.place))?,
-        place: token.place,
+        place: ShortPlace::new(token.place)?,
     })
 }
 

@@ -8,13 +8,17 @@ use Rattle.adl_program.specs.declared.body.Body.TheInside.{Inside}
 use Rattle.adl_program.specs.declared.body.Composed.{Composed}
 use Rattle.adl_program.specs.declared.body.Members.{Members}
 
+-- the parts of what stands in a composition that may be absent
+abbrev pub parts_seen : Option Composed → List Part
+parts_seen o = option_map_or (λ t. t.parts.items) o []
+
 abbrev pub body_seen : Inside → Body
 body_seen t = record {
   item = t.item;
   component = option_copied t.component;
   composition = option_copied t.composition;
   configuration = option_copied t.configuration;
-  parts = t.composed.parts.items;
+  parts = parts_seen t.composed;
 }
 
 -- the first instance of the name, by its number and that of its component, counted from this number
@@ -23,11 +27,11 @@ part_from i xs n = option_map (λ x. record { number = x.0; kind = x.1.kind }) (
     (enumerate_from i xs))
 
 -- the tables of a composition agree with it
-pub record IsComposed (o : Option Composition) (t : Composed) : Type 0 where
-  pub parts_by_name : (n : Name) → found t.named n ≡ part_from 0 t.parts.items n
-  pub groups_by_name : (n : Name) → is_some (found t.groups n) ≡ list_any (λ x. option_map_or (bytes_eq n) x.group false)
-      t.parts.items
-  pub wires_are : t.wires.items ≡ filter_map wire_of (option_map_or connections_in o [])
+pub record IsComposed (o : Option Composition) (t : Option Composed) : Type 0 where
+  pub parts_by_name : (n : Name) → option_and_then (λ k. found k.named n) t ≡ part_from 0 (parts_seen t) n
+  pub groups_by_name : (n : Name) → option_map_or (λ k. is_some (found k.groups n)) t false ≡ list_any
+      (λ x. option_map_or (bytes_eq n) x.group false) (parts_seen t)
+  pub wires_are : option_map_or (λ k. k.wires.items) t [] ≡ filter_map wire_of (option_map_or connections_in o [])
 
 -- those of a component's members agree with it
 pub record AreMembers (o : Option Component) (t : Members) : Type 0 where

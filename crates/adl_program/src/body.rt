@@ -7,14 +7,14 @@ ghost use Rattle.adl_items.specs.Declaring.{declaring_told};
 ghost use Rattle.adl_items.specs.Firsts.{first_named};
 ghost use Rattle.adl_items.specs.Located.{located};
 ghost use Rattle.adl_program.specs.LeafInterfaces.{leaf_at};
-ghost use Rattle.adl_program.specs.Seen.{AreMembers, IsComposed, part_from};
+ghost use Rattle.adl_program.specs.Seen.{AreMembers, IsComposed, part_from, parts_seen};
 ghost use Rattle.std.specs.Prelude.{IfOk, List as Seq, OnOk, Some, false, is_some, length, option_map, unwrap_or, ℕ, ◌++◌, ◌≡◌};
 
 use crate::part::{Part, PartAt, Wire, parts_of, wires_of};
 use adl_ast::{Assembly, Attribute, Component, Composition, Configuration, Interface, Member};
-use adl_items::{Declared, Located, composition_of, is_device};
+use adl_items::{Declared, Located, composition_of, count_declared, is_device};
 use adl_meaning::ItemAt;
-use cam_base::{Name, NoMemory};
+use cam_base::{Boxed, Name, NoMemory};
 use name_tables::NameTable;
 use std::alloc::Global;
 use std::marker::Model;
@@ -26,7 +26,8 @@ pub struct Body<'a> {
     component: Option<&'a Component>,
     composition: Option<&'a Composition>,
     configuration: Option<&'a Configuration>,
-    composed: Composed<'a>,
+    /// What stands in its composition; most bodies have none, and nothing takes little room.
+    composed: Option<Boxed<Composed<'a>>>,
     members: Members<'a>,
 }
 
@@ -129,21 +130,27 @@ impl<'a> Body<'a> {
     pub fn parts(&self) -> &[Part<'a>]
         ensures { result.now ≡ self.now.parts }
     {
-        self.composed.parts.as_slice()
+        match &self.composed {
+            None => &[],
+            Some(composed) => composed.get().parts.as_slice(),
+        }
     }
 
     /// The first instance of the name.
     pub fn part(&self, name: &Name) -> Option<PartAt>
         ensures { result ≡ part_from 0 self.now.parts name.now }
     {
-        self.composed.named.get(name).copied()
+        self.composed.as_ref()?.get().named.get(name).copied()
     }
 
     /// Whether one of its groups has the name.
     pub fn has_group(&self, name: &[u8]) -> bool
         ensures { result ≡ is_group self.now name.now }
     {
-        self.composed.groups.get_bytes(name).is_some()
+        match &self.composed {
+            None => false,
+            Some(composed) => composed.get().groups.get_bytes(name).is_some(),
+        }
     }
 
     /// The interface that its component declares under the name.
@@ -170,7 +177,10 @@ impl<'a> Body<'a> {
     pub fn wires(&self) -> &[Wire<'a>]
         ensures { result.now ≡ wires_of self.now }
     {
-        self.composed.wires.as_slice()
+        match &self.composed {
+            None => &[],
+            Some(composed) => composed.get().wires.as_slice(),
+        }
     }
 
     /// The place of the interface among the members of its component; where it has none, their number.
@@ -238,27 +248,24 @@ fn composed_of<'a>(
     alloc: Global,
     kinds: &NameTable<'_, u32>,
     composition: Option<&'a Composition>,
-) -> Result<Composed<'a>, NoMemory>
-    ensures parts { IfOk result (λ t. t.parts.items ≡ parts_in (found kinds.now) (option_copied composition.entry)) }
+) -> Result<Option<Boxed<Composed<'a>>>, NoMemory>
+    ensures parts { IfOk result (λ t. parts_seen t ≡ parts_in (found kinds.now) (option_copied composition.entry)) }
     ensures tables { IfOk result (λ t. IsComposed (option_copied composition.entry) t) }
 {
     let Some(composition) = composition else {
-        return Ok(Composed {
-            parts: Vec::new(alloc),
-            named: NameTable::new(alloc),
-            groups: NameTable::new(alloc),
-            wires: Vec::new(alloc),
-        });
+        return Ok(None);
     };
     let lines = composition.lines.as_slice();
     let parts = parts_of(alloc, kinds, lines)?;
     let (named, groups) = names_of(alloc, parts.as_slice())?;
-    Ok(Composed {
+    let wires = wires_of(alloc, lines)?;
+    let composed = Composed {
         parts,
         named,
         groups,
-        wires: wires_of(alloc, lines)?,
-    })
+        wires,
+    };
+    Ok(Some(Boxed::new(alloc, composed)?))
 }
 
 /// Puts what a member declares under its name, where the name has nothing yet.
@@ -283,7 +290,7 @@ fn declared_in<'a>(
 ) -> Result<NameTable<'a, Declared<'a>>, NoMemory>
     ensures { IfOk result (λ t. (n : Seq ℕ) → declaring_told t n ≡ first_named (flat_map declared_by members.entry.now) n) }
 {
-    let mut declared = NameTable::with_room(alloc, members.len())?;
+    let mut declared = NameTable::with_room(alloc, count_declared(members))?;
     for member in members {
         declare(member, &mut declared)?;
     }
@@ -296,7 +303,8 @@ fn places_in<'a>(alloc: Global, members: &'a [Member]) -> Result<NameTable<'a, u
     ensures { IfOk result (λ t. (n : Seq ℕ) → unwrap_or (found t n) (length members.entry.now)
         ≡ place_by (is_interface n) members.entry.now) }
 {
-    let mut places = NameTable::with_room(alloc, members.len())?;
+    let interfaces = members.iter().filter(|m| matches!(m, Member::Interface(_)));
+    let mut places = NameTable::with_room(alloc, interfaces.count())?;
     for (place, member) in members.iter().enumerate() {
         if let Member::Interface(interface) = member {
             places.add(&interface.id.name, place)?;

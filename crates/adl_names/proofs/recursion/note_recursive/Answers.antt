@@ -1,10 +1,20 @@
-use Rattle.adl_names.proofs.Common.{Bor, Component, Instance, ItemAt, List, Located, Name, Option, ap, arith, found, get_map, graph_in_range, graph_of, in_place, length, length-map, listed, map, number_named, numbers_below, option_copied, pointed, refl, slice_get_read, sym, trees, trees-located, types_of, ℕ, ◌∙◌, ◌≡◌}
+use Rattle.adl_names.proofs.Common.{Bor, Component, Instance, ItemAt, List, Located, Name, Option, ap, arith, found, get_map, graph_in_range, graph_of, in_place, length, length-map, listed, map, noted, number_named, numbers_below, option_copied, pointed, refl, slice_get_read, sym, trees, trees-located, types_of, ℕ, ◌∙◌, ◌≡◌}
+use Rattle.adl_meaning.specs.Recursive.{recursive_among}
+use Rattle.adl_names.proofs.Leaves.{none_recursive}
 use Rattle.adl_names.proofs.recursion.note_recursive.Goals as goal
 
 graph_length : (numbers : Name → Option ℕ) (g : List (List ℕ)) (xs : List (Located Component)) → g ≡ graph_of numbers (trees xs)
     → length g ≡ length xs
 graph_length numbers g xs e = ap length e ∙ length-map (trees xs) (types_of numbers)
     ∙ length-map xs (λ (x : Located Component). x.item.now)
+
+pub returns-then-are_leaves : goal.returns-then-are_leaves
+returns-then-are_leaves c =
+    let xs = c.components-components.result.now in
+    let all = trees-located xs ∙ ap (map (λ (x : ItemAt × Component). x.1)) c.components-components.ensures.components in
+    let numbers = number_named (trees xs) in
+    let none = none_recursive numbers (graph_of numbers (trees xs)) xs 0 (sym c.are_leaves.ensures ∙ c.if-are_leaves.true) in
+    ap (noted c.args.first.now) (sym none ∙ ap (λ cs. recursive_among (number_named cs) cs) all)
 
 pub of-requires-clause-range : goal.of-requires-clause-range
 of-requires-clause-range c =
