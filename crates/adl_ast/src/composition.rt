@@ -1,4 +1,4 @@
-use crate::{Configuration, Id};
+use crate::{Configuration, Dotted, Id};
 use cam_base::{List, Place};
 
 /// The instances of an assembly or a component, and how they are joined. Its place is that of the keyword.
@@ -43,7 +43,7 @@ pub enum Role {
 pub struct End {
     pub role: Role,
     /// The words of the dotted name, two or three.
-    pub words: List<Id>,
+    pub words: Dotted,
     pub place: Place,
 }
 
@@ -61,7 +61,7 @@ pub struct Connection {
 #[derive(Drop)]
 pub struct Export {
     /// The words of the dotted name, two or three.
-    pub words: List<Id>,
+    pub words: Dotted,
     pub target: Id,
     pub place: Place,
 }

@@ -1,4 +1,4 @@
-use crate::{Id, Value};
+use crate::{Dotted, Id, Value};
 use cam_base::{List, Place};
 
 /// The settings of an assembly or a component. Its place is that of the keyword.
@@ -12,7 +12,7 @@ pub struct Configuration {
 #[derive(Drop)]
 pub struct Setting {
     /// The words of the dotted name, two or more.
-    pub words: List<Id>,
+    pub words: Dotted,
     pub setter: Setter,
     pub place: Place,
 }

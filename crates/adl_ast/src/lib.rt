@@ -9,6 +9,7 @@ mod byte_count;
 mod component;
 mod composition;
 mod configuration;
+mod dotted;
 mod file;
 mod id;
 mod laws;
@@ -26,6 +27,7 @@ pub use composition::{
     Assembly, Composition, Connection, End, Export, Group, Instance, Line, Role,
 };
 pub use configuration::{Configuration, Setter, Setting};
+pub use dotted::Dotted;
 pub use file::{Ended, File, Import, Item};
 pub use id::Id;
 pub use laws::{

@@ -4,7 +4,7 @@ use cam_base::{NoMemory, Place};
 use std::marker::Model;
 
 /// A place in half the room. Contracts see it as the place.
-#[derive(Drop)]
+#[derive(Default, Drop)]
 pub struct ShortPlace {
     file: u32,
     first: u32,

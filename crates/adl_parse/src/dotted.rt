@@ -11,7 +11,7 @@ ghost use Rattle.cam_base.specs.Gives.{Gives};
 ghost use Rattle.std.specs.Prelude.{◌≡◌, ◌∷◌, [], IfOk};
 
 use crate::token::{Adl, next_is, span, take, word};
-use adl_ast::Id;
+use adl_ast::{Dotted, Id};
 use cam_base::{Kind, List, Mark, NoMemory, Place, ReadError, Repeated, Token, read_all};
 use std::alloc::Global;
 
@@ -64,26 +64,17 @@ impl Repeated<Adl> for DotWords {
     }
 }
 
-fn pair(alloc: Global, first: Id, second: Id) -> Result<List<Id>, NoMemory>
-    ensures { IfOk result (λ ids. ids ≡ first ∷ second ∷ []) }
-{
-    let mut ids = Vec::with_capacity(alloc, 2)?;
-    ids.push(first)?;
-    ids.push(second)?;
-    Ok(List::from_vec(ids))
-}
-
 fn dotted_of(
     alloc: Global,
     first: Id,
     second: Id,
     third: Option<Id>,
-) -> Result<(List<Id>, Place), NoMemory>
+) -> Result<(Dotted, Place), NoMemory>
     ensures { IfOk result (λ x. x ≡ dotted_of first second third) }
 {
     let begin = first.place.get();
     let end = second.place.get();
-    let mut ids = pair(alloc, first, second)?;
+    let mut ids = Dotted::pair(alloc, first, second)?;
     match third {
         None => Ok((ids, span(begin, end))),
         Some(third) => {
@@ -100,7 +91,7 @@ pub fn dotted<'a>(
     alloc: Global,
     bytes: &[u8],
     tokens: &'a [Token],
-) -> Result<((List<Id>, Place), &'a [Token]), ReadError>
+) -> Result<((Dotted, Place), &'a [Token]), ReadError>
     ensures { Gives (λ x. (x.0, see bytes.now x.1.now)) result (reads dotted_line (see bytes.now tokens.now)) }
 {
     let (first, rest) = word(alloc, bytes, tokens)?;
@@ -122,10 +113,10 @@ fn last_place(place: Place, ids: &[Id]) -> Place
     last
 }
 
-fn joined(alloc: Global, first: Id, second: Id, more: List<Id>) -> Result<List<Id>, NoMemory>
+fn joined(alloc: Global, first: Id, second: Id, more: List<Id>) -> Result<Dotted, NoMemory>
     ensures { IfOk result (λ ids. ids ≡ first ∷ second ∷ more) }
 {
-    let mut ids = pair(alloc, first, second)?;
+    let mut ids = Dotted::pair(alloc, first, second)?;
     for id in more.into_vec() {
         ids.push(id)?;
     }
@@ -138,7 +129,7 @@ pub fn path<'a>(
     alloc: Global,
     bytes: &[u8],
     tokens: &'a [Token],
-) -> Result<((List<Id>, Place), &'a [Token]), ReadError>
+) -> Result<((Dotted, Place), &'a [Token]), ReadError>
     ensures { Gives (λ x. (x.0, see bytes.now x.1.now)) result (reads path_line (see bytes.now tokens.now)) }
 {
     let (first, rest) = word(alloc, bytes, tokens)?;
