@@ -1,28 +1,39 @@
 //! What a component declares, and what it is.
 
-ghost use Rattle.adl_meaning.specs.Prelude.{composition_of, is_device, option_copied};
+ghost use Rattle.adl_items.specs.Declaring.{declared_told};
+ghost use Rattle.adl_items.specs.Firsts.{first_named};
+ghost use Rattle.adl_meaning.specs.Prelude.{composition_of, declared_by, flat_map, is_device, option_copied};
 ghost use Rattle.adl_meaning.specs.CompositeBody.{is_hardware};
-ghost use Rattle.std.specs.Prelude.{◌≡◌};
+ghost use Rattle.std.specs.Prelude.{option_map, ◌≡◌};
 
 use adl_ast::{Attribute, Component, Composition, Interface, Lock, Member};
 
 /// What a component declares under a name.
-#[derive(Drop)]
+#[derive(Clone, Copy)]
 pub enum Declared<'a> {
     Interface(&'a Interface),
     Attribute(&'a Attribute),
     Lock(&'a Lock),
 }
 
-/// How many names are declared among members.
-pub fn count_declared(members: &[Member]) -> usize {
-    let names = members.iter().filter(|m| {
-        matches!(
-            m,
-            Member::Interface(_) | Member::Attribute(_) | Member::Lock(_)
-        )
-    });
-    names.count()
+/// What members declare under the name: the first that has it. Each of them is looked at, which takes less time than a table where
+/// they are few.
+pub fn declared_under<'a>(members: &'a [Member], name: &[u8]) -> Option<Declared<'a>>
+    ensures { option_map declared_told result ≡ first_named (flat_map declared_by members.entry.now) name.now }
+{
+    for member in members {
+        match member {
+            Member::Interface(it) if it.id.name.as_bytes() == name => {
+                return Some(Declared::Interface(it));
+            }
+            Member::Attribute(it) if it.id.name.as_bytes() == name => {
+                return Some(Declared::Attribute(it));
+            }
+            Member::Lock(it) if it.id.name.as_bytes() == name => return Some(Declared::Lock(it)),
+            _ => {}
+        }
+    }
+    None
 }
 
 fn is_hardware(member: &Member) -> bool

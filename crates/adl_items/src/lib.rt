@@ -8,7 +8,7 @@ mod line;
 mod located;
 mod names;
 
-pub use component::{Declared, composition_of, count_declared, is_device};
+pub use component::{Declared, composition_of, declared_under, is_device};
 pub use line::instances_by;
 pub use located::{Located, SourceItems, all_items, components, first_assembly};
 pub use names::{Names, component_numbers, last_name};

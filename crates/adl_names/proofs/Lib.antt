@@ -1,4 +1,5 @@
 pub mod BodyLists
 pub mod Common
+pub mod FewRepeated
 pub mod Leaves
 pub mod Rising

@@ -1,7 +1,7 @@
 -- What tables of trees tell, as definitions speak of it.
-use Rattle.adl_meaning.specs.Prelude.{Bor, Component, Composition, Fault, Id, Instance, Name, a_connection, a_group, an_instance, compositions, declared_as, held_as, is_exported, noted, option_or, repeats_after}
+use Rattle.adl_meaning.specs.Prelude.{Bor, Component, Composition, Fault, Id, Instance, Member, Name, a_connection, a_group, an_instance, bytes_eq, compositions, declared_as, declared_by, flat_map, held_as, list_any, is_exported, noted, option_or, repeats_after}
 use Rattle.adl_names.specs.Words.{Declared, declaring_told, first_named, found, is_among}
-use Rattle.std.specs.Prelude.{Bool, List, Option, Some, is_some, map, option_map, ◌++◌, ◌≡◌}
+use Rattle.std.specs.Prelude.{Bool, IfSome, List, Option, Some, is_some, map, option_map, ◌++◌, ◌≡◌}
 use Rattle.adl_names.specs.declared.tables.Held.{Held}
 use Rattle.adl_meaning.specs.Holding as holding
 use Rattle.adl_names.specs.declared.tables.Held.TheVariants as held
@@ -42,7 +42,26 @@ pub record IsHolding (table : List (Name × Held)) (targets : List Name) (k : Co
   pub holds : (n : Name) → holding_told table n ≡ held_as k n
   pub exports : (n : Name) → is_among targets n ≡ is_exported (Some k) n
 
--- the tables tell what the names of a component stand for
-pub record AreTold (declared : List (Name × Declared)) (holdings : List Composition) (c : Component) : Type 0 where
-  pub declares : (n : Name) → declaring_told declared n ≡ declared_as c n
+-- the words under which members declare something
+abbrev pub words_by : Member → List Id
+words_by m = map (λ d. d.0) (declared_by m)
+
+abbrev pub words_of : List Member → List Id
+words_of ms = map (λ d. d.0) (flat_map declared_by ms)
+
+-- whether the member declares something under the name
+abbrev pub declares : Name → Member → Bool
+declares n m = list_any (λ w. bytes_eq n w.name) (words_by m)
+
+-- whether one of the members does
+abbrev pub is_met : List Member → Name → Bool
+is_met ms n = list_any (declares n) ms
+
+-- the table tells what the names of a component stand for
+abbrev pub Declares : Component → List (Name × Declared) → Type 0
+Declares c table = (n : Name) → declaring_told table n ≡ declared_as c n
+
+-- the tables tell what the names of a component stand for; few members have none
+pub record AreTold (declared : Option (List (Name × Declared))) (holdings : List Composition) (c : Component) : Type 0 where
+  pub declares : IfSome declared (Declares c)
   pub holds : holdings ≡ compositions c

@@ -1,16 +1,16 @@
 //! Tables of what the names of compositions and components stand for.
 
-ghost use Rattle.adl_meaning.specs.Prelude.{Fault, a_group, attribute_of, composition_of, compositions, declared_as, declared_by, declared_in, duplicates_in_component, duplicates_in_composition, flat_map, held_as, held_by, interface_of, is_exported, member_of, noted, option_and_then, option_copied, repeats};
-ghost use Rattle.adl_names.specs.Words.{declaring_told, is_among};
-ghost use Rattle.std.specs.Prelude.{IfOk, List as Seq, OnOk, Some, map, option_map, ℕ, ◌++◌, ◌≡◌};
+ghost use Rattle.adl_meaning.specs.Prelude.{Fault, Id as Word, a_group, attribute_of, composition_of, compositions, cons_option, declared_as, declared_by, declared_in, duplicates_in_component, duplicates_in_composition, flat_map, held_as, held_by, interface_of, is_exported, member_of, noted, option_and_then, option_copied, repeats, repeats_after, slice_get};
+ghost use Rattle.adl_names.specs.Words.{declared_told, declaring_told, first_named, is_among};
+ghost use Rattle.std.specs.Prelude.{IfOk, IfSome, List as Seq, OnOk, Some, [], map, option_map, ℕ, ◌++◌, ◌∷◌, ◌≡◌};
 ghost use Rattle.adl_names.specs.Bodies.{owner_of};
-ghost use Rattle.adl_names.specs.Tables.{AreNamed, AreNoted, held_told, holding_told};
+ghost use Rattle.adl_names.specs.Tables.{AreNamed, AreNoted, Declares, declares, held_told, holding_told, is_met, words_by, words_of};
 
 use crate::repeats::{note_again, put};
-use adl_ast::{Attribute, Component, Composition, Group, Instance, Interface, Line, Member};
-use adl_items::{Declared, count_declared};
+use adl_ast::{Attribute, Component, Composition, Group, Id, Instance, Interface, Line, Member};
+use adl_items::{Declared, declared_under};
 use adl_meaning::Earliest;
-use cam_base::{Name, NoMemory};
+use cam_base::{Code, Name, NoMemory};
 use name_tables::{NameSet, NameTable};
 use std::alloc::Global;
 use std::marker::Model;
@@ -48,7 +48,8 @@ impl<'a> Model for Holding<'a> {
 #[derive(Drop)]
 pub struct ComponentTable<'a> {
     pub component: &'a Component,
-    declared: NameTable<'a, Declared<'a>>,
+    /// What it declares by name, where its members are many; else none.
+    declared: Vec<NameTable<'a, Declared<'a>>>,
     /// What its compositions hold, in their order.
     holdings: Vec<Holding<'a>>,
 }
@@ -57,6 +58,7 @@ impl<'a> Model for ComponentTable<'a> {
     ghost use Rattle.adl_ast.specs.contracts.value.ValueKind as values;
     ghost use Rattle.adl_meaning.specs.Prelude.{Component};
     ghost use Rattle.adl_names.specs.Tables.{AreTold};
+    ghost use Rattle.adl_meaning.specs.Prelude.{slice_get};
     ghost use Rattle.std.specs.Coded.{codes};
 
     ghost Value = { Component };
@@ -65,7 +67,7 @@ impl<'a> Model for ComponentTable<'a> {
 
     ghost view = { λ t. t.component.now };
 
-    ghost invariant = { λ t. AreTold t.declared t.holdings.items t.component.now };
+    ghost invariant = { λ t. AreTold (slice_get t.declared.items 0) t.holdings.items t.component.now };
 }
 
 /// The instances of a group by name, of which the first counts.
@@ -152,6 +154,9 @@ impl<'a> Holding<'a> {
     }
 }
 
+/// How many members of a component are looked through, where more have a table.
+const FEW: usize = 16;
+
 fn declare<'a>(
     member: &'a Member,
     table: &mut NameTable<'a, Declared<'a>>,
@@ -168,21 +173,88 @@ fn declare<'a>(
     }
 }
 
-/// What a component declares by name. Notes the names that stand twice.
+/// What many members declare by name. Notes the names that stand twice.
 fn declaring<'a>(
     alloc: Global,
-    component: &'a Component,
+    members: &'a [Member],
     first: &mut Earliest<'a>,
 ) -> Result<NameTable<'a, Declared<'a>>, NoMemory>
-    ensures noted { OnOk result (first.new ≡ noted first.old (repeats (map (λ d. d.0) (declared_in component.entry.now)))) }
-    ensures declared { IfOk result (λ t. (n : Seq ℕ) → declaring_told t n ≡ declared_as component.entry.now n) }
+    ensures noted { OnOk result (first.new ≡ noted first.old (repeats (words_of members.entry.now))) }
+    ensures declared { IfOk result (λ t. (n : Seq ℕ) → declaring_told t n
+        ≡ first_named (flat_map declared_by members.entry.now) n) }
 {
-    let room = count_declared(component.members.as_slice());
-    let mut table = NameTable::with_room(alloc, room)?;
-    for member in component.members.as_slice() {
+    let mut table = NameTable::with_room(alloc, members.len())?;
+    for member in members {
         declare(member, &mut table, first)?;
     }
     Ok(table)
+}
+
+/// The word under which a member declares something.
+fn word_of(member: &Member) -> Option<&Id>
+    ensures { cons_option (option_copied result) [] ≡ words_by member.now }
+{
+    match member {
+        Member::Interface(it) => Some(&it.id),
+        Member::Attribute(it) => Some(&it.id),
+        Member::Lock(it) => Some(&it.id),
+        _ => None,
+    }
+}
+
+fn declares(member: &Member, name: &Name) -> bool
+    ensures { result ≡ declares name.now member.now }
+{
+    match word_of(member) {
+        None => false,
+        Some(word) => word.name == *name,
+    }
+}
+
+fn is_met(members: &[Member], name: &Name) -> bool
+    ensures { result ≡ is_met members.now name.now }
+{
+    members.iter().any(|member| declares(member, name))
+}
+
+/// Notes the word under which a member declares something, where one of those before it has its name.
+fn note_behind<'a>(before: &[Member], member: &'a Member, first: &mut Earliest<'a>)
+    ensures { (rest : Seq Word) → noted first.new (repeats_after (is_met (before.now ++ member.entry.now ∷ [])) rest)
+        ≡ noted first.old (repeats_after (is_met before.now) (words_by member.entry.now ++ rest)) }
+{
+    if let Some(word) = word_of(member) {
+        let is_repeated = is_met(before, &word.name);
+        let place = word.place.get();
+        first.note(is_repeated, Code::Duplicate, place, word.name.as_bytes());
+    }
+}
+
+/// Notes the names that stand twice among members, each of which is looked for among those before it.
+fn note_few<'a>(members: &'a [Member], first: &mut Earliest<'a>)
+    ensures { first.new ≡ noted first.old (repeats (words_of members.entry.now)) }
+{
+    for (place, member) in members.iter().enumerate() {
+        note_behind(&members[..place], member, first);
+    }
+}
+
+/// What a component declares by name, where its members are many; else none. Notes the names that stand twice.
+fn declared_of<'a>(
+    alloc: Global,
+    component: &'a Component,
+    first: &mut Earliest<'a>,
+) -> Result<Vec<NameTable<'a, Declared<'a>>>, NoMemory>
+    ensures noted { OnOk result (first.new ≡ noted first.old (repeats (map (λ d. d.0) (declared_in component.entry.now)))) }
+    ensures declared { IfOk result (λ v. IfSome (slice_get v.items 0) (Declares component.entry.now)) }
+{
+    let members = component.members.as_slice();
+    let mut tables = Vec::new(alloc);
+    if members.len() <= FEW {
+        note_few(members, first);
+        return Ok(tables);
+    }
+    tables.push(declaring(alloc, members, first)?)?;
+    Ok(tables)
 }
 
 /// What the compositions of a component hold. Notes the names that stand twice in one.
@@ -214,7 +286,7 @@ impl<'a> ComponentTable<'a> {
         ensures noted { OnOk result (first.new ≡ noted first.old (duplicates_in_component component.entry.now)) }
         ensures table { IfOk result (λ t. t ≡ component.entry.now) }
     {
-        let declared = declaring(alloc, component, first)?;
+        let declared = declared_of(alloc, component, first)?;
         note_again(component, first);
         let holdings = holdings(alloc, component, first)?;
         Ok(ComponentTable {
@@ -224,12 +296,22 @@ impl<'a> ComponentTable<'a> {
         })
     }
 
+    /// What the name stands for.
+    fn declared(&self, name: &Name) -> Option<Declared<'a>>
+        ensures { option_map declared_told result ≡ declared_as self.now name.now }
+    {
+        match self.declared.first() {
+            None => declared_under(self.component.members.as_slice(), name.as_bytes()),
+            Some(table) => table.get(name).copied(),
+        }
+    }
+
     /// The interface that the name stands for.
     pub fn interface(&self, name: &Name) -> Option<&'a Interface>
         ensures { option_copied result ≡ interface_of self.now name.now }
     {
-        match self.declared.get(name) {
-            Some(Declared::Interface(interface)) => Some(interface),
+        match self.declared(name)? {
+            Declared::Interface(interface) => Some(interface),
             _ => None,
         }
     }
@@ -238,8 +320,8 @@ impl<'a> ComponentTable<'a> {
     pub fn attribute(&self, name: &Name) -> Option<&'a Attribute>
         ensures { option_copied result ≡ attribute_of self.now name.now }
     {
-        match self.declared.get(name) {
-            Some(Declared::Attribute(attribute)) => Some(attribute),
+        match self.declared(name)? {
+            Declared::Attribute(attribute) => Some(attribute),
             _ => None,
         }
     }

@@ -1,6 +1,6 @@
 -- What a body's fields are, and what its tables by name say of it.
-use Rattle.adl_meaning.specs.Prelude.{Body, Component, Composition, Name, Part, bytes_eq, connections_in, declared_as, enumerate_from, filter_map, find, is_device, is_interface, list_any, option_and_then, option_copied, option_map_or, place_by, wire_of}
-use Rattle.std.specs.Prelude.{List, Option, [], false, is_some, option_map, unwrap_or, ℕ, ◌≡◌}
+use Rattle.adl_meaning.specs.Prelude.{Body, Component, Composition, Name, Part, bytes_eq, connections_in, declared_as, enumerate_from, filter_map, find, is_device, is_interface, list_any, option_and_then, option_copied, option_map_or, place_by, slice_get, wire_of}
+use Rattle.std.specs.Prelude.{IfSome, List, Option, [], false, is_some, option_map, unwrap_or, ℕ, ◌≡◌}
 use Rattle.name_tables.specs.ByName.{found}
 use Rattle.adl_items.specs.Declaring.{declaring_told}
 use Rattle.adl_program.specs.declared.part.PartAt.{PartAt}
@@ -18,7 +18,7 @@ body_seen t = record {
   component = option_copied t.component;
   composition = option_copied t.composition;
   configuration = option_copied t.configuration;
-  parts = parts_seen t.composed;
+  parts = parts_seen (slice_get t.composed.items 0);
 }
 
 -- the first instance of the name, by its number and that of its component, counted from this number
@@ -40,7 +40,7 @@ pub record AreMembers (o : Option Component) (t : Members) : Type 0 where
       (λ c. place_by (is_interface n) c.members) o 0
   pub hardware_is : t.hardware ≡ option_map_or is_device o false
 
--- all tables agree with the body
+-- all tables agree with the body; few members have none
 pub record IsIndexed (t : Inside) : Type 0 where
-  pub composed : IsComposed (option_copied t.composition) t.composed
-  pub members : AreMembers (option_copied t.component) t.members
+  pub composed : IsComposed (option_copied t.composition) (slice_get t.composed.items 0)
+  pub members : IfSome (slice_get t.members.items 0) (AreMembers (option_copied t.component))

@@ -1,23 +1,26 @@
 //! Bodies: components and the assembly.
 
-ghost use Rattle.adl_meaning.specs.Prelude.{Id as Word, attribute_of, body_of, bytes_eq, configurations, declared_by, flat_map, interface_of, is_device, is_group, is_interface, list_any, option_and_then, option_copied, option_map_or, option_or, parts_in, place_by, slice_get, top_of, wires_of};
+ghost use Rattle.adl_meaning.specs.Prelude.{Id as Word, attribute_of, body_of, bytes_eq, configurations, declared_as, declared_by, flat_map, interface_of, is_device, is_group, is_interface, list_any, option_and_then, option_copied, option_map_or, option_or, parts_in, place_by, slice_get, top_of, wires_of};
 ghost use Rattle.adl_meaning.specs.Members.{Declared as Told};
 ghost use Rattle.name_tables.specs.ByName.{found};
-ghost use Rattle.adl_items.specs.Declaring.{declaring_told};
+ghost use Rattle.adl_items.specs.Declaring.{declared_told, declaring_told};
 ghost use Rattle.adl_items.specs.Firsts.{first_named};
 ghost use Rattle.adl_items.specs.Located.{located};
 ghost use Rattle.adl_program.specs.LeafInterfaces.{leaf_at};
 ghost use Rattle.adl_program.specs.Seen.{AreMembers, IsComposed, part_from, parts_seen};
-ghost use Rattle.std.specs.Prelude.{IfOk, List as Seq, OnOk, Some, false, is_some, length, option_map, unwrap_or, ℕ, ◌++◌, ◌≡◌};
+ghost use Rattle.std.specs.Prelude.{IfOk, IfSome, List as Seq, OnOk, Some, false, is_some, length, option_map, unwrap_or, ℕ, ◌++◌, ◌≡◌};
 
 use crate::part::{Part, PartAt, Wire, parts_of, wires_of};
 use adl_ast::{Assembly, Attribute, Component, Composition, Configuration, Interface, Member};
-use adl_items::{Declared, Located, composition_of, count_declared, is_device};
+use adl_items::{Declared, Located, composition_of, declared_under, is_device};
 use adl_meaning::ItemAt;
-use cam_base::{Boxed, Name, NoMemory};
+use cam_base::{Name, NoMemory};
 use name_tables::NameTable;
 use std::alloc::Global;
 use std::marker::Model;
+
+/// How many members of a component are looked through, where more have tables.
+const FEW: usize = 16;
 
 /// A component or the assembly. Contracts see it as the body that it is.
 #[derive(Drop)]
@@ -26,9 +29,10 @@ pub struct Body<'a> {
     component: Option<&'a Component>,
     composition: Option<&'a Composition>,
     configuration: Option<&'a Configuration>,
-    /// What stands in its composition; most bodies have none, and nothing takes little room.
-    composed: Option<Boxed<Composed<'a>>>,
-    members: Members<'a>,
+    /// What stands in its composition, one or none: most bodies have none, and a list of none takes little room.
+    composed: Vec<Composed<'a>>,
+    /// What stands among the members of its component, where they are many; else none.
+    members: Vec<Members<'a>>,
 }
 
 /// What stands in a composition.
@@ -123,16 +127,22 @@ impl<'a> Body<'a> {
     pub fn is_hardware(&self) -> bool
         ensures { result ≡ option_map_or is_device self.now.component false }
     {
-        self.members.hardware
+        match self.members.first() {
+            None => match self.component {
+                None => false,
+                Some(component) => is_device(component),
+            },
+            Some(members) => members.hardware,
+        }
     }
 
     /// Its instances, in order.
     pub fn parts(&self) -> &[Part<'a>]
         ensures { result.now ≡ self.now.parts }
     {
-        match &self.composed {
-            None => &[],
-            Some(composed) => composed.get().parts.as_slice(),
+        match self.composed.as_slice() {
+            [] => &[],
+            [composed, ..] => composed.parts.as_slice(),
         }
     }
 
@@ -140,16 +150,26 @@ impl<'a> Body<'a> {
     pub fn part(&self, name: &Name) -> Option<PartAt>
         ensures { result ≡ part_from 0 self.now.parts name.now }
     {
-        self.composed.as_ref()?.get().named.get(name).copied()
+        self.composed.first()?.named.get(name).copied()
     }
 
     /// Whether one of its groups has the name.
     pub fn has_group(&self, name: &[u8]) -> bool
         ensures { result ≡ is_group self.now name.now }
     {
-        match &self.composed {
+        match self.composed.first() {
             None => false,
-            Some(composed) => composed.get().groups.get_bytes(name).is_some(),
+            Some(composed) => composed.groups.get_bytes(name).is_some(),
+        }
+    }
+
+    /// What its component declares under the name.
+    fn declared(&self, name: &[u8]) -> Option<Declared<'a>>
+        ensures { option_map declared_told result ≡ option_and_then (λ c. declared_as c name.now) self.now.component }
+    {
+        match self.members.first() {
+            None => declared_under(self.component?.members.as_slice(), name),
+            Some(members) => members.declared.get_bytes(name).copied(),
         }
     }
 
@@ -157,8 +177,8 @@ impl<'a> Body<'a> {
     pub fn interface(&self, name: &Name) -> Option<&'a Interface>
         ensures { option_copied result ≡ option_and_then (λ c. interface_of c name.now) self.now.component }
     {
-        match self.members.declared.get(name) {
-            Some(Declared::Interface(interface)) => Some(interface),
+        match self.declared(name.as_bytes())? {
+            Declared::Interface(interface) => Some(interface),
             _ => None,
         }
     }
@@ -167,8 +187,8 @@ impl<'a> Body<'a> {
     pub fn attribute(&self, name: &[u8]) -> Option<&'a Attribute>
         ensures { option_copied result ≡ option_and_then (λ c. attribute_of c name.now) self.now.component }
     {
-        match self.members.declared.get_bytes(name) {
-            Some(Declared::Attribute(attribute)) => Some(attribute),
+        match self.declared(name)? {
+            Declared::Attribute(attribute) => Some(attribute),
             _ => None,
         }
     }
@@ -177,9 +197,9 @@ impl<'a> Body<'a> {
     pub fn wires(&self) -> &[Wire<'a>]
         ensures { result.now ≡ wires_of self.now }
     {
-        match &self.composed {
-            None => &[],
-            Some(composed) => composed.get().wires.as_slice(),
+        match self.composed.as_slice() {
+            [] => &[],
+            [composed, ..] => composed.wires.as_slice(),
         }
     }
 
@@ -187,11 +207,13 @@ impl<'a> Body<'a> {
     pub fn member_number(&self, name: &Name) -> usize
         ensures { result ≡ option_map_or (λ c. place_by (is_interface name.now) c.members) self.now.component 0 }
     {
-        self.members
-            .places
-            .get(name)
-            .copied()
-            .unwrap_or(self.members.count)
+        match self.members.first() {
+            None => match self.component {
+                None => 0,
+                Some(component) => place_in(component.members.as_slice(), name),
+            },
+            Some(members) => members.place(name),
+        }
     }
 
     /// The first interface of its component under the name, as typing looks at it, if the component has one.
@@ -202,11 +224,34 @@ impl<'a> Body<'a> {
         match component.members.as_slice().get(self.member_number(name)) {
             Some(Member::Interface(interface)) => Some(Leaf {
                 interface,
-                hardware: self.members.hardware,
+                hardware: self.is_hardware(),
             }),
             _ => None,
         }
     }
+}
+
+impl<'a> Members<'a> {
+    /// The place of the interface; where none has the name, the number of members.
+    fn place(&self, name: &Name) -> usize
+        ensures { result ≡ unwrap_or (found self.now.places name.now) self.now.count }
+    {
+        self.places.get(name).copied().unwrap_or(self.count)
+    }
+}
+
+/// The place of the interface among members; where none has the name, their number.
+fn place_in(members: &[Member], name: &Name) -> usize
+    ensures { result ≡ place_by (is_interface name.now) members.now }
+{
+    for (place, member) in members.iter().enumerate() {
+        if let Member::Interface(interface) = member
+            && interface.id.name == *name
+        {
+            return place;
+        }
+    }
+    members.len()
 }
 
 /// The configuration of a component, the first.
@@ -248,24 +293,25 @@ fn composed_of<'a>(
     alloc: Global,
     kinds: &NameTable<'_, u32>,
     composition: Option<&'a Composition>,
-) -> Result<Option<Boxed<Composed<'a>>>, NoMemory>
-    ensures parts { IfOk result (λ t. parts_seen t ≡ parts_in (found kinds.now) (option_copied composition.entry)) }
-    ensures tables { IfOk result (λ t. IsComposed (option_copied composition.entry) t) }
+) -> Result<Vec<Composed<'a>>, NoMemory>
+    ensures parts { IfOk result (λ v. parts_seen (slice_get v.items 0) ≡ parts_in (found kinds.now) (option_copied composition.entry)) }
+    ensures tables { IfOk result (λ v. IsComposed (option_copied composition.entry) (slice_get v.items 0)) }
 {
     let Some(composition) = composition else {
-        return Ok(None);
+        return Ok(Vec::new(alloc));
     };
     let lines = composition.lines.as_slice();
     let parts = parts_of(alloc, kinds, lines)?;
     let (named, groups) = names_of(alloc, parts.as_slice())?;
     let wires = wires_of(alloc, lines)?;
-    let composed = Composed {
+    let mut composed = Vec::with_capacity(alloc, 1)?;
+    composed.push(Composed {
         parts,
         named,
         groups,
         wires,
-    };
-    Ok(Some(Boxed::new(alloc, composed)?))
+    })?;
+    Ok(composed)
 }
 
 /// Puts what a member declares under its name, where the name has nothing yet.
@@ -290,7 +336,7 @@ fn declared_in<'a>(
 ) -> Result<NameTable<'a, Declared<'a>>, NoMemory>
     ensures { IfOk result (λ t. (n : Seq ℕ) → declaring_told t n ≡ first_named (flat_map declared_by members.entry.now) n) }
 {
-    let mut declared = NameTable::with_room(alloc, count_declared(members))?;
+    let mut declared = NameTable::with_room(alloc, members.len())?;
     for member in members {
         declare(member, &mut declared)?;
     }
@@ -326,6 +372,18 @@ fn members_of<'a>(alloc: Global, component: &'a Component) -> Result<Members<'a>
     })
 }
 
+/// What stands among the members of a component, where they are many; else none.
+fn many_of<'a>(alloc: Global, component: &'a Component) -> Result<Vec<Members<'a>>, NoMemory>
+    ensures { IfOk result (λ v. IfSome (slice_get v.items 0) (AreMembers (Some component.entry.now))) }
+{
+    let mut many = Vec::new(alloc);
+    if component.members.len() <= FEW {
+        return Ok(many);
+    }
+    many.push(members_of(alloc, component)?)?;
+    Ok(many)
+}
+
 /// The body of a component.
 pub fn body_of<'a>(
     alloc: Global,
@@ -341,7 +399,7 @@ pub fn body_of<'a>(
         composition,
         configuration: configuration_of(it.item),
         composed: composed_of(alloc, kinds, composition)?,
-        members: members_of(alloc, it.item)?,
+        members: many_of(alloc, it.item)?,
     })
 }
 
@@ -367,11 +425,6 @@ pub fn top_of<'a>(
         composition,
         configuration,
         composed: composed_of(alloc, kinds, composition)?,
-        members: Members {
-            declared: NameTable::new(alloc),
-            places: NameTable::new(alloc),
-            count: 0,
-            hardware: false,
-        },
+        members: Vec::new(alloc),
     })
 }
