@@ -10,7 +10,7 @@ pub use Rattle.adl_meaning.specs.declared.flat.Leaf.{Leaf}
 pub use Rattle.arch_policy.specs.Bound.{IsBound, IsBoundAt, IsBoundBy, bound_to}
 pub use Rattle.arch_policy.specs.Ends.{EndAt, IsEnd, LockAt}
 pub use Rattle.arch_policy.specs.Gives.{gives, leaves, opposite, same_object}
-pub use Rattle.arch_policy.specs.Labels.{comes_before, connection_numbers, device_numbers, domain_numbers, in_order, label_numbers, label_texts, put_before, put_in, rank}
+pub use Rattle.arch_policy.specs.Labels.{comes_before, connection_numbers, device_numbers, domain_numbers, firsts, in_order, label_numbers, label_texts, put_before, put_in, rank}
 pub use Rattle.arch_policy.specs.LockEdges.{IsOfLeaf, IsWithLock}
 pub use Rattle.arch_policy.specs.Owners.{connection_texts, device_texts, domain_texts, has_label, is_device, texts}
 pub use Rattle.arch_policy.specs.Policies.{IsCertificateOf, IsLockEdge, IsPolicyOf, edge_count}
@@ -38,11 +38,11 @@ pub use Rattle.conn_rules.specs.Row.{RW, rows_of, same_connector, same_role}
 pub use Rattle.conn_rules.specs.declared.rule.ObjectKind.{ObjectKind}
 pub use Rattle.conn_rules.specs.declared.rule.ObjectKind.TheVariants.{NoObject, OfDevice, OfEndpoint, OfFrames, OfIrq, OfNotification}
 pub use Rattle.cspace_layout.specs.Members.{is_lock, members_at}
-pub use Rattle.std.proofs.Common.{Bool, Equal, Greater, Less, List, None, Option, Ordering, Some, [], ap, append-nil, arith, cond, false, get_or, inl, inr, length, not, refl, rules, subst, suc, sym, take, true, true≢false, zero, ℕ, ⊎_elim, ◌&&◌}
+pub use Rattle.std.proofs.Common.{Bool, Equal, Greater, Less, List, None, Option, Ordering, Some, [], ap, append-nil, arith, cond, drop, false, get_or, inl, inr, length, map, not, refl, rules, subst, suc, sym, take, true, true≢false, zero, ℕ, ⊎_elim, ◌&&◌}
 pub use Rattle.std.proofs.Common.{◌++◌, ◌+◌, ◌<◌, ◌==◌, ◌^◌, ◌||◌, ◌↔◌, ◌∙◌, ◌∷◌, ◌≡◌, ◌≢◌, ◌≤◌, ◌⊎◌}
 pub use Rattle.std.proofs.lemmas.Bool.{and_from, and_parts, cases_lt, eq-eqb, eqb-true}
-pub use Rattle.std.proofs.lemmas.List.{get_or_default, take_all, take_more}
-pub use Rattle.std.proofs.lemmas.List.Sorted.{Contains-permutation, IsPartitionPoint-from_clause, IsPermutation-sym, list_any-IsPermutation}
+pub use Rattle.std.proofs.lemmas.List.{get_or-map, get_or_default, length-map, take_all, take_more}
+pub use Rattle.std.proofs.lemmas.List.Sorted.{Contains-permutation, IsPartitionPoint-from_clause, IsPermutation-map, IsPermutation-sym, list_any-IsPermutation}
 pub use Rattle.std.proofs.lemmas.Map.Keys.{IsDistinct-from_apart, Less-from_sorted}
 pub use Rattle.std.proofs.lemmas.Option.{get_or_from_slice_get, slice_get-get_or, slice_get_read, slice_get_within}
 pub use Rattle.std.specs.List.{AllByRecursion, Contains, IsDistinct, count_by, dedup, filter, flat_map, list_all, list_any, slice_get}

@@ -2,6 +2,7 @@ pub mod Common
 pub mod Bounding
 pub mod Counted
 pub mod Crossing
+pub mod Dotted
 pub mod Given
 pub mod Labelled
 pub mod Listed

@@ -1,6 +1,6 @@
 -- Labels are numbered from 0 in the byte order of their texts. So the number of a label is how many labels come before it,
 -- and whatever keeps the texts apart keeps the numbers apart.
-use Rattle.std.specs.Prelude.{◌≡◌, ℕ, Bool, List, [], ◌∷◌, Option, position}
+use Rattle.std.specs.Prelude.{◌≡◌, ℕ, Bool, List, [], ◌∷◌, Option, map, position}
 use Rattle.std.specs.Cmp.Lexicographic.{slice_cmp}
 use Rattle.std.specs.List.{count_by}
 use Rattle.std.specs.Ordering.{is_lt, nat_cmp}
@@ -34,6 +34,10 @@ in_order (t ∷ ts) = put_in t (in_order ts)
 -- texts that were put in order
 abbrev pub IsOrdered : List (List ℕ) → Type 0
 IsOrdered ts = (all : List (List ℕ)) × (ts ≡ in_order all)
+
+-- the texts, without what stands beside them
+abbrev pub firsts : List (List ℕ × ℕ) → List (List ℕ)
+firsts = map (λ p. p.0)
 
 -- the texts of all labels, in order
 abbrev pub label_texts : Flat → List (List ℕ)

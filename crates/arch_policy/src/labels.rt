@@ -1,16 +1,18 @@
 //! The labels of a system, in order, and their numbers.
 
-ghost use Rattle.arch_policy.specs.Labels.{IsOrdered, comes_before, connection_numbers, device_numbers, domain_numbers, in_order, label_numbers, label_texts, rank};
+ghost use Rattle.arch_policy.specs.Labels.{IsOrdered, comes_before, connection_numbers, device_numbers, domain_numbers, firsts, in_order, label_numbers, label_texts, rank};
 ghost use Rattle.arch_policy.specs.Owners.{connection_texts, device_texts, domain_texts, has_label, is_device, texts};
 ghost use Rattle.arch_policy.specs.Where.{where_true};
 ghost use Rattle.cam_base.specs.Paths.{joined};
 ghost use Rattle.cam_base.specs.Gather.{gather};
-ghost use Rattle.std.specs.Prelude.{◌≡◌, ◌≤◌, ◌+◌, ◌<◌, ◌^◌, ◌++◌, ◌∷◌, [], true, length, IfOk, OnOk};
+ghost use Rattle.std.specs.List.{flat_map};
+ghost use Rattle.std.specs.Prelude.{◌≡◌, ◌+◌, ◌<◌, ◌^◌, ◌++◌, ◌∷◌, [], true, length, IfOk, IfSome, OnOk};
 
 use crate::LabelNumbers;
 use adl_meaning::{Connector, Domain, Flat, FlatConnection, Leaf};
-use cam_base::{List, NoMemory, Path, Text};
+use cam_base::{List, Name, NoMemory, Path, Text};
 use std::alloc::Global;
+use std::slice::Iter;
 
 /// The texts of all labels, in byte order, and the numbers of labels. The number of a label is its text's place.
 #[derive(Drop)]
@@ -29,23 +31,25 @@ fn has_label(connector: Connector) -> bool
     }
 }
 
-/// Puts the text of a path behind the others, where the path is a label's.
+/// Puts the text of a path behind the others, with its place among them, where the path is a label's.
 fn push_text(
     alloc: Global,
     is_label: bool,
     path: &Path,
-    texts: &mut List<Text>,
+    texts: &mut List<(Text, usize)>,
 ) -> Result<(), NoMemory>
-    ensures { OnOk result (texts.new ≡ texts.old ++ where_true is_label (joined path.now)) }
+    ensures { OnOk result (firsts texts.new ≡ firsts texts.old ++ where_true is_label (joined path.now)) }
 {
     if is_label {
-        texts.push(path.text(alloc)?)?;
+        let text = path.text(alloc)?;
+        let place = texts.len();
+        texts.push((text, place))?;
     }
     Ok(())
 }
 
-fn push_device(alloc: Global, leaf: &Leaf, texts: &mut List<Text>) -> Result<(), NoMemory>
-    ensures { OnOk result (texts.new ≡ texts.old ++ where_true (is_device leaf.now.domain) (joined leaf.now.path)) }
+fn push_device(alloc: Global, leaf: &Leaf, texts: &mut List<(Text, usize)>) -> Result<(), NoMemory>
+    ensures { OnOk result (firsts texts.new ≡ firsts texts.old ++ where_true (is_device leaf.now.domain) (joined leaf.now.path)) }
 {
     push_text(alloc, leaf.domain.is_none(), &leaf.path, texts)
 }
@@ -53,9 +57,9 @@ fn push_device(alloc: Global, leaf: &Leaf, texts: &mut List<Text>) -> Result<(),
 fn push_connection(
     alloc: Global,
     connection: &FlatConnection,
-    texts: &mut List<Text>,
+    texts: &mut List<(Text, usize)>,
 ) -> Result<(), NoMemory>
-    ensures { OnOk result (texts.new ≡ texts.old ++ where_true (has_label connection.now.connector)
+    ensures { OnOk result (firsts texts.new ≡ firsts texts.old ++ where_true (has_label connection.now.connector)
         (joined connection.now.path)) }
 {
     push_text(
@@ -66,8 +70,12 @@ fn push_connection(
     )
 }
 
-fn push_domains(alloc: Global, domains: &[Domain], texts: &mut List<Text>) -> Result<(), NoMemory>
-    ensures { OnOk result (texts.new ≡ texts.old ++ domain_texts domains.now) }
+fn push_domains(
+    alloc: Global,
+    domains: &[Domain],
+    texts: &mut List<(Text, usize)>,
+) -> Result<(), NoMemory>
+    ensures { OnOk result (firsts texts.new ≡ firsts texts.old ++ domain_texts domains.now) }
 {
     for domain in domains {
         push_text(alloc, true, &domain.path, texts)?;
@@ -75,8 +83,12 @@ fn push_domains(alloc: Global, domains: &[Domain], texts: &mut List<Text>) -> Re
     Ok(())
 }
 
-fn push_devices(alloc: Global, leaves: &[Leaf], texts: &mut List<Text>) -> Result<(), NoMemory>
-    ensures { OnOk result (texts.new ≡ texts.old ++ device_texts leaves.now) }
+fn push_devices(
+    alloc: Global,
+    leaves: &[Leaf],
+    texts: &mut List<(Text, usize)>,
+) -> Result<(), NoMemory>
+    ensures { OnOk result (firsts texts.new ≡ firsts texts.old ++ device_texts leaves.now) }
 {
     for leaf in leaves {
         push_device(alloc, leaf, texts)?;
@@ -87,9 +99,9 @@ fn push_devices(alloc: Global, leaves: &[Leaf], texts: &mut List<Text>) -> Resul
 fn push_connections(
     alloc: Global,
     connections: &[FlatConnection],
-    texts: &mut List<Text>,
+    texts: &mut List<(Text, usize)>,
 ) -> Result<(), NoMemory>
-    ensures { OnOk result (texts.new ≡ texts.old ++ connection_texts connections.now) }
+    ensures { OnOk result (firsts texts.new ≡ firsts texts.old ++ connection_texts connections.now) }
 {
     for connection in connections {
         push_connection(alloc, connection, texts)?;
@@ -97,24 +109,38 @@ fn push_connections(
     Ok(())
 }
 
-fn all_texts(alloc: Global, flat: &Flat) -> Result<List<Text>, NoMemory>
-    ensures { IfOk result (λ found. found ≡ texts flat.now) }
+/// The texts of all labels, each with its place among them. Devices are few, so no room is taken for theirs.
+fn all_texts(alloc: Global, flat: &Flat) -> Result<List<(Text, usize)>, NoMemory>
+    ensures { IfOk result (λ found. firsts found ≡ texts flat.now) }
 {
-    let mut texts = List::new(alloc);
+    let room = flat.domains.len().saturating_add(flat.connections.len());
+    let mut texts = List::from_vec(Vec::with_capacity(alloc, room)?);
     push_domains(alloc, flat.domains.as_slice(), &mut texts)?;
     push_devices(alloc, flat.leaves.as_slice(), &mut texts)?;
     push_connections(alloc, flat.connections.as_slice(), &mut texts)?;
     Ok(texts)
 }
 
-/// In byte order, each text once. Texts are often listed in few runs that are in order, so they are sorted by runs.
-fn in_order(texts: List<Text>) -> Result<List<Text>, NoMemory>
-    ensures { IfOk result (λ found. found ≡ in_order texts) }
+/// The texts in byte order, each once, and where the text of each place came to stand before they were each taken once. Texts are
+/// often listed in few runs that are in order, so they are sorted by runs.
+fn in_order(
+    alloc: Global,
+    texts: List<(Text, usize)>,
+) -> Result<(List<Text>, List<usize>), NoMemory>
+    ensures { IfOk result (λ found. found.0 ≡ in_order (firsts texts)) }
 {
-    let mut texts = texts.into_vec();
-    texts.sort()?;
-    texts.dedup();
-    Ok(List::from_vec(texts))
+    let mut placed = texts.into_vec();
+    placed.sort()?;
+    let mut places = Vec::from_elem(alloc, 0, placed.len())?;
+    let mut ordered = Vec::with_capacity(alloc, placed.len())?;
+    for (text, place) in placed {
+        if let Some(number) = places.get_mut(place) {
+            *number = ordered.len();
+        }
+        ordered.push(text)?;
+    }
+    ordered.dedup();
+    Ok((List::from_vec(ordered), List::from_vec(places)))
 }
 
 fn comes_before(other: &Text, text: &[u8]) -> bool
@@ -131,66 +157,74 @@ fn rank(texts: &[Text], text: &[u8]) -> usize
     texts.partition_point(|other| comes_before(other, text))
 }
 
-/// Whether the text stands at a place.
-fn stands_at(texts: &[Text], place: usize, text: &[u8]) -> bool
-    requires { IsOrdered texts.now }
-    ensures { result ≡ true → rank texts.now text.now ≡ place }
+/// What of the text stands behind this front.
+fn behind<'a>(text: &'a [u8], front: &[u8]) -> Option<&'a [u8]>
+    ensures { IfSome result (λ rest. text.entry.now ≡ front.now ++ rest.now) }
 {
-    match texts.get(place) {
-        Some(other) => other.as_bytes() == text,
+    text.strip_prefix(front)
+}
+
+/// Whether the text is that of names, a dot before each.
+fn are_dotted(names: &[Name], text: &[u8]) -> bool
+    ensures { result ≡ true → text.now ≡ flat_map (λ name. 46 ∷ name) names.now }
+{
+    let mut left = text;
+    for name in names {
+        let [dot, more @ ..] = left else {
+            return false;
+        };
+        if *dot != b'.' {
+            return false;
+        }
+        let Some(rest) = behind(more, name.as_bytes()) else {
+            return false;
+        };
+        left = rest;
+    }
+    left.is_empty()
+}
+
+/// Whether the text is that of names, joined by dots.
+fn are_joined(names: &[Name], text: &[u8]) -> bool
+    ensures { result ≡ true → text.now ≡ joined names.now }
+{
+    let [first, more @ ..] = names else {
+        return text.is_empty();
+    };
+    match behind(text, first.as_bytes()) {
+        Some(rest) => are_dotted(more, rest),
         None => false,
     }
 }
 
-/// The number behind the last.
-fn next_number(numbers: &[u32]) -> usize
-    ensures { result ≤ 2 ^ 32 }
-{
-    match numbers.last() {
-        Some(last) => *last as usize + 1,
-        None => 0,
-    }
-}
-
-/// The same, looked for first just behind the last of these numbers, and then behind the two before it. What is listed in
-/// order, or by turns from few lists in order, often is numbered so.
-fn rank_near(texts: &[Text], numbers: &[u32], text: &[u8]) -> usize
+/// Whether the text of names stands at a place.
+fn stands_at(texts: &[Text], place: usize, names: &[Name]) -> bool
     requires { IsOrdered texts.now }
-    ensures { result ≡ rank texts.now text.now }
+    ensures { result ≡ true → rank texts.now (joined names.now) ≡ place }
 {
-    let next = next_number(numbers);
-    for place in next..next + 4 {
-        if stands_at(texts, place, text) {
-            return place;
-        }
+    match texts.get(place) {
+        Some(other) => are_joined(names, other.as_bytes()),
+        None => false,
     }
-    let before = &numbers[numbers.len().saturating_sub(3)..];
-    for number in before {
-        let place = *number as usize + 1;
-        if stands_at(texts, place, text) {
-            return place;
-        }
-    }
-    rank(texts, text)
 }
 
-/// How many of the texts, which are in order, come before that of the path, looked for first near these numbers. A path of
-/// one name is its text.
-fn path_rank(alloc: Global, texts: &[Text], numbers: &[u32], path: &Path) -> Result<usize, NoMemory>
+/// How many of the texts, which are in order, come before that of the path, looked for first at a place.
+fn path_rank(alloc: Global, texts: &[Text], place: usize, path: &Path) -> Result<usize, NoMemory>
     requires { IsOrdered texts.now }
     ensures { IfOk result (λ n. n ≡ rank texts.now (joined path.now)) }
 {
-    if let [name] = path.names() {
-        return Ok(rank_near(texts, numbers, name.as_bytes()));
+    if stands_at(texts, place, path.names()) {
+        return Ok(place);
     }
     let text = path.text(alloc)?;
-    Ok(rank_near(texts, numbers, text.as_bytes()))
+    Ok(rank(texts, text.as_bytes()))
 }
 
-/// Puts the number that the path has behind the others.
+/// Puts the number that the path has behind the others, looked for first at a place.
 fn push_number(
     alloc: Global,
     texts: &[Text],
+    place: usize,
     path: &Path,
     numbers: &mut List<u32>,
 ) -> Result<(), NoMemory>
@@ -198,18 +232,28 @@ fn push_number(
     requires few { length texts.now < 2 ^ 32 }
     ensures { OnOk result (numbers.new ≡ numbers.old ++ rank texts.now (joined path.now) ∷ []) }
 {
-    let number = path_rank(alloc, texts, numbers.as_slice(), path)?;
+    let number = path_rank(alloc, texts, place, path)?;
     numbers.push(number as u32)
 }
 
-fn domain_numbers(alloc: Global, texts: &[Text], domains: &[Domain]) -> Result<List<u32>, NoMemory>
+/// The next of the places, 0 where there is none.
+fn next_place(places: &mut Iter<'_, usize>) -> usize {
+    places.next().copied().unwrap_or(0)
+}
+
+fn domain_numbers(
+    alloc: Global,
+    texts: &[Text],
+    places: &mut Iter<'_, usize>,
+    domains: &[Domain],
+) -> Result<List<u32>, NoMemory>
     requires ordered { IsOrdered texts.now }
     requires few { length texts.now < 2 ^ 32 }
     ensures { IfOk result (λ numbers. numbers ≡ domain_numbers texts.now domains.now) }
 {
     let mut numbers = List::from_vec(Vec::with_capacity(alloc, domains.len())?);
     for domain in domains {
-        push_number(alloc, texts, &domain.path, &mut numbers)?;
+        push_number(alloc, texts, next_place(places), &domain.path, &mut numbers)?;
     }
     Ok(numbers)
 }
@@ -217,6 +261,7 @@ fn domain_numbers(alloc: Global, texts: &[Text], domains: &[Domain]) -> Result<L
 fn connection_numbers(
     alloc: Global,
     texts: &[Text],
+    places: &mut Iter<'_, usize>,
     connections: &[FlatConnection],
 ) -> Result<List<u32>, NoMemory>
     requires ordered { IsOrdered texts.now }
@@ -225,33 +270,64 @@ fn connection_numbers(
 {
     let mut numbers = List::from_vec(Vec::with_capacity(alloc, connections.len())?);
     for connection in connections {
-        push_number(alloc, texts, &connection.path, &mut numbers)?;
+        let place = if has_label(connection.connector) {
+            next_place(places)
+        } else {
+            0
+        };
+        push_number(alloc, texts, place, &connection.path, &mut numbers)?;
     }
     Ok(numbers)
 }
 
-fn device_numbers(alloc: Global, texts: &[Text], leaves: &[Leaf]) -> Result<List<u32>, NoMemory>
+/// Where the text of a leaf's path may stand: at the next place that of a device, and any other where that of its domain stands.
+fn leaf_place(places: &mut Iter<'_, usize>, domains: &[u32], leaf: &Leaf) -> usize {
+    match leaf.domain {
+        None => next_place(places),
+        Some(domain) => domains.get(domain as usize).copied().unwrap_or(0) as usize,
+    }
+}
+
+fn device_numbers(
+    alloc: Global,
+    texts: &[Text],
+    places: &mut Iter<'_, usize>,
+    domains: &[u32],
+    leaves: &[Leaf],
+) -> Result<List<u32>, NoMemory>
     requires ordered { IsOrdered texts.now }
     requires few { length texts.now < 2 ^ 32 }
     ensures { IfOk result (λ numbers. numbers ≡ device_numbers texts.now leaves.now) }
 {
     let mut numbers = List::from_vec(Vec::with_capacity(alloc, leaves.len())?);
     for leaf in leaves {
-        push_number(alloc, texts, &leaf.path, &mut numbers)?;
+        let place = leaf_place(places, domains, leaf);
+        push_number(alloc, texts, place, &leaf.path, &mut numbers)?;
     }
     Ok(numbers)
 }
 
-fn label_numbers(alloc: Global, texts: &[Text], flat: &Flat) -> Result<LabelNumbers, NoMemory>
+/// The numbers of the labels with these texts, which are looked for first at these places, in the order in which labels are listed.
+fn label_numbers(
+    alloc: Global,
+    texts: &[Text],
+    places: &[usize],
+    flat: &Flat,
+) -> Result<LabelNumbers, NoMemory>
     requires are { texts.now ≡ label_texts flat.now }
     requires ordered { IsOrdered texts.now }
     requires few { length texts.now < 2 ^ 32 }
     ensures { IfOk result (λ numbers. numbers ≡ label_numbers flat.now) }
 {
+    let mut places = places.iter();
+    let domains = domain_numbers(alloc, texts, &mut places, flat.domains.as_slice())?;
+    let leaves = flat.leaves.as_slice();
+    let devices = device_numbers(alloc, texts, &mut places, domains.as_slice(), leaves)?;
+    let connections = connection_numbers(alloc, texts, &mut places, flat.connections.as_slice())?;
     Ok(LabelNumbers {
-        domains: domain_numbers(alloc, texts, flat.domains.as_slice())?,
-        connections: connection_numbers(alloc, texts, flat.connections.as_slice())?,
-        devices: device_numbers(alloc, texts, flat.leaves.as_slice())?,
+        domains,
+        connections,
+        devices,
     })
 }
 
@@ -265,8 +341,8 @@ pub fn labels_of(alloc: Global, flat: &Flat) -> Result<Labelling, NoMemory>
     ensures texts { IfOk result (λ labels. labels.texts ≡ label_texts flat.now) }
     ensures numbers { IfOk result (λ labels. labels.numbers ≡ label_numbers flat.now) }
 {
-    let texts = in_order(all_texts(alloc, flat)?)?;
-    let numbers = label_numbers(alloc, texts.as_slice(), flat)?;
+    let (texts, places) = in_order(alloc, all_texts(alloc, flat)?)?;
+    let numbers = label_numbers(alloc, texts.as_slice(), places.as_slice(), flat)?;
     Ok(Labelling { texts, numbers })
 }
 

@@ -1,9 +1,9 @@
-use Rattle.arch_policy.proofs.Common.{ap, in_order, label_texts, length, subst, sym, ◌<◌, ◌^◌, ◌∙◌, ◌≡◌}
+use Rattle.arch_policy.proofs.Common.{ap, firsts, in_order, label_texts, length, subst, sym, ◌<◌, ◌^◌, ◌∙◌, ◌≡◌}
 use Rattle.arch_policy.proofs.Labelled.{few_texts}
 use Rattle.arch_policy.proofs.labels.labels_of.Goals as goal
 
 pub label_numbers-requires-clause-ordered : goal.label_numbers-requires-clause-ordered
-label_numbers-requires-clause-ordered c = (c.in_ok-all_texts.field-0, c.as_slice.ensures ∙ c.in_ok-texts.ensures)
+label_numbers-requires-clause-ordered c = (firsts c.in_ok-all_texts.field-0, c.as_slice.ensures ∙ c.in_ok-texts.ensures)
 
 pub label_numbers-requires-clause-few : goal.label_numbers-requires-clause-few
 label_numbers-requires-clause-few c =
