@@ -4,9 +4,9 @@ ghost use Rattle.cam_io.specs.Saying.{Says};
 ghost use Rattle.cam_io.specs.Sinks.{IsOpen, Writes};
 ghost use Rattle.policy_text.specs.PolicyLines.{label_line, object_line, edge_line, policy_text, cert_text};
 ghost use Rattle.std.specs.List.{flat_map};
-ghost use Rattle.std.specs.Prelude.{◌≡◌};
+ghost use Rattle.std.specs.Prelude.{◌≡◌, decimal};
 
-use cam_base::{Name, Text};
+use cam_base::{Name, Text, decimal};
 use cam_io::{Failed, Outputs, Writer};
 use cap_model::{Edge, EdgeTable, Policy};
 use itoa::Buffer;
@@ -71,18 +71,27 @@ fn write_object<O: Outputs>(object: &(Name, u32), to: &mut Writer<O>)
 fn write_edges<O: Outputs>(edges: &EdgeTable, to: &mut Writer<O>)
     ensures { Says to.old (flat_map edge_line edges.now) to.new }
 {
+    let mut digits = [0; 20];
+    let mut label = 0;
+    let mut count = decimal(0, &mut digits);
     for edge in edges.iter() {
-        write_edge(edge, to);
+        if edge.from != label {
+            label = edge.from;
+            count = decimal(label as u64, &mut digits);
+        }
+        write_edge(&digits[..count], edge, to);
     }
 }
 
-fn write_edge<O: Outputs>(edge: Edge, to: &mut Writer<O>)
+/// Writes the line of an edge that leads out of the label with these digits.
+fn write_edge<O: Outputs>(from: &[u8], edge: Edge, to: &mut Writer<O>)
+    requires { from.now ≡ decimal edge.from }
     ensures { Says to.old (edge_line edge) to.new }
 {
-    let mut from = Buffer::new();
     let mut end = Buffer::new();
-    let from = from.format(edge.from).as_bytes();
     let end = end.format(edge.to).as_bytes();
     let word = edge.authority.text().as_bytes();
-    to.texts(&[b"edge ", from, b" ", word, b" ", end, b"\n"]);
+    to.text(b"edge ");
+    to.text(from);
+    to.texts(&[b" ", word, b" ", end, b"\n"]);
 }

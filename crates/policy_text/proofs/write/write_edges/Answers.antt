@@ -3,16 +3,27 @@ use Rattle.cap_model.specs.EdgesLeft.{edges_left}
 use Rattle.policy_text.proofs.Common.{[], edge_line, ap, append_assoc, sym, ◌++◌, ◌∙◌, ◌∷◌}
 use Rattle.std.proofs.Common.{rules}
 use Rattle.policy_text.proofs.Saying.{says_end, says_next}
+use Rattle.policy_text.proofs.write.write_edges.Goals.{else-edge-label, then-edge-label}
 use Rattle.policy_text.proofs.write.write_edges.Goals as goal
 
 pub loop-edge-init : goal.loop-edge-init
-loop-edge-init g c = record { all = search rules; said = says_nothing }
+loop-edge-init g c = record {
+  all = search rules;
+  said = says_nothing;
+  within = c.decimal-count.ensures.len;
+  number = c.decimal-count.ensures.text;
+}
 
 pub loop-edge-preserved : goal.loop-edge-preserved
 loop-edge-preserved g c = record {
   all = append_assoc c.loop-edge.yielded (c.in-Some.edge ∷ []) (edges_left c.next.new.self)
       ∙ ap (λ es. c.loop-edge.yielded ++ es) (sym c.in-Some.ensures.steps) ∙ c.loop-edge.invariant.all;
   said = says_next edge_line c.loop-edge.yielded c.in-Some.edge c.loop-edge.invariant.said c.write_edge.ensures;
+  within = search rules;
+  number = elim c.if-edge-label.branch [
+    | then-edge-label w ↦ rw (w.count-is, w.digits-is, w.label-is) w.decimal-count-then-edge-label.ensures.text
+    | else-edge-label w ↦ rw (w.count-is, w.digits-is, w.label-is) c.loop-edge.invariant.number
+  ];
 }
 
 pub returns : goal.returns
