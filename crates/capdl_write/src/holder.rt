@@ -65,31 +65,34 @@ fn write_slot<O: Outputs>(spec: &Spec, slot: &(u64, Cap), to: &mut Writer<O>)
 {
     let mut digits = [0; 18];
     let number = hexadecimal(slot.0, &mut digits);
-    write_cap(spec, number, b": ", &slot.1, to);
+    write_cap(spec, number, &slot.1, to);
 }
 
-/// Writes a capability behind a word and a mark, and the end of the line.
-fn write_cap<'a, O: Outputs>(
-    spec: &'a Spec,
-    word: &'a [u8],
-    mark: &'a [u8],
-    cap: &'a Cap,
-    to: &mut Writer<O>,
-)
-    ensures { Says to.old (together (word.now ∷ mark.now ∷ []) ⊹ cap_end spec.now cap.now) to.new }
+/// Writes a capability behind a word and a colon, and the end of the line.
+fn write_cap<'a, O: Outputs>(spec: &'a Spec, word: &'a [u8], cap: &'a Cap, to: &mut Writer<O>)
+    ensures { Says to.old (together (word.now ∷ codes ": " ∷ []) ⊹ cap_end spec.now cap.now) to.new }
 {
     let name = spec.name(cap.object);
     if cap.badge == 0 {
-        to.texts(&[word, mark, name, end_word(&cap.rights)]);
+        to.texts(&[word, b": ", name, end_word(&cap.rights)]);
         return;
     }
     let rights = rights_word(&cap.rights);
     let mut digits = Buffer::new();
     let badge = digits.format(cap.badge).as_bytes();
     if cap.rights.any() {
-        to.texts(&[word, mark, name, b" (", rights, b", badge: ", badge, b")\n"]);
+        to.texts(&[
+            word,
+            b": ",
+            name,
+            b" (",
+            rights,
+            b", badge: ",
+            badge,
+            b")\n",
+        ]);
     } else {
-        to.texts(&[word, mark, name, b" (badge: ", badge, b")\n"]);
+        to.texts(&[word, b": ", name, b" (badge: ", badge, b")\n"]);
     }
 }
 
@@ -161,7 +164,7 @@ fn write_buffer<O: Outputs>(spec: &Spec, buffer: Option<Cap>, to: &mut Writer<O>
 {
     match buffer {
         None => {}
-        Some(cap) => write_cap(spec, b"ipc_buffer_slot", b": ", &cap, to),
+        Some(cap) => write_cap(spec, b"ipc_buffer_slot", &cap, to),
     }
 }
 
