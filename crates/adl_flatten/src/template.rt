@@ -160,10 +160,10 @@ fn connections_of<'a>(
     ensures { IfOk result (λ v. v.items ≡ own_connections program.now number
         ++ gather (connections_by program.now number) (body program.now number).parts) }
 {
-    let mut connections = Vec::new(alloc);
     let body = program.body(number);
+    let mut connections = Vec::with_capacity(alloc, body.wires().len())?;
     for wire in body.wires() {
-        let mut ends = Vec::new(alloc);
+        let mut ends = Vec::with_capacity(alloc, wire.connection.ends.len())?;
         for end in wire.connection.ends.as_slice() {
             if let Some(target) = target_of(program, all, before, number, end.words.as_slice()) {
                 ends.push(PlacedEnd {
