@@ -1,11 +1,10 @@
 //! The writer of the map. It takes no memory.
 
 ghost use Rattle.cam_base.specs.Paths.{joined};
-ghost use Rattle.cam_base.specs.Texts.{◌⊹◌, together};
 ghost use Rattle.cam_io.specs.Saying.{Says};
 ghost use Rattle.cspace_layout.specs.Members.{leaf_members};
 ghost use Rattle.std.specs.List.{flat_map};
-ghost use Rattle.std.specs.Prelude.{◌≡◌, ◌∷◌, map};
+ghost use Rattle.std.specs.Prelude.{◌≡◌, ◌∷◌};
 ghost use Rattle.system_spec.specs.MapText.{connection_path, domain_line, domain_path, end_text, leaf_path, line_text, map_text};
 ghost use Rattle.system_spec.specs.MapText.{member_name, name_in, named, own_line, slot_line, thread_line, window_line};
 ghost use Rattle.system_spec.specs.Names.{root_series};
@@ -124,31 +123,6 @@ fn write_end<O: Outputs>(names: &MapNames<'_>, connection: u32, end: u32, to: &m
     }
 }
 
-/// Writes a line about a path.
-fn write_path_line<O: Outputs>(word: &[u8], path: &[Name], more: &[&[u8]], to: &mut Writer<O>)
-    ensures { Says to.old (word.now ⊹ joined path.now ⊹ together (map (λ p. p.now) more.now)) to.new }
-{
-    to.text(word);
-    write_path(path, to);
-    to.texts(more);
-}
-
-/// Writes a line about an end.
-fn write_end_line<O: Outputs>(
-    names: &MapNames<'_>,
-    word: &[u8],
-    at: EndAt,
-    more: &[&[u8]],
-    to: &mut Writer<O>,
-)
-    ensures { Says to.old (word.now ⊹ end_text (named names.now) at.connection at.end ⊹ together (map (λ p. p.now) more.now))
-        to.new }
-{
-    to.text(word);
-    write_end(names, at.connection, at.end, to);
-    to.texts(more);
-}
-
 fn write_domain<O: Outputs>(names: &MapNames<'_>, domain: u32, to: &mut Writer<O>)
     ensures { Says to.old (domain_line (named names.now) domain) to.new }
 {
@@ -156,8 +130,9 @@ fn write_domain<O: Outputs>(names: &MapNames<'_>, domain: u32, to: &mut Writer<O
     let number = number.format(domain).as_bytes();
     let cnode = Series::CNode.prefix();
     let root = root_series(names.spec.arch).prefix();
-    let more = [b" ", cnode, number, b" ", root, number, b"\n"];
-    write_path_line(b"domain ", domain_path(names.flat, domain), &more, to)
+    to.text(b"domain ");
+    write_path(domain_path(names.flat, domain), to);
+    to.texts(&[b" ", cnode, number, b" ", root, number, b"\n"]);
 }
 
 fn write_thread<O: Outputs>(
@@ -170,12 +145,16 @@ fn write_thread<O: Outputs>(
     ensures { Says to.old (thread_line (named names.now) tcb leaf end) to.new }
 {
     let tcb = names.spec.name(tcb);
+    to.text(b"thread ");
     match end {
         None => {
-            let path = leaf_path(names.flat, leaf);
-            write_path_line(b"thread ", path, &[b" control ", tcb, b"\n"], to)
+            write_path(leaf_path(names.flat, leaf), to);
+            to.texts(&[b" control ", tcb, b"\n"]);
         }
-        Some(end) => write_end_line(names, b"thread ", end, &[b" ", tcb, b"\n"], to),
+        Some(end) => {
+            write_end(names, end.connection, end.end, to);
+            to.texts(&[b" ", tcb, b"\n"]);
+        }
     }
 }
 
@@ -191,7 +170,9 @@ fn write_slot<O: Outputs>(
     let mut digits = [0; 18];
     let slot = hexadecimal(slot, &mut digits);
     let object = names.spec.name(object);
-    write_end_line(names, b"slot ", at, &[b" ", slot, b" ", object, b"\n"], to)
+    to.text(b"slot ");
+    write_end(names, at.connection, at.end, to);
+    to.texts(&[b" ", slot, b" ", object, b"\n"]);
 }
 
 fn write_own<O: Outputs>(path: &[Name], name: &[u8], slot: u64, object: &[u8], to: &mut Writer<O>)
@@ -199,8 +180,9 @@ fn write_own<O: Outputs>(path: &[Name], name: &[u8], slot: u64, object: &[u8], t
 {
     let mut digits = [0; 18];
     let slot = hexadecimal(slot, &mut digits);
-    let more = [b" ", name, b" ", slot, b" ", object, b"\n"];
-    write_path_line(b"own ", path, &more, to)
+    to.text(b"own ");
+    write_path(path, to);
+    to.texts(&[b" ", name, b" ", slot, b" ", object, b"\n"]);
 }
 
 fn write_window<O: Outputs>(
@@ -216,13 +198,9 @@ fn write_window<O: Outputs>(
     let mut number = Buffer::new();
     let vaddr = hexadecimal(vaddr, &mut digits);
     let bytes = number.format(bytes).as_bytes();
-    write_end_line(
-        names,
-        b"window ",
-        at,
-        &[b" ", vaddr, b" ", bytes, b"\n"],
-        to,
-    )
+    to.text(b"window ");
+    write_end(names, at.connection, at.end, to);
+    to.texts(&[b" ", vaddr, b" ", bytes, b"\n"]);
 }
 
 fn write_line<O: Outputs>(names: &MapNames<'_>, line: MapLine, to: &mut Writer<O>)

@@ -1,0 +1,8 @@
+-- write_window
+use Rattle.cam_io.proofs.Saying.{says_then}
+use Rattle.system_spec.proofs.map_text.write_window.Goals as goal
+
+pub returns : goal.returns
+returns g c =
+    let more = rw (c.hexadecimal-vaddr.ensures, c.as_bytes-bytes.ensures.value, c.format.ensures.text) at c.texts.ensures in
+    says_then (says_then c.text.ensures c.write_end.ensures) more
