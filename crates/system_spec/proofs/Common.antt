@@ -36,13 +36,14 @@ pub use Rattle.std.specs.Option.{option_map, option_map_or}
 pub use Rattle.std.specs.Prelude.{leb, nat_lt, slice_index}
 pub use Rattle.system_spec.specs.Bits.{IsLeastBits, bits_for, bits_from}
 pub use Rattle.system_spec.specs.Few.{AreFew, AreShown, table_count}
+pub use Rattle.system_spec.specs.Grouped.{but_frames}
 pub use Rattle.system_spec.specs.Landmarks.{IsThere, all_spaces, copied, objects_in, root_in, space_tables}
 pub use Rattle.system_spec.specs.LevelNumbers.{counted, counts, counts_in, one_more}
 pub use Rattle.system_spec.specs.Made.{entry, part_label, spec_of}
 pub use Rattle.system_spec.specs.MapLines.{domain_lines, domain_slots, domain_threads, domain_windows, slot_line, slot_lines, thread_lines, thread_lines_from, window_line, window_lines}
 pub use Rattle.system_spec.specs.MapText.{line_text, named}
 pub use Rattle.system_spec.specs.Objects.{buffer_cap, by_number, cap, frame_at, joint, joint_by, line, line_by, object, put_line, rights_at, tcb, use_cap, use_cap_at}
-pub use Rattle.system_spec.specs.Parts.{all_tables, cnodes, domain_locks, domain_tables, domain_tcbs, endpoint, endpoint_by, endpoints, first_of, frame_parts, irq, irq_by, irqs, is_of, level_of, lock, locks, notification, notification_by}
+pub use Rattle.system_spec.specs.Parts.{all_tables, cnodes, domain_locks, domain_tables, domain_tcbs, endpoint, endpoint_by, endpoints, first_of, frame_part, frame_parts, irq, irq_by, irqs, is_of, level_of, lock, locks, notification, notification_by}
 pub use Rattle.system_spec.specs.Parts.{notifications, numbered, owned, page_mapping, page_table, part, parts, place, sections, table_part, table_parts, tables_at, tcbs, threads_of, together}
 pub use Rattle.system_spec.specs.Places.{has_endpoint, has_irq, has_notification, holds_lock, mark, one, places_from, stands}
 pub use Rattle.system_spec.specs.Ready.{AreNamed, NamesOneOf}

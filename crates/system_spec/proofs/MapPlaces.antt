@@ -1,5 +1,5 @@
 -- Places of the threads and the locks that lines of the map name
-use Rattle.system_spec.proofs.Common.{AreFew, Domain, List, LockOf, OfDomain, Owned, Part, SlotUse, Some, Tables, ThreadOf, ThreadPlace, [], add-one, all_tables, ap, arith, at_place, before, cnodes, domain_locks, domain_tcbs, domain_threads}
+use Rattle.system_spec.proofs.Common.{AreFew, Domain, List, LockOf, OfDomain, Owned, Part, SlotUse, Some, Tables, ThreadOf, ThreadPlace, [], add-one, all_tables, ap, arith, at_place, before, but_frames, cnodes, domain_locks, domain_tcbs, domain_threads}
 use Rattle.system_spec.proofs.Common.{endpoints, first_of, frame_parts, gather, gather_more, gather_ones, irqs, length, length_append, lock, locks, notifications, numbered, owned, part, place, refl, sections, slice_get, subst, sym, table_parts, take}
 use Rattle.system_spec.proofs.Common.{take_all, taken_le, tcbs, thread_lines_from, threads_at, together, uses_at, ℕ, ◌++◌, ◌+◌, ◌<◌, ◌^◌, ◌∙◌, ◌∷◌, ◌≡◌, ◌≤◌}
 use Rattle.system_spec.specs.declared.series.Series.TheVariants as series
@@ -85,12 +85,15 @@ lock_end t d uses n first at same le f p =
 
 -- ---- sections
 
-pub few_in : (t : Tables) (xs : List (List Part)) → xs ≡ sections t → AreFew t → length (together xs) < 2 ^ 32
-few_in t xs same few = subst (λ (z : List (List Part)). length (together z) < 2 ^ 32) (sym same) few.objects
+pub few_in : (t : Tables) (xs : List (List Part)) → xs ≡ but_frames t → AreFew t → length (together xs) < 2 ^ 32
+few_in t xs same few =
+    let all = (ends t few).frames in
+    let here : length (together (but_frames t)) < 2 ^ 32 = omega (arith, all) in
+    subst (λ (z : List (List Part)). length (together z) < 2 ^ 32) (sym same) here
 
-pub at_most_eight : (t : Tables) (xs : List (List Part)) (n : ℕ) → xs ≡ sections t → n ≤ 8 → n ≤ length xs
-at_most_eight t xs n same le = subst (λ (z : List (List Part)). n ≤ length z) (sym same) le
+pub at_most_seven : (t : Tables) (xs : List (List Part)) (n : ℕ) → xs ≡ but_frames t → n ≤ 7 → n ≤ length xs
+at_most_seven t xs n same le = subst (λ (z : List (List Part)). n ≤ length z) (sym same) le
 
-pub first_is : (t : Tables) (xs : List (List Part)) (n first : ℕ) → xs ≡ sections t → first ≡ length (together (take n xs))
-    → first ≡ first_of t n
+pub first_is : (t : Tables) (xs : List (List Part)) (n first : ℕ) → xs ≡ but_frames t → first ≡ length (together (take n xs))
+    → first ≡ length (together (take n (but_frames t)))
 first_is t xs n first same e = e ∙ ap (λ (z : List (List Part)). length (together (take n z))) same

@@ -1,5 +1,7 @@
 -- Turns of loops over places
-use Rattle.system_spec.proofs.Common.{List, Some, [], add-one, ap, append_assoc, at_place, gather, gather_more, length, refl, slice_get, suc, sym, take, ℕ, ◌++◌, ◌+◌, ◌<◌, ◌∙◌, ◌∷◌, ◌≡◌}
+use Rattle.system_spec.proofs.Common.{Frame, FrameInfo, FrameOf, IsIn, List, Owned, Part, Some, Tables, [], add-one, ap, append_assoc, at_place, but_frames, frame_owner, frame_part, frame_parts, gather, gather_more, in_left, length, map, map-append, numbered, owned, part, parts, refl, slice_get, subst, suc, sym, take, together, ℕ, ◌++◌, ◌+◌, ◌<◌, ◌∙◌, ◌∷◌, ◌≡◌}
+use Rattle.std.proofs.lemmas.Grind.{flat_map-append}
+use Rattle.std.proofs.lemmas.List.{append-nil}
 
 -- where what comes from an element depends on its place alone
 pub place_turn : {X Y : Type 0} (f : ℕ → X → List Y) (xs : List X) (i : ℕ) (old mid new : List Y) → i < length xs
@@ -14,3 +16,30 @@ pub gather_twice : {X Y Z : Type 0} (g : ℕ → Y → List Z) (f : ℕ → X �
     → gather g (gather (λ n x. f n x ∷ []) xs) ≡ gather (λ n x. g n (f n x)) xs
 gather_twice g f [] = refl
 gather_twice g f (x ∷ xs) = ap (λ z. g 0 (f 0 x) ++ z) (gather_twice (λ n y. g (suc n) y) (λ n y. f (suc n) y) xs)
+
+mapped_ones : {X Y Z : Type 0} (h : Y → Z) (f : ℕ → X → Y) (xs : List X)
+    → map h (gather (λ n x. f n x ∷ []) xs) ≡ gather (λ n x. h (f n x) ∷ []) xs
+mapped_ones h f [] = refl
+mapped_ones h f (x ∷ xs) = ap (λ z. h (f 0 x) ∷ z) (mapped_ones h (λ n y. f (suc n) y) xs)
+
+-- what is made of each frame is made of its part
+pub frames_mapped : {Z : Type 0} (h : Part → Z) (frames : List FrameInfo)
+    → gather (λ f x. h (frame_part f x) ∷ []) frames ≡ map h (numbered Frame (frame_parts frames))
+frames_mapped h frames =
+    sym (ap (map h) (gather_twice (λ n (x : Owned). part Frame n x.owner x.what ∷ []) (λ f (x : FrameInfo).
+    owned (frame_owner x.owner) (FrameOf f)) frames) ∙ mapped_ones h frame_part frames)
+
+-- what is made of the other sections and of the frames is made of all parts
+pub mapped_parts : {Z : Type 0} (t : Tables) (h : Part → Z)
+    → map h (together (but_frames t)) ++ map h (numbered Frame (frame_parts t.spaces.frames)) ≡ map h (parts t)
+mapped_parts t h =
+    let last = numbered Frame (frame_parts t.spaces.frames) in
+    sym (map-append h (together (but_frames t)) last)
+    ∙ ap (λ z. map h (together (but_frames t) ++ z)) (sym (append-nil last))
+    ∙ ap (map h) (sym (flat_map-append (λ x. x) (but_frames t) (last ∷ [])))
+
+pub in_parts : (t : Tables) (p : Part) → IsIn p (together (but_frames t)) → IsIn p (parts t)
+in_parts t p i =
+    let last = numbered Frame (frame_parts t.spaces.frames) ∷ [] in
+    subst (λ (z : List Part). IsIn p z) (sym (flat_map-append (λ x. x) (but_frames t) last))
+    (in_left p (together (but_frames t)) (together last) i)

@@ -1,8 +1,8 @@
--- The sections of parts in three groups.
-use Rattle.std.specs.Prelude.{List, [], ◌∷◌}
+-- The sections of parts in groups.
+use Rattle.std.specs.Prelude.{List, [], ◌∷◌, take}
 use Rattle.system_spec.specs.declared.part.Part.{Part}
 use Rattle.system_spec.specs.declared.series.Series.TheVariants as series
-use Rattle.system_spec.specs.Parts.{all_tables, cnodes, endpoints, frame_parts, irqs, locks, notifications, numbered, table_parts, tcbs}
+use Rattle.system_spec.specs.Parts.{cnodes, endpoints, irqs, locks, notifications, numbered, sections, tcbs}
 use Rattle.system_spec.specs.Tables.{Tables}
 
 abbrev pub holders : Tables → List (List Part)
@@ -11,5 +11,6 @@ holders t = numbered series.CNode (cnodes t.flat.domains) ∷ numbered series.Tc
 abbrev pub joints : Tables → List (List Part)
 joints t = endpoints t ∷ notifications t ∷ numbered series.Lock (locks t) ∷ numbered series.Irq (irqs t) ∷ []
 
-abbrev pub memory : Tables → List (List Part)
-memory t = table_parts (all_tables t) ∷ numbered series.Frame (frame_parts t.spaces.frames) ∷ []
+-- all but the last, that of frames
+abbrev pub but_frames : Tables → List (List Part)
+but_frames t = take 7 (sections t)

@@ -10,7 +10,8 @@ use Rattle.system_spec.specs.declared.landmarks.SpaceTables.{SpaceTables}
 use Rattle.system_spec.specs.declared.part.Part.{Part}
 use Rattle.system_spec.specs.declared.part.What.{What}
 use Rattle.system_spec.specs.declared.part.What.TheVariants.{CNodeOf, ThreadOf, EndpointOf, NotificationOf, LockOf, IrqOf, TableOf, FrameOf}
-use Rattle.system_spec.specs.Parts.{place, sections as all_sections, tables_at}
+use Rattle.system_spec.specs.Grouped.{but_frames}
+use Rattle.system_spec.specs.Parts.{place, tables_at}
 use Rattle.system_spec.specs.Places.{ArePlaces}
 use Rattle.system_spec.specs.Tables.{Tables}
 
@@ -32,7 +33,7 @@ pub record AreLandmarks (t : Tables) (m : Landmarks) : Type 0 where
   pub frames : m.first_frame ≡ place t (FrameOf 0)
 
 pub record IsPlan (t : Tables) (p : Plan) : Type 0 where
-  pub sections : p.sections ≡ all_sections t
+  pub sections : p.sections ≡ but_frames t
   pub marks : AreLandmarks t p.marks
 
 -- of a list of them by domain

@@ -162,6 +162,10 @@ table_parts all = gather (λ m x. table_part all m x ∷ []) all
 abbrev pub frame_parts : List FrameInfo → List Owned
 frame_parts frames = gather (λ f x. owned (frame_owner x.owner) (FrameOf f) ∷ []) frames
 
+-- frame f, numbered
+abbrev pub frame_part : ℕ → FrameInfo → Part
+frame_part f x = part series.Frame f (frame_owner x.owner) (FrameOf f)
+
 -- ---- all
 
 abbrev pub sections : Tables → List (List Part)

@@ -4,7 +4,8 @@ ghost use Rattle.cam_base.specs.Gather.{gather};
 ghost use Rattle.std.specs.Prelude.{◌≡◌, ◌<◌, ◌≤◌, ◌^◌, length, take, IfOk};
 ghost use Rattle.system_spec.specs.Buildable.{IsBuildable};
 ghost use Rattle.system_spec.specs.Landmarks.{AreLandmarks, IsPlan, all_spaces, first_locks};
-ghost use Rattle.system_spec.specs.Parts.{first_of, lock, sections as all_sections, together};
+ghost use Rattle.system_spec.specs.Grouped.{but_frames};
+ghost use Rattle.system_spec.specs.Parts.{first_of, lock, together};
 ghost use Rattle.system_spec.specs.Told.{told};
 
 use crate::Part;
@@ -35,7 +36,7 @@ pub struct Landmarks {
     pub first_frame: u32,
 }
 
-/// The parts of a system by section, and where the objects stand that others name.
+/// The parts of a system by section, but for frames, and where the objects stand that others name.
 #[derive(Drop)]
 pub struct Plan {
     pub sections: List<List<Part>>,
@@ -98,7 +99,7 @@ fn all_spaces(
 /// Where the sections of the objects of connections begin.
 fn firsts(sections: &[List<Part>]) -> Firsts
     requires few { length (together sections.now) < 2 ^ 32 }
-    requires all { 8 ≤ length sections.now }
+    requires all { 7 ≤ length sections.now }
     ensures endpoint { result.endpoint ≡ length (together (take 2 sections.now)) }
     ensures notification { result.notification ≡ length (together (take 3 sections.now)) }
     ensures irq { result.irq ≡ length (together (take 5 sections.now)) }
@@ -117,7 +118,7 @@ fn landmarks_of(
     sections: &[List<Part>],
 ) -> Result<Landmarks, NoMemory>
     requires buildable { IsBuildable (told tables.now) }
-    requires sections { sections.now ≡ all_sections (told tables.now) }
+    requires sections { sections.now ≡ but_frames (told tables.now) }
     ensures { IfOk result (λ marks. AreLandmarks (told tables.now) marks) }
 {
     let first_frame = first_of(sections, 7);

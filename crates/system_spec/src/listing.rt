@@ -3,11 +3,10 @@
 ghost use Rattle.cam_base.specs.Gather.{gather};
 ghost use Rattle.std.specs.Prelude.{◌≡◌, ◌≤◌, ◌<◌, ◌^◌, ◌++◌, ◌∷◌, [], length, take, IfOk, OnOk};
 ghost use Rattle.system_spec.specs.Few.{AreFew};
-ghost use Rattle.system_spec.specs.Grouped.{holders, joints, memory};
+ghost use Rattle.system_spec.specs.Grouped.{but_frames, holders, joints};
 ghost use Rattle.system_spec.specs.Parts.{cnodes, tcbs, threads_of, lock, locks, endpoint, endpoint_by, endpoints};
 ghost use Rattle.system_spec.specs.Parts.{notification, notification_by, notifications, irq, irq_by, irqs};
-ghost use Rattle.system_spec.specs.Parts.{frame_parts, numbered, sections as all_sections, together};
-ghost use Rattle.system_spec.specs.declared.series.Series.TheVariants.{Frame};
+ghost use Rattle.system_spec.specs.Parts.{all_tables, frame_part, numbered, table_parts, together};
 ghost use Rattle.system_spec.specs.Told.{told};
 
 use crate::levels::{all_tables, table_parts};
@@ -210,21 +209,16 @@ fn irqs(alloc: Global, connections: &[FlatConnection]) -> Result<List<Owned>, No
     Ok(items)
 }
 
-/// The frames.
-fn frames(alloc: Global, frames: &[FrameInfo]) -> Result<List<Part>, NoMemory>
-    requires { length frames.now < 2 ^ 32 }
-    ensures { IfOk result (λ parts. parts ≡ numbered Frame (frame_parts frames.now)) }
+/// Frame `number`.
+pub fn frame_part(number: u32, frame: &FrameInfo) -> Part
+    ensures { result ≡ frame_part number frame.now }
 {
-    let mut parts = List::from_vec(Vec::with_capacity(alloc, frames.len())?);
-    for (number, frame) in frames.iter().enumerate() {
-        parts.push(Part {
-            series: Series::Frame,
-            number: number as u32,
-            owner: frame_owner(frame.owner),
-            what: What::FrameOf(number as u32),
-        })?;
+    Part {
+        series: Series::Frame,
+        number,
+        owner: frame_owner(frame.owner),
+        what: What::FrameOf(number),
     }
-    Ok(parts)
 }
 
 /// Puts the sections of CNodes and threads behind the others.
@@ -260,29 +254,28 @@ fn push_joints(
     sections.push(numbered(alloc, Series::Irq, irqs.as_slice())?)
 }
 
-/// Puts the sections of page tables and frames behind the others.
-fn push_memory(
+/// Puts the section of page tables behind the others.
+fn push_tables(
     alloc: Global,
     tables: &Tables<'_>,
     sections: &mut List<List<Part>>,
 ) -> Result<(), NoMemory>
     requires { AreFew (told tables.now) }
-    ensures { OnOk result (sections.new ≡ sections.old ++ memory (told tables.now)) }
+    ensures { OnOk result (sections.new ≡ sections.old ++ table_parts (all_tables (told tables.now)) ∷ []) }
 {
     let all = all_tables(alloc, tables)?;
-    sections.push(table_parts(alloc, all.as_slice())?)?;
-    sections.push(frames(alloc, tables.spaces.frames.as_slice())?)
+    sections.push(table_parts(alloc, all.as_slice())?)
 }
 
-/// The sections of the parts of a system, in order: `specs/Parts.antt`. Takes time linear in what the tables list.
+/// The sections of the parts of a system but for frames, in order: `specs/Parts.antt`. Takes time linear in what the tables list.
 pub fn sections(alloc: Global, tables: &Tables<'_>) -> Result<List<List<Part>>, NoMemory>
     requires { AreFew (told tables.now) }
-    ensures { IfOk result (λ list. list ≡ all_sections (told tables.now)) }
+    ensures { IfOk result (λ list. list ≡ but_frames (told tables.now)) }
 {
-    let mut sections = List::new(alloc);
+    let mut sections = List::from_vec(Vec::with_capacity(alloc, 7)?);
     push_holders(alloc, tables, &mut sections)?;
     push_joints(alloc, tables, &mut sections)?;
-    push_memory(alloc, tables, &mut sections)?;
+    push_tables(alloc, tables, &mut sections)?;
     Ok(sections)
 }
 

@@ -1,16 +1,18 @@
 //! The spec of a system, the labels of its objects, and its map.
 
-ghost use Rattle.std.specs.Prelude.{◌≡◌, ◌++◌, map, IfOk, OnOk};
+ghost use Rattle.std.specs.Prelude.{◌≡◌, ◌++◌, ◌∷◌, [], map, IfOk, OnOk};
 ghost use Rattle.system_spec.specs.Buildable.{IsBuildable};
-ghost use Rattle.system_spec.specs.Landmarks.{AreLandmarks, AreThere, IsPlan};
+ghost use Rattle.system_spec.specs.Landmarks.{AreLandmarks, AreThere, IsPlan, IsThere};
 ghost use Rattle.system_spec.specs.Made.{entry, labels_of, part_label, spec_of};
 ghost use Rattle.system_spec.specs.MapLines.{map_lines};
+ghost use Rattle.system_spec.specs.Parts.{frame_parts, numbered};
 ghost use Rattle.system_spec.specs.Told.{told};
 ghost use Rattle.system_spec.specs.Windowed.{IsWindowed};
+ghost use Rattle.system_spec.specs.declared.series.Series.TheVariants.{Frame};
 
 use crate::irq_lines::irq_lines;
 use crate::landmarks::{Landmarks, Plan, plan_of};
-use crate::listing::first_of;
+use crate::listing::{first_of, frame_part};
 use crate::map_listing::lines_of;
 use crate::object::object;
 use crate::{MapLine, Part, Tables};
@@ -23,6 +25,28 @@ use std::alloc::Global;
 pub struct System {
     pub spec: Spec,
     pub labels: Labels,
+}
+
+/// Puts the object of a part under its name behind the others, and its label.
+fn push_object(
+    alloc: Global,
+    tables: &Tables<'_>,
+    marks: &Landmarks,
+    part: Part,
+    entries: &mut List<Entry>,
+    labels: &mut List<u32>,
+) -> Result<(), NoMemory>
+    requires buildable { IsBuildable (told tables.now) }
+    requires marks { AreLandmarks (told tables.now) marks.now }
+    requires there { IsThere (told tables.now) part.what }
+    ensures entries { OnOk result (entries.new ≡ entries.old ++ entry (told tables.now) part ∷ []) }
+    ensures labels { OnOk result (labels.new ≡ labels.old ++ part_label (told tables.now) part ∷ []) }
+{
+    entries.push(Entry {
+        name: part.series.name(alloc, part.number as u64)?,
+        object: object(alloc, tables, marks, part.what)?,
+    })?;
+    labels.push(tables.numbers.of(part.owner))
 }
 
 /// Puts the objects of parts under their names behind the others, and their labels.
@@ -41,11 +65,29 @@ fn push_objects(
     ensures labels { OnOk result (labels.new ≡ labels.old ++ map (part_label (told tables.now)) parts.now) }
 {
     for part in parts {
-        entries.push(Entry {
-            name: part.series.name(alloc, part.number as u64)?,
-            object: object(alloc, tables, marks, part.what)?,
-        })?;
-        labels.push(tables.numbers.of(part.owner))?;
+        push_object(alloc, tables, marks, *part, entries, labels)?;
+    }
+    Ok(())
+}
+
+/// Puts the frames under their names behind the others, and their labels.
+fn push_frames(
+    alloc: Global,
+    tables: &Tables<'_>,
+    marks: &Landmarks,
+    entries: &mut List<Entry>,
+    labels: &mut List<u32>,
+) -> Result<(), NoMemory>
+    requires buildable { IsBuildable (told tables.now) }
+    requires marks { AreLandmarks (told tables.now) marks.now }
+    ensures entries { OnOk result (entries.new
+        ≡ entries.old ++ map (entry (told tables.now)) (numbered Frame (frame_parts tables.now.spaces.now.frames))) }
+    ensures labels { OnOk result (labels.new
+        ≡ labels.old ++ map (part_label (told tables.now)) (numbered Frame (frame_parts tables.now.spaces.now.frames))) }
+{
+    for (number, frame) in tables.spaces.frames.as_slice().iter().enumerate() {
+        let part = frame_part(number as u32, frame);
+        push_object(alloc, tables, marks, part, entries, labels)?;
     }
     Ok(())
 }
@@ -58,7 +100,7 @@ fn system_of(alloc: Global, tables: &Tables<'_>, plan: &Plan) -> Result<System, 
     ensures labels { IfOk result (λ system. system.labels ≡ labels_of (told tables.now)) }
 {
     let sections = plan.sections.as_slice();
-    let count = first_of(sections, sections.len()) as usize;
+    let count = first_of(sections, 7) as usize + tables.spaces.frames.len();
     let mut entries = List::from_vec(Vec::with_capacity(alloc, count)?);
     let mut by_object = List::from_vec(Vec::with_capacity(alloc, count)?);
     for section in sections {
@@ -72,6 +114,7 @@ fn system_of(alloc: Global, tables: &Tables<'_>, plan: &Plan) -> Result<System, 
             &mut by_object,
         )?;
     }
+    push_frames(alloc, tables, &plan.marks, &mut entries, &mut by_object)?;
     let irqs = irq_lines(alloc, tables, first_of(sections, 5))?;
     Ok(System {
         spec: Spec {

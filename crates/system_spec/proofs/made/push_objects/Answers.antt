@@ -2,8 +2,8 @@ use Rattle.system_spec.proofs.Common.{CNodeOf, OfDomain, Part, get_or, read_in}
 use Rattle.system_spec.specs.declared.series.Series.TheVariants.{CNode}
 use Rattle.system_spec.proofs.made.push_objects.Goals as goal
 
-pub object-requires-clause-there : goal.object-requires-clause-there
-object-requires-clause-there c =
+pub push_object-requires-clause-there : goal.push_object-requires-clause-there
+push_object-requires-clause-there c =
     let first : Part = record { series = CNode; number = 0; owner = OfDomain 0; what = CNodeOf 0 } in
     let ps = c.args.parts.now in
     let i = c.loop-part.part-index in

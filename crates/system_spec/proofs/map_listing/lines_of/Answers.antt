@@ -1,18 +1,18 @@
 use Rattle.system_spec.proofs.Common.{ap, append_assoc, arith, domain_lines, slot_lines, thread_lines, told, window_lines, ◌++◌, ◌∙◌}
-use Rattle.system_spec.proofs.MapPlaces.{at_most_eight, few_in, first_is}
+use Rattle.system_spec.proofs.MapPlaces.{at_most_seven, few_in, first_is}
 use Rattle.system_spec.proofs.map_listing.lines_of.Goals as goal
 
 pub first_of-requires : goal.first_of-requires
 first_of-requires c =
     let t = told c.args.tables.now in
     let same = c.as_slice-sections.ensures ∙ c.requires.plan.sections in
-    record { few = few_in t _ same c.requires.buildable.few; within = at_most_eight t _ 1 same (omega arith) }
+    record { few = few_in t _ same c.requires.buildable.few; within = at_most_seven t _ 1 same (omega arith) }
 
 pub first_of-requires-2 : goal.first_of-requires-2
 first_of-requires-2 c =
     let t = told c.args.tables.now in
     let same = c.as_slice-sections.ensures ∙ c.requires.plan.sections in
-    record { few = few_in t _ same c.requires.buildable.few; within = at_most_eight t _ 4 same (omega arith) }
+    record { few = few_in t _ same c.requires.buildable.few; within = at_most_seven t _ 4 same (omega arith) }
 
 pub push_threads-requires : goal.push_threads-requires
 push_threads-requires c = record {
