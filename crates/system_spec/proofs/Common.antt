@@ -5,7 +5,7 @@ pub use Rattle.adl_meaning.specs.declared.flat.Domain.{Domain}
 pub use Rattle.adl_meaning.specs.declared.flat.FlatConnection.{FlatConnection}
 pub use Rattle.arch_policy.specs.declared.owner.Owner.{Owner}
 pub use Rattle.arch_policy.specs.declared.owner.Owner.TheVariants.{OfConnection, OfDomain}
-pub use Rattle.cam_base.proofs.Gathered.{from_gather, from_ones, from_place, gather_more, gather_ones, gather_same, gather_turn, get_behind, get_front, get_ones, in_append, in_gather, in_left, in_place, in_right, length_append, place_of, split_get}
+pub use Rattle.cam_base.proofs.Gathered.{from_gather, from_ones, from_place, gather_more, gather_map, gather_ones, gather_same, gather_turn, get_behind, get_front, get_ones, in_append, in_gather, in_left, in_place, in_right, length_append, place_of, split_get}
 pub use Rattle.cam_base.proofs.NumberedLists.{at_place, from_map, get_map, length-gather, read_in, read_place, single, taken_le}
 pub use Rattle.cam_base.specs.Gather.{IsIn, before, gather}
 pub use Rattle.cap_model.specs.Lookup.{entry_name, entry_object, object_at}
@@ -37,9 +37,9 @@ pub use Rattle.std.specs.Prelude.{leb, nat_lt, slice_index}
 pub use Rattle.system_spec.specs.Bits.{IsLeastBits, bits_for, bits_from}
 pub use Rattle.system_spec.specs.Few.{AreFew, AreShown, table_count}
 pub use Rattle.system_spec.specs.Grouped.{but_frames}
-pub use Rattle.system_spec.specs.Landmarks.{IsThere, all_spaces, copied, objects_in, root_in, space_tables}
+pub use Rattle.system_spec.specs.Landmarks.{IsThere, all_spaces, roots, space_tables}
 pub use Rattle.system_spec.specs.LevelNumbers.{counted, counts, counts_in, one_more}
-pub use Rattle.system_spec.specs.Made.{entry, part_label, spec_of}
+pub use Rattle.system_spec.specs.Made.{entry, entry_with, part_label, spec_of}
 pub use Rattle.system_spec.specs.MapLines.{domain_lines, domain_slots, domain_threads, domain_windows, slot_line, slot_lines, thread_lines, thread_lines_from, window_line, window_lines}
 pub use Rattle.system_spec.specs.MapText.{line_text, named}
 pub use Rattle.system_spec.specs.Objects.{buffer_cap, by_number, cap, frame_at, joint, joint_by, line, line_by, object, put_line, rights_at, tcb, use_cap, use_cap_at}
@@ -49,7 +49,6 @@ pub use Rattle.system_spec.specs.Places.{has_endpoint, has_irq, has_notification
 pub use Rattle.system_spec.specs.Ready.{AreNamed, NamesOneOf}
 pub use Rattle.system_spec.specs.Tables.{Tables, arch, frame_owner, irq_owner, leaf_entry, leaf_name, pages_at, priority, threads_at, uses_at}
 pub use Rattle.system_spec.specs.Told.{told}
-pub use Rattle.system_spec.specs.declared.landmarks.SpaceTables.{SpaceTables}
 pub use Rattle.system_spec.specs.declared.map_line.MapLine.TheVariants.{DomainLine, ThreadLine}
 pub use Rattle.system_spec.specs.declared.part.Owned.{Owned}
 pub use Rattle.system_spec.specs.declared.part.PageTable.{PageTable}

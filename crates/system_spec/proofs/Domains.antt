@@ -1,7 +1,7 @@
 -- What stands where in each domain, counted domain by domain
-use Rattle.system_spec.proofs.Common.{AreFew, Bool, Domain, FrameOf, List, LockOf, Object, Page, SlotUse, Some, SpaceTables, TableOf, Tables, [], add-one, all_spaces, ap, arch, arith, as_many, at_place, counts_of_addresses, domain_locks}
-use Rattle.system_spec.proofs.Common.{domain_tables, false, first_of, flat_map, gather, gather_more, gather_ones, get_ones, get_or, holds_lock, layers, length, length-gather, length_append, level_of, lock, map, map-append, objects_in, one}
-use Rattle.system_spec.proofs.Common.{option_map_or, page_mapping, page_table, pages_at, place, refl, root_in, shapes, slice_get, space_tables, sym, table_count, tables_at, take, take_all, taken_le, true, uses_at, ℕ, ◌++◌, ◌+◌, ◌<◌, ◌^◌, ◌∙◌, ◌∷◌}
+use Rattle.system_spec.proofs.Common.{AreFew, Bool, Domain, FrameOf, List, LockOf, Object, Page, SlotUse, Some, TableOf, Tables, [], add-one, ap, arch, arith, as_many, at_place, counts_of_addresses, domain_locks}
+use Rattle.system_spec.proofs.Common.{domain_tables, false, first_of, flat_map, gather, gather_more, gather_ones, get_or, holds_lock, layers, length, length-gather, length_append, level_of, lock, map, map-append, one}
+use Rattle.system_spec.proofs.Common.{page_mapping, page_table, pages_at, place, refl, shapes, slice_get, space_tables, sym, table_count, tables_at, take, take_all, taken_le, true, uses_at, ℕ, ◌++◌, ◌+◌, ◌<◌, ◌^◌, ◌∙◌, ◌∷◌}
 use Rattle.system_spec.proofs.Common.{◌≡◌, ◌≤◌}
 use Rattle.page_tables.specs.Counts.{table_count as count_of}
 use Rattle.system_spec.proofs.Bounds.{ends}
@@ -149,30 +149,10 @@ few_objects t first frames d objects few e =
       few.tables d,
     )
 
-abbrev pub pair : ℕ → List Object → SpaceTables
-pair first objects = record { first = first; objects = objects }
-
 pub space_is : (t : Tables) (d next frames : ℕ) (objects : List Object) → next ≡ place t (TableOf d 0)
-    → frames ≡ place t (FrameOf 0) → objects ≡ tables_at t next frames d → pair next objects ≡ space_tables t d
+    → frames ≡ place t (FrameOf 0) → objects ≡ tables_at t next frames d → objects ≡ space_tables t d
 space_is t d next frames objects n f e =
-    ap (λ z. pair z objects) n ∙ ap (pair (place t (TableOf d 0))) (e ∙ ap (λ z. tables_at t z frames d) n
-    ∙ ap (λ z. tables_at t (place t (TableOf d 0)) z d) f)
-
--- ---- reading
-
-pub space_found : (t : Tables) (spaces : List SpaceTables) (d : ℕ) → spaces ≡ all_spaces t → d < length t.flat.domains
-    → slice_get spaces d ≡ Some (space_tables t d)
-space_found t spaces d e l =
-    let x : (x : Domain) × (slice_get t.flat.domains d ≡ Some x) = at_place t.flat.domains d l in
-    ap (λ z. slice_get z d) e ∙ get_ones (λ n (y : Domain). space_tables t n) t.flat.domains d x.0 x.1
-
-pub root_read : (t : Tables) (spaces : List SpaceTables) (d : ℕ) → spaces ≡ all_spaces t → d < length t.flat.domains
-    → root_in spaces d ≡ place t (TableOf d 0)
-root_read t spaces d e l = ap (λ z. option_map_or (λ (s : SpaceTables). s.first) z 0) (space_found t spaces d e l)
-
-pub objects_read : (t : Tables) (spaces : List SpaceTables) (d : ℕ) → spaces ≡ all_spaces t → d < length t.flat.domains
-    → objects_in spaces d ≡ tables_at t (place t (TableOf d 0)) (place t (FrameOf 0)) d
-objects_read t spaces d e l = ap (λ z. option_map_or (λ (s : SpaceTables). s.objects) z []) (space_found t spaces d e l)
+    e ∙ ap (λ z. tables_at t z frames d) n ∙ ap (λ z. tables_at t (place t (TableOf d 0)) z d) f
 
 -- ---- sections
 

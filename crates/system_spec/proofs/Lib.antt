@@ -1,6 +1,5 @@
 pub mod Common
 pub mod Bounds
-pub mod Copying
 pub mod Domains
 pub mod Finding
 pub mod LeastBits
@@ -11,6 +10,7 @@ pub mod Placing
 pub mod Sizes
 pub mod Sorting
 pub mod Standing
+pub mod TableObjects
 pub mod There
 pub mod Threads
 pub mod Turning

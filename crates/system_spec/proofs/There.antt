@@ -1,9 +1,9 @@
 -- The parts of a system are of what there is: domains, threads, connections, locks, page tables and frames, each by its number.
-use Rattle.system_spec.proofs.Common.{CNodeOf, Connector, Direct, Domain, EndpointOf, FlatConnection, FrameInfo, FrameOf, Handler, Interrupt, IrqOf, IsIn, List, LockOf, Mmio, Notification, NotificationOf, Object, OfConnection, OfDomain, OfEnd}
+use Rattle.system_spec.proofs.Common.{Bool, CNodeOf, Connector, Direct, Domain, EndpointOf, FlatConnection, FrameInfo, FrameOf, Handler, Interrupt, IrqOf, IsIn, List, LockOf, Mmio, Notification, NotificationOf, Object, OfConnection, OfDomain, OfEnd}
 use Rattle.system_spec.proofs.Common.{OwnLock, Owned, Owner, PageTable, Part, Rpc, Series, SharedMemory, SlotUse, Some, TableOf, Tables, ThreadOf, ThreadPlace, [], all_tables, ap, cnodes, domain_locks, domain_tables, domain_tcbs, endpoint}
-use Rattle.system_spec.proofs.Common.{endpoint_by, endpoints, frame_owner, frame_parts, from_gather, from_ones, gather, in_append, in_gather, in_place, inl, inr, irq, irq_by, irq_owner, irqs, level_of, lock, locks, notification, notification_by}
-use Rattle.system_spec.proofs.Common.{notifications, numbered, object, object_at, option_map, owned, page_table, part, parts, place, place_of, refl, sections, slice_get, slice_get_within, spec_of, subst, sym, table_part, table_parts, tables_at, tcbs}
-use Rattle.system_spec.proofs.Common.{threads_at, uses_at, ℕ, ◌++◌, ◌∷◌, ◌≡◌, ◌⊎◌}
+use Rattle.system_spec.proofs.Common.{endpoint_by, endpoints, false, frame_owner, frame_parts, from_gather, from_ones, gather, in_append, in_gather, in_place, inl, inr, irq, irq_by, irq_owner, irqs, level_of, lock, locks, notification, notification_by}
+use Rattle.system_spec.proofs.Common.{notifications, numbered, object, object_at, option_map, owned, page_table, part, parts, place, place_of, refl, sections, slice_get, slice_get_within, spec_of, subst, sym, table_part, table_parts, tables_at, take, tcbs}
+use Rattle.system_spec.proofs.Common.{threads_at, together, true, uses_at, ℕ, ◌++◌, ◌∷◌, ◌≡◌, ◌⊎◌}
 use Rattle.cap_model.specs.Kinds.{kind_at, kind_of_object}
 use Rattle.system_spec.proofs.Objects.{in_together, objects_stand}
 use Rattle.system_spec.specs.declared.part.What.{What}
@@ -148,35 +148,43 @@ kind_there t w h = ap (λ o. option_map kind_of_object o) (object_there t w h)
 
 -- ---- parts are of what there is
 
-in_order : (t : Tables) (s : Series) (xs : List Owned) (p : Part) → ((x : Owned) → IsIn x xs → IsThere t x.what)
-    → IsIn p (numbered s xs) → IsThere t p.what
-in_order t s xs p h i = let f = from_numbered s xs p i in subst (λ w. IsThere t w) (sym f.2) (h f.0 f.1)
+abbrev is_table : What → Bool
+is_table (TableOf d j) = true
+is_table w = false
+
+-- no page table
+abbrev IsAlone : Tables → What → Type 0
+IsAlone t w = IsThere t w × (is_table w ≡ false)
+
+in_order : (t : Tables) (s : Series) (xs : List Owned) (p : Part) → ((x : Owned) → IsIn x xs → IsAlone t x.what)
+    → IsIn p (numbered s xs) → IsAlone t p.what
+in_order t s xs p h i = let f = from_numbered s xs p i in subst (λ w. IsAlone t w) (sym f.2) (h f.0 f.1)
 
 -- what stands in a list of one
 pub single : {X : Type 0} (x y : X) → IsIn y (x ∷ []) → x ≡ y
 single x y (inl e) = e
 single x y (inr i) = absurd i
 
-of_cnode : (t : Tables) (o : Owned) → IsIn o (cnodes t.flat.domains) → IsThere t o.what
+of_cnode : (t : Tables) (o : Owned) → IsIn o (cnodes t.flat.domains) → IsAlone t o.what
 of_cnode t o i =
     let f : ℕ → Domain → List Owned = λ n z. owned (OfDomain n) (CNodeOf n) ∷ [] in
     let g = from_gather f o t.flat.domains i in
-    subst (λ (z : Owned). IsThere t z.what) (single (owned (OfDomain g.0) (CNodeOf g.0)) o g.3) (g.1, g.2)
+    subst (λ (z : Owned). IsAlone t z.what) (single (owned (OfDomain g.0) (CNodeOf g.0)) o g.3) ((g.1, g.2), refl)
 
-of_thread : (t : Tables) (o : Owned) → IsIn o (tcbs t) → IsThere t o.what
+of_thread : (t : Tables) (o : Owned) → IsIn o (tcbs t) → IsAlone t o.what
 of_thread t o i =
     let g = from_gather (domain_tcbs t) o t.flat.domains i in
     let f : ℕ → ThreadPlace → List Owned = λ n z. owned (OfDomain g.0) (ThreadOf g.0 n) ∷ [] in
     let h = from_gather f o (threads_at t g.0) g.3 in
-    subst (λ (z : Owned). IsThere t z.what) (single (owned (OfDomain g.0) (ThreadOf g.0 h.0)) o h.3) ((g.1, g.2), (h.1, h.2))
+    subst (λ (z : Owned). IsAlone t z.what) (single (owned (OfDomain g.0) (ThreadOf g.0 h.0)) o h.3) (((g.1, g.2), (h.1, h.2)), refl)
 
-of_endpoint : (t : Tables) (p : Part) → IsIn p (endpoints t) → IsThere t p.what
+of_endpoint : (t : Tables) (p : Part) → IsIn p (endpoints t) → IsAlone t p.what
 of_endpoint t p i =
     let g = from_gather endpoint p t.flat.connections i in
-    by_kind g.1.connector g.0 g.3 (λ r. (g.1, g.2, r))
+    by_kind g.1.connector g.0 g.3 (λ r. ((g.1, g.2, r), refl))
   where
-    by_kind : (c : Connector) (k : ℕ) → IsIn p (endpoint_by k c) → (c ≡ Rpc → IsThere t (EndpointOf k)) → IsThere t p.what
-    by_kind Rpc k i h = subst (λ (z : Part). IsThere t z.what) (single (part series.Ep k (OfConnection k) (EndpointOf k))
+    by_kind : (c : Connector) (k : ℕ) → IsIn p (endpoint_by k c) → (c ≡ Rpc → IsAlone t (EndpointOf k)) → IsAlone t p.what
+    by_kind Rpc k i h = subst (λ (z : Part). IsAlone t z.what) (single (part series.Ep k (OfConnection k) (EndpointOf k))
         p i) (h refl)
     by_kind Notification k i h = absurd i
     by_kind SharedMemory k i h = absurd i
@@ -184,44 +192,44 @@ of_endpoint t p i =
     by_kind Interrupt k i h = absurd i
     by_kind Direct k i h = absurd i
 
-of_notification : (t : Tables) (p : Part) → IsIn p (notifications t) → IsThere t p.what
+of_notification : (t : Tables) (p : Part) → IsIn p (notifications t) → IsAlone t p.what
 of_notification t p i =
     let g = from_gather notification p t.flat.connections i in
-    by_kind g.1.connector g.0 g.3 (λ r. (g.1, g.2, r))
+    by_kind g.1.connector g.0 g.3 (λ r. ((g.1, g.2, r), refl))
   where
-    by_kind : (c : Connector) (k : ℕ) → IsIn p (notification_by k c) → (Notifies c → IsThere t (NotificationOf k))
-        → IsThere t p.what
+    by_kind : (c : Connector) (k : ℕ) → IsIn p (notification_by k c) → (Notifies c → IsAlone t (NotificationOf k))
+        → IsAlone t p.what
     by_kind Notification k i h =
-        subst (λ (z : Part). IsThere t z.what) (single (part series.Ntfn k (OfConnection k) (NotificationOf k)) p i)
+        subst (λ (z : Part). IsAlone t z.what) (single (part series.Ntfn k (OfConnection k) (NotificationOf k)) p i)
         (h (inl refl))
     by_kind Interrupt k i h =
-        subst (λ (z : Part). IsThere t z.what) (single (part series.Ntfn k (OfConnection k) (NotificationOf k)) p i)
+        subst (λ (z : Part). IsAlone t z.what) (single (part series.Ntfn k (OfConnection k) (NotificationOf k)) p i)
         (h (inr refl))
     by_kind Rpc k i h = absurd i
     by_kind SharedMemory k i h = absurd i
     by_kind Mmio k i h = absurd i
     by_kind Direct k i h = absurd i
 
-of_lock : (t : Tables) (o : Owned) → IsIn o (locks t) → IsThere t o.what
+of_lock : (t : Tables) (o : Owned) → IsIn o (locks t) → IsAlone t o.what
 of_lock t o i =
     let g = from_gather (domain_locks t) o t.flat.domains i in
     let u = from_gather (lock g.0) o (uses_at t g.0) g.3 in
     by_use u.1 g.0 u.0 u.3 (g.1, g.2) u.2
   where
-    by_use : (u : SlotUse) (d n : ℕ) → IsIn o (lock d n u) → IsDomain t d → slice_get (uses_at t d) n ≡ Some u → IsThere t o.what
+    by_use : (u : SlotUse) (d n : ℕ) → IsIn o (lock d n u) → IsDomain t d → slice_get (uses_at t d) n ≡ Some u → IsAlone t o.what
     by_use (OfEnd k l) d n i x h = absurd i
     by_use (Handler k l) d n i x h = absurd i
-    by_use (OwnLock leaf l) d n i x h = subst (λ (z : Owned). IsThere t z.what) (single (owned (OfDomain d) (LockOf d n)) o i)
-        (x, (leaf, l, h))
+    by_use (OwnLock leaf l) d n i x h = subst (λ (z : Owned). IsAlone t z.what) (single (owned (OfDomain d) (LockOf d n)) o i)
+        ((x, (leaf, l, h)), refl)
 
-of_irq : (t : Tables) (o : Owned) → IsIn o (irqs t) → IsThere t o.what
+of_irq : (t : Tables) (o : Owned) → IsIn o (irqs t) → IsAlone t o.what
 of_irq t o i =
     let g = from_gather irq o t.flat.connections i in
-    by_kind g.1.connector g.0 (irq_owner g.0 g.1) g.3 (λ r. (g.1, g.2, r))
+    by_kind g.1.connector g.0 (irq_owner g.0 g.1) g.3 (λ r. ((g.1, g.2, r), refl))
   where
-    by_kind : (c : Connector) (k : ℕ) (w : Owner) → IsIn o (irq_by k w c) → (c ≡ Interrupt → IsThere t (IrqOf k))
-        → IsThere t o.what
-    by_kind Interrupt k w i h = subst (λ (z : Owned). IsThere t z.what) (single (owned w (IrqOf k)) o i) (h refl)
+    by_kind : (c : Connector) (k : ℕ) (w : Owner) → IsIn o (irq_by k w c) → (c ≡ Interrupt → IsAlone t (IrqOf k))
+        → IsAlone t o.what
+    by_kind Interrupt k w i h = subst (λ (z : Owned). IsAlone t z.what) (single (owned w (IrqOf k)) o i) (h refl)
     by_kind Rpc k w i h = absurd i
     by_kind Notification k w i h = absurd i
     by_kind SharedMemory k w i h = absurd i
@@ -241,11 +249,11 @@ of_table t p i =
     subst (λ (z : Part). IsThere t z.what) {x = table_part (all_tables t) g.0 g.1}
     (single (table_part (all_tables t) g.0 g.1) p g.3) here
 
-of_frame : (t : Tables) (o : Owned) → IsIn o (frame_parts t.spaces.frames) → IsThere t o.what
+of_frame : (t : Tables) (o : Owned) → IsIn o (frame_parts t.spaces.frames) → IsAlone t o.what
 of_frame t o i =
     let f : ℕ → FrameInfo → List Owned = λ n z. owned (frame_owner z.owner) (FrameOf n) ∷ [] in
     let g = from_gather f o t.spaces.frames i in
-    subst (λ (z : Owned). IsThere t z.what) (single (owned (frame_owner g.1.owner) (FrameOf g.0)) o g.3) (g.1, g.2)
+    subst (λ (z : Owned). IsAlone t z.what) (single (owned (frame_owner g.1.owner) (FrameOf g.0)) o g.3) ((g.1, g.2), refl)
 
 -- whatever holds of the parts of each section holds of each part
 pub by_section : (t : Tables) (P : Part → Type 0)
@@ -295,22 +303,54 @@ by_section t P a b c d e f g h p i =
 
 pub there : (t : Tables) (p : Part) → IsIn p (parts t) → IsThere t p.what
 there t = by_section t (λ p. IsThere t p.what)
-    (λ p i. in_order t series.CNode (cnodes t.flat.domains) p (of_cnode t) i)
-    (λ p i. in_order t series.Tcb (tcbs t) p (of_thread t) i)
-    (of_endpoint t)
-    (of_notification t)
-    (λ p i. in_order t series.Lock (locks t) p (of_lock t) i)
-    (λ p i. in_order t series.Irq (irqs t) p (of_irq t) i)
+    (λ p i. (in_order t series.CNode (cnodes t.flat.domains) p (of_cnode t) i).0)
+    (λ p i. (in_order t series.Tcb (tcbs t) p (of_thread t) i).0)
+    (λ p i. (of_endpoint t p i).0)
+    (λ p i. (of_notification t p i).0)
+    (λ p i. (in_order t series.Lock (locks t) p (of_lock t) i).0)
+    (λ p i. (in_order t series.Irq (irqs t) p (of_irq t) i).0)
     (of_table t)
-    (λ p i. in_order t series.Frame (frame_parts t.spaces.frames) p (of_frame t) i)
+    (λ p i. (in_order t series.Frame (frame_parts t.spaces.frames) p (of_frame t) i).0)
 
 -- so its domain or connection is one of those that there are
-pub counted : (t : Tables) (w : What) → IsThere t w → IsCounted t w
-counted t (CNodeOf d) h = slice_get_within t.flat.domains d h.0 h.1
-counted t (ThreadOf d i) h = slice_get_within t.flat.domains d h.0.0 h.0.1
+counted : (t : Tables) (w : What) → IsAlone t w → IsCounted t w
+counted t (CNodeOf d) h = slice_get_within t.flat.domains d h.0.0 h.0.1
+counted t (ThreadOf d i) h = slice_get_within t.flat.domains d h.0.0.0 h.0.0.1
 counted t (EndpointOf k) h = tt
 counted t (NotificationOf k) h = tt
 counted t (LockOf d n) h = tt
-counted t (IrqOf k) h = slice_get_within t.flat.connections k h.0 h.1
-counted t (TableOf d j) h = slice_get_within t.flat.domains d h.0.0 h.0.1
+counted t (IrqOf k) h = slice_get_within t.flat.connections k h.0.0 h.0.1
+counted t (TableOf d j) h = let e = h.1 in cc
 counted t (FrameOf f) h = tt
+
+-- a part before page tables
+pub alone : (t : Tables) (p : Part) → IsIn p (together (take 6 (sections t))) → IsCounted t p.what
+alone t p i =
+    let s0 = numbered series.CNode (cnodes t.flat.domains) in
+    let s1 = numbered series.Tcb (tcbs t) in
+    let s4 = numbered series.Lock (locks t) in
+    let s5 = numbered series.Irq (irqs t) in
+    let r5 = s5 ++ [] in
+    let r4 = s4 ++ r5 in
+    let r3 = notifications t ++ r4 in
+    let r2 = endpoints t ++ r3 in
+    let r1 = s1 ++ r2 in
+    counted t p.what (elim (in_append p s0 r1 i) [
+      | inl j ↦ in_order t series.CNode (cnodes t.flat.domains) p (of_cnode t) j
+      | inr i ↦ elim (in_append p s1 r2 i) [
+        | inl j ↦ in_order t series.Tcb (tcbs t) p (of_thread t) j
+        | inr i ↦ elim (in_append p (endpoints t) r3 i) [
+          | inl j ↦ of_endpoint t p j
+          | inr i ↦ elim (in_append p (notifications t) r4 i) [
+            | inl j ↦ of_notification t p j
+            | inr i ↦ elim (in_append p s4 r5 i) [
+              | inl j ↦ in_order t series.Lock (locks t) p (of_lock t) j
+              | inr i ↦ elim (in_append p s5 [] i) [
+                | inl j ↦ in_order t series.Irq (irqs t) p (of_irq t) j
+                | inr n ↦ absurd n
+              ]
+            ]
+          ]
+        ]
+      ]
+    ])

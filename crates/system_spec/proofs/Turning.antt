@@ -1,5 +1,5 @@
 -- Turns of loops over places
-use Rattle.system_spec.proofs.Common.{Frame, FrameInfo, FrameOf, IsIn, List, Owned, Part, Some, Tables, [], add-one, ap, append_assoc, at_place, but_frames, frame_owner, frame_part, frame_parts, gather, gather_more, in_left, length, map, map-append, numbered, owned, part, parts, refl, slice_get, subst, suc, sym, take, together, ℕ, ◌++◌, ◌+◌, ◌<◌, ◌∙◌, ◌∷◌, ◌≡◌}
+use Rattle.system_spec.proofs.Common.{Frame, FrameInfo, FrameOf, List, Owned, Part, Some, Tables, [], add-one, all_tables, ap, append_assoc, at_place, frame_owner, frame_part, frame_parts, gather, gather_more, length, map, map-append, numbered, owned, part, parts, refl, sections, slice_get, suc, sym, table_parts, take, together, ℕ, ◌++◌, ◌+◌, ◌<◌, ◌∙◌, ◌∷◌, ◌≡◌}
 use Rattle.std.proofs.lemmas.Grind.{flat_map-append}
 use Rattle.std.proofs.lemmas.List.{append-nil}
 
@@ -17,7 +17,7 @@ pub gather_twice : {X Y Z : Type 0} (g : ℕ → Y → List Z) (f : ℕ → X �
 gather_twice g f [] = refl
 gather_twice g f (x ∷ xs) = ap (λ z. g 0 (f 0 x) ++ z) (gather_twice (λ n y. g (suc n) y) (λ n y. f (suc n) y) xs)
 
-mapped_ones : {X Y Z : Type 0} (h : Y → Z) (f : ℕ → X → Y) (xs : List X)
+pub mapped_ones : {X Y Z : Type 0} (h : Y → Z) (f : ℕ → X → Y) (xs : List X)
     → map h (gather (λ n x. f n x ∷ []) xs) ≡ gather (λ n x. h (f n x) ∷ []) xs
 mapped_ones h f [] = refl
 mapped_ones h f (x ∷ xs) = ap (λ z. h (f 0 x) ∷ z) (mapped_ones h (λ n y. f (suc n) y) xs)
@@ -29,17 +29,15 @@ frames_mapped h frames =
     sym (ap (map h) (gather_twice (λ n (x : Owned). part Frame n x.owner x.what ∷ []) (λ f (x : FrameInfo).
     owned (frame_owner x.owner) (FrameOf f)) frames) ∙ mapped_ones h frame_part frames)
 
--- what is made of the other sections and of the frames is made of all parts
-pub mapped_parts : {Z : Type 0} (t : Tables) (h : Part → Z)
-    → map h (together (but_frames t)) ++ map h (numbered Frame (frame_parts t.spaces.frames)) ≡ map h (parts t)
+-- what is made of the sections before, of page tables and of frames is made of all parts
+pub mapped_parts : {Z : Type 0} (t : Tables) (h : Part → Z) → (map h (together (take 6 (sections t)))
+    ++ map h (table_parts (all_tables t))) ++ map h (numbered Frame (frame_parts t.spaces.frames)) ≡ map h (parts t)
 mapped_parts t h =
+    let front = take 6 (sections t) in
+    let s = table_parts (all_tables t) in
     let last = numbered Frame (frame_parts t.spaces.frames) in
-    sym (map-append h (together (but_frames t)) last)
-    ∙ ap (λ z. map h (together (but_frames t) ++ z)) (sym (append-nil last))
-    ∙ ap (map h) (sym (flat_map-append (λ x. x) (but_frames t) (last ∷ [])))
-
-pub in_parts : (t : Tables) (p : Part) → IsIn p (together (but_frames t)) → IsIn p (parts t)
-in_parts t p i =
-    let last = numbered Frame (frame_parts t.spaces.frames) ∷ [] in
-    subst (λ (z : List Part). IsIn p z) (sym (flat_map-append (λ x. x) (but_frames t) last))
-    (in_left p (together (but_frames t)) (together last) i)
+    append_assoc (map h (together front)) (map h s) (map h last)
+    ∙ ap (λ z. map h (together front) ++ (map h s ++ z)) (sym (ap (map h) (append-nil last)))
+    ∙ ap (λ z. map h (together front) ++ z) (sym (map-append h s (last ++ [])))
+    ∙ sym (map-append h (together front) (s ++ (last ++ [])))
+    ∙ ap (map h) (sym (flat_map-append (λ x. x) front (s ∷ last ∷ [])))

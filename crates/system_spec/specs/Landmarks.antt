@@ -1,12 +1,9 @@
--- Where the objects of domains stand, and which parts there are.
-use Rattle.std.specs.Prelude.{◌≡◌, ◌<◌, ℕ, List, [], ◌∷◌, length, slice_get}
-use Rattle.std.specs.Option.{option_map_or}
+-- Where the objects of domains stand, their page tables, and which parts have objects that are made one by one.
+use Rattle.std.specs.Prelude.{◌≡◌, ◌<◌, ℕ, List, [], ◌∷◌, length}
 use Rattle.cap_model.specs.declared.object.Object.{Object}
-use Rattle.cap_model.specs.declared.object.Object.TheVariants.{Endpoint, Pages}
 use Rattle.cam_base.specs.Gather.{IsIn, gather}
 use Rattle.system_spec.specs.declared.landmarks.Landmarks.{Landmarks}
 use Rattle.system_spec.specs.declared.landmarks.Plan.{Plan}
-use Rattle.system_spec.specs.declared.landmarks.SpaceTables.{SpaceTables}
 use Rattle.system_spec.specs.declared.part.Part.{Part}
 use Rattle.system_spec.specs.declared.part.What.{What}
 use Rattle.system_spec.specs.declared.part.What.TheVariants.{CNodeOf, ThreadOf, EndpointOf, NotificationOf, LockOf, IrqOf, TableOf, FrameOf}
@@ -19,31 +16,29 @@ use Rattle.system_spec.specs.Tables.{Tables}
 abbrev pub first_locks : Tables → List ℕ
 first_locks t = gather (λ d x. place t (LockOf d 0) ∷ []) t.flat.domains
 
--- the page tables of a domain, and the place of the first of them
-abbrev pub space_tables : Tables → ℕ → SpaceTables
-space_tables t d = record { first = place t (TableOf d 0); objects = tables_at t (place t (TableOf d 0)) (place t (FrameOf 0)) d }
+-- the place of the root of each domain's space
+abbrev pub roots : Tables → List ℕ
+roots t = gather (λ d x. place t (TableOf d 0) ∷ []) t.flat.domains
 
-abbrev pub all_spaces : Tables → List SpaceTables
-all_spaces t = gather (λ d x. space_tables t d ∷ []) t.flat.domains
+-- the page tables of a domain
+abbrev pub space_tables : Tables → ℕ → List Object
+space_tables t d = tables_at t (place t (TableOf d 0)) (place t (FrameOf 0)) d
+
+abbrev pub all_spaces : Tables → List Object
+all_spaces t = gather (λ d x. space_tables t d) t.flat.domains
 
 pub record AreLandmarks (t : Tables) (m : Landmarks) : Type 0 where
   pub connections : ArePlaces t m.connections
   pub locks : m.locks ≡ first_locks t
-  pub spaces : m.spaces ≡ all_spaces t
+  pub roots : m.roots ≡ roots t
   pub frames : m.first_frame ≡ place t (FrameOf 0)
 
 pub record IsPlan (t : Tables) (p : Plan) : Type 0 where
   pub sections : p.sections ≡ but_frames t
   pub marks : AreLandmarks t p.marks
+  pub tables : p.tables ≡ all_spaces t
 
--- of a list of them by domain
-abbrev pub root_in : List SpaceTables → ℕ → ℕ
-root_in spaces d = option_map_or (λ s. s.first) (slice_get spaces d) 0
-
-abbrev pub objects_in : List SpaceTables → ℕ → List Object
-objects_in spaces d = option_map_or (λ s. s.objects) (slice_get spaces d) []
-
--- the part's domain or connection is one that there is
+-- no page table, and its domain or connection is one that there is
 abbrev pub IsThere : Tables → What → Type 0
 IsThere t (CNodeOf d) = d < length t.flat.domains
 IsThere t (ThreadOf d i) = d < length t.flat.domains
@@ -51,13 +46,8 @@ IsThere t (EndpointOf k) = Unit {0}
 IsThere t (NotificationOf k) = Unit {0}
 IsThere t (LockOf d n) = Unit {0}
 IsThere t (IrqOf k) = k < length t.flat.connections
-IsThere t (TableOf d j) = d < length t.flat.domains
+IsThere t (TableOf d j) = ⊥
 IsThere t (FrameOf f) = Unit {0}
 
 abbrev pub AreThere : Tables → List Part → Type 0
 AreThere t ps = (p : Part) → IsIn p ps → IsThere t p.what
-
--- a page table, or the object that stands for none
-abbrev pub copied : Object → Object
-copied (Pages level slots) = Pages level slots
-copied _ = Endpoint

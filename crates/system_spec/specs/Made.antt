@@ -3,6 +3,7 @@
 use Rattle.std.specs.Prelude.{ℕ, List, map}
 use Rattle.arch_policy.specs.Tables.{number_of}
 use Rattle.cap_model.specs.declared.object_labels.Labels.{Labels}
+use Rattle.cap_model.specs.declared.object.Object.{Object}
 use Rattle.cap_model.specs.declared.spec.Entry.{Entry}
 use Rattle.cap_model.specs.declared.spec.Spec.{Spec}
 use Rattle.system_spec.specs.declared.part.Part.{Part}
@@ -14,8 +15,11 @@ use Rattle.system_spec.specs.Tables.{Tables, arch}
 abbrev pub part_name : Part → List ℕ
 part_name p = name_of p.series p.number
 
+abbrev pub entry_with : Part → Object → Entry
+entry_with p o = record { name = part_name p; object = o }
+
 abbrev pub entry : Tables → Part → Entry
-entry t p = record { name = part_name p; object = object t p.what }
+entry t p = entry_with p (object t p.what)
 
 abbrev pub spec_of : Tables → Spec
 spec_of t = record { arch = arch t; entries = map (entry t) (parts t); irqs = lines t }

@@ -3,7 +3,7 @@
 ghost use Rattle.cam_base.specs.Gather.{gather};
 ghost use Rattle.std.specs.Prelude.{◌≡◌, ◌<◌, ◌≤◌, ◌^◌, length, take, IfOk};
 ghost use Rattle.system_spec.specs.Buildable.{IsBuildable};
-ghost use Rattle.system_spec.specs.Landmarks.{AreLandmarks, IsPlan, all_spaces, first_locks};
+ghost use Rattle.system_spec.specs.Landmarks.{AreLandmarks, IsPlan, all_spaces, first_locks, roots as roots_of};
 ghost use Rattle.system_spec.specs.Grouped.{but_frames};
 ghost use Rattle.system_spec.specs.Parts.{first_of, lock, together};
 ghost use Rattle.system_spec.specs.Told.{told};
@@ -19,28 +19,28 @@ use cap_model::Object;
 use cspace_layout::SlotUse;
 use std::alloc::Global;
 
-/// The page tables of a domain, and the place of the first of them.
+/// The place of the root of each domain's space, and the page tables of all domains.
 #[derive(Drop)]
 pub struct SpaceTables {
-    pub first: u32,
+    pub roots: List<u32>,
     pub objects: List<Object>,
 }
 
-/// The places of the objects of connections, of the first lock of each domain, of the page tables of each domain with what
-/// they hold, and of the first frame.
+/// The places of the objects of connections, of the first lock and the space root of each domain, and of the first frame.
 #[derive(Drop)]
 pub struct Landmarks {
     pub connections: Places,
     pub locks: List<u32>,
-    pub spaces: List<SpaceTables>,
+    pub roots: List<u32>,
     pub first_frame: u32,
 }
 
-/// The parts of a system by section, but for frames, and where the objects stand that others name.
+/// The parts of a system by section, but for frames, where the objects stand that others name, and the page tables.
 #[derive(Drop)]
 pub struct Plan {
     pub sections: List<List<Part>>,
     pub marks: Landmarks,
+    pub tables: List<Object>,
 }
 
 /// How many of these uses are locks.
@@ -70,30 +70,33 @@ fn first_locks(alloc: Global, tables: &Tables<'_>, first: u32) -> Result<List<u3
     Ok(places)
 }
 
-/// The page tables of each domain, where the first of all and frame 0 stand at these places.
+/// The page tables of all domains, where the first of them and frame 0 stand at these places.
 fn all_spaces(
     alloc: Global,
     tables: &Tables<'_>,
     first: u32,
     frames: u32,
-) -> Result<List<SpaceTables>, NoMemory>
+) -> Result<SpaceTables, NoMemory>
     requires buildable { IsBuildable (told tables.now) }
     requires first { first ≡ first_of (told tables.now) 6 }
     requires frames { frames ≡ first_of (told tables.now) 7 }
-    ensures { IfOk result (λ spaces. spaces ≡ all_spaces (told tables.now)) }
+    ensures roots { IfOk result (λ spaces. spaces.roots ≡ roots_of (told tables.now)) }
+    ensures objects { IfOk result (λ spaces. spaces.objects ≡ all_spaces (told tables.now)) }
 {
-    let mut spaces = List::new(alloc);
+    let mut roots = List::from_vec(Vec::with_capacity(alloc, tables.flat.domains.len())?);
+    let mut all = Vec::with_capacity(alloc, frames.saturating_sub(first) as usize)?;
     let mut next = first;
     for number in 0..tables.flat.domains.len() as u32 {
         let objects = tables_at(alloc, tables, next, frames, number)?;
         let count = objects.len() as u32;
-        spaces.push(SpaceTables {
-            first: next,
-            objects,
-        })?;
+        roots.push(next)?;
         next += count;
+        all.append(&mut objects.into_vec())?;
     }
-    Ok(spaces)
+    Ok(SpaceTables {
+        roots,
+        objects: List::from_vec(all),
+    })
 }
 
 /// Where the sections of the objects of connections begin.
@@ -111,22 +114,23 @@ fn firsts(sections: &[List<Part>]) -> Firsts
     }
 }
 
-/// Where the objects of a system with these sections stand.
+/// Where the objects of a system with these sections stand, whose space roots stand at these places.
 fn landmarks_of(
     alloc: Global,
     tables: &Tables<'_>,
     sections: &[List<Part>],
+    roots: List<u32>,
 ) -> Result<Landmarks, NoMemory>
     requires buildable { IsBuildable (told tables.now) }
     requires sections { sections.now ≡ but_frames (told tables.now) }
+    requires roots { roots ≡ roots_of (told tables.now) }
     ensures { IfOk result (λ marks. AreLandmarks (told tables.now) marks) }
 {
-    let first_frame = first_of(sections, 7);
     Ok(Landmarks {
         connections: places_of(alloc, tables, firsts(sections))?,
         locks: first_locks(alloc, tables, first_of(sections, 4))?,
-        spaces: all_spaces(alloc, tables, first_of(sections, 6), first_frame)?,
-        first_frame,
+        roots,
+        first_frame: first_of(sections, 7),
     })
 }
 
@@ -136,6 +140,17 @@ pub fn plan_of(alloc: Global, tables: &Tables<'_>) -> Result<Plan, NoMemory>
     ensures { IfOk result (λ plan. IsPlan (told tables.now) plan) }
 {
     let sections = sections(alloc, tables)?;
-    let marks = landmarks_of(alloc, tables, sections.as_slice())?;
-    Ok(Plan { sections, marks })
+    let parts = sections.as_slice();
+    let SpaceTables { roots, objects } = all_spaces(
+        alloc,
+        tables,
+        first_of(parts, 6),
+        first_of(parts, 7),
+    )?;
+    let marks = landmarks_of(alloc, tables, parts, roots)?;
+    Ok(Plan {
+        sections,
+        marks,
+        tables: objects,
+    })
 }

@@ -3,8 +3,9 @@
 ghost use Rattle.std.specs.Prelude.{◌≡◌, ◌++◌, ◌∷◌, [], map, IfOk, OnOk};
 ghost use Rattle.system_spec.specs.Buildable.{IsBuildable};
 ghost use Rattle.system_spec.specs.Landmarks.{AreLandmarks, AreThere, IsPlan, IsThere};
-ghost use Rattle.system_spec.specs.Made.{entry, labels_of, part_label, spec_of};
+ghost use Rattle.system_spec.specs.Made.{entry, entry_with, labels_of, part_label, spec_of};
 ghost use Rattle.system_spec.specs.MapLines.{map_lines};
+ghost use Rattle.system_spec.specs.Objects.{object};
 ghost use Rattle.system_spec.specs.Parts.{frame_parts, numbered};
 ghost use Rattle.system_spec.specs.Told.{told};
 ghost use Rattle.system_spec.specs.Windowed.{IsWindowed};
@@ -17,7 +18,7 @@ use crate::map_listing::lines_of;
 use crate::object::object;
 use crate::{MapLine, Part, Tables};
 use cam_base::{List, NoMemory};
-use cap_model::{Entry, Labels, Spec};
+use cap_model::{Entry, Labels, Object, Spec};
 use std::alloc::Global;
 
 /// The spec of a system and the labels of its objects.
@@ -25,6 +26,25 @@ use std::alloc::Global;
 pub struct System {
     pub spec: Spec,
     pub labels: Labels,
+}
+
+/// Puts an object under the name of its part behind the others, and its label.
+fn push_entry(
+    alloc: Global,
+    tables: &Tables<'_>,
+    part: Part,
+    object: Object,
+    entries: &mut List<Entry>,
+    labels: &mut List<u32>,
+) -> Result<(), NoMemory>
+    ensures entries { OnOk result (entries.new ≡ entries.old ++ entry_with part object ∷ []) }
+    ensures labels { OnOk result (labels.new ≡ labels.old ++ part_label (told tables.now) part ∷ []) }
+{
+    entries.push(Entry {
+        name: part.series.name(alloc, part.number as u64)?,
+        object,
+    })?;
+    labels.push(tables.numbers.of(part.owner))
 }
 
 /// Puts the object of a part under its name behind the others, and its label.
@@ -42,11 +62,8 @@ fn push_object(
     ensures entries { OnOk result (entries.new ≡ entries.old ++ entry (told tables.now) part ∷ []) }
     ensures labels { OnOk result (labels.new ≡ labels.old ++ part_label (told tables.now) part ∷ []) }
 {
-    entries.push(Entry {
-        name: part.series.name(alloc, part.number as u64)?,
-        object: object(alloc, tables, marks, part.what)?,
-    })?;
-    labels.push(tables.numbers.of(part.owner))
+    let object = object(alloc, tables, marks, part.what)?;
+    push_entry(alloc, tables, part, object, entries, labels)
 }
 
 /// Puts the objects of parts under their names behind the others, and their labels.
@@ -66,6 +83,28 @@ fn push_objects(
 {
     for part in parts {
         push_object(alloc, tables, marks, *part, entries, labels)?;
+    }
+    Ok(())
+}
+
+/// Puts page tables, whose parts these are, under their names behind the others, and their labels.
+fn push_tables(
+    alloc: Global,
+    tables: &Tables<'_>,
+    parts: &[Part],
+    objects: List<Object>,
+    entries: &mut List<Entry>,
+    labels: &mut List<u32>,
+) -> Result<(), NoMemory>
+    requires { objects ≡ map (λ p. object (told tables.now) p.what) parts.now }
+    ensures entries { OnOk result (entries.new ≡ entries.old ++ map (entry (told tables.now)) parts.now) }
+    ensures labels { OnOk result (labels.new ≡ labels.old ++ map (part_label (told tables.now)) parts.now) }
+{
+    let mut place: usize = 0;
+    for object in objects.into_vec() {
+        let part = parts[place];
+        push_entry(alloc, tables, part, object, entries, labels)?;
+        place += 1;
     }
     Ok(())
 }
@@ -93,28 +132,29 @@ fn push_frames(
 }
 
 /// The spec of a system with this plan, and the labels of its objects.
-fn system_of(alloc: Global, tables: &Tables<'_>, plan: &Plan) -> Result<System, NoMemory>
+fn system_of(alloc: Global, tables: &Tables<'_>, plan: Plan) -> Result<System, NoMemory>
     requires buildable { IsBuildable (told tables.now) }
-    requires plan { IsPlan (told tables.now) plan.now }
+    requires plan { IsPlan (told tables.now) plan }
     ensures spec { IfOk result (λ system. system.spec ≡ spec_of (told tables.now)) }
     ensures labels { IfOk result (λ system. system.labels ≡ labels_of (told tables.now)) }
 {
-    let sections = plan.sections.as_slice();
+    let Plan {
+        sections,
+        marks,
+        tables: objects,
+    } = plan;
+    let sections = sections.as_slice();
     let count = first_of(sections, 7) as usize + tables.spaces.frames.len();
     let mut entries = List::from_vec(Vec::with_capacity(alloc, count)?);
     let mut by_object = List::from_vec(Vec::with_capacity(alloc, count)?);
-    for section in sections {
+    let others = &sections[..6];
+    for section in others {
         let parts = section.as_slice();
-        push_objects(
-            alloc,
-            tables,
-            &plan.marks,
-            parts,
-            &mut entries,
-            &mut by_object,
-        )?;
+        push_objects(alloc, tables, &marks, parts, &mut entries, &mut by_object)?;
     }
-    push_frames(alloc, tables, &plan.marks, &mut entries, &mut by_object)?;
+    let parts = sections[6].as_slice();
+    push_tables(alloc, tables, parts, objects, &mut entries, &mut by_object)?;
+    push_frames(alloc, tables, &marks, &mut entries, &mut by_object)?;
     let irqs = irq_lines(alloc, tables, first_of(sections, 5))?;
     Ok(System {
         spec: Spec {
@@ -138,7 +178,7 @@ pub fn build(alloc: Global, tables: &Tables<'_>) -> Result<System, NoMemory>
     ensures labels { IfOk result (λ system. system.labels ≡ labels_of (told tables.now)) }
 {
     let plan = plan_of(alloc, tables)?;
-    system_of(alloc, tables, &plan)
+    system_of(alloc, tables, plan)
 }
 
 /// The lines of the map: `specs/MapLines.antt`. Takes time linear in what the tables list.
@@ -171,8 +211,6 @@ pub fn build_with_map(
     ensures lines { IfOk result (λ made. made.1 ≡ map_lines (told tables.now)) }
 {
     let plan = plan_of(alloc, tables)?;
-    Ok((
-        system_of(alloc, tables, &plan)?,
-        lines_of(alloc, tables, &plan)?,
-    ))
+    let lines = lines_of(alloc, tables, &plan)?;
+    Ok((system_of(alloc, tables, plan)?, lines))
 }

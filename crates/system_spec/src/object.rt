@@ -1,9 +1,9 @@
-//! The object of each part.
+//! The object of each part that is no page table.
 
-ghost use Rattle.cap_model.specs.declared.object.Object.TheVariants.{Endpoint, Irq};
-ghost use Rattle.std.specs.Prelude.{◌≡◌, ◌<◌, Some, length, slice_index, slice_index_or, IfOk};
+ghost use Rattle.cap_model.specs.declared.object.Object.TheVariants.{Irq};
+ghost use Rattle.std.specs.Prelude.{◌≡◌, ◌<◌, Some, length, slice_index, IfOk};
 ghost use Rattle.system_spec.specs.Buildable.{IsBuildable};
-ghost use Rattle.system_spec.specs.Landmarks.{AreLandmarks, IsThere, copied, objects_in};
+ghost use Rattle.system_spec.specs.Landmarks.{AreLandmarks, IsThere};
 ghost use Rattle.system_spec.specs.Objects.{frame_object, object};
 ghost use Rattle.system_spec.specs.Told.{told};
 ghost use Rattle.system_spec.specs.declared.part.What.TheVariants.{CNodeOf, FrameOf};
@@ -11,10 +11,10 @@ ghost use Rattle.system_spec.specs.declared.part.What.TheVariants.{CNodeOf, Fram
 use crate::What;
 use crate::bits::bits_for;
 use crate::caps::{caps_of, number_at};
-use crate::landmarks::{Landmarks, SpaceTables};
+use crate::landmarks::Landmarks;
 use crate::tables::{Tables, uses_at};
 use crate::tcbs::thread_object;
-use cam_base::{Boxed, List, NoMemory};
+use cam_base::{Boxed, NoMemory};
 use cap_model::{Fill, Object};
 use std::alloc::Global;
 use vspace_layout::FrameInfo;
@@ -44,43 +44,6 @@ fn irq(marks: &Landmarks, connection: u32) -> Object
 {
     Object::Irq {
         notification: Some(number_at(marks.connections.notifications.as_slice(), connection)),
-    }
-}
-
-/// A copy of a page table.
-fn copied(alloc: Global, table: &Object) -> Result<Object, NoMemory>
-    ensures { IfOk result (λ made. made ≡ copied table.now) }
-{
-    match table {
-        Object::Pages { level, slots } => Ok(Object::Pages {
-            level: *level,
-            slots: List::from_slice(alloc, slots.as_slice())?,
-        }),
-        _ => Ok(Object::Endpoint),
-    }
-}
-
-/// The page tables of a domain.
-fn objects_in(spaces: &[SpaceTables], domain: u32) -> &[Object]
-    ensures { result.now ≡ objects_in spaces.now domain }
-{
-    match spaces.get(domain as usize) {
-        Some(space) => space.objects.as_slice(),
-        None => &[],
-    }
-}
-
-fn page_table(
-    alloc: Global,
-    spaces: &[SpaceTables],
-    domain: u32,
-    place: u32,
-) -> Result<Object, NoMemory>
-    ensures { IfOk result (λ made. made ≡ copied (slice_index_or (objects_in spaces.now domain) place Endpoint)) }
-{
-    match objects_in(spaces, domain).get(place as usize) {
-        Some(table) => copied(alloc, table),
-        None => Ok(Object::Endpoint),
     }
 }
 
@@ -118,7 +81,7 @@ fn frame_at(alloc: Global, tables: &Tables<'_>, number: u32) -> Result<Object, N
     }
 }
 
-/// The object of a part: `specs/Objects.antt`.
+/// The object of a part that is no page table: `specs/Objects.antt`.
 pub fn object(
     alloc: Global,
     tables: &Tables<'_>,
@@ -136,7 +99,7 @@ pub fn object(
         What::EndpointOf(_) => Ok(Object::Endpoint),
         What::NotificationOf(_) | What::LockOf(_, _) => Ok(Object::Notification),
         What::IrqOf(connection) => Ok(irq(marks, connection)),
-        What::TableOf(domain, place) => page_table(alloc, marks.spaces.as_slice(), domain, place),
+        What::TableOf(_, _) => unreachable!(),
         What::FrameOf(number) => frame_at(alloc, tables, number),
     }
 }

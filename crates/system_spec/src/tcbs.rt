@@ -6,14 +6,14 @@ ghost use Rattle.page_tables.specs.Runs.{Rises};
 ghost use Rattle.std.specs.Option.{option_map};
 ghost use Rattle.std.specs.Prelude.{◌≡◌, ◌<◌, ◌+◌, ◌^◌, length, map, IfOk};
 ghost use Rattle.system_spec.specs.Buildable.{IsBuildable};
-ghost use Rattle.system_spec.specs.Landmarks.{AreLandmarks, root_in};
+ghost use Rattle.system_spec.specs.Landmarks.{AreLandmarks};
 ghost use Rattle.system_spec.specs.Objects.{cap, frame_at, object, tcb};
 ghost use Rattle.system_spec.specs.Told.{told};
 ghost use Rattle.system_spec.specs.declared.part.What.TheVariants.{ThreadOf};
 ghost use Rattle.vspace_layout.specs.declared.spaces.Page.{Page};
 
-use crate::caps::lock_rights;
-use crate::landmarks::{Landmarks, SpaceTables};
+use crate::caps::{lock_rights, number_at};
+use crate::landmarks::Landmarks;
 use crate::tables::{Tables, leaf_entry, leaf_name, pages_at, priority, threads_at};
 use cam_base::{Boxed, NoMemory, Text};
 use cap_model::{Cap, Object, Tcb};
@@ -48,16 +48,6 @@ fn buffer_cap(pages: &[Page], frames: u32, at: u64) -> Option<Cap>
     })
 }
 
-/// The place of a domain's space root.
-fn root_in(spaces: &[SpaceTables], domain: u32) -> u32
-    ensures { result ≡ root_in spaces.now domain }
-{
-    match spaces.get(domain as usize) {
-        Some(space) => space.first,
-        None => 0,
-    }
-}
-
 fn tcb(
     alloc: Global,
     tables: &Tables<'_>,
@@ -77,7 +67,7 @@ fn tcb(
         prio: priority(tables, thread.leaf),
         elf: Some(Text::new(alloc, leaf_name(tables, thread.leaf))?),
         cspace: Some(domain),
-        vspace: Some(root_in(marks.spaces.as_slice(), domain)),
+        vspace: Some(number_at(marks.roots.as_slice(), domain)),
         buffer: buffer_cap(pages_at(tables, domain), marks.first_frame, thread.buffer),
     })
 }

@@ -1,4 +1,4 @@
-use Rattle.system_spec.proofs.Common.{Domain, [], ap, arith, inr, length, space_tables, told, ◌++◌, ◌+◌, ◌∙◌, ◌∷◌}
+use Rattle.system_spec.proofs.Common.{Domain, TableOf, [], ap, arith, inr, place, rules, space_tables, told, ◌++◌, ◌+◌, ◌∙◌, ◌∷◌, ◌≡◌}
 use Rattle.system_spec.proofs.Bounds.{ends}
 use Rattle.system_spec.proofs.Domains.{few_objects, space_is, table_place, tables_few, tables_turn, tables_within}
 use Rattle.system_spec.proofs.Turning.{place_turn}
@@ -37,10 +37,14 @@ loop-number-preserved c =
     let d = c.loop-number.number in
     let next = c.loop-number.next in
     let more = tables_turn t next c.args.frames d next _ (omega arith) c.in_ok-objects.ensures c.loop-number.invariant.next in
+    let appended : c.append.new.self.items ≡ c.loop-number.all.items ++ c.in_ok-objects.objects = search rules in
     record {
-      so_far = place_turn (λ n (x : Domain). space_tables t n ∷ []) t.flat.domains d [] _ _ (omega arith)
-          c.loop-number.invariant.so_far
-          (λ x. c.in_ok-push.ensures.ok ∙ ap (λ z. c.loop-number.spaces ++ z ∷ [])
+      roots = place_turn (λ n (x : Domain). place t (TableOf n 0) ∷ []) t.flat.domains d [] _ _ (omega arith)
+          c.loop-number.invariant.roots (λ x. c.in_ok-push.ensures.ok ∙ ap (λ z. c.loop-number.roots ++ z ∷ [])
+          (table_place t d next c.loop-number.invariant.next));
+      all = place_turn (λ n (x : Domain). space_tables t n) t.flat.domains d [] _ _ (omega arith)
+          c.loop-number.invariant.all
+          (λ x. appended ∙ ap (λ z. c.loop-number.all.items ++ z)
           (space_is t d next c.args.frames _ (table_place t d next c.loop-number.invariant.next)
           (omega (arith, c.requires.frames)) c.in_ok-objects.ensures));
       next = omega (arith, c.len-count.ensures, more);

@@ -1,4 +1,4 @@
-use Rattle.system_spec.proofs.Common.{endpoint, gather, take, ◌++◌, ◌≡◌}
+use Rattle.system_spec.proofs.Common.{endpoint, gather, take, ◌≡◌}
 use Rattle.system_spec.proofs.listing.endpoints.Given as goal
 
 abbrev pub invariant-loop-number : goal.invariant-loop-number

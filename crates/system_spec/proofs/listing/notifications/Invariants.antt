@@ -1,4 +1,4 @@
-use Rattle.system_spec.proofs.Common.{gather, notification, take, ◌++◌, ◌≡◌}
+use Rattle.system_spec.proofs.Common.{gather, notification, take, ◌≡◌}
 use Rattle.system_spec.proofs.listing.notifications.Given as goal
 
 abbrev pub invariant-loop-number : goal.invariant-loop-number

@@ -1,4 +1,4 @@
-use Rattle.system_spec.proofs.Common.{Owned, [], gather, part, take, ◌++◌, ◌∷◌, ◌≡◌}
+use Rattle.system_spec.proofs.Common.{Owned, [], gather, part, take, ◌∷◌, ◌≡◌}
 use Rattle.system_spec.proofs.listing.numbered.Given as goal
 
 abbrev pub invariant-loop-number : goal.invariant-loop-number

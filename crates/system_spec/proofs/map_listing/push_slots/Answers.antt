@@ -1,4 +1,4 @@
-use Rattle.system_spec.proofs.Common.{Domain, arith, domain_slots, refl, told, ◌++◌, ◌+◌, ◌∙◌, ◌≡◌}
+use Rattle.system_spec.proofs.Common.{Domain, arith, domain_slots, refl, told, ◌+◌}
 use Rattle.system_spec.proofs.MapPlaces.{first_lock_is, locks_turn, locks_within}
 use Rattle.system_spec.proofs.Turning.{place_turn}
 use Rattle.system_spec.proofs.map_listing.push_slots.Goals as goal

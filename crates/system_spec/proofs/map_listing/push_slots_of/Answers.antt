@@ -1,4 +1,4 @@
-use Rattle.system_spec.proofs.Common.{AreNamed, OfEnd, SlotUse, [], ap, arith, gather_turn, get_or, get_or_default, refl, slice_get-get_or, slot_line, subst, sym, told, use_cap, use_cap_at, ◌++◌, ◌+◌, ◌∙◌, ◌∷◌, ◌≡◌}
+use Rattle.system_spec.proofs.Common.{AreNamed, OfEnd, SlotUse, [], ap, arith, gather_turn, get_or, get_or_default, refl, slice_get-get_or, slot_line, subst, sym, told, use_cap, use_cap_at, ◌++◌, ◌+◌, ◌∙◌, ◌∷◌}
 use Rattle.std.specs.Prelude.{length}
 use Rattle.system_spec.proofs.MapPlaces.{lock_end}
 use Rattle.system_spec.proofs.Placing.{lock_turn, lock_within}

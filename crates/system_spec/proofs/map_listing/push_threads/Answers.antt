@@ -1,4 +1,4 @@
-use Rattle.system_spec.proofs.Common.{Domain, ap, arith, before, domain_tcbs, domain_threads, length, told, ◌++◌, ◌+◌, ◌<◌, ◌^◌, ◌∙◌, ◌≡◌}
+use Rattle.system_spec.proofs.Common.{Domain, ap, arith, domain_threads, told, ◌++◌, ◌+◌, ◌∙◌}
 use Rattle.system_spec.proofs.MapPlaces.{domain_threads_are, threads_turn, threads_within}
 use Rattle.system_spec.proofs.Turning.{place_turn}
 use Rattle.system_spec.proofs.map_listing.push_threads.Goals as goal

@@ -1,4 +1,4 @@
-use Rattle.system_spec.proofs.Common.{AreNamed, List, LockOf, SlotUse, ap, length, place, slice_index, subst, sym, told, ◌∙◌}
+use Rattle.system_spec.proofs.Common.{AreNamed, LockOf, ap, length, place, slice_index, subst, sym, told, ◌∙◌}
 use Rattle.system_spec.proofs.Domains.{locks_few}
 use Rattle.system_spec.proofs.Placing.{place_found}
 use Rattle.system_spec.proofs.object.cnode.Goals as goal

@@ -1,5 +1,4 @@
-use Rattle.system_spec.proofs.Common.{CNodeOf, Endpoint, FrameOf, IfOk-weaker, Irq, IsThere, NotificationOf, Some, ThreadOf, ap, copied, get_or, object, objects_in, place, subst, sym, told, ◌∙◌, ◌≡◌}
-use Rattle.system_spec.proofs.Copying.{table_read}
+use Rattle.system_spec.proofs.Common.{CNodeOf, FrameOf, IfOk-weaker, Irq, IsThere, NotificationOf, Some, ThreadOf, ap, object, place, subst, sym, told, ◌∙◌, ◌≡◌}
 use Rattle.system_spec.proofs.Placing.{place_found}
 use Rattle.system_spec.proofs.object.object.Goals as goal
 
@@ -29,16 +28,6 @@ returns-in-IrqOf c =
     c.irq.ensures ∙ ap (λ z. Irq (Some z)) (place_found (λ j. place t (NotificationOf j)) t.flat.connections
     c.args.marks.now.connections.notifications k c.requires.marks.connections.notifications here)
     ∙ ap (object t) (sym c.in-IrqOf.is)
-
-pub returns-in-TableOf : goal.returns-in-TableOf
-returns-in-TableOf c =
-    let t = told c.args.tables.now in
-    let d = c.in-TableOf.domain in
-    let here = subst (IsThere t) c.in-TableOf.is c.requires.there in
-    let read = c.as_slice.ensures ∙ c.requires.marks.spaces in
-    IfOk-weaker c.page_table.result (λ o. o ≡ copied (get_or (objects_in c.as_slice.result.now d) c.in-TableOf.place Endpoint))
-    (λ o. o ≡ object t c.args.what) (λ o e. e ∙ table_read t _ d c.in-TableOf.place read here
-    ∙ ap (object t) (sym c.in-TableOf.is)) c.page_table.ensures
 
 pub returns-in-FrameOf : goal.returns-in-FrameOf
 returns-in-FrameOf c =
