@@ -1,6 +1,6 @@
 -- What is made of tables is what is made of a source.
 use Rattle.arch_compile.proofs.Common.{Flat, Images, IsAssigned, IsBuildable, IsLaid, IsMade, IsMadeOf, IsMeant, IsPolicyOf, IsSorted, IsWindowed, Layout, List, Policy, Settled, Source, Spec, Tables, ap, arith, entry, flat_of, given, label_numbers}
-use Rattle.arch_compile.proofs.Common.{labels_of, length, length-map, parts, policy_tables, slots_of, source_tables, spaces_of, spec_of, subst, sym, system_tables, tables_from, ◌<◌, ◌^◌, ◌∙◌, ◌≡◌}
+use Rattle.arch_compile.proofs.Common.{labels_of, length, length-map, parts, policy_tables, slots_of, source_tables, spaces_of, spec_of, subst, sym, system_tables, tables_from, with_objects, ◌<◌, ◌^◌, ◌∙◌, ◌≡◌}
 use Rattle.arch_compile.specs.declared.making.Made.{Made}
 use Rattle.arch_policy.specs.declared.numbers.LabelNumbers.{LabelNumbers}
 use Rattle.cspace_layout.specs.declared.plan.Slots.{Slots}
@@ -10,18 +10,21 @@ pub few_objects : (t : Tables) (spec : Spec) → IsBuildable t → spec ≡ spec
 few_objects t spec is e = let few = is.few.objects in
     subst (λ (z : Spec). length z.entries < 2 ^ 32) (sym e) (omega (arith, few, length-map (parts t) (entry t)))
 
-made_is : (s : Source) (images : Images) (p : Policy) (m : Made) → IsAssigned s p → IsMadeOf (system_tables s images) p m
-    → IsMade s images m.spec m.policy m.cert m.map
-made_is s images p m assigned is = record {
-  spec_is = is.spec;
-  labels = ap (λ (z : Policy). z.labels) is.policy_is ∙ assigned.labels;
-  objects = ap (λ (z : Policy). z.objects) is.policy_is;
-  edges = subst (λ (z : Policy). IsPolicyOf (source_tables s) z.edges) (sym is.policy_is) assigned.edges;
-  sorted = subst (λ (z : Policy). IsSorted z.edges) (sym is.policy_is) assigned.sorted;
-  certified = is.cert;
-  cert_sorted = is.sorted;
-  map_is = is.map;
-}
+made_is : (s : Source) (images : Images) (p q : Policy) (m : Made) → IsAssigned s p → IsMadeOf (system_tables s images) m
+    → q ≡ with_objects p m.system.spec m.system.labels → IsMade s images m.system.spec q m.cert m.map
+made_is s images p q m assigned is e =
+    let t = system_tables s images in
+    let whole = e ∙ ap (λ z. with_objects p z m.system.labels) is.spec ∙ ap (with_objects p (spec_of t)) is.labels in
+    record {
+      spec_is = is.spec;
+      labels = ap (λ (z : Policy). z.labels) e ∙ assigned.labels;
+      objects = ap (λ (z : Policy). z.objects) whole;
+      edges = subst (λ (z : Policy). IsPolicyOf (source_tables s) z.edges) (sym e) assigned.edges;
+      sorted = subst (λ (z : Policy). IsSorted z.edges) (sym e) assigned.sorted;
+      certified = is.cert;
+      cert_sorted = is.sorted;
+      map_is = is.map;
+    }
 
 -- the tables of a source whose parts these are
 tables_are : (s : Source) (flat : Flat) (settled : Settled) (images : Images) (slots : Slots) (spaces : Spaces)
@@ -99,9 +102,9 @@ module _ (s : Source) (flat : Flat) (settled : Settled) (images : Images) (l : L
       (sym (tables_are s flat settled images l.slots l.spaces numbers laid.slots laid.spaces numbered
       ∙ system_is s flat settled images meant)) assigned.edges
 
-  pub here_made : (p : Policy) (m : Made) → IsMeant s flat settled → IsAssigned s p → IsMadeOf Here p m
-      → IsMade s images m.spec m.policy m.cert m.map
-  here_made p m meant assigned is =
-      made_is s images p m assigned
-      (subst (λ t. IsMadeOf t p m) (tables_are s flat settled images l.slots l.spaces numbers laid.slots laid.spaces numbered
-      ∙ system_is s flat settled images meant) is)
+  pub here_made : (p q : Policy) (m : Made) → IsMeant s flat settled → IsAssigned s p → IsMadeOf Here m
+      → q ≡ with_objects p m.system.spec m.system.labels → IsMade s images m.system.spec q m.cert m.map
+  here_made p q m meant assigned is e =
+      made_is s images p q m assigned
+      (subst (λ t. IsMadeOf t m) (tables_are s flat settled images l.slots l.spaces numbers laid.slots laid.spaces numbered
+      ∙ system_is s flat settled images meant) is) e

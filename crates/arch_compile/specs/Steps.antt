@@ -71,9 +71,9 @@ with_objects policy spec labels =
 abbrev pub policy_tables : Tables → PolicyTables
 policy_tables t = record { source = t.source; flat = t.flat; settled = t.settled; numbers = t.numbers }
 
-pub record IsMadeOf (t : Tables) (policy : Policy) (m : Made) : Type 0 where
-  pub spec : m.spec ≡ spec_of t
-  pub policy_is : m.policy ≡ with_objects policy (spec_of t) (labels_of t)
+pub record IsMadeOf (t : Tables) (m : Made) : Type 0 where
+  pub spec : m.system.spec ≡ spec_of t
+  pub labels : m.system.labels ≡ labels_of t
   pub cert : IsCertificateOf (policy_tables t) m.cert
   pub sorted : IsSorted m.cert
   pub map : m.map ≡ map_lines t

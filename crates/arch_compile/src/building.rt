@@ -13,15 +13,16 @@ ghost use Rattle.source_images.specs.Found.{AlikeInTables};
 ghost use Rattle.std.specs.Prelude.{◌≡◌, IfOk};
 
 use crate::imaging::root_of;
+use crate::labelled::with_objects;
 use crate::laying::{Layout, lay_out};
 use crate::making::{Made, made_of};
-use cam_base::{List, NoMemory, SourceError, Unread};
+use cam_base::{List, SourceError};
 use cam_io::Files;
 use cap_model::{EdgeTable, Policy, Spec};
 use front_end::{FrontEnd, Meaning, in_file, meaning_of, with_policy};
 use source_images::{Images, read_images};
 use std::alloc::Global;
-use system_spec::{MapLine, Tables};
+use system_spec::{MapLine, System, Tables};
 
 /// What is compiled: the source with what it means, its spec, its policy with the labels of objects, its certificate, and its
 /// map.
@@ -79,7 +80,7 @@ fn with_layout(alloc: Global, meaning: Meaning, images: &Images) -> Result<Build
     ensures { Lays meaning images.now result }
 {
     match lay_out(alloc, &meaning, images) {
-        Ok(layout) => with_front(alloc, meaning, images, &layout),
+        Ok(layout) => with_front(alloc, meaning, images, layout),
         Err(refused) => Err(in_file(alloc, &meaning.source, refused)),
     }
 }
@@ -88,10 +89,10 @@ fn with_front(
     alloc: Global,
     meaning: Meaning,
     images: &Images,
-    layout: &Layout,
+    layout: Layout,
 ) -> Result<Build, SourceError>
     requires sound { HasMeaning meaning.source meaning.flat meaning.settled }
-    requires laid { IsLaid meaning.source meaning.flat meaning.settled images.now layout.now }
+    requires laid { IsLaid meaning.source meaning.flat meaning.settled images.now layout }
     ensures { Completes meaning images.now result }
 {
     match with_policy(alloc, meaning) {
@@ -104,12 +105,12 @@ fn with_made(
     alloc: Global,
     front: FrontEnd,
     images: &Images,
-    layout: &Layout,
+    layout: Layout,
 ) -> Result<Build, SourceError>
     requires sound { HasMeaning front.source front.flat front.settled }
     requires assigned { IsAssigned front.source front.policy }
     requires numbered { front.numbers ≡ label_numbers front.flat }
-    requires laid { IsLaid front.source front.flat front.settled images.now layout.now }
+    requires laid { IsLaid front.source front.flat front.settled images.now layout }
     ensures { Finishes front images.now result }
 {
     let FrontEnd {
@@ -128,25 +129,19 @@ fn with_made(
         spaces: &layout.spaces,
         numbers: &numbers,
     };
-    match made_of(alloc, &tables, policy) {
-        Ok(
-            Made {
-                spec,
-                policy,
-                cert,
-                map,
-            },
-        ) => Ok(Build {
-            meaning: Meaning {
-                source,
-                flat,
-                settled,
-            },
-            spec,
-            policy,
-            cert,
-            map,
-        }),
-        Err(NoMemory) => Err(Unread::NoMemory),
-    }
+    let Made { system, cert, map } = made_of(alloc, &tables, &policy.edges)?;
+    drop(layout);
+    let System { spec, labels } = system;
+    let policy = with_objects(alloc, policy, &spec, &labels)?;
+    Ok(Build {
+        meaning: Meaning {
+            source,
+            flat,
+            settled,
+        },
+        spec,
+        policy,
+        cert,
+        map,
+    })
 }

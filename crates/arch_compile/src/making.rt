@@ -8,18 +8,16 @@ ghost use Rattle.system_spec.specs.Buildable.{IsBuildable};
 ghost use Rattle.system_spec.specs.Told.{told};
 ghost use Rattle.system_spec.specs.Windowed.{IsWindowed};
 
-use crate::labelled::with_objects;
 use arch_policy::{Tables as PolicyTables, certificate_of};
 use cam_base::{List, NoMemory};
-use cap_model::{EdgeTable, Policy, Spec};
+use cap_model::EdgeTable;
 use std::alloc::Global;
 use system_spec::{MapLine, System, Tables, build_with_map};
 
-/// The spec of a system, its policy with the labels of objects, its certificate and its map.
+/// The spec of a system with the labels of its objects, its certificate and its map.
 #[derive(Drop)]
 pub struct Made {
-    pub spec: Spec,
-    pub policy: Policy,
+    pub system: System,
     pub cert: EdgeTable,
     pub map: List<MapLine>,
 }
@@ -39,20 +37,14 @@ fn certificate(alloc: Global, tables: &Tables<'_>, edges: &EdgeTable) -> Result<
     certificate_of(alloc, &tables, edges)
 }
 
-/// What is made of these tables, with this policy.
-pub fn made_of(alloc: Global, tables: &Tables<'_>, policy: Policy) -> Result<Made, NoMemory>
+/// What is made of these tables, with the edges of a policy.
+pub fn made_of(alloc: Global, tables: &Tables<'_>, edges: &EdgeTable) -> Result<Made, NoMemory>
     requires buildable { IsBuildable (told tables.now) }
     requires windowed { IsWindowed (told tables.now) }
-    requires assigned { IsPolicyOf (policy_tables (told tables.now)) policy.edges }
-    ensures { IfOk result (IsMadeOf (told tables.now) policy) }
+    requires assigned { IsPolicyOf (policy_tables (told tables.now)) edges.now }
+    ensures { IfOk result (IsMadeOf (told tables.now)) }
 {
-    let cert = certificate(alloc, tables, &policy.edges)?;
-    let (System { spec, labels }, map) = build_with_map(alloc, tables)?;
-    let policy = with_objects(alloc, policy, &spec, &labels)?;
-    Ok(Made {
-        spec,
-        policy,
-        cert,
-        map,
-    })
+    let cert = certificate(alloc, tables, edges)?;
+    let (system, map) = build_with_map(alloc, tables)?;
+    Ok(Made { system, cert, map })
 }

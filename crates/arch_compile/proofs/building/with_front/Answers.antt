@@ -11,7 +11,7 @@ pub with_made-requires-clause-numbered : goal.with_made-requires-clause-numbered
 with_made-requires-clause-numbered c = front_numbered c.args.meaning c.in-Ok.front c.in-Ok.ensures
 
 pub with_made-requires-clause-laid : goal.with_made-requires-clause-laid
-with_made-requires-clause-laid c = front_laid c.args.meaning c.in-Ok.front c.args.images.now c.args.layout.now c.in-Ok.ensures
+with_made-requires-clause-laid c = front_laid c.args.meaning c.in-Ok.front c.args.images.now c.args.layout c.in-Ok.ensures
     c.requires.laid
 
 pub returns-in-Ok : goal.returns-in-Ok
