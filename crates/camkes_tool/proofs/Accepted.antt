@@ -4,7 +4,7 @@ use Rattle.camkes_tool.proofs.Common.{IsStatusOfTexts, IsSystem, IsTold, IsTrioV
 use Rattle.camkes_tool.proofs.Common.{inl, inr, is_well, is_yes, length, policy_read, policy_text, same_Some, spec_back, subst, sym, tell_text, trio_valid, true, ℕ, ◌∙◌, ◌≡◌, ◌≤◌, ◌⊎◌}
 use Rattle.std.proofs.lemmas.Bool.{ltb-false}
 use Rattle.std.specs.FinMap.{get}
-use Rattle.build_laws.specs.ReadBack.{AreReadBack}
+use Rattle.camkes_tool.specs.ReadBack.{AreReadBack}
 use Rattle.cam_base.specs.declared.error.Refused.TheVariants as refused
 use Rattle.capdl_text.proofs.Unique.{no_fault_of_text}
 use Rattle.camkes_tool.proofs.Accepting.{labels_stand, none_some}

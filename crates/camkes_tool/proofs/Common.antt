@@ -7,13 +7,13 @@ pub use Rattle.arch_compile.specs.Sound.{object_labels}
 pub use Rattle.arch_compile.specs.declared.building.Build.{Build}
 pub use Rattle.arch_compile.specs.declared.names.TextNames.{TextNames}
 pub use Rattle.arch_compile.specs.declared.summary.Summary.{Summary}
-pub use Rattle.build_laws.proofs.CertBack.{cert_read}
-pub use Rattle.build_laws.proofs.HeldAsRead.{as_read, read_labels}
-pub use Rattle.build_laws.proofs.PolicyBack.{policy_read}
-pub use Rattle.build_laws.proofs.SpecBack.{spec_back}
-pub use Rattle.build_laws.proofs.TrioValid.{trio_valid}
-pub use Rattle.build_laws.specs.AsRead.{HoldsAsRead, IsReadAs}
-pub use Rattle.build_laws.specs.TriosValid.{IsTrioValid}
+pub use Rattle.camkes_tool.proofs.CertBack.{cert_read}
+pub use Rattle.camkes_tool.proofs.HeldAsRead.{as_read, read_labels}
+pub use Rattle.camkes_tool.proofs.PolicyBack.{policy_read}
+pub use Rattle.camkes_tool.proofs.SpecBack.{spec_back}
+pub use Rattle.camkes_tool.proofs.TrioValid.{trio_valid}
+pub use Rattle.camkes_tool.specs.AsRead.{HoldsAsRead, IsReadAs}
+pub use Rattle.camkes_tool.specs.TriosValid.{IsTrioValid}
 pub use Rattle.cam_io.proofs.Sequence.{writes_after, writes_exit, writes_first}
 pub use Rattle.cam_io.specs.Causes.{Rose}
 pub use Rattle.cam_io.specs.Contents.{Contents}

@@ -6,8 +6,8 @@ use Rattle.std.specs.Cmp.Derive.{one_truth}
 use Rattle.cap_model.proofs.TableMembers.{one_table}
 use Rattle.cap_model.specs.Tables.{IsSorted, has}
 use Rattle.cap_model.specs.declared.object_labels.Labels.{Labels}
-use Rattle.build_laws.proofs.ListFaults.{none_listed}
-use Rattle.build_laws.proofs.PolicyReached.{policy_reached}
+use Rattle.camkes_tool.proofs.ListFaults.{none_listed}
+use Rattle.camkes_tool.proofs.PolicyReached.{policy_reached}
 use Rattle.cap_audit.specs.Reports.{IsReport}
 use Rattle.cap_machine.specs.declared.step.Step.{Step}
 use Rattle.least_cert.proofs.LeastKeeps.{least_valid, valid_keeps}

@@ -7,6 +7,9 @@ pub mod Statuses
 pub mod Theorem
 pub mod Generated
 pub mod GeneratedFiles
+pub mod AsRead
+pub mod ReadBack
+pub mod TriosValid
 pub use Rattle.cam_io.specs.Causes
 pub use Rattle.cam_io.specs.Contents
 pub use Rattle.cam_io.specs.Reading
@@ -14,3 +17,4 @@ pub use Rattle.cam_io.specs.Sinks
 pub use Rattle.cap_model.specs.Canonical
 pub use Rattle.command_words.specs.Words
 pub use Rattle.arch_compile.specs.Summary
+pub use Rattle.arch_compile.specs.Built

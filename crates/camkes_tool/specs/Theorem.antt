@@ -28,8 +28,8 @@ use Rattle.authorities.specs.declared.authority.Authority.{Authority}
 use Rattle.cap_model.specs.declared.edge.Edge.{Edge}
 use Rattle.cap_model.specs.declared.object_labels.Labels.{Labels}
 use Rattle.cap_model.specs.declared.policy.Policy.{Policy}
-use Rattle.build_laws.specs.AsRead.{HoldsAsRead}
-use Rattle.build_laws.specs.ReadBack.{AreReadBack}
+use Rattle.camkes_tool.specs.AsRead.{HoldsAsRead}
+use Rattle.camkes_tool.specs.ReadBack.{AreReadBack}
 use Rattle.arch_compile.specs.OfSource.{IsOfSource}
 use Rattle.arch_compile.specs.Sound.{IsSound}
 use Rattle.arch_compile.specs.BuildTexts.{AreNamedBy, texts_script}

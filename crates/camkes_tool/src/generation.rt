@@ -1,7 +1,7 @@
 //! The generated source, compiled and checked.
 
 ghost use Rattle.arch_compile.specs.Compiled.{IsCompiled};
-ghost use Rattle.build_laws.specs.TriosValid.{IsTrioValid};
+ghost use Rattle.camkes_tool.specs.TriosValid.{IsTrioValid};
 ghost use Rattle.camkes_tool.specs.Generated.{IsAccepted, IsGenerated};
 ghost use Rattle.camkes_tool.specs.GeneratedFiles.{generated, root_name};
 ghost use Rattle.policy_text.specs.Labelled.{IsLabelling};

@@ -25,8 +25,8 @@ pub use Rattle.assigned_laws.proofs.Identifiers.{IsIdentifier, identifiers}
 pub use Rattle.assigned_laws.proofs.Ranked.{called_line, find_only, line_called, line_name, line_place, lines_apart, path_there}
 pub use Rattle.assigned_laws.specs.Named.{HasPath, IsNamed}
 pub use Rattle.authorities.specs.declared.authority.Authority.{Authority}
-pub use Rattle.build_laws.specs.ReadBack.{IsCertReadBack, IsPolicyReadBack, IsSpecReadBack}
-pub use Rattle.build_laws.specs.TriosValid.{IsTrioValid}
+pub use Rattle.camkes_tool.specs.ReadBack.{IsCertReadBack, IsPolicyReadBack, IsSpecReadBack}
+pub use Rattle.camkes_tool.specs.TriosValid.{IsTrioValid}
 pub use Rattle.cam_base.proofs.Gathered.{from_gather, from_ones, gather_ones, get_ones, in_append, in_gather, in_left, in_place, in_right, place_of}
 pub use Rattle.cam_base.proofs.NumberedLists.{from_filter_map, from_get_map, from_map, get_map, in_map, map_some}
 pub use Rattle.cam_base.specs.Gather.{IsIn, gather}

@@ -1,5 +1,5 @@
 -- How long the text of a policy is.
-use Rattle.build_laws.proofs.Common.{Edge, IsIn, List, Policy, [], arith, codes, decimal, edge_line, edge_short, flat_map, inl, inr, label_line, length, length-append, mul-suc, number_short, object_line, refl, ℕ, ◌*◌, ◌+◌, ◌<◌, ◌∷◌, ◌≤◌}
+use Rattle.camkes_tool.proofs.BackCommon.{Edge, IsIn, List, Policy, [], arith, codes, decimal, edge_line, edge_short, flat_map, inl, inr, label_line, length, length-append, mul-suc, number_short, object_line, refl, ℕ, ◌*◌, ◌+◌, ◌<◌, ◌∷◌, ◌≤◌}
 use Rattle.cam_base.specs.Texts.{◌⊹◌}
 use Rattle.policy_text.specs.PolicyLines.{policy_text}
 use Rattle.spec_laws.proofs.Lengths.{joined}

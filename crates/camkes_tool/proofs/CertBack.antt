@@ -1,10 +1,10 @@
 -- Certificates of builds are read back under their policies.
-use Rattle.build_laws.proofs.Common.{AreFacts, Build, Contents, Edge, Images, IsBuildOf, IsCertReadBack, IsFlat, IsIn, IsMade, IsSmall, IsWritableCert, List, Ok, Refused, Result, Source, Tables, TextFault, ap, arith, build_facts, cert_back}
-use Rattle.build_laws.proofs.Common.{cert_short, cert_text, certs_one, flat_of, get_or, has_in, images_beside, in_has, in_place, is_some, label_name, length, made_connected, refl, slice_get-get_or, source_tables, true, ℕ, ◌<◌, ◌∙◌, ◌≡◌, ◌≤◌}
+use Rattle.camkes_tool.proofs.BackCommon.{AreFacts, Build, Contents, Edge, Images, IsBuildOf, IsCertReadBack, IsFlat, IsIn, IsMade, IsSmall, IsWritableCert, List, Ok, Refused, Result, Source, Tables, TextFault, ap, arith, build_facts, cert_back}
+use Rattle.camkes_tool.proofs.BackCommon.{cert_short, cert_text, certs_one, flat_of, get_or, has_in, images_beside, in_has, in_place, is_some, label_name, length, made_connected, refl, slice_get-get_or, source_tables, true, ℕ, ◌<◌, ◌∙◌, ◌≡◌, ◌≤◌}
 use Rattle.adl_meaning.proofs.SoundNames.{one_assembly}
 use Rattle.flat_laws.proofs.Small.{flat_small}
-use Rattle.build_laws.proofs.EdgeCounts.{few_certified, few_edges}
-use Rattle.build_laws.proofs.Labelled.{IsLabel, edge_labels, label_small, named_at}
+use Rattle.camkes_tool.proofs.EdgeCounts.{few_certified, few_edges}
+use Rattle.camkes_tool.proofs.Labelled.{IsLabel, edge_labels, label_small, named_at}
 
 module _ {contents : Contents} (s : Source) (images : Images) (facts : AreFacts contents s images) where
   abbrev t : Tables

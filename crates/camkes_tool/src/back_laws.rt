@@ -2,9 +2,9 @@
 
 ghost use Rattle.arch_compile.specs.Built.{IsBuildOf};
 ghost use Rattle.arch_compile.specs.declared.building.Build.{Build};
-ghost use Rattle.build_laws.specs.AsRead.{HoldsAsRead};
-ghost use Rattle.build_laws.specs.ReadBack.{AreReadBack};
-ghost use Rattle.build_laws.specs.TriosValid.{IsTrioValid};
+ghost use Rattle.camkes_tool.specs.AsRead.{HoldsAsRead};
+ghost use Rattle.camkes_tool.specs.ReadBack.{AreReadBack};
+ghost use Rattle.camkes_tool.specs.TriosValid.{IsTrioValid};
 ghost use Rattle.cam_io.specs.Contents.{Contents};
 ghost use Rattle.std.specs.Prelude.{ℕ, List, Option};
 

@@ -1,6 +1,6 @@
 -- Each object of connected tables belongs to a domain, a connection or a device that is there and has a label.
-use Rattle.build_laws.proofs.Common.{Bool, Entry, FlatConnection, FlatEnd, IsIn, None, OfConnection, OfLeaf, Option, Owner, Some, [], ap, cond, false, frame_owner, from_gather, from_map, in_append, in_place, inl, inr, irq_owner, label_of, number_of}
-use Rattle.build_laws.proofs.Common.{option_map_or, range_with_len, refl, slice_get, spec_of, subst, sym, true, ℕ, ◌∙◌, ◌≡◌}
+use Rattle.camkes_tool.proofs.BackCommon.{Bool, Entry, FlatConnection, FlatEnd, IsIn, None, OfConnection, OfLeaf, Option, Owner, Some, [], ap, cond, false, frame_owner, from_gather, from_map, in_append, in_place, inl, inr, irq_owner, label_of, number_of}
+use Rattle.camkes_tool.proofs.BackCommon.{option_map_or, range_with_len, refl, slice_get, spec_of, subst, sym, true, ℕ, ◌∙◌, ◌≡◌}
 use Rattle.adl_meaning.specs.declared.connector.Connector.{Connector}
 use Rattle.adl_meaning.specs.declared.connector.Connector.TheVariants.{Rpc, Notification, SharedMemory, Mmio, Interrupt, Direct}
 use Rattle.arch_policy.specs.Owners.{has_label}

@@ -1,5 +1,5 @@
 -- Objects whose names differ are given back the labels that stand beside their names.
-use Rattle.build_laws.proofs.Common.{Entry, List, Some, [], ap, find, find_only, from_get_map, from_ones, get_map, get_ones, get_or_from_slice_get, label_of, labelled, map, object_label, option_map, refl, slice_get, suc, sym, ℕ, ◌∙◌, ◌∷◌, ◌≡◌}
+use Rattle.camkes_tool.proofs.BackCommon.{Entry, List, Some, [], ap, find, find_only, from_get_map, from_ones, get_map, get_ones, get_or_from_slice_get, label_of, labelled, map, object_label, option_map, refl, slice_get, suc, sym, ℕ, ◌∙◌, ◌∷◌, ◌≡◌}
 use Rattle.std.proofs.lemmas.Simd.{map-map}
 use Rattle.std.proofs.lemmas.Slice.Eq.{bytes_eq-Decides}
 use Rattle.std.specs.Str.{bytes_eq}

@@ -1,6 +1,6 @@
 -- The text of a path of at most 16 identifiers is a label's name.
-use Rattle.build_laws.proofs.Common.{IsIdentifier, IsIn, List, Name, Path, [], and_from, and_parts, arith, flat_map, inl, inr, is_label_byte, is_label_name, is_letter, is_word_byte, joined, le-leb, leb, leb-true, length, length-append, list_all}
-use Rattle.build_laws.proofs.Common.{mul-suc, nat_le, or_left, refl, true, ℕ, ◌&&◌, ◌*◌, ◌==◌, ◌∙◌, ◌∷◌, ◌≡◌, ◌≢◌, ◌≤◌}
+use Rattle.camkes_tool.proofs.BackCommon.{IsIdentifier, IsIn, List, Name, Path, [], and_from, and_parts, arith, flat_map, inl, inr, is_label_byte, is_label_name, is_letter, is_word_byte, joined, le-leb, leb, leb-true, length, length-append, list_all}
+use Rattle.camkes_tool.proofs.BackCommon.{mul-suc, nat_le, or_left, refl, true, ℕ, ◌&&◌, ◌*◌, ◌==◌, ◌∙◌, ◌∷◌, ◌≡◌, ◌≢◌, ◌≤◌}
 use Rattle.std.proofs.lemmas.List.Folds.{list_all-append}
 
 -- ---- identifiers

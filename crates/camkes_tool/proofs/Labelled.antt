@@ -1,6 +1,6 @@
 -- The labels that edges lead between, and those of objects, are lines of the policy; and labels are few.
-use Rattle.build_laws.proofs.Common.{AreNamesSound, Edge, Flat, IsIn, IsLockEdge, IsNamed, IsSmall, IsThere, List, Owner, Path, Source, Tables, ap, arith, called_line, flat_of, inl, inr, is_some, joined, label_lines, label_name, label_numbers}
-use Rattle.build_laws.proofs.Common.{label_texts, length, line_name, line_place, number_of, path_there, refl, slice_get_within, source_tables, true, ℕ, ◌<◌, ◌≡◌, ◌≤◌, ◌⊎◌}
+use Rattle.camkes_tool.proofs.BackCommon.{AreNamesSound, Edge, Flat, IsIn, IsLockEdge, IsNamed, IsSmall, IsThere, List, Owner, Path, Source, Tables, ap, arith, called_line, flat_of, inl, inr, is_some, joined, label_lines, label_name, label_numbers}
+use Rattle.camkes_tool.proofs.BackCommon.{label_texts, length, line_name, line_place, number_of, path_there, refl, slice_get_within, source_tables, true, ℕ, ◌<◌, ◌≡◌, ◌≤◌, ◌⊎◌}
 use Rattle.adl_hierarchy.proofs.Spelled.{spelled_dotted}
 use Rattle.adl_hierarchy.specs.Spelled.{AreSpelled}
 use Rattle.arch_policy.proofs.Labelled.{texts_are_few}

@@ -1,5 +1,0 @@
-use Rattle.build_laws.proofs.HeldAsRead.{as_read}
-use Rattle.build_laws.proofs.back_laws.texts_hold_as_read.Goals as goal
-
-pub returns : goal.returns
-returns c = as_read
