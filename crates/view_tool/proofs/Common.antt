@@ -4,7 +4,7 @@ pub use Rattle.cam_base.specs.declared.error.NoMemory.{NoMemory}
 pub use Rattle.explain.specs.Explained.{Explains}
 pub use Rattle.front_end.proofs.Refusing.{front_sound, meaning_sound}
 pub use Rattle.front_end.proofs.Within.{few_labels, sound_within}
-pub use Rattle.source_views.specs.Pages.{Page, page_text}
+pub use Rattle.view_tool.specs.Pages.{Page, page_text}
 pub use Rattle.std.proofs.Common.{Bool, Err, List, Ok, Result, [], ap, arith, codes, false, get_or, inl, inr, leb, length, subst, sym, take, take_all, true, ℕ, ◌++◌, ◌+◌, ◌<◌, ◌∙◌, ◌∷◌, ◌≡◌, ◌≤◌}
 pub use Rattle.std.specs.Prelude.{IfOk, OnErr}
 pub use Rattle.view_text.specs.Graphs.{graph_of}

@@ -36,8 +36,8 @@ use Rattle.cam_base.specs.declared.error.Unread.TheVariants as error
 use Rattle.front_end.specs.declared.phases.FrontEnd.{FrontEnd}
 use Rattle.policy_text.specs.PolicyTexts.{IsPolicyRead}
 use Rattle.system_spec.specs.MapText.{Named}
-use Rattle.source_views.specs.Pages.{Page, page_text}
-use Rattle.source_views.specs.Shapes.{overview, shapes_of}
+use Rattle.view_tool.specs.Pages.{Page, page_text}
+use Rattle.view_tool.specs.Shapes.{overview, shapes_of}
 use Rattle.view_text.specs.Graphs.{graph_of}
 use Rattle.view_text.specs.Pictures.{picture_of}
 use Rattle.view_text.specs.Spots.{limit, lint_line, spot_of, stands_in, view_of}

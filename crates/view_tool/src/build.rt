@@ -11,12 +11,12 @@ ghost use Rattle.view_tool.specs.declared.answer.Answer.TheVariants as answers;
 use crate::answer::Answer;
 use crate::lines::{refuse, refuse_source};
 use crate::lint::lint_error;
+use crate::page::{Page, page_text};
 use crate::reasons::{Grounds, page_notes};
 use arch_compile::{Build, compile};
 use cam_base::{List, NoMemory, SourceError};
 use cam_io::Files;
 use domain_table::{domain_called, tables_of};
-use source_views::{Page, page_text};
 use std::alloc::Global;
 use system_spec::MapNames;
 

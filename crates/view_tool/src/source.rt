@@ -3,17 +3,17 @@
 ghost use Rattle.cam_io.specs.Reading.{InAll, KeepsFiles};
 ghost use Rattle.front_end.specs.Steps.{HasMeaning};
 ghost use Rattle.std.specs.Prelude.{◌≡◌, IfOk};
-ghost use Rattle.source_views.specs.Shapes.{shapes_of};
 ghost use Rattle.view_text.specs.Pictures.{picture_of};
 ghost use Rattle.view_tool.specs.Answers.{DrawsFront, Explains, FitsFront, overview_of};
+ghost use Rattle.view_tool.specs.Shapes.{shapes_of};
 
 use crate::answer::Answer;
 use crate::lines::refuse_source;
 use crate::reasons::{Grounds, notes_of};
+use crate::shapes::{overview, shapes_of};
 use cam_base::{List, NoMemory};
 use cam_io::Files;
 use front_end::{FrontEnd, front};
-use source_views::{overview, shapes_of};
 use std::alloc::Global;
 use view_text::{graph_of, picture_of};
 

@@ -1,4 +1,0 @@
-use Rattle.source_views.proofs.matrix.add_authority.Goals as goal
-
-pub returns : goal.returns
-returns c = rw (c.as_bytes.ensures.value, c.text.ensures) at c.add.ensures

@@ -1,5 +1,0 @@
-use Rattle.source_views.proofs.Common.{codes, flat_map, mark_in, take, ◌++◌, ◌≡◌}
-use Rattle.source_views.proofs.matrix.add_cell.Given as goal
-
-abbrev pub invariant-loop-mark : goal.invariant-loop-mark
-invariant-loop-mark l = l.text ≡ (l.fn.text ++ codes "<td>") ++ flat_map (mark_in l.column.0) (take l.mark-index l.row)

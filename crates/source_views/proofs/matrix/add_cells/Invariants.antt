@@ -1,5 +1,0 @@
-use Rattle.source_views.proofs.Common.{cell_text, flat_map, take, ◌++◌, ◌≡◌}
-use Rattle.source_views.proofs.matrix.add_cells.Given as goal
-
-abbrev pub invariant-loop-column : goal.invariant-loop-column
-invariant-loop-column l = l.text ≡ l.fn.text ++ flat_map (cell_text l.row) (take l.column-index l.columns)

@@ -1,5 +1,0 @@
-use Rattle.source_views.proofs.Common.{codes, flat_map, tagged, take, ◌++◌, ◌≡◌}
-use Rattle.source_views.proofs.matrix.add_heads.Given as goal
-
-abbrev pub invariant-loop-column : goal.invariant-loop-column
-invariant-loop-column l = l.text ≡ l.fn.text ++ flat_map (λ c. tagged (codes "th") c.1) (take l.column-index l.columns)

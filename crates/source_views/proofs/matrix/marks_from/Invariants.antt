@@ -1,5 +1,0 @@
-use Rattle.source_views.proofs.Common.{flat_map, take, where_true, ◌==◌, ◌≡◌}
-use Rattle.source_views.proofs.matrix.marks_from.Given as goal
-
-abbrev pub invariant-loop-mark : goal.invariant-loop-mark
-invariant-loop-mark l = l.found ≡ flat_map (λ m. where_true (m.edge.from == l.from) m) (take l.mark-index l.marks)

@@ -1,5 +1,0 @@
-use Rattle.source_views.proofs.Common.{gather, mark_at, take, ◌≡◌}
-use Rattle.source_views.proofs.matrix.marks_of.Given as goal
-
-abbrev pub invariant-loop-at : goal.invariant-loop-at
-invariant-loop-at l = l.marks ≡ gather (mark_at l.notes) (take l.at l.edges)

@@ -1,5 +1,0 @@
-use Rattle.source_views.proofs.Common.{ap, page_text, told, ◌++◌, ◌∙◌}
-use Rattle.source_views.proofs.page.page_text.Goals as goal
-
-pub returns : goal.returns
-returns c = c.in_ok-add_parts.ensures ∙ ap (λ t. t ++ page_text (told c.args.page.now)) c.new-text.ensures

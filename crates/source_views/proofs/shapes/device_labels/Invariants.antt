@@ -1,5 +1,0 @@
-use Rattle.source_views.proofs.Common.{device_label, flat_map, take, ◌≡◌}
-use Rattle.source_views.proofs.shapes.device_labels.Given as goal
-
-abbrev pub invariant-loop-leaf : goal.invariant-loop-leaf
-invariant-loop-leaf l = l.texts ≡ flat_map device_label (take l.leaf-index l.leaf-items)

@@ -1,5 +1,0 @@
-use Rattle.source_views.proofs.Common.{[], gather, kept_as, take, ◌∷◌, ◌≡◌}
-use Rattle.source_views.proofs.shapes.overview.Given as goal
-
-abbrev pub invariant-loop-label : goal.invariant-loop-label
-invariant-loop-label l = l.kept ≡ gather (λ label s. kept_as l.shapes l.edges label s ∷ []) (take l.label l.shapes)

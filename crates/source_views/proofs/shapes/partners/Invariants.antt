@@ -1,7 +1,0 @@
-use Rattle.cap_model.specs.EdgesLeft.{edges_left}
-use Rattle.source_views.proofs.Common.{gather, partner, ◌++◌, ◌≡◌}
-use Rattle.source_views.proofs.shapes.partners.Given as goal
-
-abbrev pub invariant-loop-edge : goal.invariant-loop-edge
-invariant-loop-edge l = l.found ++ gather (λ at e. partner l.shapes l.label e) (edges_left l.edge-iterator)
-    ≡ gather (λ at e. partner l.shapes l.label e) l.edges

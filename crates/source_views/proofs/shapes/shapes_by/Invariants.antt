@@ -1,5 +1,0 @@
-use Rattle.source_views.proofs.Common.{map, shape_of, take, ◌≡◌}
-use Rattle.source_views.proofs.shapes.shapes_by.Given as goal
-
-abbrev pub invariant-loop-label : goal.invariant-loop-label
-invariant-loop-label l = l.shapes ≡ map (λ x. shape_of l.domains l.devices x.1) (take l.label-index l.labels)

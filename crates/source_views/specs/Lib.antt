@@ -1,4 +1,0 @@
-pub mod Devices
-pub mod Matrix
-pub mod Pages
-pub mod Shapes
