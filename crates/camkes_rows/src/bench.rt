@@ -1,13 +1,14 @@
-//! Runs in memory.
+//! Runs in memory: of the words of `camkes`, and of those of `camkes_view`.
 
 ghost use Rattle.cam_io.specs.MemOutputs.{sink_of};
 ghost use Rattle.std.specs.Prelude.{◌≡◌, ℕ, false};
 
+use crate::case::{NamedText, Program, Run};
 use cam_base::NoMemory;
 use cam_io::{MemFiles, MemOutputs};
 use camkes_tool::run;
-use row_texts::NamedText;
 use std::alloc::Global;
+use view_tool::decide;
 
 /// The room of each channel in bytes.
 const ROOM: usize = 4_194_304;
@@ -29,27 +30,40 @@ fn files_of(alloc: Global, files: &[NamedText], failing: u64) -> Result<MemFiles
     Ok(held)
 }
 
-/// Runs the words over these files, where the begin or write of this number fails.
+/// Does what `main` of `camkes_view` does with these words.
+fn show(alloc: Global, words: &[String], files: &mut MemFiles, out: &mut MemOutputs) -> u8 {
+    let answer = decide(alloc, words, files);
+    match answer.write(out) {
+        Ok(()) => answer.status(),
+        Err(_) => 5,
+    }
+}
+
+/// Makes the run over these files, where the begin or write of this number fails.
 fn run_over(
     alloc: Global,
-    words: &[String],
+    wanted: &Run,
     files: &mut MemFiles,
     failing: u64,
 ) -> Result<Done, NoMemory> {
+    let words = wanted.words.as_slice();
     let mut out = MemOutputs::new(alloc, ROOM)?;
     out.fail_at(failing)?;
-    let status = run(alloc, words, files, &mut out);
+    let status = match wanted.program {
+        Program::Camkes => run(alloc, words, files, &mut out),
+        Program::View => show(alloc, words, files, &mut out),
+    };
     Ok(Done { status, out })
 }
 
-/// Runs the words over these files. Calls that fail are counted from 1; 0 stands for none.
+/// Makes the run over these files. Calls that fail are counted from 1; 0 stands for none.
 pub fn perform(
     alloc: Global,
-    words: &[String],
+    wanted: &Run,
     files: &[NamedText],
     failing_read: u64,
     failing_write: u64,
 ) -> Result<Done, NoMemory> {
     let mut files = files_of(alloc, files, failing_read)?;
-    run_over(alloc, words, &mut files, failing_write)
+    run_over(alloc, wanted, &mut files, failing_write)
 }

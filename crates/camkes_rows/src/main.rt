@@ -1,14 +1,20 @@
 //! The program of rows: it runs each case of the row files that its words name, in memory, and prints what it found.
 //!
 //! It prints a line for each case and a last line with counts, and ends with status 1 where a case differs from what is
-//! wanted. `docs/testing.md` says how cases are written.
+//! wanted. A case has files and runs over them, of `camkes` or of `camkes_view`; `docs/testing.md` says how cases are written.
 #![tactic(auto)]
 
 mod bench;
+mod block;
+mod case;
+mod error;
+mod pen;
+mod reader;
 mod verdict;
 
 use cam_base::NoMemory;
-use row_texts::{Case, read_cases};
+use case::Case;
+use reader::read_cases;
 use std::alloc::Global;
 use std::io::ErrorKind;
 use std::process::ExitCode;

@@ -1,9 +1,9 @@
 //! What a run did, held to what it must do.
 
 use crate::bench::{Done, perform};
+use crate::case::{Case, NamedText, Run};
 use cam_base::NoMemory;
 use cam_io::MemOutputs;
-use row_texts::{Case, NamedText, Run};
 use std::alloc::{AllocError, Global};
 use std::fmt;
 
@@ -197,16 +197,15 @@ fn reads_differ(
     names: &[String],
 ) -> Result<Option<Part>, NoMemory> {
     let files = case.files.as_slice();
-    let words = wanted.words.as_slice();
     let mut number: u64 = 1;
     for name in names {
-        let done = perform(alloc, words, files, number, 0)?;
+        let done = perform(alloc, wanted, files, number, 0)?;
         if !is_read_fault(alloc, &done, name.as_str())? {
             return Ok(Some(Part::Read(number)));
         }
         number = number.saturating_add(1);
     }
-    let done = perform(alloc, words, files, number, 0)?;
+    let done = perform(alloc, wanted, files, number, 0)?;
     Ok(difference(wanted, &done).map(|_| Part::Read(number)))
 }
 
@@ -214,8 +213,7 @@ fn reads_differ(
 /// it is made.
 fn writes_differ(alloc: Global, case: &Case, wanted: &Run) -> Result<Option<Part>, NoMemory> {
     for number in 1..MOST_WRITES {
-        let words = wanted.words.as_slice();
-        let done = perform(alloc, words, case.files.as_slice(), 0, number)?;
+        let done = perform(alloc, wanted, case.files.as_slice(), 0, number)?;
         if done.status != 5 {
             let is_told = number > 1 && difference(wanted, &done).is_none();
             return Ok(if is_told {
@@ -255,11 +253,10 @@ fn text_of(alloc: Global, part: Part, done: &Done) -> Result<String, AllocError>
 }
 
 fn judge_run(alloc: Global, case: &Case, wanted: &Run) -> Result<Option<Verdict>, NoMemory> {
-    let words = wanted.words.as_slice();
     let files = case.files.as_slice();
     let done = perform(
         alloc,
-        words,
+        wanted,
         files,
         wanted.failing_read,
         wanted.failing_write,

@@ -5,9 +5,13 @@
 //! and settings. So nothing else would see that these calls answer anything but want of memory: `lex`, `keywords` and `find`,
 //! `count`, `parse_value`, `parse_composition`, `parse_configuration`, `parse_assembly`, `resolve`, `check_types`, `flatten`,
 //! `settle`, `is_prefix`, `same_end`, `lay_caps`, `lay_spaces`, `applied`. The edges of `direct` are counted besides. Every other
-//! public call is made by the program, in `camkes_tests`, or by the programs of rows.
+//! public call is made by the program, in `camkes_tests`, or by the program of rows.
+//!
+//! Then commands of `camkes` over files and outputs of the host, with what they print and the files that they write: rows have
+//! theirs in memory.
 #![tactic(auto)]
 
+mod host;
 mod layout;
 mod machine;
 mod parts;
@@ -29,5 +33,6 @@ fn main(rt: HostRuntime) -> io::Result<ExitCode> {
     source::show_source(&rt, &mut files)?;
     layout::show_layout(&rt, &mut files)?;
     machine::show_build(&rt, &mut files)?;
+    host::show_runs(&rt)?;
     Ok(ExitCode::from(0))
 }

@@ -1,3 +1,5 @@
+//! Cases, as row files tell them.
+
 use std::alloc::Global;
 
 /// A file or an output: its name and all of its bytes.
@@ -15,9 +17,19 @@ pub struct Case {
     pub runs: Vec<Run>,
 }
 
+/// The program whose words a run has.
+#[derive(Clone, Copy)]
+pub enum Program {
+    /// `camkes`.
+    Camkes,
+    /// `camkes_view`.
+    View,
+}
+
 /// The words of a run, which of its calls fail, and what it must do.
 #[derive(Drop)]
 pub struct Run {
+    pub program: Program,
     pub words: Vec<String>,
     /// The read that fails, counted from 1; 0 for none.
     pub failing_read: u64,
@@ -45,8 +57,9 @@ pub struct Run {
 
 impl Run {
     /// A run that must end with status 0 and tell nothing.
-    pub(crate) fn new(alloc: Global, words: Vec<String>) -> Run {
+    pub(crate) fn new(alloc: Global, program: Program, words: Vec<String>) -> Run {
         Run {
+            program,
             words,
             failing_read: 0,
             failing_write: 0,

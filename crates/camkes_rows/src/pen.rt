@@ -1,4 +1,5 @@
-use crate::{NamedText, Why};
+use crate::case::NamedText;
+use crate::error::Why;
 use std::alloc::Global;
 
 /// The part of a source that a case marks, by its first byte and the byte past its last.

@@ -1,6 +1,7 @@
 use crate::block::{Block, blocks};
+use crate::case::{Case, NamedText, Program, Run};
+use crate::error::{RowError, Why};
 use crate::pen::{Marked, Pen, number_of};
-use crate::{Case, NamedText, RowError, Run, Why};
 use std::alloc::Global;
 
 /// The cases that are read so far, the texts that others use, and what the last case marks.
@@ -100,8 +101,8 @@ impl Reader {
         Ok(self.cases.push(case)?)
     }
 
-    fn begin_run(&mut self, words: &str) -> Result<(), Why> {
-        let run = Run::new(self.alloc, self.words(words)?);
+    fn begin_run(&mut self, program: Program, words: &str) -> Result<(), Why> {
+        let run = Run::new(self.alloc, program, self.words(words)?);
         Ok(self.case()?.runs.push(run)?)
     }
 
@@ -195,7 +196,8 @@ impl Reader {
             "text" => self.add_shared(block.rest, lines),
             "file" => self.add_file(block.rest, lines, 0),
             "files" => self.add_files(block.rest, lines),
-            "run" => self.begin_run(block.rest),
+            "run" => self.begin_run(Program::Camkes, block.rest),
+            "view" => self.begin_run(Program::View, block.rest),
             word => self.demand(word, block.rest, lines),
         }
     }

@@ -1,23 +1,20 @@
-//! The program over files of the host: it does what each line of the file `runs` says, in turn.
-//!
-//! A line that begins with `show` names files to be printed; the words of any other line are a command of the program, which
-//! prints what it prints, and its status behind it.
-#![tactic(auto)]
+//! Commands over files of the host.
 
 use cam_io::{HostFiles, HostOutputs};
 use camkes_tool::run;
-use std::process::ExitCode;
 use std::{fs, io};
 
-fn main(rt: HostRuntime) -> io::Result<ExitCode> {
-    let text = fs::read_to_string(&rt, "runs")?;
+/// Does what each line of the file `runs` says, in turn. A line that begins with `show` names a file to be printed; the words of
+/// any other line are a command of `camkes`, which prints what it prints, and its status behind it.
+pub fn show_runs(rt: &HostRuntime) -> io::Result<()> {
+    let text = fs::read_to_string(rt, "runs")?;
     for line in text.as_str().lines() {
         match line.strip_prefix("show ") {
-            Some(name) => show(&rt, name)?,
-            None => call(&rt, line)?,
+            Some(name) => show(rt, name)?,
+            None => call(rt, line)?,
         }
     }
-    Ok(ExitCode::from(0))
+    Ok(())
 }
 
 /// Prints a file of the host under its name.
