@@ -23,7 +23,10 @@ use adl_settings::{
     settings_are_those_of_joins,
 };
 use authorities::sets_are_their_members;
-use camkes_tool::{builds_are_separated, checked_texts_are_separated, memory_of_builds_is_static};
+use camkes_tool::{
+    builds_are_separated, checked_texts_are_separated, memory_of_builds_is_static,
+    plain_memory_is_static,
+};
 use cap_machine::{answers_are_told, states_keep_fitting, steps_follow_the_table};
 use cap_model::{
     edges_are_ordered, examples_are_written, has_is_membership, tables_are_their_edges,
@@ -31,11 +34,10 @@ use cap_model::{
 use cert_check::valid_certificates_are_sound;
 use conn_rules::{rights_confer_just_the_authorities, sets_are_their_lists};
 use flat_laws::{ends_are_typed, flat_systems_are_within, short_files_have_few_members};
-use flow_laws::{
-    acts_keep_to_the_policy, less_is_valid, others_change_nothing, own_acts_decide,
-    plain_memory_is_static, policies_stay_kept, turns_decide,
+use flow_model::{
+    acts_are_possible, acts_keep_to_the_policy, acts_lead_to_one_world, each_way_passes,
+    less_is_valid, others_change_nothing, own_acts_decide, policies_stay_kept, turns_decide,
 };
-use flow_model::{acts_are_possible, acts_lead_to_one_world, each_way_passes};
 use front_laws::{
     devices_serve_one_object, duplicates_are_names_again, elf_faults_are_the_first,
     files_are_those_that_imports_reach, flat_systems_are_by_the_hierarchy, misfits_are_at_fault,

@@ -38,7 +38,7 @@ pub use Rattle.cert_check.proofs.Keeps.{runs_stay}
 pub use Rattle.command_words.specs.declared.command.Command.{Command}
 pub use Rattle.command_words.specs.declared.command.Command.TheVariants.{Audit, Certify, Check, Compile, Explain, Generate, Plan, Replay, Sections}
 pub use Rattle.explain.specs.Answers.{answer_text, is_assigned}
-pub use Rattle.flow_laws.proofs.Separated.{separated}
+pub use Rattle.flow_model.proofs.Separated.{separated}
 pub use Rattle.cam_base.specs.Unread.{SourceError}
 pub use Rattle.policy_text.specs.EdgeLines.{LabelNames, apart_lines}
 pub use Rattle.policy_text.specs.Labelled.{IsLabelling, first_unlabelled, object_label}

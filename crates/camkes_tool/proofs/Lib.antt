@@ -8,6 +8,7 @@ pub mod OfBuild
 pub mod OneAnswer
 pub mod Printed
 pub mod Statuses
+pub mod Staying
 pub mod ReadFaults
 pub mod Safe
 pub mod Telling

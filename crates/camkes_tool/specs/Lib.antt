@@ -3,6 +3,7 @@ pub mod Channels
 pub mod Deciding
 pub mod Learning
 pub mod Lines
+pub mod Static
 pub mod Statuses
 pub mod Theorem
 pub mod Generated

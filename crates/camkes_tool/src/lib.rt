@@ -7,7 +7,8 @@
 //!
 //! `generate` compiles a source from memory, as many clients as asked for and one server (`specs/GeneratedFiles.antt`), and asks
 //! the checker whether what is compiled keeps the rules (`specs/Generated.antt`). What can't influence what, of whatever is
-//! compiled and of whatever is checked, and that the memory of what is compiled is static, are the laws of `build_flow.rt`.
+//! compiled and of whatever is checked, and that the memory of what is compiled is static (`specs/Static.antt`), are the laws of
+//! `build_flow.rt`.
 //!
 //! What is written of a build is read back, its capDL, its policy and its certificate (`specs/ReadBack.antt`). Threads of what is
 //! read reach between labels exactly what the source assigns, and it is judged with a yes: what a build's parts are to each
@@ -32,6 +33,7 @@ pub use answer::Answer;
 pub use back_laws::{texts_are_read_back, texts_hold_as_read, trios_are_valid};
 pub use build_flow::{
     builds_are_separated, checked_texts_are_separated, memory_of_builds_is_static,
+    plain_memory_is_static,
 };
 pub use files::{ROOT, generated};
 pub use generate_laws::generated_answers_are_one;

@@ -2,8 +2,8 @@
 //! and their answers as texts.
 //!
 //! What flows by an edge stands in `flow_model/specs/Flow.antt`, chains of edges and what is answered in
-//! `specs/Chain.antt`, what is told in `specs/Told.antt`. That others change nothing where the answer is none is the law of
-//! `flow_laws`.
+//! `specs/Chain.antt`, what is told in `specs/Told.antt`. That others change nothing where the answer is none is a law of
+//! `flow_model`.
 #![tactic(auto)]
 
 mod chain;
