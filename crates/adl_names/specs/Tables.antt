@@ -1,7 +1,10 @@
 -- What tables of trees tell, as definitions speak of it.
-use Rattle.adl_meaning.specs.Prelude.{Bor, Component, Composition, Fault, Id, Instance, Member, Name, a_connection, a_group, an_instance, bytes_eq, compositions, declared_as, declared_by, flat_map, held_as, list_any, is_exported, noted, option_or, repeats_after}
+use Rattle.adl_ast.specs.declared.procedure.Param.{Param}
+use Rattle.adl_ast.specs.declared.procedure.ProcMember.{ProcMember}
+use Rattle.adl_meaning.specs.Duplicate.{as_method, repeated_params}
+use Rattle.adl_meaning.specs.Prelude.{Bor, Component, Composition, Fault, Id, Instance, Member, Name, a_connection, a_group, an_instance, bytes_eq, compositions, cons_option, declared_as, declared_by, flat_map, held_as, list_any, is_exported, noted, option_map_or, option_or, repeats_after}
 use Rattle.adl_names.specs.Words.{Declared, declaring_told, first_named, found, is_among}
-use Rattle.std.specs.Prelude.{Bool, IfSome, List, Option, Some, is_some, map, option_map, ◌++◌, ◌≡◌}
+use Rattle.std.specs.Prelude.{Bool, IfSome, List, Option, Some, [], is_some, map, option_map, ◌++◌, ◌∷◌, ◌≡◌}
 use Rattle.adl_names.specs.declared.tables.Held.{Held}
 use Rattle.adl_meaning.specs.Holding as holding
 use Rattle.adl_names.specs.declared.tables.Held.TheVariants as held
@@ -49,13 +52,24 @@ words_by m = map (λ d. d.0) (declared_by m)
 abbrev pub words_of : List Member → List Id
 words_of ms = map (λ d. d.0) (flat_map declared_by ms)
 
--- whether the member declares something under the name
-abbrev pub declares : Name → Member → Bool
-declares n m = list_any (λ w. bytes_eq n w.name) (words_by m)
+-- the word under which a part of a procedure declares a method
+abbrev pub method_words : ProcMember → List Id
+method_words p = cons_option (option_map (λ m. m.id) (as_method p)) []
 
--- whether one of the members does
-abbrev pub is_met : List Member → Name → Bool
-is_met ms n = list_any (declares n) ms
+abbrev pub param_words : Param → List Id
+param_words a = a.id ∷ []
+
+-- the later ones of a method's parameters
+abbrev pub repeated_in : ProcMember → List Fault
+repeated_in p = option_map_or repeated_params (as_method p) []
+
+-- whether the item stands under a word of this name
+abbrev pub has_word : {T : Type 0} → (T → List Id) → Name → T → Bool
+has_word words n x = list_any (λ w. bytes_eq n w.name) (words x)
+
+-- whether one of the items does
+abbrev pub is_met : {T : Type 0} → (T → List Id) → List T → Name → Bool
+is_met words xs n = list_any (has_word words n) xs
 
 -- the table tells what the names of a component stand for
 abbrev pub Declares : Component → List (Name × Declared) → Type 0

@@ -1,16 +1,16 @@
 //! Tables of what the names of compositions and components stand for.
 
-ghost use Rattle.adl_meaning.specs.Prelude.{Fault, Id as Word, a_group, attribute_of, composition_of, compositions, cons_option, declared_as, declared_by, declared_in, duplicates_in_component, duplicates_in_composition, flat_map, held_as, held_by, interface_of, is_exported, member_of, noted, option_and_then, option_copied, repeats, repeats_after, slice_get};
+ghost use Rattle.adl_meaning.specs.Prelude.{Fault, a_group, attribute_of, composition_of, compositions, declared_as, declared_by, declared_in, duplicates_in_component, duplicates_in_composition, flat_map, held_as, held_by, interface_of, is_exported, member_of, noted, option_and_then, option_copied, repeats, slice_get};
 ghost use Rattle.adl_names.specs.Words.{declared_told, declaring_told, first_named, is_among};
 ghost use Rattle.std.specs.Prelude.{IfOk, IfSome, List as Seq, OnOk, Some, [], map, option_map, ℕ, ◌++◌, ◌∷◌, ◌≡◌};
 ghost use Rattle.adl_names.specs.Bodies.{owner_of};
-ghost use Rattle.adl_names.specs.Tables.{AreNamed, AreNoted, Declares, declares, held_told, holding_told, is_met, words_by, words_of};
+ghost use Rattle.adl_names.specs.Tables.{AreNamed, AreNoted, Declares, held_told, holding_told, words_of};
 
-use crate::repeats::{note_again, put};
-use adl_ast::{Attribute, Component, Composition, Group, Id, Instance, Interface, Line, Member};
+use crate::repeats::{are_few, note_again, note_few, put};
+use adl_ast::{Attribute, Component, Composition, Group, Instance, Interface, Line, Member};
 use adl_items::{Declared, declared_under};
 use adl_meaning::Earliest;
-use cam_base::{Code, Name, NoMemory};
+use cam_base::{Name, NoMemory};
 use name_tables::{NameSet, NameTable};
 use std::alloc::Global;
 use std::marker::Model;
@@ -154,9 +154,6 @@ impl<'a> Holding<'a> {
     }
 }
 
-/// How many members of a component are looked through, where more have a table.
-const FEW: usize = 16;
-
 fn declare<'a>(
     member: &'a Member,
     table: &mut NameTable<'a, Declared<'a>>,
@@ -190,54 +187,6 @@ fn declaring<'a>(
     Ok(table)
 }
 
-/// The word under which a member declares something.
-fn word_of(member: &Member) -> Option<&Id>
-    ensures { cons_option (option_copied result) [] ≡ words_by member.now }
-{
-    match member {
-        Member::Interface(it) => Some(&it.id),
-        Member::Attribute(it) => Some(&it.id),
-        Member::Lock(it) => Some(&it.id),
-        _ => None,
-    }
-}
-
-fn declares(member: &Member, name: &Name) -> bool
-    ensures { result ≡ declares name.now member.now }
-{
-    match word_of(member) {
-        None => false,
-        Some(word) => word.name == *name,
-    }
-}
-
-fn is_met(members: &[Member], name: &Name) -> bool
-    ensures { result ≡ is_met members.now name.now }
-{
-    members.iter().any(|member| declares(member, name))
-}
-
-/// Notes the word under which a member declares something, where one of those before it has its name.
-fn note_behind<'a>(before: &[Member], member: &'a Member, first: &mut Earliest<'a>)
-    ensures { (rest : Seq Word) → noted first.new (repeats_after (is_met (before.now ++ member.entry.now ∷ [])) rest)
-        ≡ noted first.old (repeats_after (is_met before.now) (words_by member.entry.now ++ rest)) }
-{
-    if let Some(word) = word_of(member) {
-        let is_repeated = is_met(before, &word.name);
-        let place = word.place.get();
-        first.note(is_repeated, Code::Duplicate, place, word.name.as_bytes());
-    }
-}
-
-/// Notes the names that stand twice among members, each of which is looked for among those before it.
-fn note_few<'a>(members: &'a [Member], first: &mut Earliest<'a>)
-    ensures { first.new ≡ noted first.old (repeats (words_of members.entry.now)) }
-{
-    for (place, member) in members.iter().enumerate() {
-        note_behind(&members[..place], member, first);
-    }
-}
-
 /// What a component declares by name, where its members are many; else none. Notes the names that stand twice.
 fn declared_of<'a>(
     alloc: Global,
@@ -249,7 +198,7 @@ fn declared_of<'a>(
 {
     let members = component.members.as_slice();
     let mut tables = Vec::new(alloc);
-    if members.len() <= FEW {
+    if are_few(members) {
         note_few(members, first);
         return Ok(tables);
     }

@@ -1,9 +1,0 @@
-use Rattle.adl_names.proofs.Common.{[], ap, sym, ◌∙◌}
-use Rattle.adl_meaning.specs.Prelude.{cons_option, option_copied}
-use Rattle.adl_names.proofs.FewRepeated.{noted_word}
-use Rattle.adl_names.proofs.tables.note_behind.Goals as goal
-
-pub returns-in-Some : goal.returns-in-Some
-returns-in-Some c = λ rest. rw (c.note.ensures, c.is_met-is_repeated.ensures, c.get-place.ensures, c.as_bytes.ensures.bytes)
-    (noted_word c.args.before.now c.args.member.now c.in-Some.word.now c.args.first.now rest
-    (ap (λ o. cons_option (option_copied o) []) (sym c.in-Some.is) ∙ c.word_of.ensures))
