@@ -44,7 +44,6 @@ enum ItemKind {
     Assemblies,
 }
 
-#[tactic(auto, unfolding(crate::specs::Counts::is_import, crate::specs::Counts::is_procedure, crate::specs::Counts::is_component, crate::specs::Counts::is_assembly))]
 fn is_item(kind: ItemKind, ended: &Ended) -> bool
     ensures { result ≡ is_item kind ended.now }
 {

@@ -1,5 +1,7 @@
+ghost use Rattle.std.specs.Prelude.{◌≡◌};
+
 use crate::ShortPlace;
-use cam_base::Name;
+use cam_base::{Name, Place};
 use std::alloc::Global;
 use std::default::MadeWith;
 
@@ -8,6 +10,15 @@ use std::default::MadeWith;
 pub struct Id {
     pub name: Name,
     pub place: ShortPlace,
+}
+
+impl Id {
+    /// The place of the word.
+    pub fn place(&self) -> Place
+        ensures { result ≡ self.now.place }
+    {
+        self.place.get()
+    }
 }
 
 /// The word that fills the unused places of a dotted name. Takes no memory.

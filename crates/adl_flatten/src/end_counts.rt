@@ -78,7 +78,11 @@ impl<'t, 'a> JoinedEnd<'t, 'a> {
 
     /// Its key among the ends of its connection.
     fn key_apart(&self) -> EndKey
-        ensures { result ≡ record { connection = Some self.now.connection; leaf = self.now.end.leaf; member = self.now.end.member } }
+        ensures { result ≡ record {
+          connection = Some self.now.connection;
+          leaf = self.now.end.leaf;
+          member = self.now.end.member;
+        } }
     {
         self.key(Some(self.connection))
     }

@@ -55,7 +55,7 @@ fn note_all_unjoined<'a>(
                 first.note(
                     !is_joined,
                     Code::Unconnected,
-                    id.place.get(),
+                    id.place(),
                     id.name.as_bytes(),
                 );
             }
@@ -73,7 +73,7 @@ fn note_devices<'a>(program: &Program<'_>, leaves: &[PlacedLeaf<'a>], first: &mu
         first.note(
             is_misplaced,
             Code::Placement,
-            id.place.get(),
+            id.place(),
             id.name.as_bytes(),
         );
     }
@@ -125,12 +125,7 @@ fn note_calls<'a>(leaves: &[Leaf], connections: &[PlacedConnection<'a>], first: 
         let is_one = in_one_domain(leaves, connection.ends.as_slice());
         let is_parted = is_direct(connection.connector) && !is_one;
         let id = &connection.connection.id;
-        first.note(
-            is_parted,
-            Code::Placement,
-            id.place.get(),
-            id.name.as_bytes(),
-        );
+        first.note(is_parted, Code::Placement, id.place(), id.name.as_bytes());
     }
 }
 

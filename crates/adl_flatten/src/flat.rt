@@ -36,7 +36,7 @@ fn flat_connection(
     Ok(FlatConnection {
         path,
         connector: connection.connector,
-        place: id.place.get(),
+        place: id.place(),
         ends,
     })
 }

@@ -70,7 +70,7 @@ fn flat_leaf(
     Ok(Leaf {
         path: Path::of(alloc, leaf.path.as_slice(), &[])?,
         component: body.item().unwrap_or(nowhere),
-        place: leaf.instance.component.place.get(),
+        place: leaf.instance.component.place(),
         hardware: body.is_hardware(),
         domain: domain_number(program, leaf, paths),
     })

@@ -16,8 +16,8 @@ pub enum Declared<'a> {
     Lock(&'a Lock),
 }
 
-/// What members declare under the name: the first that has it. Each of them is looked at, which takes less time than a table where
-/// they are few.
+/// What members declare under the name: the first that has it. Each of them is looked at, which takes less time than a table
+/// where they are few.
 pub fn declared_under<'a>(members: &'a [Member], name: &[u8]) -> Option<Declared<'a>>
     ensures { option_map declared_told result ≡ first_named (flat_map declared_by members.entry.now) name.now }
 {

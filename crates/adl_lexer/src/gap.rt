@@ -1,6 +1,7 @@
 //! Comments.
 
-ghost use Rattle.adl_lexer.specs.Gaps.{after_line, after_close, after_comment};
+ghost use Rattle.adl_lexer.specs.Gaps.{after_line, after_comment};
+ghost use Rattle.cam_base.specs.Comments.{after_close};
 ghost use Rattle.adl_lexer.specs.Pieces.{after_first, after_slash};
 ghost use Rattle.std.specs.Prelude.{◌≡◌, option_map};
 
@@ -39,7 +40,7 @@ fn after_slash(bytes: &[u8]) -> Option<&[u8]>
 }
 
 /// What is behind the next `*/`.
-#[tactic(auto, using(crate::proofs::Skips::close_absent, crate::proofs::Skips::closes, crate::proofs::Skips::goes_on, crate::proofs::Skips::first_less))]
+#[tactic(auto, using(crate::proofs::Skips::comment_ends))]
 fn comment_end(bytes: &[u8]) -> Option<&[u8]>
     ensures { option_map (λ r. r.now) result ≡ after_close bytes.now }
 {

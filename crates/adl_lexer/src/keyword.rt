@@ -88,7 +88,7 @@ impl<const N: usize> KeywordTable<N> {
 }
 
 /// The keyword that a word is, as the table of all keywords gives it, by one comparison in place of 29.
-#[tactic(auto, using(crate::proofs::KeywordWords::is_found, crate::proofs::KeywordWords::is_no_candidate, crate::proofs::KeywordWords::is_other_word))]
+#[tactic(auto, using(crate::proofs::KeywordWords::candidates))]
 pub(crate) fn keyword_of(word: &[u8]) -> Option<Keyword>
     ensures { result ≡ keyword_of word.now }
 {

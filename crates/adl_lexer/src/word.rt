@@ -38,7 +38,7 @@ fn kind(text: &[u8]) -> Kind
 }
 
 /// Whether a word is left out of this profile: by its length one word at most is looked at.
-#[tactic(auto, using(crate::proofs::LeftOutWords::of_nine, crate::proofs::LeftOutWords::of_six, crate::proofs::LeftOutWords::of_four, crate::proofs::LeftOutWords::of_another))]
+#[tactic(auto, using(crate::proofs::LeftOutWords::by_length))]
 fn is_left_out_word(text: &[u8]) -> bool
     ensures { result ≡ is_left_out_word text.now }
 {

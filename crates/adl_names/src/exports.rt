@@ -106,10 +106,7 @@ fn take<'a>(
     if interface_at(tables, port).is_none() {
         return Ok(false);
     }
-    let is_new = inners.insert((
-        taken.instance.id.place.get().first,
-        taken.interface.as_bytes(),
-    ))?;
+    let is_new = inners.insert((taken.instance.id.place().first, taken.interface.as_bytes()))?;
     Ok(!is_new)
 }
 

@@ -22,7 +22,7 @@ pub fn note_misplaced<'a>(tables: &SourceTables<'a>, first: &mut Earliest<'a>)
                 let (is_wrong, place) = match member {
                     Member::Control(place) => (composite || device, *place),
                     Member::Hardware(place) => (composite, *place),
-                    Member::Lock(it) => (composite || device, it.id.place.get()),
+                    Member::Lock(it) => (composite || device, it.id.place()),
                     Member::Configuration(it) => (!composite, it.place),
                     _ => continue,
                 };

@@ -80,12 +80,7 @@ pub fn note_recursive<'a>(
             let word = &instance.component;
             if let Some(inner) = numbers.get(&word.name) {
                 let held = cycles.holds_back(alloc, i as u32, *inner)?;
-                first.note(
-                    held,
-                    Code::Recursive,
-                    word.place.get(),
-                    word.name.as_bytes(),
-                );
+                first.note(held, Code::Recursive, word.place(), word.name.as_bytes());
             }
         }
     }

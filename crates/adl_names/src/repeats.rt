@@ -8,7 +8,7 @@ ghost use Rattle.adl_names.specs.Tables.{has_name, has_word, is_met, method_word
 use adl_ast::{Component, Id, Member, Param, ProcMember, Procedure};
 use adl_meaning::Earliest;
 use cam_base::{Code, Name, NoMemory};
-use name_tables::NameTable;
+use name_tables::{FEW, NameTable};
 use std::alloc::Global;
 
 /// Puts a value under the name of a word, or notes that an earlier one has the name. What is noted behind it, is noted of the
@@ -25,12 +25,9 @@ pub fn put<'a, V: Drop>(
         ≡ option_or (found table.old n) (found ((id.entry.now.name, value) ∷ []) n)) }
 {
     let is_met = table.put(&id.name, value)?;
-    first.note(is_met, Code::Duplicate, id.place.get(), id.name.as_bytes());
+    first.note(is_met, Code::Duplicate, id.place(), id.name.as_bytes());
     Ok(())
 }
-
-/// How many items are looked through, where more have a table.
-const FEW: usize = 16;
 
 /// What stands under a word, or under none.
 pub trait Worded {
@@ -100,7 +97,7 @@ fn note_behind<'a, T: Worded>(before: &[T], item: &'a T, first: &mut Earliest<'a
 {
     if let Some(word) = item.word() {
         let is_repeated = is_met(before, &word.name);
-        let place = word.place.get();
+        let place = word.place();
         first.note(is_repeated, Code::Duplicate, place, word.name.as_bytes());
     }
 }

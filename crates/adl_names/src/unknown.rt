@@ -16,12 +16,7 @@ use name_tables::NameTable;
 fn note_unless<'a>(known: bool, word: &'a Id, first: &mut Earliest<'a>)
     ensures { first.new ≡ noted first.old (unless_known known word.entry.now) }
 {
-    first.note(
-        !known,
-        Code::Unknown,
-        word.place.get(),
-        word.name.as_bytes(),
-    );
+    first.note(!known, Code::Unknown, word.place(), word.name.as_bytes());
 }
 
 fn note_interface<'a>(table: Option<&ComponentTable<'a>>, word: &'a Id, first: &mut Earliest<'a>)

@@ -72,13 +72,13 @@ fn dotted_of(
 ) -> Result<(Dotted, Place), NoMemory>
     ensures { IfOk result (λ x. x ≡ dotted_of first second third) }
 {
-    let begin = first.place.get();
-    let end = second.place.get();
+    let begin = first.place();
+    let end = second.place();
     let mut ids = Dotted::pair(alloc, first, second)?;
     match third {
         None => Ok((ids, span(begin, end))),
         Some(third) => {
-            let end = third.place.get();
+            let end = third.place();
             ids.push(third)?;
             Ok((ids, span(begin, end)))
         }
@@ -107,7 +107,7 @@ fn last_place(place: Place, ids: &[Id]) -> Place
     let mut last = place;
     let mut rest = ids;
     while let [id, behind @ ..] = rest {
-        last = id.place.get();
+        last = id.place();
         rest = behind;
     }
     last
@@ -135,10 +135,7 @@ pub fn path<'a>(
     let (first, rest) = word(alloc, bytes, tokens)?;
     let (second, rest) = dot_word(alloc, bytes, rest)?;
     let (more, rest) = read_all::<Adl, DotWords>(alloc, bytes, rest)?;
-    let place = span(
-        first.place.get(),
-        last_place(second.place.get(), more.as_slice()),
-    );
+    let place = span(first.place(), last_place(second.place(), more.as_slice()));
     let ids = joined(alloc, first, second, more)?;
     Ok(((ids, place), rest))
 }

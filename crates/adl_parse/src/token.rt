@@ -2,7 +2,9 @@
 
 ghost use Rattle.adl_ast.specs.Codes.{kind_code, token_code, word_code, word_codes, key_code, mark_code};
 ghost use Rattle.adl_ast.specs.Forms.{word};
-ghost use Rattle.adl_ast.specs.Seeing.{see, seen_at, text_at, id_of, named, number_of, inner, span};
+ghost use Rattle.adl_ast.specs.Seeing.{see, seen_at, text_at, id_of, number_of, span};
+ghost use Rattle.cam_base.specs.Names.{named};
+ghost use Rattle.cam_base.specs.Quoted.{inner};
 ghost use Rattle.adl_ast.specs.Spelling.{reads};
 ghost use Rattle.adl_parse.specs.Words.{codes_of, is_word};
 ghost use Rattle.cam_base.specs.Form.{among, maybe};
@@ -13,7 +15,7 @@ ghost use Rattle.std.specs.Prelude.{◌≡◌, ◌==◌, ◌∷◌, [], ℕ, Lis
 
 use adl_ast::{Id, Seen, ShortPlace};
 use cam_base::{
-    Keyword, Kind, Language, Mark, Name, NoMemory, Place, ReadError, Stop, Text, Token, Why,
+    Keyword, Kind, Language, Mark, Name, NoMemory, Place, ReadError, Stop, Text, Token, Why, inner,
     is_name,
 };
 use std::alloc::Global;
@@ -290,15 +292,6 @@ pub fn id_of(alloc: Global, bytes: &[u8], token: Token) -> Result<Id, NoMemory>
         name: name_of(alloc, text_at(bytes, token.place))?,
         place: ShortPlace::new(token.place)?,
     })
-}
-
-fn inner(text: &[u8]) -> &[u8]
-    ensures { result.now ≡ inner text.now }
-{
-    match text {
-        [] => text,
-        [_, rest @ ..] => &rest[..rest.len().saturating_sub(1)],
-    }
 }
 
 /// What stands between the quotes of a text, or the angle brackets of a path.

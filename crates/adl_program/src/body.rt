@@ -15,12 +15,9 @@ use adl_ast::{Assembly, Attribute, Component, Composition, Configuration, Interf
 use adl_items::{Declared, Located, composition_of, declared_under, is_device};
 use adl_meaning::ItemAt;
 use cam_base::{Name, NoMemory};
-use name_tables::NameTable;
+use name_tables::{FEW, NameTable};
 use std::alloc::Global;
 use std::marker::Model;
-
-/// How many members of a component are looked through, where more have tables.
-const FEW: usize = 16;
 
 /// A component or the assembly. Contracts see it as the body that it is.
 #[derive(Drop)]
@@ -294,7 +291,8 @@ fn composed_of<'a>(
     kinds: &NameTable<'_, u32>,
     composition: Option<&'a Composition>,
 ) -> Result<Vec<Composed<'a>>, NoMemory>
-    ensures parts { IfOk result (λ v. parts_seen (slice_get v.items 0) ≡ parts_in (found kinds.now) (option_copied composition.entry)) }
+    ensures parts { IfOk result (λ v. parts_seen (slice_get v.items 0)
+        ≡ parts_in (found kinds.now) (option_copied composition.entry)) }
     ensures tables { IfOk result (λ v. IsComposed (option_copied composition.entry) (slice_get v.items 0)) }
 {
     let Some(composition) = composition else {

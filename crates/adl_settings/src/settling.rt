@@ -139,8 +139,8 @@ fn settle_bodies<'a>(
     settle_flat(&lookup, &mut memo, source, flat, first)
 }
 
-/// The settings of all leaves and ends of a source, over its program, in the order of the flat system. The source outlives the flat
-/// system, which is made behind the program.
+/// The settings of all leaves and ends of a source, over its program, in the order of the flat system. The source outlives the
+/// flat system, which is made behind the program.
 ///
 /// # Errors
 ///

@@ -63,7 +63,7 @@ fn note_missing<'a>(ends: &[Found<'a>], first: &mut Earliest<'a>)
         let (joint, word) = (&end.joint, &end.joint.interface.id);
         let lacks_value = (joint.is_device_memory() && end.paddr.is_none())
             || (joint.is_device_event() && end.irq.is_none());
-        let place = word.place.get();
+        let place = word.place();
         first.note(lacks_value, Code::Missing, place, word.name.as_bytes());
     }
 }

@@ -127,7 +127,7 @@ fn note_wire<'a>(program: &Program<'a>, number: u32, wire: &Wire<'a>, first: &mu
     first.note(
         !may_have(connector, ends),
         Code::EndCount,
-        name.place.get(),
+        name.place(),
         name.name.as_bytes(),
     );
 }
@@ -146,7 +146,7 @@ fn note_sizes<'a>(component: Option<&'a Component>, first: &mut Earliest<'a>)
             let size = interface.size;
             let is_size = size.is_none_or(|size| 1 <= size && size <= GREATEST_SIZE);
             let word = name.name.as_bytes();
-            first.note(!is_size, Code::TypeMismatch, name.place.get(), word);
+            first.note(!is_size, Code::TypeMismatch, name.place(), word);
         }
     }
 }

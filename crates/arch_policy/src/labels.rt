@@ -307,7 +307,8 @@ fn device_numbers(
     Ok(numbers)
 }
 
-/// The numbers of the labels with these texts, which are looked for first at these places, in the order in which labels are listed.
+/// The numbers of the labels with these texts, which are looked for first at these places, in the order in which labels are
+/// listed.
 fn label_numbers(
     alloc: Global,
     texts: &[Text],

@@ -24,8 +24,8 @@ use thiserror::Error;
 #[error("not a name")]
 pub struct BadName;
 
-/// An identifier of 1 to 127 bytes, keywords included; up to 14 bytes take no memory of their own. Contracts see it as the list of
-/// its bytes.
+/// An identifier of 1 to 127 bytes, keywords included; up to 14 bytes take no memory of their own. Contracts see it as the list
+/// of its bytes.
 #[derive(Drop)]
 pub struct Name {
     bytes: NameBytes,

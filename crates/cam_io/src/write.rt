@@ -5,27 +5,11 @@ use crate::{Failed, Outputs};
 
 /// Writes all the bytes to an open channel. After a failure the channel has a front of them. Empty bytes are written
 /// without a call. Takes no memory.
-#[inline(always)]
 pub fn write_all<O: Outputs>(out: &mut O, channel: u8, bytes: &[u8]) -> Result<(), Failed>
     requires { IsOpen (O.sink out.old) channel }
     ensures writes { Writes result channel bytes.now (O.sink out.old) (O.sink out.new) (O.faults out.old) (O.faults out.new) }
     ensures empty { bytes.now ≡ [] → IsOk result }
     ensures quiet { bytes.now ≡ [] → out.new ≡ out.old }
-{
-    if bytes.is_empty() {
-        return Ok(());
-    }
-    let done = out.write(channel, bytes)?;
-    if done == bytes.len() {
-        Ok(())
-    } else {
-        write_rest(out, channel, &bytes[done..])
-    }
-}
-
-fn write_rest<O: Outputs>(out: &mut O, channel: u8, bytes: &[u8]) -> Result<(), Failed>
-    requires { IsOpen (O.sink out.old) channel }
-    ensures { Writes result channel bytes.now (O.sink out.old) (O.sink out.new) (O.faults out.old) (O.faults out.new) }
 {
     let mut done = 0;
     while done < bytes.len() {

@@ -5,8 +5,8 @@ ghost use Rattle.std.specs.Prelude.{◌≡◌, IsTrue, [], false, map};
 use crate::{Failed, Outputs, write_all};
 use arrayvec::ArrayVec;
 
-/// Outputs and one of their channels, open, to which a text is written piece by piece. What is written waits until it is
-/// much, and goes on in few calls; `flush` sends the rest. After a failed call nothing more is written.
+/// Outputs and one of their channels, open, to which a text is written piece by piece. Up to 16 KiB of it wait, and go on in
+/// few calls; `flush` sends what waits, and what isn't flushed is lost. After a failed call nothing more is written.
 #[derive(Drop)]
 pub struct Writer<'a, O: Outputs> {
     out: &'a mut O,

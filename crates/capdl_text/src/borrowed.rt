@@ -1,7 +1,6 @@
 //! Names and texts where they stand.
 
-ghost use Rattle.cam_base.specs.Names.{is_name};
-ghost use Rattle.capdl_text.specs.Seeing.{named};
+ghost use Rattle.cam_base.specs.Names.{named};
 ghost use Rattle.std.specs.Prelude.{◌≡◌, IsTrue};
 
 use cam_base::is_name;

@@ -1,6 +1,7 @@
 //! Comments.
 
-ghost use Rattle.capdl_text.specs.Gaps.{after_close, after_dash, after_line, after_slash};
+ghost use Rattle.cam_base.specs.Comments.{after_close};
+ghost use Rattle.capdl_text.specs.Gaps.{after_dash, after_line, after_slash};
 ghost use Rattle.std.specs.Prelude.{◌≡◌, option_map};
 
 /// The bytes from the next line feed on.

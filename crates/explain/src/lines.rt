@@ -174,7 +174,7 @@ pub fn lock_line(
     ensures { IfOk result (λ line. line ≡ lock_line source.now flat.now lock) }
 {
     match word_of(source, flat, lock.0, lock.1) {
-        Some(word) => line_of_lock(alloc, source, flat, lock, word.place.get()),
+        Some(word) => line_of_lock(alloc, source, flat, lock, word.place()),
         None => Ok(Text::empty(alloc)),
     }
 }

@@ -54,7 +54,8 @@ pub fn certificates_are_read_back()
         → IsCertified m old new cdl policy (Found (Certified least)) → Holds m cert (text_of (Certified least))
         → IsPolicy m later last policy (Found allowed) → IsCert m later last allowed cert (Found least) }
     ensures decides { (m : Contents) (old new later last : List ℕ → ℕ) (cdl policy cert other : List ℕ) (least : List Edge)
-        (names : LabelNames) → IsCertified m old new cdl policy (Found (Certified least)) → Holds m cert (text_of (Certified least))
+        (names : LabelNames)
+        → IsCertified m old new cdl policy (Found (Certified least)) → Holds m cert (text_of (Certified least))
         → IsChecked m later last cdl policy other (Found (Checked Yes names))
         → IsChecked m later last cdl policy cert (Found (Checked Yes names)) }
 {}

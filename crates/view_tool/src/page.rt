@@ -71,7 +71,8 @@ fn add_theorem(text: &mut List<u8>) -> Result<(), NoMemory>
             b"reach between labels, over every interleaving of steps, exactly what the connectors assign to the unflattened\n",
             b"source; and for any texts <code>check</code> says yes only if everything reachable between labels lies in the\n",
             b"policy.</blockquote>\n<p>This page is of what <code>camkes compile</code> makes of the source. What stands in\n",
-            b"each of its tables is a definition, and proved. Proved with <code>rattle-kit-13f logic dac8208d650f15bf</code>.</p>\n",
+            b"each of its tables is a definition, and proved. Proved with ",
+            b"<code>rattle-kit-13f logic dac8208d650f15bf</code>.</p>\n",
         ],
     )
 }
