@@ -30,16 +30,16 @@ is_assembly_item (items.Procedure p) = false
 is_assembly_item (items.Component c) = false
 is_assembly_item (items.Assembly a) = true
 
-unfoldable pub is_import : Ended → Bool
+abbrev pub is_import : Ended → Bool
 is_import e = is_import_item e.item
 
-unfoldable pub is_procedure : Ended → Bool
+abbrev pub is_procedure : Ended → Bool
 is_procedure e = is_procedure_item e.item
 
-unfoldable pub is_component : Ended → Bool
+abbrev pub is_component : Ended → Bool
 is_component e = is_component_item e.item
 
-unfoldable pub is_assembly : Ended → Bool
+abbrev pub is_assembly : Ended → Bool
 is_assembly e = is_assembly_item e.item
 
 abbrev pub is_item : ItemKind → Ended → Bool

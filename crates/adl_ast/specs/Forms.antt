@@ -8,7 +8,8 @@ use Rattle.cam_base.specs.declared.token.Mark.{Mark}
 use Rattle.cam_base.specs.declared.token.Mark.TheVariants as marks
 use Rattle.cam_base.specs.Form.{Form, Give, One, Then, Or, Many, As, Starts, Nested, token, maybe, behind, separated}
 use Rattle.adl_ast.specs.Codes.{word_codes, not_void_codes, not_buf_codes, void_code, buf_code, number_code, text_code, angle_code, mark_code, key_code}
-use Rattle.adl_ast.specs.Seeing.{id_of, number_of, inner, span}
+use Rattle.adl_ast.specs.Seeing.{id_of, number_of, span}
+use Rattle.cam_base.specs.Quoted.{inner}
 use Rattle.adl_ast.specs.declared.seen.Seen.{Seen}
 use Rattle.adl_ast.specs.declared.id.Id.{Id}
 use Rattle.adl_ast.specs.declared.value.Value.{Value}

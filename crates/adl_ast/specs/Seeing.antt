@@ -1,6 +1,6 @@
 -- What the grammar sees of a source: each token with its bytes, and what these mean.
-use Rattle.std.specs.Prelude.{ℕ, List, [], ◌∷◌, take, drop, ◌-◌, length, map, if◌then◌else◌}
-use Rattle.cam_base.specs.Names.{is_name}
+use Rattle.std.specs.Prelude.{ℕ, List, take, drop, ◌-◌, map}
+use Rattle.cam_base.specs.Names.{named}
 use Rattle.cam_base.specs.declared.place.Place.{Place}
 use Rattle.cam_base.specs.declared.token.Kind.{Kind}
 use Rattle.cam_base.specs.declared.token.Kind.TheVariants as kinds
@@ -19,10 +19,6 @@ seen_at bytes t = record { kind = t.kind; text = text_at bytes t.place; place = 
 abbrev pub see : List ℕ → List Token → List Seen
 see bytes ts = map (seen_at bytes) ts
 
--- a word as a name; the words of a source are names, other bytes stand for _
-abbrev pub named : List ℕ → List ℕ
-named text = if is_name text then text else 95 ∷ []
-
 abbrev pub id_of : Seen → Id
 id_of t = record { name = named t.text; place = t.place }
 
@@ -34,11 +30,6 @@ number_of (kinds.Key key) = 0
 number_of kinds.Text = 0
 number_of kinds.Angle = 0
 number_of (kinds.Mark mark) = 0
-
--- the bytes between the first and the last: a text without its quotes, a path without its angle brackets
-abbrev pub inner : List ℕ → List ℕ
-inner [] = []
-inner (b ∷ bs) = take (length bs - 1) bs
 
 -- from the beginning of the one place to the end of the other
 abbrev pub span : Place → Place → Place

@@ -1,13 +1,8 @@
 -- What stands between tokens: blanks and whole comments.
-use Rattle.std.specs.Prelude.{◌≡◌, ℕ, List, [], ◌∷◌, Option, Some, None, ◌==◌, ◌&&◌, if◌then◌else◌}
+use Rattle.std.specs.Prelude.{◌≡◌, ℕ, List, [], ◌∷◌, Option, Some, None, ◌==◌, if◌then◌else◌}
+use Rattle.cam_base.specs.Comments.{after_close}
 use Rattle.cam_base.specs.Form.{among}
 use Rattle.adl_lexer.specs.Classes.{class_of, blanks, slash}
-
--- the rest behind the next */
-abbrev pub after_close : List ℕ → Option (List ℕ)
-after_close [] = None
-after_close (a ∷ []) = None
-after_close (a ∷ b ∷ bs) = if a == 42 && b == 47 then Some bs else after_close (b ∷ bs)
 
 -- the rest behind the next line feed, or the end
 abbrev pub after_line : List ℕ → List ℕ

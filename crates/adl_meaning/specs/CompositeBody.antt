@@ -1,16 +1,10 @@
 -- CompositeBody stands at `control`, `hardware` and `has` in a component with a composition, at a configuration in one
 -- without, and at `control` and `has` beside `hardware`. Its place is the keyword of the member, for `has` the lock's name.
 use Rattle.std.specs.Prelude.{Bool, true, false, ◌||◌, List, []}
-use Rattle.std.specs.List.{flat_map, list_any}
+use Rattle.adl_meaning.specs.Below.{Component, Fault, Item, Member, Place, Source, flat_map, list_any}
 use Rattle.cam_base.specs.declared.code.Code.TheVariants as code
-use Rattle.cam_base.specs.declared.place.Fault.{Fault}
-use Rattle.cam_base.specs.declared.place.Place.{Place}
-use Rattle.adl_ast.specs.declared.component.Component.{Component}
-use Rattle.adl_ast.specs.declared.component.Member.{Member}
 use Rattle.adl_ast.specs.declared.component.Member.TheVariants as members
-use Rattle.adl_ast.specs.declared.file.Item.{Item}
 use Rattle.adl_ast.specs.declared.file.Item.TheVariants as items
-use Rattle.adl_ast.specs.declared.source.Source.{Source}
 use Rattle.adl_meaning.specs.Faults.{at_keyword, where_true, where_false}
 use Rattle.adl_meaning.specs.Items.{items_of}
 

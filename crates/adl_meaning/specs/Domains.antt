@@ -1,8 +1,7 @@
 -- The domain of a leaf is the path of the outermost group above it, which is the path of the group's composition and the
 -- group's name, or the leaf's own path where it stands in no group. A device has no domain.
 use Rattle.std.specs.Prelude.{ℕ, Bool, false, not, List, [], ◌∷◌, map, Option, Some, None, option_map, unwrap_or}
-use Rattle.std.specs.List.{filter}
-use Rattle.std.specs.Option.{option_and_then, option_map_or}
+use Rattle.adl_meaning.specs.Below.{filter, option_and_then, option_map_or}
 use Rattle.adl_meaning.specs.CompositeBody.{is_device}
 use Rattle.adl_meaning.specs.Hierarchy.{Hierarchy, Part, body, top_number, part_named}
 use Rattle.adl_meaning.specs.Items.{Name}

@@ -3,21 +3,12 @@
 -- connections of a composition together. It stands too at the keyword of each composition and configuration of a component
 -- that isn't the first.
 use Rattle.std.specs.Prelude.{Bool, false, ◌||◌, List, [], ◌∷◌, ◌++◌, map, drop, Option, Some, None}
-use Rattle.std.specs.List.{flat_map, filter_map}
-use Rattle.std.specs.Str.{bytes_eq}
+use Rattle.adl_meaning.specs.Below.{Component, Composition, Fault, Id, Item, Place, Procedure, Source, bytes_eq, filter_map, flat_map}
 use Rattle.cam_base.specs.declared.code.Code.TheVariants as code
-use Rattle.cam_base.specs.declared.place.Fault.{Fault}
-use Rattle.cam_base.specs.declared.place.Place.{Place}
-use Rattle.adl_ast.specs.declared.component.Component.{Component}
-use Rattle.adl_ast.specs.declared.composition.Composition.{Composition}
-use Rattle.adl_ast.specs.declared.file.Item.{Item}
 use Rattle.adl_ast.specs.declared.file.Item.TheVariants as items
-use Rattle.adl_ast.specs.declared.id.Id.{Id}
 use Rattle.adl_ast.specs.declared.procedure.Method.{Method}
-use Rattle.adl_ast.specs.declared.procedure.Procedure.{Procedure}
 use Rattle.adl_ast.specs.declared.procedure.ProcMember.{ProcMember}
 use Rattle.adl_ast.specs.declared.procedure.ProcMember.TheVariants as parts
-use Rattle.adl_ast.specs.declared.source.Source.{Source}
 use Rattle.adl_meaning.specs.Faults.{at_word, at_keyword, where_true}
 use Rattle.adl_meaning.specs.Holding.{held_in}
 use Rattle.adl_meaning.specs.Items.{Name, items_of, procedures, components}

@@ -7,24 +7,10 @@
 --
 -- Its name is the last word of the dotted name. Where a name or a type is unknown there is no inner interface to look at.
 use Rattle.std.specs.Prelude.{ℕ, ◌-◌, length, ◌==◌, Bool, true, false, ◌||◌, ◌&&◌, not, if◌then◌else◌, List, [], ◌∷◌, ◌++◌, Option, Some, None, is_some, option_map, unwrap_or}
-use Rattle.std.specs.List.{flat_map, slice_get}
-use Rattle.std.specs.Option.{option_and_then, option_map_or, is_none}
-use Rattle.std.specs.Str.{bytes_eq}
+use Rattle.adl_meaning.specs.Below.{Composition, Connection, End, Export, Fault, Id, Instance, Interface, InterfaceKind, Item, Place, Source, bytes_eq, flat_map, is_none, option_and_then, option_map_or, slice_get}
 use Rattle.cam_base.specs.declared.code.Code.TheVariants as code
-use Rattle.cam_base.specs.declared.place.Fault.{Fault}
-use Rattle.cam_base.specs.declared.place.Place.{Place}
-use Rattle.adl_ast.specs.declared.component.Interface.{Interface}
-use Rattle.adl_ast.specs.declared.component.InterfaceKind.{InterfaceKind}
 use Rattle.adl_ast.specs.declared.component.InterfaceKind.TheVariants as kinds
-use Rattle.adl_ast.specs.declared.composition.Composition.{Composition}
-use Rattle.adl_ast.specs.declared.composition.Connection.{Connection}
-use Rattle.adl_ast.specs.declared.composition.End.{End}
-use Rattle.adl_ast.specs.declared.composition.Export.{Export}
-use Rattle.adl_ast.specs.declared.composition.Instance.{Instance}
-use Rattle.adl_ast.specs.declared.file.Item.{Item}
 use Rattle.adl_ast.specs.declared.file.Item.TheVariants as items
-use Rattle.adl_ast.specs.declared.id.Id.{Id}
-use Rattle.adl_ast.specs.declared.source.Source.{Source}
 use Rattle.adl_meaning.specs.Faults.{where_true}
 use Rattle.adl_meaning.specs.Holding.{Held, an_instance, a_group, a_connection, held_as, connections_in, exports_in}
 use Rattle.adl_meaning.specs.Known.{Known, known_of, known_in}

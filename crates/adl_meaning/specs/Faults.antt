@@ -1,13 +1,11 @@
 -- The order of faults: by file, then by first byte, then by the number of the code. The first of a list of faults is the
 -- least of them; of faults that stand alike, it is the one that comes first in the list.
 use Rattle.std.specs.Prelude.{◌≡◌, ◌==◌, Bool, true, if◌then◌else◌, nat_lt, List, [], ◌∷◌, Option, Some, None, Result, Ok, Err}
+use Rattle.adl_meaning.specs.Below.{Fault, Id, Place}
 use Rattle.cam_base.specs.Codes.{number_of}
 use Rattle.cam_base.specs.declared.code.Code.{Code}
 use Rattle.cam_base.specs.declared.error.Refused.{Refused}
 use Rattle.cam_base.specs.declared.error.Refused.TheVariants as refused
-use Rattle.cam_base.specs.declared.place.Fault.{Fault}
-use Rattle.cam_base.specs.declared.place.Place.{Place}
-use Rattle.adl_ast.specs.declared.id.Id.{Id}
 
 -- whether a fault of this code at this place comes before one of the other code at the other place
 abbrev pub is_before : Code → Place → Code → Place → Bool

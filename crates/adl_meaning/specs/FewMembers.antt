@@ -1,8 +1,7 @@
 -- Each component has at most 1,048,576 members. Every source whose trees spell the tokens of files of at most 1,048,576
 -- bytes is of this kind, since each member is spelled by a token at least.
 use Rattle.std.specs.Prelude.{◌≤◌, length}
-use Rattle.std.specs.List.{All}
-use Rattle.adl_ast.specs.declared.source.Source.{Source}
+use Rattle.adl_meaning.specs.Below.{All, Source}
 use Rattle.adl_meaning.specs.Items.{components}
 
 abbrev pub HaveFewMembers : Source → Type 0

@@ -2,13 +2,8 @@
 -- stand in the order of the walk, domains in the order of their first leaves, connections in the order of their walk, and
 -- the ends of a connection in the order of the source.
 use Rattle.std.specs.Prelude.{ℕ, Bool, false, ◌&&◌, not, if◌then◌else◌, List, map, ◌∷◌, ◌++◌, [], Some, None, option_map, unwrap_or}
-use Rattle.std.specs.List.{filter, filter_map, enumerate_from}
-use Rattle.std.specs.Option.{option_map_or}
-use Rattle.std.specs.Str.{bytes_eq}
-use Rattle.adl_ast.specs.declared.component.Member.{Member}
+use Rattle.adl_meaning.specs.Below.{End, Member, Source, bytes_eq, enumerate_from, filter, filter_map, option_map_or}
 use Rattle.adl_ast.specs.declared.component.Member.TheVariants as members
-use Rattle.adl_ast.specs.declared.composition.End.{End}
-use Rattle.adl_ast.specs.declared.source.Source.{Source}
 use Rattle.adl_meaning.specs.declared.flat.Domain.{Domain}
 use Rattle.adl_meaning.specs.declared.flat.Flat.{Flat}
 use Rattle.adl_meaning.specs.declared.flat.FlatConnection.{FlatConnection}

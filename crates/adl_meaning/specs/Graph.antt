@@ -1,6 +1,6 @@
 -- Components by number: g lists for each one the types of its instances.
 use Rattle.std.specs.Prelude.{◌≡◌, ◌<◌, ◌==◌, ℕ, zero, suc, Bool, true, ◌||◌, ◌&&◌, List, [], length, take, slice_index_or, slice_index}
-use Rattle.std.specs.List.{list_any}
+use Rattle.adl_meaning.specs.Below.{list_any}
 
 -- whether the list has the number
 abbrev pub has : List ℕ → ℕ → Bool

@@ -2,20 +2,8 @@
 -- has the number behind the last of them. A body has the instances of its composition, each with the number of its
 -- component. Where a name stands for nothing, the instance is left out; where no fault of names stands, none is.
 use Rattle.std.specs.Prelude.{ℕ, Bool, List, [], ◌∷◌, ◌++◌, map, length, slice_index_or, Option, Some, None, is_some, option_map}
-use Rattle.std.specs.List.{flat_map, filter_map, find, slice_get}
-use Rattle.std.specs.Option.{option_map_or}
-use Rattle.std.specs.Str.{bytes_eq}
-use Rattle.adl_ast.specs.declared.component.Component.{Component}
-use Rattle.adl_ast.specs.declared.composition.Assembly.{Assembly}
-use Rattle.adl_ast.specs.declared.composition.Composition.{Composition}
-use Rattle.adl_ast.specs.declared.composition.Connection.{Connection}
-use Rattle.adl_ast.specs.declared.composition.Export.{Export}
-use Rattle.adl_ast.specs.declared.composition.Instance.{Instance}
-use Rattle.adl_ast.specs.declared.composition.Line.{Line}
+use Rattle.adl_meaning.specs.Below.{Assembly, Component, Composition, Configuration, Connection, Export, Id, Instance, Line, Source, bytes_eq, filter_map, find, flat_map, option_map_or, slice_get}
 use Rattle.adl_ast.specs.declared.composition.Line.TheVariants as lines
-use Rattle.adl_ast.specs.declared.configuration.Configuration.{Configuration}
-use Rattle.adl_ast.specs.declared.id.Id.{Id}
-use Rattle.adl_ast.specs.declared.source.Source.{Source}
 use Rattle.adl_meaning.specs.declared.connector.Connector.{Connector}
 use Rattle.adl_meaning.specs.Connectors.{connector_of}
 use Rattle.adl_meaning.specs.declared.item_at.ItemAt.{ItemAt}

@@ -2,16 +2,9 @@
 -- They count in the order of the text, a group before its instances. An instance is held whether its type is known or not.
 -- A group stands for its own instances by name, of which again the first counts.
 use Rattle.std.specs.Prelude.{List, [], ◌∷◌, map, Option, Some, None, option_map}
-use Rattle.std.specs.List.{flat_map, filter_map, find}
-use Rattle.std.specs.Str.{bytes_eq}
-use Rattle.adl_ast.specs.declared.composition.Composition.{Composition}
-use Rattle.adl_ast.specs.declared.composition.Connection.{Connection}
-use Rattle.adl_ast.specs.declared.composition.Export.{Export}
+use Rattle.adl_meaning.specs.Below.{Composition, Connection, Export, Id, Instance, Line, bytes_eq, filter_map, find, flat_map}
 use Rattle.adl_ast.specs.declared.composition.Group.{Group}
-use Rattle.adl_ast.specs.declared.composition.Instance.{Instance}
-use Rattle.adl_ast.specs.declared.composition.Line.{Line}
 use Rattle.adl_ast.specs.declared.composition.Line.TheVariants as lines
-use Rattle.adl_ast.specs.declared.id.Id.{Id}
 use Rattle.adl_meaning.specs.Items.{Name}
 
 -- what the name stands for behind the name of a group: the first instance of that group that has it

@@ -1,14 +1,8 @@
 -- The items of a source, and what the names of procedures and components stand for: the first item of the name, where
 -- files count in their order and items in theirs. One name may be that of a procedure and of a component.
 use Rattle.std.specs.Prelude.{◌≡◌, ◌==◌, ◌≤◌, ℕ, Bool, true, if◌then◌else◌, nat_lt, List, [], ◌∷◌, map, length, Option, Some, None, option_map}
-use Rattle.std.specs.List.{flat_map, filter_map, find, enumerate_from, All, AllByRecursion}
-use Rattle.std.specs.Str.{bytes_eq}
-use Rattle.adl_ast.specs.declared.component.Component.{Component}
-use Rattle.adl_ast.specs.declared.composition.Assembly.{Assembly}
-use Rattle.adl_ast.specs.declared.file.Item.{Item}
+use Rattle.adl_meaning.specs.Below.{All, AllByRecursion, Assembly, Component, Item, Procedure, Source, bytes_eq, enumerate_from, filter_map, find, flat_map}
 use Rattle.adl_ast.specs.declared.file.Item.TheVariants as items
-use Rattle.adl_ast.specs.declared.procedure.Procedure.{Procedure}
-use Rattle.adl_ast.specs.declared.source.Source.{Source}
 use Rattle.adl_ast.specs.declared.source.SourceFile.{SourceFile}
 use Rattle.adl_meaning.specs.declared.item_at.ItemAt.{ItemAt}
 

@@ -1,9 +1,7 @@
 -- The faults of joins that stand in a source: interfaces joined twice or not at all, and what may not stand where it does.
 -- They are looked at where no limit of the hierarchy is passed.
 use Rattle.std.specs.Prelude.{List, ◌++◌, Option}
-use Rattle.std.specs.Option.{option_or}
-use Rattle.cam_base.specs.declared.place.Fault.{Fault}
-use Rattle.adl_ast.specs.declared.source.Source.{Source}
+use Rattle.adl_meaning.specs.Below.{Fault, Source, option_or}
 use Rattle.adl_meaning.specs.Faults.{least}
 use Rattle.adl_meaning.specs.Hierarchy.{Hierarchy, hierarchy_of}
 use Rattle.adl_meaning.specs.Placement.{misplaced_in}

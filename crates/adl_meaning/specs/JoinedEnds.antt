@@ -1,11 +1,7 @@
 -- The ends of all connections, each with the number of its connection, its last word, and the interface that it joins.
 use Rattle.std.specs.Prelude.{ℕ, ◌==◌, Bool, true, false, ◌&&◌, List, Option, option_map}
-use Rattle.std.specs.List.{flat_map, filter_map, enumerate_from}
-use Rattle.std.specs.Option.{option_and_then, option_map_or}
-use Rattle.adl_ast.specs.declared.component.Interface.{Interface}
-use Rattle.adl_ast.specs.declared.component.InterfaceKind.{InterfaceKind}
+use Rattle.adl_meaning.specs.Below.{End, Interface, InterfaceKind, enumerate_from, filter_map, flat_map, option_and_then, option_map_or}
 use Rattle.adl_ast.specs.declared.component.InterfaceKind.TheVariants as kinds
-use Rattle.adl_ast.specs.declared.composition.End.{End}
 use Rattle.adl_meaning.specs.declared.flat.FlatEnd.{FlatEnd}
 use Rattle.adl_meaning.specs.Domains.{is_hardware}
 use Rattle.adl_meaning.specs.Export.{last_name}

@@ -4,10 +4,7 @@
 -- exports it under another name, it is known one level further out under the name of the composite and that name. So it
 -- climbs upwards from the leaf, and an end joins the interface that is known by its two words.
 use Rattle.std.specs.Prelude.{◌≡◌, ℕ, zero, suc, if◌then◌else◌, List, [], ◌∷◌, ◌++◌, map, length, Option, Some, None, option_map}
-use Rattle.std.specs.List.{flat_map, slice_get}
-use Rattle.std.specs.Option.{option_and_then}
-use Rattle.adl_ast.specs.declared.composition.End.{End}
-use Rattle.adl_ast.specs.declared.composition.Export.{Export}
+use Rattle.adl_meaning.specs.Below.{End, Export, flat_map, option_and_then, slice_get}
 use Rattle.adl_ast.specs.declared.composition.Role.{Role}
 use Rattle.adl_meaning.specs.Hierarchy.{Hierarchy, Part, Body, Wire, top_number, body, is_composite, part_named, export_named, exports_of, wires_of, port_in}
 use Rattle.adl_meaning.specs.Items.{Name}

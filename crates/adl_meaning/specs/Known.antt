@@ -1,13 +1,6 @@
 -- What is known of a component: what its names stand for.
 use Rattle.std.specs.Prelude.{Bool, false, List, Option, Some, None, option_map}
-use Rattle.std.specs.List.{list_any}
-use Rattle.std.specs.Str.{bytes_eq}
-use Rattle.adl_ast.specs.declared.component.Attribute.{Attribute}
-use Rattle.adl_ast.specs.declared.component.Component.{Component}
-use Rattle.adl_ast.specs.declared.component.Interface.{Interface}
-use Rattle.adl_ast.specs.declared.composition.Composition.{Composition}
-use Rattle.adl_ast.specs.declared.composition.Export.{Export}
-use Rattle.adl_ast.specs.declared.source.Source.{Source}
+use Rattle.adl_meaning.specs.Below.{Attribute, Component, Composition, Export, Interface, Source, bytes_eq, list_any}
 use Rattle.adl_meaning.specs.Holding.{Held, held_as, exports_in}
 use Rattle.adl_meaning.specs.Items.{Name, component_of}
 use Rattle.adl_meaning.specs.Members.{interface_of, attribute_of, composition_of}

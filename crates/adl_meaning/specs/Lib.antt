@@ -1,3 +1,4 @@
+pub mod Below
 pub mod CompositeBody
 pub mod Connectors
 pub mod Domains

@@ -1,18 +1,9 @@
 -- What a component declares: interfaces, attributes and locks together, where a name stands for the first that has it;
 -- and its compositions and configurations.
 use Rattle.std.specs.Prelude.{List, [], ◌∷◌, Option, Some, None, option_map}
-use Rattle.std.specs.List.{flat_map, filter_map, find, slice_get}
-use Rattle.std.specs.Option.{option_and_then}
-use Rattle.std.specs.Str.{bytes_eq}
-use Rattle.adl_ast.specs.declared.component.Attribute.{Attribute}
-use Rattle.adl_ast.specs.declared.component.Component.{Component}
-use Rattle.adl_ast.specs.declared.component.Interface.{Interface}
+use Rattle.adl_meaning.specs.Below.{Attribute, Component, Composition, Configuration, Id, Interface, Member, bytes_eq, filter_map, find, flat_map, option_and_then, slice_get}
 use Rattle.adl_ast.specs.declared.component.Lock.{Lock}
-use Rattle.adl_ast.specs.declared.component.Member.{Member}
 use Rattle.adl_ast.specs.declared.component.Member.TheVariants as members
-use Rattle.adl_ast.specs.declared.composition.Composition.{Composition}
-use Rattle.adl_ast.specs.declared.configuration.Configuration.{Configuration}
-use Rattle.adl_ast.specs.declared.id.Id.{Id}
 use Rattle.adl_meaning.specs.Items.{Name}
 
 -- ---- names

@@ -1,7 +1,6 @@
 -- The faults of names that stand in a source, and the first of them.
 use Rattle.std.specs.Prelude.{◌≡◌, List, [], ◌++◌, Option}
-use Rattle.cam_base.specs.declared.place.Fault.{Fault}
-use Rattle.adl_ast.specs.declared.source.Source.{Source}
+use Rattle.adl_meaning.specs.Below.{Fault, Source}
 use Rattle.adl_meaning.specs.Faults.{least}
 use Rattle.adl_meaning.specs.SecondAssembly.{second_assemblies}
 use Rattle.adl_meaning.specs.NoAssembly.{no_assembly}

@@ -2,10 +2,8 @@
 -- that of an instance of its component, and so on. Names of groups are in no path. The empty path stands for the body
 -- itself. A leaf is an instance whose component has no composition.
 use Rattle.std.specs.Prelude.{◌≡◌, ℕ, zero, suc, Bool, false, if◌then◌else◌, List, [], ◌∷◌, map, length, Option, Some}
-use Rattle.std.specs.List.{flat_map}
+use Rattle.adl_meaning.specs.Below.{bytes_eq, flat_map, option_and_then}
 use Rattle.std.specs.Cmp.Lexicographic.{pointwise}
-use Rattle.std.specs.Option.{option_and_then}
-use Rattle.std.specs.Str.{bytes_eq}
 use Rattle.adl_meaning.specs.Hierarchy.{Hierarchy, Part, top_number, body, is_composite, part_named}
 use Rattle.adl_meaning.specs.Items.{Name}
 

@@ -1,10 +1,8 @@
 -- Placement stands at the name of a device's instance where the device is below a group, and at the name of a connection
 -- of direct calls whose ends aren't all in one domain.
 use Rattle.std.specs.Prelude.{ℕ, ◌==◌, Bool, true, false, ◌&&◌, not, List, [], ◌∷◌, ◌++◌, Option, Some, None, is_some}
-use Rattle.std.specs.List.{flat_map, list_all, slice_get}
-use Rattle.std.specs.Option.{option_and_then}
+use Rattle.adl_meaning.specs.Below.{Fault, flat_map, list_all, option_and_then, slice_get}
 use Rattle.cam_base.specs.declared.code.Code.TheVariants as code
-use Rattle.cam_base.specs.declared.place.Fault.{Fault}
 use Rattle.adl_meaning.specs.declared.connector.Connector.{Connector}
 use Rattle.adl_meaning.specs.declared.connector.Connector.TheVariants.{Rpc, Notification, SharedMemory, Mmio, Interrupt, Direct}
 use Rattle.adl_meaning.specs.declared.flat.Flat.{Flat}

@@ -2,13 +2,8 @@
 -- it, directly or through others. Components are told by number, so that one whose name an earlier one has holds others
 -- and is held by none. Instances count in each composition of a component, in groups or not.
 use Rattle.std.specs.Prelude.{ℕ, List, [], map, Option, Some, None, option_map}
-use Rattle.std.specs.List.{flat_map, filter_map, find, enumerate_from}
-use Rattle.std.specs.Str.{bytes_eq}
+use Rattle.adl_meaning.specs.Below.{Component, Fault, Instance, Source, bytes_eq, enumerate_from, filter_map, find, flat_map}
 use Rattle.cam_base.specs.declared.code.Code.TheVariants as code
-use Rattle.cam_base.specs.declared.place.Fault.{Fault}
-use Rattle.adl_ast.specs.declared.component.Component.{Component}
-use Rattle.adl_ast.specs.declared.composition.Instance.{Instance}
-use Rattle.adl_ast.specs.declared.source.Source.{Source}
 use Rattle.adl_meaning.specs.Faults.{at_word, where_true}
 use Rattle.adl_meaning.specs.Graph.{is_held}
 use Rattle.adl_meaning.specs.Holding.{instances_in}

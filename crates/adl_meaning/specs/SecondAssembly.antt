@@ -1,9 +1,7 @@
 -- SecondAssembly stands at the keyword of each assembly that isn't the first, in the order of files and bytes.
 use Rattle.std.specs.Prelude.{List, map, drop}
 use Rattle.cam_base.specs.declared.code.Code.TheVariants as code
-use Rattle.cam_base.specs.declared.place.Fault.{Fault}
-use Rattle.adl_ast.specs.declared.composition.Assembly.{Assembly}
-use Rattle.adl_ast.specs.declared.source.Source.{Source}
+use Rattle.adl_meaning.specs.Below.{Assembly, Fault, Source}
 use Rattle.adl_meaning.specs.Faults.{at_keyword}
 use Rattle.adl_meaning.specs.Items.{assemblies}
 use Rattle.adl_meaning.specs.declared.item_at.ItemAt.{ItemAt}

@@ -2,12 +2,8 @@
 -- and 16,384 ends. The fault of a limit stands at the keyword of the assembly, and its name says which one is passed. All
 -- stand at one place, so the first of them in this order is told. Numbers are plain sums over paths, however large.
 use Rattle.std.specs.Prelude.{ℕ, nat_lt, List, [], ◌∷◌, ◌++◌, map, length, max, codes, Option}
-use Rattle.std.specs.List.{flat_map}
+use Rattle.adl_meaning.specs.Below.{Assembly, End, Fault, Source, flat_map}
 use Rattle.cam_base.specs.declared.code.Code.TheVariants as code
-use Rattle.cam_base.specs.declared.place.Fault.{Fault}
-use Rattle.adl_ast.specs.declared.composition.Assembly.{Assembly}
-use Rattle.adl_ast.specs.declared.composition.End.{End}
-use Rattle.adl_ast.specs.declared.source.Source.{Source}
 use Rattle.adl_meaning.specs.Faults.{least, where_true}
 use Rattle.adl_meaning.specs.declared.item_at.ItemAt.{ItemAt}
 use Rattle.adl_meaning.specs.Hierarchy.{Hierarchy, hierarchy_of}

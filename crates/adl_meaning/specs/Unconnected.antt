@@ -1,13 +1,9 @@
 -- Unconnected stands at an interface that a component uses without `maybe`, where an instance of it is a leaf whose interface
 -- no end joins.
 use Rattle.std.specs.Prelude.{ℕ, Bool, ◌||◌, not, List, []}
-use Rattle.std.specs.List.{flat_map, list_any, enumerate_from}
-use Rattle.std.specs.Option.{option_map_or}
+use Rattle.adl_meaning.specs.Below.{Fault, Interface, Member, enumerate_from, flat_map, list_any, option_map_or}
 use Rattle.cam_base.specs.declared.code.Code.TheVariants as code
-use Rattle.cam_base.specs.declared.place.Fault.{Fault}
-use Rattle.adl_ast.specs.declared.component.Interface.{Interface}
 use Rattle.adl_ast.specs.declared.component.InterfaceKind.TheVariants as kinds
-use Rattle.adl_ast.specs.declared.component.Member.{Member}
 use Rattle.adl_ast.specs.declared.component.Member.TheVariants as members
 use Rattle.adl_meaning.specs.Export.{same_kind}
 use Rattle.adl_meaning.specs.Faults.{at_word, where_false}

@@ -14,29 +14,13 @@
 --
 -- Where the type of an instance is unknown, the words behind that instance aren't. A name that stands twice means the first.
 use Rattle.std.specs.Prelude.{Bool, true, false, ◌||◌, not, List, [], ◌∷◌, ◌++◌, Option, Some, None, is_some}
-use Rattle.std.specs.List.{flat_map}
-use Rattle.std.specs.Option.{option_and_then}
+use Rattle.adl_meaning.specs.Below.{Assembly, Composition, Configuration, Connection, Fault, Id, Instance, Interface, InterfaceKind, Item, Line, Member, Setter, Setting, Source, flat_map, option_and_then}
 use Rattle.cam_base.specs.declared.code.Code.TheVariants as code
-use Rattle.cam_base.specs.declared.place.Fault.{Fault}
-use Rattle.adl_ast.specs.declared.component.Interface.{Interface}
-use Rattle.adl_ast.specs.declared.component.InterfaceKind.{InterfaceKind}
 use Rattle.adl_ast.specs.declared.component.InterfaceKind.TheVariants as kinds
-use Rattle.adl_ast.specs.declared.component.Member.{Member}
 use Rattle.adl_ast.specs.declared.component.Member.TheVariants as members
-use Rattle.adl_ast.specs.declared.composition.Assembly.{Assembly}
-use Rattle.adl_ast.specs.declared.composition.Composition.{Composition}
-use Rattle.adl_ast.specs.declared.composition.Connection.{Connection}
-use Rattle.adl_ast.specs.declared.composition.Instance.{Instance}
-use Rattle.adl_ast.specs.declared.composition.Line.{Line}
 use Rattle.adl_ast.specs.declared.composition.Line.TheVariants as lines
-use Rattle.adl_ast.specs.declared.configuration.Configuration.{Configuration}
-use Rattle.adl_ast.specs.declared.configuration.Setter.{Setter}
 use Rattle.adl_ast.specs.declared.configuration.Setter.TheVariants as setters
-use Rattle.adl_ast.specs.declared.configuration.Setting.{Setting}
-use Rattle.adl_ast.specs.declared.file.Item.{Item}
 use Rattle.adl_ast.specs.declared.file.Item.TheVariants as items
-use Rattle.adl_ast.specs.declared.id.Id.{Id}
-use Rattle.adl_ast.specs.declared.source.Source.{Source}
 use Rattle.adl_meaning.specs.Connectors.{connector_of}
 use Rattle.adl_meaning.specs.Faults.{at_word, where_false}
 use Rattle.adl_meaning.specs.Holding.{Held, an_instance, a_group, a_connection, held_as}

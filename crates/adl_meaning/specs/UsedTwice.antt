@@ -1,9 +1,8 @@
 -- UsedTwice stands at an end that joins an interface of a leaf that another end joins too, where one end alone may join it,
 -- or where both ends are of one connection. Its name is the last word of the end.
 use Rattle.std.specs.Prelude.{◌==◌, nat_le, Bool, ◌&&◌, ◌||◌, List}
-use Rattle.std.specs.List.{flat_map, count_by}
+use Rattle.adl_meaning.specs.Below.{Fault, count_by, flat_map}
 use Rattle.cam_base.specs.declared.code.Code.TheVariants as code
-use Rattle.cam_base.specs.declared.place.Fault.{Fault}
 use Rattle.adl_meaning.specs.Faults.{where_true}
 use Rattle.adl_meaning.specs.Hierarchy.{Hierarchy}
 use Rattle.adl_meaning.specs.JoinedEnds.{JoinedEnd, joined_ends, is_at}

@@ -6,14 +6,8 @@
 -- In one configuration the first setting of a path and a name counts. What a value was taken from is told with it: the
 -- last word of the setting in which the literal stands, or the name of the attribute in whose declaration it stands.
 use Rattle.std.specs.Prelude.{ℕ, zero, suc, ◌-◌, Bool, false, ◌&&◌, if◌then◌else◌, List, [], ◌∷◌, map, length, take, drop, Option, Some, None, option_map}
-use Rattle.std.specs.List.{find, list_any}
-use Rattle.std.specs.Option.{option_and_then, option_map_or, option_or}
-use Rattle.std.specs.Str.{bytes_eq}
-use Rattle.adl_ast.specs.declared.component.Attribute.{Attribute}
-use Rattle.adl_ast.specs.declared.configuration.Setter.{Setter}
+use Rattle.adl_meaning.specs.Below.{Attribute, Id, Setter, Setting, bytes_eq, find, list_any, option_and_then, option_map_or, option_or}
 use Rattle.adl_ast.specs.declared.configuration.Setter.TheVariants as setters
-use Rattle.adl_ast.specs.declared.configuration.Setting.{Setting}
-use Rattle.adl_ast.specs.declared.id.Id.{Id}
 use Rattle.adl_ast.specs.declared.value.Value.{Value}
 use Rattle.adl_meaning.specs.Export.{last_name}
 use Rattle.adl_meaning.specs.Hierarchy.{Hierarchy, Body, body, top_number, part_named}

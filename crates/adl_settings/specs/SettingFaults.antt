@@ -18,7 +18,8 @@ faults_on ends = bad_in_connection ends ++ missing_in ends ++ badges_twice_in en
 -- the faults of values, of leaves, of each connection and of all
 abbrev pub value_faults : List LeafFound → List (List Found) → List Fault
 value_faults leaves connections =
-    flat_map bad_in_leaf leaves ++ flat_map faults_on connections ++ overlaps (regions connections) ++ irqs_twice (irqs connections)
+    flat_map bad_in_leaf leaves ++ flat_map faults_on connections ++ overlaps (regions connections)
+    ++ irqs_twice (irqs connections)
 
 abbrev pub setting_faults_in : Hierarchy → Source → Flat → List Fault
 setting_faults_in h s flat = settings_twice h ++ value_faults (leaves_found h flat) (founds_in h s flat)

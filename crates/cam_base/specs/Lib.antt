@@ -27,3 +27,5 @@ pub mod LinesLeft
 pub mod Parts
 pub mod LineTexts
 pub mod Unread
+pub mod Comments
+pub mod Quoted

@@ -1,5 +1,5 @@
 -- Identifiers: a letter or an underscore, then letters, digits and underscores, 1 to 127 bytes.
-use Rattle.std.specs.Prelude.{ℕ, Bool, false, ◌&&◌, ◌||◌, leb, List, [], ◌∷◌, length}
+use Rattle.std.specs.Prelude.{ℕ, Bool, false, ◌&&◌, ◌||◌, leb, List, [], ◌∷◌, length, if◌then◌else◌}
 use Rattle.std.specs.List.{list_all}
 
 abbrev pub is_letter : ℕ → Bool
@@ -16,3 +16,7 @@ is_name (b ∷ bs) = leb (length bs) 126 && (is_letter b && list_all is_word_byt
 abbrev pub is_word : List ℕ → Bool
 is_word [] = false
 is_word (b ∷ bs) = is_letter b && list_all is_word_byte bs
+
+-- a word as a name; the words of a text are names, other bytes stand for _
+abbrev pub named : List ℕ → List ℕ
+named text = if is_name text then text else 95 ∷ []

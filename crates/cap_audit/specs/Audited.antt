@@ -1,14 +1,8 @@
 -- The edges that an audit finds: those of the boot state that no capability of a CNode makes, and those that the Spread
 -- makes. That they are exactly the edges that runs reach is a law.
 use Rattle.std.specs.Prelude.{◌≡◌, ℕ, true, List}
-use Rattle.cap_model.specs.ObjectLabels.{label_of}
-use Rattle.authorities.specs.declared.authority.Authority.{Authority}
-use Rattle.authorities.specs.declared.authority.Authority.TheVariants.{AsyncSend, Reply}
-use Rattle.cap_model.specs.Auth.{Structural}
+use Rattle.cap_audit.specs.Below.{AsyncSend, Authority, Cap, Reply, Spec, Structural, boot, label_of}
 use Rattle.cap_model.specs.Confers.{confers}
-use Rattle.cap_model.specs.State.{boot}
-use Rattle.cap_model.specs.declared.cap.Cap.{Cap}
-use Rattle.cap_model.specs.declared.spec.Spec.{Spec}
 use Rattle.cap_audit.specs.Spread.{HasRoot, Spread}
 use Rattle.cap_audit.specs.Within.{Calls, Binds, Maps}
 

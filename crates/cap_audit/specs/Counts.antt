@@ -1,10 +1,7 @@
 -- How many CNodes a spec has, and how many capabilities stand in their slots.
 use Rattle.std.specs.Prelude.{ℕ, length, Some}
-use Rattle.std.specs.List.{sum_by}
-use Rattle.cap_model.specs.declared.object.Object.{Object}
+use Rattle.cap_audit.specs.Below.{Entry, Object, Spec, sum_by}
 use Rattle.cap_model.specs.declared.object.Object.TheVariants as objects
-use Rattle.cap_model.specs.declared.spec.Entry.{Entry}
-use Rattle.cap_model.specs.declared.spec.Spec.{Spec}
 use Rattle.cap_audit.specs.Spread.{slots_of}
 
 -- 1 for a CNode, 0 for another object

@@ -1,6 +1,6 @@
 -- Words for the contracts of private functions alone: what a search has done for the pairs that it has looked at.
 use Rattle.std.specs.Prelude.{◌≡◌, ◌<◌, ℕ, true, List, length, slice_get, slice_index, slice_index_or, slice_set, Option, Some, None}
-use Rattle.std.specs.List.{Contains}
+use Rattle.cap_audit.specs.Below.{Cap, Contains, Spec, is_at}
 use Rattle.cap_audit.specs.Hubs.{Gives, Takes, Gathering, nobody, IsHub, GivesAt, TakesAt, Fills, Widened, Comes}
 use Rattle.cap_audit.specs.Search.{Found, is_known, IsFound}
 use Rattle.cap_audit.specs.Spread.{HasRoot, slots_at}
@@ -11,10 +11,7 @@ use Rattle.cap_audit.specs.declared.hubs.Passage.{Passage}
 use Rattle.cap_audit.specs.declared.hubs.Passage.TheVariants as passages
 use Rattle.cap_audit.specs.declared.hubs.Side.{Side}
 use Rattle.cap_audit.specs.declared.hubs.Side.TheVariants as sides
-use Rattle.cap_model.specs.Kinds.{is_at}
-use Rattle.cap_model.specs.declared.cap.Cap.{Cap}
 use Rattle.cap_model.specs.declared.kind.Kind.TheVariants as kinds
-use Rattle.cap_model.specs.declared.spec.Spec.{Spec}
 
 abbrev pub Allows : Passage → Side → Cap → Type 0
 Allows passage sides.Giving cap = Gives passage cap

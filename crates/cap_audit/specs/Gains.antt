@@ -1,17 +1,6 @@
 -- Words for the contracts of private functions alone: a report in the making, and how it grows.
 use Rattle.std.specs.Prelude.{◌≡◌, ◌≢◌, ◌<◌, ◌⊎◌, ℕ, true, List, length, slice_get, slice_index, slice_index_or, Some}
-use Rattle.std.specs.List.{Contains}
-use Rattle.cap_machine.specs.Sources.{OfCap}
-use Rattle.cap_model.specs.ObjectLabels.{label_of}
-use Rattle.cap_model.specs.Tables.{has, Has}
-use Rattle.authorities.specs.declared.authority.Authority.{Authority}
-use Rattle.cap_model.specs.declared.edge.Edge.{Edge}
-use Rattle.cap_machine.specs.Runs.{Run}
-use Rattle.cap_machine.specs.declared.step.Step.{Step}
-use Rattle.cap_model.specs.State.{State, boot, node_at, content_in}
-use Rattle.cap_model.specs.declared.cap.Cap.{Cap}
-use Rattle.cap_model.specs.declared.spec.Spec.{Spec}
-use Rattle.cap_model.specs.declared.state.Content.TheVariants.{Capability}
+use Rattle.cap_audit.specs.Below.{Authority, Cap, Capability, Contains, Edge, Has, OfCap, Run, Spec, State, Step, boot, content_in, has, label_of, node_at}
 use Rattle.cap_audit.specs.Quiet.{Quiet}
 use Rattle.cap_audit.specs.Search.{Found, HoldsAt, held_by}
 use Rattle.cap_audit.specs.Shows.{Shows}

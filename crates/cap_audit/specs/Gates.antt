@@ -1,16 +1,7 @@
 -- Words for the contracts of private functions alone: who may call at an endpoint, and which threads have a root.
 use Rattle.std.specs.Prelude.{◌≡◌, ◌≢◌, ◌<◌, ◌⊎◌, ◌∷◌, ◌++◌, ◌==◌, if◌then◌else◌, ℕ, true, List, [], Option, Some, None, length, slice_get, slice_index, slice_index_or, slice_set}
-use Rattle.std.specs.List.{Contains}
-use Rattle.cap_model.specs.Edges.{edge}
-use Rattle.cap_model.specs.ObjectLabels.{label_of}
-use Rattle.cap_model.specs.Tables.{has}
-use Rattle.authorities.specs.declared.authority.Authority.TheVariants.{Reply}
-use Rattle.cap_model.specs.declared.edge.Edge.{Edge}
-use Rattle.cap_machine.specs.declared.step.Step.{Step}
+use Rattle.cap_audit.specs.Below.{Cap, Contains, Edge, IsKept, Reply, Spec, Step, edge, has, label_of}
 use Rattle.cap_machine.specs.declared.step.Step.TheVariants as steps
-use Rattle.cap_model.specs.Kept.{IsKept}
-use Rattle.cap_model.specs.declared.cap.Cap.{Cap}
-use Rattle.cap_model.specs.declared.spec.Spec.{Spec}
 use Rattle.cap_audit.specs.Search.{Found, HoldsAt, held_by}
 use Rattle.cap_audit.specs.Spread.{HasRoot, HaveRoots, Meet, MayCall}
 use Rattle.cap_audit.specs.declared.found.Held.{Held}

@@ -2,7 +2,7 @@
 -- hub for grants and one for replies: what the roots among its givers hold goes to the roots among its takers. A root
 -- that ways join in both directions with one that is there already needn't be put in.
 use Rattle.std.specs.Prelude.{◌≡◌, ◌≤◌, ℕ, true, List, [], length}
-use Rattle.std.specs.List.{Contains}
+use Rattle.cap_audit.specs.Below.{Cap, Contains, Spec, is_at}
 use Rattle.cap_audit.specs.Search.{Found, HoldsAt}
 use Rattle.cap_audit.specs.Spread.{HasRoot, MayGrant, MayCall}
 use Rattle.cap_audit.specs.Ways.{Lanes, Path, AreWays, Widens, HaveGone, Later}
@@ -11,10 +11,7 @@ use Rattle.cap_audit.specs.declared.found.Course.TheVariants as courses
 use Rattle.cap_audit.specs.declared.hubs.Member.{Member}
 use Rattle.cap_audit.specs.declared.hubs.Passage.{Passage}
 use Rattle.cap_audit.specs.declared.hubs.Passage.TheVariants as passages
-use Rattle.cap_model.specs.Kinds.{is_at}
-use Rattle.cap_model.specs.declared.cap.Cap.{Cap}
 use Rattle.cap_model.specs.declared.kind.Kind.TheVariants as kinds
-use Rattle.cap_model.specs.declared.spec.Spec.{Spec}
 
 abbrev pub MayListen : Cap → Type 0
 MayListen cap = cap.rights.read ≡ true

@@ -1,6 +1,6 @@
 -- Words for the contracts of private functions alone: which objects stand for others that hold the same.
 use Rattle.std.specs.Prelude.{◌≡◌, ◌<◌, ◌⊎◌, ℕ, List, Option, None, Some, length, slice_get, slice_index, slice_index_or}
-use Rattle.cap_model.specs.declared.spec.Spec.{Spec}
+use Rattle.cap_audit.specs.Below.{Spec}
 use Rattle.cap_audit.specs.Search.{Found}
 use Rattle.cap_audit.specs.Spread.{HasRoot}
 use Rattle.cap_audit.specs.declared.found.Pair.{Pair}

@@ -1,3 +1,4 @@
+pub mod Below
 pub mod Counts
 pub mod Gains
 pub mod Gates

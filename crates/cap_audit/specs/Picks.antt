@@ -1,16 +1,8 @@
 -- Words for the contracts of private functions alone: the capabilities of a CNode that a kind of step takes.
 use Rattle.std.specs.Prelude.{◌≡◌, ◌&&◌, ◌||◌, ◌==◌, ◌∷◌, [], ℕ, Bool, true, Option, Some, None, if◌then◌else◌, length, slice_get, slice_index_or, List}
-use Rattle.cap_machine.specs.Sources.{OfCap}
-use Rattle.cap_model.specs.Edges.{edge}
-use Rattle.cap_model.specs.ObjectLabels.{label_of}
-use Rattle.authorities.specs.declared.authority.Authority.TheVariants.{AsyncSend}
-use Rattle.cap_model.specs.declared.edge.Edge.{Edge}
-use Rattle.cap_machine.specs.declared.step.Step.{Step}
+use Rattle.cap_audit.specs.Below.{AsyncSend, Cap, Edge, OfCap, Spec, Step, edge, is_at, is_space_root, label_of}
 use Rattle.cap_machine.specs.declared.step.Step.TheVariants as steps
-use Rattle.cap_model.specs.Kinds.{is_at, is_space_root}
-use Rattle.cap_model.specs.declared.cap.Cap.{Cap}
 use Rattle.cap_model.specs.declared.kind.Kind.TheVariants as kinds
-use Rattle.cap_model.specs.declared.spec.Spec.{Spec}
 use Rattle.cap_audit.specs.Search.{Found, HoldsAt, held_by, whole}
 use Rattle.cap_audit.specs.Spread.{HasRoot}
 use Rattle.cap_audit.specs.declared.found.Held.{Held}

@@ -1,11 +1,8 @@
 -- What an audit refuses: a CNode that holds a capability to a thread, by the first CNode and its least slot.
 use Rattle.std.specs.Prelude.{◌≡◌, ◌<◌, ◌≤◌, ◌⊎◌, ℕ, true, List, slice_get, Some}
-use Rattle.std.specs.List.{Contains}
+use Rattle.cap_audit.specs.Below.{Cap, Contains, Spec, is_at}
 use Rattle.cap_audit.specs.Spread.{slots_at}
-use Rattle.cap_model.specs.Kinds.{is_at}
-use Rattle.cap_model.specs.declared.cap.Cap.{Cap}
 use Rattle.cap_model.specs.declared.kind.Kind.TheVariants as kinds
-use Rattle.cap_model.specs.declared.spec.Spec.{Spec}
 
 -- a CNode holds a capability to a thread here, and none before
 pub record IsFirstThread (spec : Spec) (cnode : ℕ) (slot : ℕ) : Type 0 where

@@ -1,18 +1,12 @@
 -- What `audit` answers.
 use Rattle.std.specs.Prelude.{◌≡◌, ◌≢◌, ◌<◌, ◌*◌, ◌↔◌, ℕ, List}
-use Rattle.cap_model.specs.Tables.{Has}
-use Rattle.authorities.specs.declared.authority.Authority.{Authority}
-use Rattle.cap_model.specs.declared.edge.Edge.{Edge}
+use Rattle.cap_audit.specs.Below.{Authority, Edge, Has, Reaches, Spec, Step, boot}
 use Rattle.cap_audit.specs.Refusals.{IsFirstThread}
 use Rattle.cap_audit.specs.Shows.{IsRun, Shows}
 use Rattle.cap_audit.specs.Spread.{HoldsNoThread}
 use Rattle.cap_audit.specs.Counts.{caps_of, cnodes_of}
 use Rattle.cap_audit.specs.declared.report.AuditRefusal.{AuditRefusal}
 use Rattle.cap_audit.specs.declared.report.AuditRefusal.TheVariants.{HoldsTcb, Limit, NoMemory}
-use Rattle.cap_machine.specs.Runs.{Reaches}
-use Rattle.cap_machine.specs.declared.step.Step.{Step}
-use Rattle.cap_model.specs.State.{boot}
-use Rattle.cap_model.specs.declared.spec.Spec.{Spec}
 
 -- the edges are those between different labels that some run reaches; the steps are a run that shows each
 pub record IsReport (spec : Spec) (labels : List ℕ) (edges : List Edge) (steps : List Step) : Type 0 where

@@ -3,7 +3,7 @@
 -- A value is a capability of a CNode slot, by its place in a list. What is found is that a CNode holds a value, at a
 -- number of the state that the steps lead to.
 use Rattle.std.specs.Prelude.{◌≡◌, ◌<◌, ℕ, ◌+◌, Bool, true, false, if◌then◌else◌, List, [], ◌∷◌, ◌++◌, length, slice_get, slice_index, slice_index_or, slice_set, Some, suc}
-use Rattle.std.specs.List.{Contains}
+use Rattle.cap_audit.specs.Below.{Cap, Capability, Contains, Rights, Run, Spec, State, Step, boot, content_in, is_at, node_at}
 use Rattle.cap_audit.specs.Quiet.{Quiet}
 use Rattle.cap_audit.specs.Spread.{HasRoot, HaveRoots, Meet, MayGrant, MayCall}
 use Rattle.cap_audit.specs.declared.found.Course.{Course}
@@ -11,16 +11,8 @@ use Rattle.cap_audit.specs.declared.found.Course.TheVariants as courses
 use Rattle.cap_audit.specs.declared.found.Held.{Held}
 use Rattle.cap_audit.specs.declared.found.Pair.{Pair}
 use Rattle.cap_audit.specs.declared.found.Way.{Way}
-use Rattle.cap_machine.specs.Runs.{Run}
-use Rattle.cap_machine.specs.declared.step.Step.{Step}
 use Rattle.cap_machine.specs.declared.step.Step.TheVariants as steps
-use Rattle.cap_model.specs.Kinds.{is_at}
-use Rattle.cap_model.specs.State.{State, node_at, content_in, boot}
-use Rattle.cap_model.specs.declared.cap.Cap.{Cap}
 use Rattle.cap_model.specs.declared.kind.Kind.TheVariants as kinds
-use Rattle.cap_model.specs.declared.rights.Rights.{Rights}
-use Rattle.cap_model.specs.declared.spec.Spec.{Spec}
-use Rattle.cap_model.specs.declared.state.Content.TheVariants.{Capability}
 
 -- what contracts see of what was found; held, known and nexts go by the objects' places
 pub record Found : Type 0 where

@@ -1,14 +1,6 @@
 -- Words for the contracts of private functions alone: what the parts of an audit show.
 use Rattle.std.specs.Prelude.{◌≡◌, ◌⊎◌, ℕ, List, length}
-use Rattle.cap_model.specs.Edges.{edge}
-use Rattle.cap_model.specs.ObjectLabels.{label_of}
-use Rattle.authorities.specs.declared.authority.Authority.TheVariants.{Reply}
-use Rattle.cap_model.specs.declared.edge.Edge.{Edge}
-use Rattle.cap_model.specs.Auth.{Auth}
-use Rattle.cap_model.specs.Kept.{IsKept}
-use Rattle.cap_model.specs.State.{boot}
-use Rattle.cap_model.specs.declared.cap.Cap.{Cap}
-use Rattle.cap_model.specs.declared.spec.Spec.{Spec}
+use Rattle.cap_audit.specs.Below.{Auth, Cap, Edge, IsKept, Reply, Spec, boot, edge, label_of}
 use Rattle.cap_audit.specs.Search.{Found}
 use Rattle.cap_audit.specs.Spread.{HasRoot, HaveRoots, Meet, MayCall, Spread}
 use Rattle.cap_audit.specs.Gains.{IsAll, IsSoFar, Made}

@@ -1,11 +1,6 @@
 -- What a list of steps shows: it is a run, and an edge stands in the state that some front of it leads to.
 use Rattle.std.specs.Prelude.{◌≡◌, ℕ, List, ◌++◌}
-use Rattle.authorities.specs.declared.authority.Authority.{Authority}
-use Rattle.cap_machine.specs.declared.step.Step.{Step}
-use Rattle.cap_machine.specs.Runs.{Run}
-use Rattle.cap_model.specs.Auth.{Auth}
-use Rattle.cap_model.specs.State.{State}
-use Rattle.cap_model.specs.declared.spec.Spec.{Spec}
+use Rattle.cap_audit.specs.Below.{Auth, Authority, Run, Spec, State, Step}
 
 -- from s some front of the steps leads to a state that has the edge
 pub record Shows (spec : Spec) (labels : List ℕ) (s : State) (steps : List Step) (l : ℕ) (a : Authority) (m : ℕ) : Type 0 where

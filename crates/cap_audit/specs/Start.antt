@@ -1,18 +1,12 @@
 -- Words for the contracts of private functions alone: how a search begins, with the capabilities of all slots.
 use Rattle.std.specs.Prelude.{◌≡◌, ◌<◌, ◌⊎◌, ℕ, zero, suc, Bool, true, false, List, [], ◌∷◌, ◌++◌, map, length, slice_get, slice_index, slice_set, Option, Some, None}
-use Rattle.std.specs.List.{Contains}
+use Rattle.cap_audit.specs.Below.{Cap, Contains, Entry, Object, Spec, boot, is_at, node_at}
 use Rattle.cap_audit.specs.Search.{Found, held_by, marks_of, is_known, HoldsAt}
 use Rattle.cap_audit.specs.Spread.{slots_at}
 use Rattle.cap_audit.specs.declared.found.Held.{Held}
 use Rattle.cap_audit.specs.declared.found.Pair.{Pair}
-use Rattle.cap_model.specs.Kinds.{is_at}
-use Rattle.cap_model.specs.State.{node_at, boot}
-use Rattle.cap_model.specs.declared.cap.Cap.{Cap}
 use Rattle.cap_model.specs.declared.kind.Kind.TheVariants as kinds
-use Rattle.cap_model.specs.declared.object.Object.{Object}
 use Rattle.cap_model.specs.declared.object.Object.TheVariants as objects
-use Rattle.cap_model.specs.declared.spec.Entry.{Entry}
-use Rattle.cap_model.specs.declared.spec.Spec.{Spec}
 
 abbrev pub empties : ℕ → List (List Held)
 empties zero = []

@@ -1,11 +1,10 @@
 -- Words for the contracts of private functions alone: ways from one CNode to another, and where they lead together.
 use Rattle.std.specs.Prelude.{◌≡◌, ◌<◌, ◌≤◌, ◌⊎◌, ℕ, ◌+◌, true, List, [], ◌∷◌, ◌++◌, length, slice_get, slice_index, slice_index_or, slice_set, Some}
-use Rattle.std.specs.List.{Contains}
+use Rattle.cap_audit.specs.Below.{Contains, Spec}
 use Rattle.cap_audit.specs.Search.{Found, is_known, IsWay, IsFound, Grows, unknowns}
 use Rattle.cap_audit.specs.declared.found.Held.{Held}
 use Rattle.cap_audit.specs.declared.found.Pair.{Pair}
 use Rattle.cap_audit.specs.declared.found.Way.{Way}
-use Rattle.cap_model.specs.declared.spec.Spec.{Spec}
 
 -- what contracts see of a net: by the objects' places the ways out, and classes of objects that ways join in both
 -- directions

@@ -1,7 +1,7 @@
 -- The authorities of a state: which label has which authority over which.
 --
--- Held edges go from the label of a CNode, for what each of its capabilities confers, to the label of the object. Structural edges
--- go:
+-- Held edges go from the label of a CNode, for what each of its capabilities confers, to the label of the object. Structural
+-- edges go:
 -- - from the label of a CNode, Reply, to the label of the caller of each saved reply in it;
 -- - from a thread's label, Control, to the labels of its root and its space;
 -- - from a thread's label, for what the capability to its IPC buffer confers (Read or Write), to the label of the buffer;
