@@ -1,16 +1,5 @@
 -- Two rules that spell the same token lists begin the same ones, where each part of them has a spelling.
-use Rattle.std.proofs.Common.{◌≡◌, true, List}
-use Rattle.std.specs.Prelude.{◌↔◌}
-use Rattle.cam_base.specs.Spelling.{Meaning, Spells}
-use Rattle.cam_base.specs.Depth.{deep}
-use Rattle.cam_base.specs.Spellable.{parts_have_spellings}
-use Rattle.cam_base.proofs.GrammarFronts.{spelling_front}
-use Rattle.cam_base.proofs.Completed.{begun_goes_on}
-use Rattle.adl_ast.specs.declared.seen.Seen.{Seen}
-use Rattle.adl_ast.specs.declared.value.Value.{Value}
-use Rattle.adl_ast.specs.Codes.{token_code}
-use Rattle.adl_ast.specs.Forms.{Rule, nested_line}
-use Rattle.adl_ast.specs.Spelling.{limit, IsSpelledBy, IsSpelledAtAnyDepth, IsBegun}
+use Rattle.adl_ast.proofs.Common.{IsBegun, IsSpelledAtAnyDepth, IsSpelledBy, List, Meaning, Rule, Seen, Spells, Value, begun_goes_on, deep, limit, nested_line, parts_have_spellings, spelling_front, token_code, true, ◌↔◌, ◌≡◌}
 use Rattle.adl_ast.proofs.Spellings.{samples, nested_spellable}
 
 module _ {A : Type 0} (f g : Rule A) (to : (m : Meaning Seen Value) (x : A) (ts : List Seen) → Spells token_code m f x ts

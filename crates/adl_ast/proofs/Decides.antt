@@ -1,15 +1,11 @@
 -- The next token decides each line that is repeated and each public form; the bracketed value is a line that may stand
 -- within itself.
-use Rattle.std.proofs.Common.{◌≡◌, ℕ, true, [], ◌∷◌, refl, ◌⊎◌, inl, inr}
-use Rattle.std.specs.Prelude.{◌==◌}
-use Rattle.std.proofs.lemmas.Bool.{cases_Bool}
-use Rattle.cam_base.specs.Form.{among, behind}
-use Rattle.cam_base.specs.Deciding.{decides, further}
-use Rattle.cam_base.proofs.Depth.{IsLine}
+use Rattle.adl_ast.proofs.Common.{IsLine, [], among, behind, cases_Bool, composition_member_form, decides, dot_word, end_form, ended_form, entry_form, further, inl, inr, instance_form, mark_code, member_form, opens, param_form, proc_member_form}
+use Rattle.adl_ast.proofs.Common.{refl, setting_form, token_code, true, value_form, ℕ, ◌==◌, ◌∷◌, ◌≡◌, ◌⊎◌}
 use Rattle.cam_base.specs.declared.token.Mark.TheVariants as marks
-use Rattle.adl_ast.specs.Codes.{token_code, mark_code}
-use Rattle.adl_ast.specs.Spelling.{opens}
-use Rattle.adl_ast.specs.Forms.{value_line, value_form, values_line, list_line, entry_line, entry_form, entries_line, dictionary_line, nested_line, typed_line, import_line, direction_line, param_line, param_form, void_params_line, directed_line, undirected_line, other_params_line, params_line, method_line, proc_member_line, proc_member_form, procedure_line, instance_line, instance_form, group_line, dotted_line, dot_word, end_line, end_form, connection_line, export_line, composition_member_line, composition_member_form, composition_line, path_line, setter_line, setting_line, setting_form, configuration_line, assembly_line, plain_port_line, buf_line, data_line, dataport_line, interface_line, attribute_line, lock_line, flag_line, member_line, member_form, component_line, item_line, ended_line, ended_form, file_line}
+use Rattle.adl_ast.specs.Forms.{value_line, values_line, list_line, entry_line, entries_line, dictionary_line, nested_line, typed_line, import_line, direction_line, param_line, void_params_line, directed_line, undirected_line, other_params_line}
+use Rattle.adl_ast.specs.Forms.{params_line, method_line, proc_member_line, procedure_line, instance_line, group_line, dotted_line, end_line, connection_line, export_line, composition_member_line, composition_line, path_line, setter_line}
+use Rattle.adl_ast.specs.Forms.{setting_line, configuration_line, assembly_line, plain_port_line, buf_line, data_line, dataport_line, interface_line, attribute_line, lock_line, flag_line, member_line, component_line, item_line, ended_line, file_line}
 
 -- a token among the brackets is the one or the other
 one_of_two : (c d e : ℕ) → among (d ∷ e ∷ []) c ≡ true → (among (d ∷ []) c ≡ true) ⊎ (among (e ∷ []) c ≡ true)
@@ -92,10 +88,6 @@ assembly_closed = refl
 pub param_decides : decides opens param_form ≡ true
 unfolding param_line direction_line typed_line
 param_decides = refl
-
-pub next_param_decides : decides opens (behind (mark_code marks.Comma) param_form) ≡ true
-unfolding param_line direction_line typed_line
-next_param_decides = refl
 
 pub proc_member_decides : decides opens proc_member_form ≡ true
 unfolding proc_member_line import_line method_line typed_line params_line void_params_line other_params_line directed_line

@@ -1,12 +1,10 @@
 -- What is repeated takes a token at least.
-use Rattle.std.proofs.Common.{ℕ, refl}
+use Rattle.adl_ast.proofs.Common.{[], behind, composition_member_form, dot_word, end_form, ended_form, entry_form, instance_form, limit, mark_code, member_form, nested_line, nests, opens, param_form, proc_member_form, reads, refl, setting_form}
+use Rattle.adl_ast.proofs.Common.{token_code, value_form, ℕ, ◌∷◌}
 use Rattle.cam_base.specs.declared.token.Mark.TheVariants as marks
-use Rattle.cam_base.specs.Form.{behind}
-use Rattle.cam_base.proofs.Loops.{Eats, eats}
-use Rattle.adl_ast.specs.Codes.{token_code, mark_code}
-use Rattle.adl_ast.specs.Forms.{value_form, entry_form, nested_line, instance_form, end_form, dot_word, composition_member_form, setting_form, param_form, proc_member_form, member_form, ended_form}
-use Rattle.adl_ast.specs.Spelling.{opens, nests, reads, limit}
-use Rattle.adl_ast.proofs.Decides.{nested_is, next_value_decides, next_entry_decides, instance_decides, end_decides, dot_word_decides, composition_member_decides, setting_decides, param_decides, next_param_decides, proc_member_decides, member_decides, ended_decides}
+use Rattle.cam_base.proofs.Loops.{Eats, behind_eats, eats}
+use Rattle.adl_ast.proofs.Decides.{nested_is, next_value_decides, next_entry_decides, instance_decides, end_decides, dot_word_decides, composition_member_decides, setting_decides, param_decides, proc_member_decides}
+use Rattle.adl_ast.proofs.Decides.{member_decides, ended_decides}
 
 pub next_value_eats : (room : ℕ) → Eats (nests room (behind (mark_code marks.Comma) value_form))
 next_value_eats room = eats token_code nested_line opens nested_is room (behind (mark_code marks.Comma) value_form)
@@ -45,5 +43,4 @@ pub ended_eats : Eats (reads ended_form)
 ended_eats = eats token_code nested_line opens nested_is limit ended_form ended_decides refl
 
 pub next_param_eats : Eats (reads (behind (mark_code marks.Comma) param_form))
-next_param_eats = eats token_code nested_line opens nested_is limit (behind (mark_code marks.Comma) param_form)
-    next_param_decides refl
+next_param_eats = behind_eats token_code (mark_code marks.Comma ∷ []) (reads param_form) param_eats

@@ -1,19 +1,9 @@
 -- The lines of interfaces, written plainly and so that the next token decides.
-use Rattle.std.proofs.Common.{◌≡◌, ℕ, true, List, [], ◌∷◌, ◌++◌, Option, Some, None, refl, sym, ap, ◌∙◌, append_assoc, ◌⊎◌, inl, inr}
-use Rattle.std.specs.Prelude.{◌==◌}
-use Rattle.std.proofs.lemmas.Bool.{cases_Bool}
-use Rattle.cam_base.specs.Form.{among}
-use Rattle.cam_base.specs.Spelling.{Meaning, Spells}
-use Rattle.cam_base.proofs.TerminalCodes.{true_is_not_false}
-use Rattle.adl_ast.specs.declared.seen.Seen.{Seen}
-use Rattle.adl_ast.specs.declared.value.Value.{Value}
-use Rattle.adl_ast.specs.declared.id.Id.{Id}
+use Rattle.adl_ast.proofs.Common.{Id, List, Meaning, None, Option, Seen, Some, Spells, Value, [], among, ap, append_assoc, buf_code, cases_Bool, id_of, inl, inr, interface_of, interface_written, not_buf_codes, plain_code, refl, sym, token_code, true}
+use Rattle.adl_ast.proofs.Common.{true_is_not_false, void_code, word_codes, ℕ, ◌++◌, ◌==◌, ◌∙◌, ◌∷◌, ◌≡◌, ◌⊎◌}
 use Rattle.adl_ast.specs.declared.component.Interface.{Interface}
 use Rattle.adl_ast.specs.declared.component.InterfaceKind.TheVariants as interfaces
-use Rattle.adl_ast.specs.Codes.{token_code, word_codes, not_buf_codes, void_code, buf_code, plain_code}
-use Rattle.adl_ast.specs.Seeing.{id_of}
-use Rattle.adl_ast.specs.Forms.{interface_of, interface_line, plain_port_line, buf_line, data_line, dataport_line}
-use Rattle.adl_ast.specs.Written.{interface_written}
+use Rattle.adl_ast.specs.Forms.{interface_line, plain_port_line, buf_line, data_line, dataport_line}
 
 not_buf_is_word : (c : ℕ) → among not_buf_codes c ≡ true → among word_codes c ≡ true
 not_buf_is_word c h = elim (cases_Bool (c == plain_code)) [

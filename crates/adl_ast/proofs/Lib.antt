@@ -1,3 +1,4 @@
+pub mod Common
 pub mod Agreement
 pub mod Decides
 pub mod Eats

@@ -1,18 +1,8 @@
 -- The parameters of a method, written plainly and so that the next token decides.
-use Rattle.std.proofs.Common.{◌≡◌, ℕ, Bool, true, false, List, [], ◌∷◌, ◌++◌, Some, None, refl, sym, ap, subst, ◌∙◌, append_assoc, ◌⊎◌, inl, inr}
-use Rattle.std.specs.Prelude.{◌==◌}
-use Rattle.std.proofs.lemmas.List.{append-nil}
-use Rattle.std.proofs.lemmas.Bool.{cases_Bool}
-use Rattle.cam_base.specs.Form.{among}
-use Rattle.cam_base.specs.Spelling.{Meaning, Spells}
-use Rattle.cam_base.proofs.TerminalCodes.{true_is_not_false}
-use Rattle.adl_ast.specs.declared.seen.Seen.{Seen}
-use Rattle.adl_ast.specs.declared.value.Value.{Value}
+use Rattle.adl_ast.proofs.Common.{Bool, List, Meaning, More, None, Params, Seen, Some, Spells, Value, [], among, ap, append-nil, append_assoc, brackets, cases_Bool, false, first_param, id_of, inl, inr, more_params, more_words, not_void_codes}
+use Rattle.adl_ast.proofs.Common.{param_form, param_of, params_written, plain_code, refl, subst, sym, token_code, true, true_is_not_false, typed_of, void_code, void_params_of, word_codes, ℕ, ◌++◌, ◌==◌, ◌∙◌, ◌∷◌, ◌≡◌, ◌⊎◌}
 use Rattle.adl_ast.specs.declared.procedure.Param.{Param}
-use Rattle.adl_ast.specs.Codes.{token_code, word_codes, not_void_codes, void_code, plain_code}
-use Rattle.adl_ast.specs.Seeing.{id_of}
-use Rattle.adl_ast.specs.Forms.{More, Params, typed_of, typed_line, more_words, brackets, param_of, param_form, param_line, more_params, first_param, directed_line, undirected_line, void_params_of, void_params_line, other_params_line, params_line}
-use Rattle.adl_ast.specs.Written.{params_written}
+use Rattle.adl_ast.specs.Forms.{typed_line, param_line, directed_line, undirected_line, void_params_line, other_params_line, params_line}
 use Rattle.adl_ast.proofs.TypedNames.{regroup}
 
 -- a word that isn't void is a word, and each word is void or not

@@ -1,15 +1,11 @@
 -- Two tokens with one code are of one kind.
-use Rattle.std.proofs.Common.{◌≡◌, ℕ, Bool, true, false, List, [], ◌∷◌, refl, sym, ap, ◌∙◌}
-use Rattle.std.specs.Prelude.{get_or, codes, if◌then◌else◌}
+use Rattle.adl_ast.proofs.Common.{Bool, Kind, List, Seen, [], ap, codes, false, get_or, if◌then◌else◌, key_code, kind_code, mark_code, refl, sym, token_code, true, without_value, ℕ, ◌∙◌, ◌∷◌, ◌≡◌}
 use Rattle.std.specs.Str.{bytes_eq}
-use Rattle.cam_base.specs.declared.token.Kind.{Kind}
 use Rattle.cam_base.specs.declared.token.Kind.TheVariants as kinds
 use Rattle.cam_base.specs.declared.token.Keyword.{Keyword}
 use Rattle.cam_base.specs.declared.token.Keyword.TheVariants as keys
 use Rattle.cam_base.specs.declared.token.Mark.{Mark}
 use Rattle.cam_base.specs.declared.token.Mark.TheVariants as marks
-use Rattle.adl_ast.specs.declared.seen.Seen.{Seen}
-use Rattle.adl_ast.specs.Codes.{key_code, mark_code, kind_code, token_code, without_value}
 
 -- the kinds in the order of their codes
 abbrev by_code : List Kind

@@ -1,16 +1,11 @@
 -- Each part of each public form has a spelling.
-use Rattle.std.proofs.Common.{◌≡◌, ℕ, true, List, [], ◌∷◌, refl}
-use Rattle.std.specs.Prelude.{codes}
-use Rattle.cam_base.specs.declared.token.Kind.{Kind}
+use Rattle.adl_ast.proofs.Common.{IsSpellable, Kind, List, Seen, [], codes, interface_written, params_written, parts_have_spellings, refl, token_code, true, typed_written, ℕ, ◌∷◌, ◌≡◌}
 use Rattle.cam_base.specs.declared.token.Kind.TheVariants as kinds
 use Rattle.cam_base.specs.declared.token.Keyword.TheVariants as keys
 use Rattle.cam_base.specs.declared.token.Mark.TheVariants as marks
-use Rattle.cam_base.specs.Spellable.{parts_have_spellings}
-use Rattle.cam_base.proofs.Completed.{IsSpellable}
-use Rattle.adl_ast.specs.declared.seen.Seen.{Seen}
-use Rattle.adl_ast.specs.Codes.{token_code}
-use Rattle.adl_ast.specs.Written.{typed_written, params_written, interface_written}
-use Rattle.adl_ast.specs.Forms.{file_line, ended_line, item_line, procedure_line, proc_member_line, method_line, typed_line, params_line, void_params_line, other_params_line, directed_line, undirected_line, direction_line, param_line, component_line, assembly_line, member_line, flag_line, import_line, interface_line, plain_port_line, dataport_line, buf_line, data_line, attribute_line, lock_line, composition_line, composition_member_line, instance_line, group_line, connection_line, end_line, dotted_line, export_line, configuration_line, setting_line, path_line, setter_line, value_line, nested_line, list_line, values_line, dictionary_line, entries_line, entry_line}
+use Rattle.adl_ast.specs.Forms.{file_line, ended_line, item_line, procedure_line, proc_member_line, method_line, typed_line, params_line, void_params_line, other_params_line, directed_line, undirected_line, direction_line, param_line, component_line}
+use Rattle.adl_ast.specs.Forms.{assembly_line, member_line, flag_line, import_line, interface_line, plain_port_line, dataport_line, buf_line, data_line, attribute_line, lock_line, composition_line, composition_member_line, instance_line, group_line}
+use Rattle.adl_ast.specs.Forms.{connection_line, end_line, dotted_line, export_line, configuration_line, setting_line, path_line, setter_line, value_line, nested_line, list_line, values_line, dictionary_line, entries_line, entry_line}
 
 abbrev sample : Kind → List ℕ → Seen
 sample kind text = record { kind = kind; text = text; place = record { file = 0; first = 0; end = 0 } }

@@ -1,11 +1,6 @@
 -- A list of tokens spells at most one tree of a form that the next token decides.
-use Rattle.std.proofs.Common.{◌≡◌, ℕ, ◌+◌, true, List, [], refl, sym, ap, subst, ◌∙◌, add_comm}
-use Rattle.cam_base.specs.Form.{Form}
-use Rattle.cam_base.specs.Deciding.{decides}
-use Rattle.cam_base.specs.Spelling.{Spells}
-use Rattle.cam_base.specs.Depth.{deep, Spelled}
+use Rattle.adl_ast.proofs.Common.{Form, IsLine, List, Spelled, Spells, [], add_comm, ap, decides, deep, deep_exact, deep_spells, refl, subst, sym, true, ℕ, ◌+◌, ◌∙◌, ◌≡◌}
 use Rattle.cam_base.proofs.Laws.{ok_is}
-use Rattle.cam_base.proofs.Depth.{IsLine, deep_exact, deep_spells}
 
 pub one_tree : {T V : Type 0} (code : T → ℕ) (line : Form T V V) (opens : List ℕ) → IsLine code line opens
     → {A : Type 0} (f : Form T V A) → decides opens f ≡ true → (x y : A) (ts : List T) → Spelled code line f x ts

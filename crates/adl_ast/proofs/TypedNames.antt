@@ -1,13 +1,6 @@
 -- A type and a name, written plainly and so that the next token decides.
-use Rattle.std.proofs.Common.{◌≡◌, ℕ, List, [], ◌++◌, Some, None, refl, sym, ap, subst, ◌∙◌, append_assoc, inl, inr}
-use Rattle.std.proofs.lemmas.List.{append-nil}
-use Rattle.cam_base.specs.Spelling.{Meaning, Spells}
-use Rattle.adl_ast.specs.declared.seen.Seen.{Seen}
-use Rattle.adl_ast.specs.declared.value.Value.{Value}
-use Rattle.adl_ast.specs.declared.id.Id.{Id}
-use Rattle.adl_ast.specs.Codes.{token_code}
-use Rattle.adl_ast.specs.Forms.{More, typed_of, typed_line}
-use Rattle.adl_ast.specs.Written.{typed_written}
+use Rattle.adl_ast.proofs.Common.{Id, List, Meaning, More, None, Seen, Some, Spells, Value, [], ap, append-nil, append_assoc, inl, inr, refl, subst, sym, token_code, typed_of, typed_written, ℕ, ◌++◌, ◌∙◌, ◌≡◌}
+use Rattle.adl_ast.specs.Forms.{typed_line}
 
 Typed : Type 0
 Typed = List (List ℕ) × Id

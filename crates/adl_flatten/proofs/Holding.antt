@@ -17,7 +17,8 @@ held_more h ready order o n m old new l next held long put =
     let still : (k : ℕ) → get_or old k false ≡ true → get_or new k false ≡ true = λ k e. put k ∙ or_left _ _ e in
     let origin : (k : ℕ) → get_or new k false ≡ true → (get_or old k false ≡ true) ⊎ ((x : Part) × IsIn x parts × (x.kind ≡ k)
     × (get_or old number false ≡ true)) = λ k m.
-    elim (or_cases (get_or old k false) (get_or old number false && list_any (λ (x : Part). k == x.kind) parts) (sym (put k) ∙ m)) [
+    elim (or_cases (get_or old k false) (get_or old number false && list_any (λ (x : Part). k == x.kind) parts)
+    (sym (put k) ∙ m)) [
       | inl e ↦ inl e
       | inr e ↦
           let both = and_parts (get_or old number false) (list_any (λ (x : Part). k == x.kind) parts) e in

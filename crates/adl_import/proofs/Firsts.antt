@@ -1,23 +1,11 @@
 -- Names at their first meetings, and the source that turns make.
-use Rattle.std.proofs.Common.{◌≡◌, ◌∙◌, refl, sym, ap, subst, inl, inr, ◌⊎◌, Bool, true, false, not, ◌||◌, cond, ℕ, zero, suc, ◌+◌, ◌<◌, ◌≤◌, List, [], ◌∷◌, ◌++◌, length, map, filter, Option, None, Some, Result, Ok, Err, IsTrue, codes, arith, append_assoc, true≢false}
-use Rattle.std.proofs.lemmas.Bool.{false_from_ne_true}
-use Rattle.std.proofs.lemmas.Grind.{flat_map-append}
-use Rattle.std.proofs.lemmas.List.{append-nil, length-append, length-map, map-append}
+use Rattle.adl_import.proofs.Common.{Bool, Contents, Err, Fault, Import, IsSource, IsTrue, Limit, List, Meeting, None, Ok, Option, Place, Result, Some, SourceFile, Turns, [], and_then, ap, append-nil, append_assoc, arith, bytes_eq}
+use Rattle.adl_import.proofs.Common.{bytes_eq-Decides, codes, cond, false, false_from_ne_true, fault_at, filter, first, firsts, flat_map, flat_map-append, imports_of, inl, inr, is_built_in, is_known, length, length-append, length-map}
+use Rattle.adl_import.proofs.Common.{map, map-append, meet_given, meeting_at, meeting_of, meetings_of, met, name_given, names, next, not, refl, root_place, slice_get, snoc_same, subst, suc, sym, take_import, take_imports, true, true≢false}
+use Rattle.adl_import.proofs.Common.{zero, ℕ, ◌++◌, ◌+◌, ◌<◌, ◌||◌, ◌∙◌, ◌∷◌, ◌≡◌, ◌≤◌, ◌⊎◌}
+use Rattle.std.proofs.lemmas.Bool.{or_right}
 use Rattle.std.proofs.lemmas.List.Elements.{filter-append}
-use Rattle.std.proofs.lemmas.Slice.Eq.{bytes_eq-Decides}
-use Rattle.std.specs.List.{flat_map, slice_get}
-use Rattle.std.specs.Str.{bytes_eq}
-use Rattle.cam_base.specs.declared.code.Code.TheVariants.{BadPath, Limit}
-use Rattle.cam_base.specs.declared.place.Fault.{Fault}
-use Rattle.cam_base.specs.declared.place.Place.{Place}
-use Rattle.cam_base.proofs.Lists.{snoc_same}
 use Rattle.cam_base.proofs.Bytes.{bytes_eq-refl}
-use Rattle.cam_io.specs.Contents.{Contents}
-use Rattle.adl_ast.specs.declared.file.Import.{Import}
-use Rattle.adl_ast.specs.declared.source.SourceFile.{SourceFile}
-use Rattle.adl_import.specs.Imports.{imports_of, is_built_in, name_given}
-use Rattle.adl_import.specs.Sources.{Meeting, IsSource, is_known, root_place, files_limit, meeting_at, meeting_of, meetings_of, firsts, met, names}
-use Rattle.adl_import.specs.Turns.{and_then, fault_at, meet, meet_given, take_import, take_imports, Turns, first, next}
 
 -- the meetings of other names
 abbrev pub others : List ℕ → List Meeting → List Meeting
@@ -266,10 +254,6 @@ known_sub_step a name m os ms true more e = or_over (bytes_eq name m.0) (is_know
     or_over true k l f h = refl
     or_over false k l f h = f h
 known_sub_step a name m os ms false more e = or_right (bytes_eq name m.0) (is_known ms name) (more e)
-  where
-    or_right : (b l : Bool) → l ≡ true → (b || l) ≡ true
-    or_right true l h = refl
-    or_right false l h = h
 
 pub known_sub : (a name : List ℕ) (ms : List Meeting) → is_known (others a ms) name ≡ true → is_known ms name ≡ true
 known_sub a name [] e = e

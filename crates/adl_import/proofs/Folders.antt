@@ -1,9 +1,6 @@
 -- The folder of a name, byte by byte from the end.
+use Rattle.adl_import.proofs.Common.{Bool, List, [], ap, cond, false, folder_of, is_slash, list_any, true, ℕ, ◌++◌, ◌||◌, ◌∙◌, ◌∷◌, ◌≡◌}
 use Rattle.std.proofs.Math.Bool.{or-true}
-use Rattle.std.proofs.Common.{◌≡◌, ◌∙◌, refl, ap, Bool, true, false, ◌||◌, cond, ℕ, List, [], ◌∷◌, ◌++◌, length}
-use Rattle.std.specs.List.{list_any}
-use Rattle.adl_import.specs.Folding.{is_slash}
-use Rattle.adl_import.specs.Imports.{folder_of}
 
 no_slash_last : (xs : List ℕ) (x : ℕ) → is_slash x ≡ false → list_any is_slash (xs ++ x ∷ []) ≡ list_any is_slash xs
 no_slash_last [] x e = ap (λ (b : Bool). b || false) e

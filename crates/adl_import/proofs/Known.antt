@@ -1,17 +1,8 @@
 -- Names that are met, one after another.
-use Rattle.std.proofs.Common.{◌≡◌, ◌∙◌, refl, sym, ap, Bool, true, false, ◌||◌, cond, ℕ, suc, ◌<◌, ◌≤◌, List, [], ◌∷◌, ◌++◌, length, drop, get_or, Option, None, Some, is_some, Result, Ok, Err, codes, arith, drop-cons, append_assoc, true≢false}
-use Rattle.std.proofs.lemmas.Bool.{lt-ltb, le-ltb}
-use Rattle.std.specs.Map.{lookup}
-use Rattle.std.specs.Str.{bytes_eq}
+use Rattle.adl_import.proofs.Common.{Bool, Err, Fault, Import, Limit, List, Meeting, Ok, Option, Place, Result, Some, [], and_then, ap, bytes_eq, codes, cond, drop, drop-cons, false, fault_at, files_limit, get_or}
+use Rattle.adl_import.proofs.Common.{import_of, imports_in, is_known, is_some, le-ltb, length, lookup, lt-ltb, meet, refl, suc, sym, take_import, take_imports, true, true≢false, ℕ, ◌++◌, ◌<◌, ◌||◌, ◌∙◌, ◌∷◌, ◌≡◌, ◌≤◌}
 use Rattle.indexmap.specs.IndexMap.{insert_entry}
-use Rattle.cam_base.specs.declared.code.Code.TheVariants.{Limit}
-use Rattle.cam_base.specs.declared.place.Fault.{Fault}
-use Rattle.cam_base.specs.declared.place.Place.{Place}
 use Rattle.adl_ast.specs.declared.file.Ended.{Ended}
-use Rattle.adl_ast.specs.declared.file.Import.{Import}
-use Rattle.adl_import.specs.Imports.{import_of, imports_in}
-use Rattle.adl_import.specs.Sources.{Meeting, is_known, files_limit}
-use Rattle.adl_import.specs.Turns.{and_then, fault_at, meet, take_import, take_imports}
 
 lookup_step : (b : Bool) (place : Place) (found : Option Place) (k : Bool) → is_some found ≡ k
     → is_some (cond b (Some place) found) ≡ (b || k)

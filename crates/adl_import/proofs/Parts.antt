@@ -1,16 +1,9 @@
 -- Parts of a path, as they are put on and taken off.
-use Rattle.std.proofs.Common.{◌≡◌, ◌∙◌, refl, sym, ap, Bool, true, false, not, cond, ℕ, suc, ◌<◌, ◌↔◌, List, [], ◌∷◌, ◌++◌, length, drop, get_or, reverse, Option, None, Some, Result, Ok, Err, arith, append_assoc, drop-cons, true≢false}
+use Rattle.adl_import.proofs.Common.{Bool, Err, IsSome, IsUtf8, IsUtf8-from_is_utf8, List, None, Ok, Option, Result, Some, [], ap, append-nil, append_assoc, arith, bytes_eq-Decides, drop, drop-cons, false, false_from_ne_true}
+use Rattle.adl_import.proofs.Common.{flat_map, get_or, inner_first, is_in_folder, is_up, is_utf8, is_utf8-from_IsUtf8, join_with_byte, length, map-append, one_up, option_and_then, option_to_list, parts_of, refl, reverse, reverse-append, suc}
+use Rattle.adl_import.proofs.Common.{sym, true, true≢false, up, with_part, with_parts, ℕ, ◌++◌, ◌<◌, ◌↔◌, ◌∙◌, ◌∷◌, ◌≡◌}
 use Rattle.std.specs.Borrow.{Bor}
-use Rattle.std.specs.Option.{option_to_list, option_and_then, IsSome}
-use Rattle.std.specs.List.{flat_map, join_with_byte}
 use Rattle.std.specs.Result.{is_ok, MatchResult}
-use Rattle.std.specs.Str.{bytes_eq, is_utf8, IsUtf8}
-use Rattle.std.proofs.lemmas.Bool.{false_from_ne_true}
-use Rattle.std.proofs.lemmas.Str.{IsUtf8-from_is_utf8, is_utf8-from_IsUtf8}
-use Rattle.std.proofs.lemmas.List.{append-nil, map-append, reverse-append}
-use Rattle.std.proofs.lemmas.Slice.Eq.{bytes_eq-Decides}
-use Rattle.adl_import.specs.Folding.{up, is_up, is_in_folder, one_up, with_part, with_parts}
-use Rattle.adl_import.specs.Parts.{parts_of, inner_first}
 
 pub inner_first-push : (items : List (Bor (List ℕ))) (part : Bor (List ℕ)) → inner_first (items ++ part ∷ []) ≡ part.now
     ∷ inner_first items

@@ -1,31 +1,10 @@
 -- Turns, one after another.
-use Rattle.std.proofs.Common.{◌≡◌, ◌∙◌, refl, sym, ap, subst, inl, inr, ◌⊎◌, Bool, true, false, cond, ℕ, zero, suc, ◌+◌, ◌-◌, ◌<◌, ◌≤◌, List, [], ◌∷◌, ◌++◌, length, Option, None, Some, Result, Ok, Err, codes, arith}
-use Rattle.std.proofs.lemmas.Bool.{ltb-true}
-use Rattle.std.proofs.lemmas.List.{length-append}
-use Rattle.std.proofs.lemmas.Option.{slice_get_within}
-use Rattle.std.specs.FinMap.{get}
-use Rattle.std.specs.List.{slice_get}
-use Rattle.std.specs.Str.{IsUtf8}
-use Rattle.cam_base.specs.declared.code.Code.TheVariants.{NoFile, Limit}
+use Rattle.adl_import.proofs.Common.{AlikeInNext, AlikeInTurns, AreUtf8, Bool, Contents, Err, Fault, Import, InAll, IsClean, IsFileIn, IsFileSpelled, IsFirstFault, IsLoadedFrom, IsParsed, IsRead, IsReadFault, IsTakenIn, IsTurn, IsTurnFault}
+use Rattle.adl_import.proofs.Common.{IsUtf8, LearnsOnly, Lexes, Limit, List, Meeting, NoFile, None, Ok, Option, Place, Result, Some, SourceError, SourceFile, Token, Turns, [], absent, and_then, ap, arith, codes, cond, false, fault_at, file_limit}
+use Rattle.adl_import.proofs.Common.{files_limit, first, get, importing, imports_of, inl, inr, is_built_in, is_known, length, length-append, lexing, ltb-true, meet_given, met_in, name_given, next, parsing, reading, refl, root_place, see}
+use Rattle.adl_import.proofs.Common.{slice_get, slice_get_within, subst, suc, sym, take_import, take_imports, too_long, true, zero, ℕ, ◌++◌, ◌+◌, ◌-◌, ◌<◌, ◌∙◌, ◌∷◌, ◌≡◌, ◌≤◌, ◌⊎◌}
 use Rattle.cam_base.specs.declared.error.Refused.TheVariants as refused
-use Rattle.cam_base.specs.declared.place.Fault.{Fault}
-use Rattle.cam_base.specs.declared.place.Place.{Place}
-use Rattle.cam_base.specs.declared.token.Token.{Token}
-use Rattle.cam_io.specs.Contents.{Contents}
-use Rattle.cam_io.specs.Reading.{InAll, LearnsOnly}
-use Rattle.adl_ast.specs.declared.file.Import.{Import}
-use Rattle.adl_ast.specs.declared.source.SourceFile.{SourceFile}
-use Rattle.adl_ast.specs.Seeing.{see}
-use Rattle.adl_ast.specs.Spelling.{IsFileSpelled}
-use Rattle.adl_lexer.specs.Lexes.{Lexes, IsFirstFault}
-use Rattle.adl_parse.specs.Files.{IsFileIn}
-use Rattle.adl_import.specs.Imports.{imports_of, is_built_in, name_given}
-use Rattle.adl_import.specs.Sources.{Meeting, is_known, root_place, file_limit, files_limit}
-use Rattle.adl_import.specs.Taking.{AlikeInNext, AreUtf8, IsParsed, IsRead, IsTakenIn, IsTurn}
-use Rattle.adl_import.specs.Turns.{and_then, fault_at, meet, meet_given, take_import, take_imports, met_in, Turns, first, next, IsReadFault, absent, too_long, lexing, parsing, IsTurnFault, reading, importing}
-use Rattle.cam_base.specs.Unread.{SourceError}
 use Rattle.cam_base.specs.declared.error.Unread.TheVariants as error
-use Rattle.adl_import.specs.Loaded.{AlikeInTurns, IsClean, IsFirst, IsLoadedFrom}
 use Rattle.adl_import.proofs.Firsts.{turns_within, turns_make}
 use Rattle.adl_import.proofs.Utf8Names.{name_given_utf8}
 

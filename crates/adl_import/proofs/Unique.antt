@@ -1,19 +1,11 @@
 -- There is one source of a root, and one answer to its loading.
-use Rattle.std.proofs.Common.{◌≡◌, ◌∙◌, refl, sym, ap, subst, inl, inr, ◌⊎◌, Bool, true, false, not, ◌||◌, cond, ℕ, suc, ◌+◌, ◌<◌, ◌≤◌, List, [], ◌∷◌, ◌++◌, length, Option, None, Some, Result, Ok, Err, arith, append_assoc, true≢false}
+use Rattle.adl_import.proofs.Common.{AreFilesOf, Bool, Contents, Err, Fault, IsClean, IsFileIn, IsFileOf, IsFileSpelled, IsFirst, IsFirstFault, IsLoaded, IsLoadedBy, IsLoadedFrom, IsReadFault, IsRefusedRoot, IsSource, IsTurnFault, IsTurnOf, Lexes}
+use Rattle.adl_import.proofs.Common.{List, Meeting, None, Ok, Option, Place, Result, Some, SourceError, SourceFile, Token, Turns, [], absent, ap, append-nil, append_assoc, arith, bytes_eq, cond, false, false_from_ne_true, file_limit, first, firsts}
+use Rattle.adl_import.proofs.Common.{flat_map, flat_map-append, get, importing, imports_of, inl, inr, is_known, length, length-map, lexing, limit, ltb-false, ltb-true, map-append, meetings_of, met, names, next, not, opens, or_parts, or_right}
+use Rattle.adl_import.proofs.Common.{parsing, reading, refl, root_name, root_place, same_Some, see, slice_get, slice_get_within, snoc_same, subst, suc, sym, take_imports, too_long, true, true≢false, yields, ℕ, ◌++◌, ◌+◌, ◌<◌, ◌||◌, ◌∙◌, ◌∷◌, ◌≡◌}
+use Rattle.adl_import.proofs.Common.{◌≤◌, ◌⊎◌}
 use Rattle.std.proofs.Math.Dec.{ltb}
-use Rattle.std.proofs.lemmas.Bool.{false_from_ne_true, ltb-true, ltb-false, or_parts, or_right}
-use Rattle.std.proofs.lemmas.Grind.{flat_map-append}
-use Rattle.std.proofs.lemmas.List.{append-nil, length-map, map-append}
-use Rattle.std.proofs.lemmas.Option.{slice_get_within, same_Some}
-use Rattle.std.specs.FinMap.{get}
-use Rattle.std.specs.List.{flat_map, slice_get}
-use Rattle.std.specs.Str.{bytes_eq}
 use Rattle.cam_base.specs.declared.error.Refused.TheVariants as refused
-use Rattle.cam_base.specs.declared.place.Fault.{Fault}
-use Rattle.cam_base.specs.declared.place.Place.{Place}
-use Rattle.cam_base.specs.declared.token.Token.{Token}
-use Rattle.cam_base.proofs.Lists.{snoc_same}
-use Rattle.cam_io.specs.Contents.{Contents}
 use Rattle.cam_base.specs.declared.grammar_error.Why.{Why}
 use Rattle.cam_base.specs.declared.grammar_error.Why.TheVariants.{Unexpected, TooDeep}
 use Rattle.cam_base.specs.Depth.{deep}
@@ -24,22 +16,11 @@ use Rattle.cam_base.proofs.Unique.{file_stops_once}
 use Rattle.adl_ast.specs.declared.file.File.{File}
 use Rattle.adl_ast.specs.declared.seen.Seen.{Seen}
 use Rattle.adl_ast.specs.declared.source.Source.{Source}
-use Rattle.adl_ast.specs.declared.source.SourceFile.{SourceFile}
 use Rattle.adl_ast.specs.Codes.{token_code}
 use Rattle.adl_ast.specs.Forms.{nested_line, file_line}
-use Rattle.adl_ast.specs.Seeing.{see}
-use Rattle.adl_ast.specs.Spelling.{opens, limit, IsFileSpelled}
 use Rattle.adl_ast.proofs.Decides.{nested_is, file_decides}
 use Rattle.adl_ast.proofs.Trees.{one_tree}
-use Rattle.adl_lexer.specs.Lexes.{Lexes, IsFirstFault}
 use Rattle.adl_lexer.proofs.Unique.{one_list, one_fault, no_fault_reached}
-use Rattle.adl_parse.specs.Files.{IsFileIn}
-use Rattle.adl_import.specs.Folding.{root_name}
-use Rattle.adl_import.specs.Imports.{imports_of}
-use Rattle.adl_import.specs.Loaded.{IsClean, IsTurnOf, IsFirst, IsLoadedFrom, IsRefusedRoot, IsLoadedBy, IsLoaded}
-use Rattle.adl_import.specs.Sources.{Meeting, IsFileOf, AreFilesOf, IsSource, is_known, root_place, file_limit, meetings_of, firsts, met, names}
-use Rattle.adl_import.specs.Turns.{take_imports, Turns, first, next, IsReadFault, absent, too_long, lexing, parsing, IsTurnFault, reading, importing}
-use Rattle.cam_base.specs.Unread.{SourceError, yields}
 use Rattle.cam_base.specs.declared.error.Unread.TheVariants as error
 use Rattle.adl_import.proofs.Firsts.{others, bytes_eq-sym, known_others, known_sub, firsts_more, file_names, snoc_view, turns_meet, Extends}
 

@@ -1,17 +1,10 @@
 -- Names are UTF-8: a path is cut and joined at slashes alone.
-use Rattle.std.proofs.Common.{◌≡◌, ◌∙◌, refl, sym, ap, subst, inl, inr, Bool, true, false, ◌||◌, cond, ℕ, suc, ◌+◌, ◌<◌, ◌≤◌, List, [], ◌∷◌, ◌++◌, length, drop, get_or, reverse, Option, None, Some, Result, Ok, Err, arith, append_assoc, true≢false}
+use Rattle.adl_import.proofs.Common.{Bool, Each, Import, IsCharBoundary-after_ascii, IsCharBoundary-before_ascii, IsUtf8, IsUtf8-append, IsUtf8-drop, IsUtf8-from_is_utf8, IsUtf8-nil, IsUtf8-take, List, None, Option, Some, []}
+use Rattle.adl_import.proofs.Common.{and_parts, ap, append-nil, append_assoc, arith, cond, drop, eqb-true, false, file_path, folded, folder_of, get_or, import_name, in_folder, is_absolute, is_dropped, is_import_path, is_in_folder, is_plain}
+use Rattle.adl_import.proofs.Common.{is_slash, is_up, is_utf8, join_with_byte, length, length-append, list_any, name_given, one_up, onto_first, option_and_then, path_text, refl, reverse, reverse-append, root_name, slice_split, subst, sym, true}
+use Rattle.adl_import.proofs.Common.{true≢false, up, with_part, with_parts, ℕ, ◌++◌, ◌+◌, ◌<◌, ◌||◌, ◌∙◌, ◌∷◌, ◌≡◌}
 use lib.Utf8.{encode}
 use Rattle.std.proofs.Math.Seq.{take-append_seam, drop-append-add, get_or-append_seam}
-use Rattle.std.proofs.lemmas.Bool.{eqb-true, and_parts}
-use Rattle.std.proofs.lemmas.List.{append-nil, length-append, reverse-append}
-use Rattle.std.proofs.lemmas.Str.{IsUtf8-append, IsUtf8-nil, IsUtf8-take, IsUtf8-drop, IsUtf8-from_is_utf8, IsCharBoundary-before_ascii, IsCharBoundary-after_ascii}
-use Rattle.std.specs.List.{list_any, slice_split, onto_first, join_with_byte}
-use Rattle.std.specs.Option.{option_and_then}
-use Rattle.std.specs.Str.{IsUtf8, is_utf8}
-use Rattle.adl_ast.specs.declared.file.Import.{Import}
-use Rattle.adl_import.specs.Folding.{is_slash, up, is_up, is_dropped, is_in_folder, one_up, with_part, with_parts, path_text, file_path, is_absolute, folded, in_folder, is_plain, is_import_path, import_name, root_name}
-use Rattle.adl_import.specs.Imports.{folder_of, name_given}
-use Rattle.adl_import.specs.Taking.{Each}
 
 slash_utf8 : IsUtf8 (47 ∷ [])
 unfolding encode

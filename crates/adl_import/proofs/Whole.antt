@@ -1,10 +1,5 @@
 -- What a loaded source is, whatever its contents.
-use Rattle.std.proofs.Common.{◌≡◌, ◌∙◌, refl, sym, ap, ℕ, ◌+◌, ◌<◌, ◌≤◌, List, [], ◌∷◌, ◌++◌, length, Option, arith}
-use Rattle.cam_io.specs.Contents.{Contents}
-use Rattle.adl_ast.specs.declared.source.SourceFile.{SourceFile}
-use Rattle.adl_import.specs.Loaded.{IsClean}
-use Rattle.adl_import.specs.Sources.{Meeting, AreFilesOf, files_limit}
-use Rattle.adl_import.specs.Turns.{Turns, first, next}
+use Rattle.adl_import.proofs.Common.{AreFilesOf, Contents, IsClean, List, Meeting, SourceFile, Turns, [], ap, arith, files_limit, length, ℕ, ◌<◌, ◌∷◌, ◌≡◌, ◌≤◌}
 use Rattle.adl_import.proofs.Firsts.{turns_meet}
 use Rattle.adl_import.proofs.Turning.{turns_few}
 use Rattle.adl_import.proofs.Unique.{turns_each}

@@ -1,10 +1,7 @@
 -- What a name first stands for, among what lists have one behind another.
-use Rattle.std.proofs.Common.{◌≡◌, ◌∙◌, ◌<◌, ◌+◌, ℕ, List, ◌++◌, Option, option_map, length, drop, get_or, sym, ap}
-use Rattle.adl_meaning.specs.Prelude.{Id, Name, bytes_eq, flat_map, option_or}
+use Rattle.adl_items.proofs.Common.{Id, List, Name, Option, ap, bytes_eq, drop, first_named, flat_map, get_or, length, option_map, option_map-option_or, option_or, option_or-assoc, sym, ℕ, ◌++◌, ◌+◌, ◌<◌, ◌∙◌, ◌≡◌}
 use Rattle.std.proofs.lemmas.List.Folds.{find-append}
-use Rattle.adl_items.specs.Firsts.{first_named}
 use Rattle.cam_base.proofs.Lists.{drop_first}
-use Rattle.cam_base.proofs.Options.{option_map-option_or, option_or-assoc}
 
 pub first_named-append : {X : Type 0} (xs ys : List (Id × X)) (n : Name) → first_named (xs ++ ys) n ≡ option_or (first_named xs n)
     (first_named ys n)

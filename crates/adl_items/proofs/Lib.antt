@@ -1,2 +1,3 @@
+pub mod Common
 pub mod Firsts
 pub mod Trees

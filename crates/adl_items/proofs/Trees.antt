@@ -1,6 +1,5 @@
 -- Items without their places.
-use Rattle.std.proofs.Common.{◌≡◌, List, [], ◌∷◌, map, refl, ap}
-use Rattle.adl_items.specs.Located.{located, trees}
+use Rattle.adl_items.proofs.Common.{List, [], ap, located, map, refl, trees, ◌∷◌, ◌≡◌}
 use Rattle.adl_items.specs.declared.located.Located.{Located}
 
 pub trees-located : {T : Type 0} (xs : List (Located T)) → trees xs ≡ map (λ c. c.1) (map located xs)

@@ -1,14 +1,9 @@
 -- Which bytes a class has.
-use Rattle.std.proofs.Common.{arith, ◌≤◌, ◌≡◌, ℕ, Bool, true, false, cond, List, [], ◌∷◌, refl, sym, ap, ◌∙◌, inl, inr}
-use Rattle.std.specs.Prelude.{◌==◌, ◌&&◌, ◌||◌, not, leb}
-use Rattle.std.specs.List.{list_all}
-use Rattle.std.proofs.lemmas.Bool.{eqb-true, leb-true, le-leb, and_parts, not-true, or_right, or_cases, cases_Bool}
+use Rattle.adl_lexer.proofs.Common.{Bool, List, [], among, among-left, and_parts, ap, arith, cases_Bool, class_in, cond, digits, eqb-true, false, if_false, if_true, inl, inr, is_digit, is_hex_digit, is_letter, is_word_byte, le-leb, leb, leb-true}
+use Rattle.adl_lexer.proofs.Common.{left_out_class, left_out_rows, letters, list_all, mark_class, mark_rows, not, not-true, or_cases, or_right, refl, sign_class, sign_rows, sym, true, true_is_not_false, word_bytes, ℕ, ◌&&◌, ◌==◌, ◌||◌, ◌∙◌, ◌∷◌, ◌≡◌}
+use Rattle.adl_lexer.proofs.Common.{◌≤◌}
 use Rattle.std.proofs.lemmas.Bool.Decides.{Decides-eqb}
-use Rattle.cam_base.specs.Names.{is_letter, is_word_byte}
-use Rattle.cam_base.specs.Numbers.{is_digit, is_hex_digit}
-use Rattle.cam_base.specs.Form.{among}
-use Rattle.cam_base.proofs.TerminalCodes.{among-left, true_is_not_false, if_true, if_false}
-use Rattle.adl_lexer.specs.Classes.{class_of, class_in, sign_class, sign_rows, mark_class, mark_rows, left_out_class, left_out_rows, letters, digits, word_bytes}
+use Rattle.adl_lexer.specs.Classes.{class_of}
 use Rattle.adl_lexer.proofs.Classes.{if_has, sign_has}
 
 -- what is true of each row is true of a byte and the class that is given

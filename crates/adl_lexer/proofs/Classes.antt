@@ -1,14 +1,9 @@
 -- Which classes bytes can have.
-use Rattle.std.proofs.Common.{arith, ◌≡◌, ◌<◌, ℕ, Bool, true, false, cond, List, [], ◌∷◌, refl, sym, ap, subst, ◌∙◌, ◌⊎◌, inl, inr, get_or}
+use Rattle.adl_lexer.proofs.Common.{Bool, List, [], among, and_parts, ap, arith, blanks, cases_Bool, class_in, cond, digits, eqb-true, false, get_or, hex_digits, if_false, if_true, inl, inr, is_digit, is_hex_digit, is_letter, left_out_class}
+use Rattle.adl_lexer.proofs.Common.{left_out_rows, letters, line_bytes, list_all, map, mark_class, mark_rows, not, not-true, range_with_len, refl, sign_class, sign_rows, subst, sym, true, true_is_not_false, ℕ, ◌&&◌, ◌<◌, ◌==◌, ◌||◌, ◌∙◌, ◌∷◌, ◌≡◌}
+use Rattle.adl_lexer.proofs.Common.{◌⊎◌}
 use Rattle.std.proofs.lemmas.List.FromFn.{get_or-map-range_with_len}
-use Rattle.std.specs.Prelude.{◌==◌, ◌&&◌, ◌||◌, not, map}
-use Rattle.std.specs.List.{list_all, range_with_len}
-use Rattle.std.proofs.lemmas.Bool.{eqb-true, and_parts, not-true, cases_Bool}
-use Rattle.cam_base.specs.Names.{is_letter}
-use Rattle.cam_base.specs.Numbers.{is_digit, is_hex_digit}
-use Rattle.cam_base.specs.Form.{among}
-use Rattle.cam_base.proofs.TerminalCodes.{true_is_not_false, if_true, if_false}
-use Rattle.adl_lexer.specs.Classes.{class_of, class_in, sign_class, sign_rows, mark_class, mark_rows, left_out_class, left_out_rows, blanks, letters, digits, hex_digits, line_bytes}
+use Rattle.adl_lexer.specs.Classes.{class_of}
 
 -- the class of each byte, as the code has it
 abbrev class_table : List ℕ

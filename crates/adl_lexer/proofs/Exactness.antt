@@ -1,11 +1,7 @@
 -- Forms of tokens are read exactly.
-use Rattle.std.proofs.Common.{◌≡◌, true, false, List, [], ◌∷◌, ℕ, refl}
-use Rattle.cam_base.specs.Deciding.{can_be_empty, decides, first}
-use Rattle.cam_base.specs.Reading.{too_deep}
+use Rattle.adl_lexer.proofs.Common.{Bytes, Exact, List, [], can_be_empty, class_of, decides, exact, false, first, flat, mark_bytes, refl, token_form, too_deep, true, ℕ, ◌∷◌, ◌≡◌}
 use Rattle.cam_base.proofs.Depth.{IsRead-none}
-use Rattle.cam_base.proofs.Whole.{Exact, exact}
-use Rattle.adl_lexer.specs.Classes.{class_of, mark_bytes}
-use Rattle.adl_lexer.specs.TokenKinds.{Bytes, flat, word_line, number_line, hex_line, text_item, text_line, less_line, arrow_line, mark_line, token_form}
+use Rattle.adl_lexer.specs.TokenKinds.{word_line, number_line, hex_line, text_item, text_line, less_line, arrow_line, mark_line}
 
 pub read_exact : {A : Type 0} (f : Bytes A) → decides [] f ≡ true → Exact class_of flat [] too_deep f
 read_exact f d = exact class_of flat [] too_deep (IsRead-none class_of []) f d

@@ -1,16 +1,11 @@
 -- Blanks and comments.
-use Rattle.std.proofs.Common.{◌≡◌, ℕ, ◌<◌, ◌≤◌, Bool, true, false, cond, List, [], ◌∷◌, length, Some, None, refl, sym, ◌∙◌, arith, inl, inr}
-use Rattle.std.specs.Prelude.{◌==◌, ◌&&◌}
-use Rattle.std.proofs.lemmas.Bool.{eqb-true, cases_Bool}
-use Rattle.cam_base.specs.declared.code.Code.{Code}
-use Rattle.cam_base.specs.Form.{among}
-use Rattle.cam_base.proofs.TerminalCodes.{if_true, if_false}
-use Rattle.adl_lexer.specs.Classes.{class_of, blanks, slash}
-use Rattle.adl_lexer.specs.Gaps.{after_close, after_line, after_comment, one_gap, IsGap, none, more}
-use Rattle.adl_lexer.specs.LexFaults.{fault_at, slash_fault}
+use Rattle.adl_lexer.proofs.Common.{Bool, Code, IsGap, List, None, Some, [], after_close, after_comment, after_line, among, arith, blanks, cases_Bool, class_of, cond, eqb-true, false, if_false, if_true, inl, inr, length, more, none, none_is_not}
+use Rattle.adl_lexer.proofs.Common.{refl, same_Some, slash, slash_fault, sym, true, ℕ, ◌<◌, ◌==◌, ◌∙◌, ◌∷◌, ◌≡◌, ◌≤◌}
+use Rattle.adl_lexer.specs.Gaps.{one_gap}
+use Rattle.adl_lexer.specs.LexFaults.{fault_at}
 use Rattle.adl_lexer.proofs.Classes.{blank_cases}
 use Rattle.adl_lexer.proofs.Exactness.{token_first}
-use Rattle.adl_lexer.proofs.Readings.{none_is_not, some_of}
+use Rattle.cam_base.proofs.Comments.{after_close_le}
 
 -- a gap begins with no byte of a token
 pub gap_class : (b : ℕ) (cs ds : List ℕ) → one_gap (b ∷ cs) ≡ Some ds → among token_first (class_of b) ≡ false
@@ -32,21 +27,12 @@ after_line_le (b ∷ bs) = elim (cases_Bool (b == 10)) [
       rw h (omega arith)
 ]
 
-after_close_le : (bs cs : List ℕ) → after_close bs ≡ Some cs → length cs ≤ length bs
-after_close_le [] cs e = none_is_not cs e
-after_close_le (a ∷ []) cs e = none_is_not cs e
-after_close_le (a ∷ b ∷ bs) cs e = elim (cases_Bool (a == 42 && b == 47)) [
-  | inl h ↦ let same = some_of bs cs (sym (if_true (a == 42 && b == 47) (Some bs) (after_close (b ∷ bs)) h) ∙ e) in
-      rw (← same) (omega arith)
-  | inr h ↦ let le = after_close_le (b ∷ bs) cs (sym (if_false (a == 42 && b == 47) (Some bs) (after_close (b ∷ bs)) h) ∙ e) in
-      omega arith
-]
-
 after_comment_le : (bs cs : List ℕ) → after_comment bs ≡ Some cs → length cs ≤ length bs
 after_comment_le [] cs e = none_is_not cs e
 after_comment_le (b ∷ bs) cs e = elim (cases_Bool (b == 47)) [
   | inl h ↦ let same =
-      some_of (after_line bs) cs (sym (if_true (b == 47) (Some (after_line bs)) (cond (b == 42) (after_close bs) None) h) ∙ e) in
+      same_Some (after_line bs) cs
+      (sym (if_true (b == 47) (Some (after_line bs)) (cond (b == 42) (after_close bs) None) h) ∙ e) in
       let le = after_line_le bs in rw (← same) (omega arith)
   | inr h ↦ go (b == 42) (sym (if_false (b == 47) (Some (after_line bs)) (cond (b == 42) (after_close bs) None) h) ∙ e)
 ]
@@ -63,7 +49,7 @@ gap_eats (b ∷ bs) cs e = go (among blanks (class_of b)) (class_of b == slash) 
   where
     go : (is_blank is_slash : Bool) → cond is_blank (Some bs) (cond is_slash (after_comment bs) None) ≡ Some cs
         → length cs < length (b ∷ bs)
-    go true is_slash q = let same = some_of bs cs q in rw (← same) (omega arith)
+    go true is_slash q = let same = same_Some bs cs q in rw (← same) (omega arith)
     go false true q = let le = after_comment_le bs cs q in omega arith
     go false false q = none_is_not cs q
 

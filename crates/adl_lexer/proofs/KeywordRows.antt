@@ -1,14 +1,6 @@
 -- The row of a table that has a word is the keyword that the word is.
-use Rattle.std.proofs.Common.{◌≡◌, Bool, ℕ, true, false, List, [], ◌∷◌, Option, None, Some, refl, sym, ap, subst, ◌∙◌, inl, inr}
-use Rattle.std.proofs.lemmas.List.Elements.{All-cons, All-nil, Contains-append_left, Contains-append_right, Contains-push}
-use Rattle.std.specs.List.{Contains, list_any}
-use Rattle.std.specs.Prelude.{◌≢◌, ◌||◌}
-use Rattle.std.specs.Str.{bytes_eq}
-use Rattle.std.proofs.lemmas.Slice.Eq.{bytes_eq-Decides}
-use Rattle.std.proofs.lemmas.Bool.{cases_Bool}
-use Rattle.cam_base.specs.declared.token.Keyword.{Keyword}
-use Rattle.cam_base.proofs.TerminalCodes.{true_is_not_false}
-use Rattle.adl_lexer.specs.Keywords.{IsRowOf, keyword_of, spelling}
+use Rattle.adl_lexer.proofs.Common.{All-cons, All-nil, Bool, Contains, Contains-append_left, Contains-append_right, Contains-push, IsRowOf, Keyword, List, None, Some, [], ap, bytes_eq, bytes_eq-Decides, cases_Bool, false, inl, inr, keyword_of}
+use Rattle.adl_lexer.proofs.Common.{list_any, spelling, subst, sym, true, true_is_not_false, ℕ, ◌||◌, ◌∙◌, ◌∷◌, ◌≡◌, ◌≢◌}
 use Rattle.adl_lexer.proofs.KeywordWords.{is_found, keyword_is, no_keyword}
 
 abbrev has_word : List ℕ → Keyword → Bool

@@ -1,14 +1,9 @@
 -- A word is one keyword at most: the words of two keywords differ.
-use Rattle.std.proofs.Common.{◌≡◌, ℕ, true, false, List, [], ◌∷◌, Option, None, Some, refl, sym, ap, subst, ◌∙◌, inl, inr}
-use Rattle.std.specs.Prelude.{◌↔◌}
-use Rattle.std.specs.Str.{bytes_eq}
-use Rattle.std.proofs.lemmas.Slice.Eq.{bytes_eq-Decides}
-use Rattle.std.proofs.lemmas.Bool.{cases_Bool}
-use Rattle.cam_base.specs.declared.token.Keyword.{Keyword}
+use Rattle.adl_lexer.proofs.Common.{Keyword, List, None, Option, Some, [], all_keywords, ap, bytes_eq, bytes_eq-Decides, cases_Bool, false, if_false, if_true, inl, inr, named_by, refl, spelling, subst, sym, true, true_is_not_false, ℕ, ◌↔◌, ◌∙◌, ◌∷◌}
+use Rattle.adl_lexer.proofs.Common.{◌≡◌}
 use Rattle.cam_base.specs.declared.token.Keyword.TheVariants as keys
-use Rattle.cam_base.proofs.TerminalCodes.{if_true, if_false, true_is_not_false}
 use Rattle.adl_lexer.specs.Candidates.{candidate}
-use Rattle.adl_lexer.specs.Keywords.{spelling, all_keywords, named_by, keyword_of}
+use Rattle.adl_lexer.specs.Keywords.{keyword_of}
 
 -- the keyword that is found has this word
 found : (ks : List Keyword) (word : List ℕ) (k : Keyword) → named_by ks word ≡ Some k → bytes_eq (spelling k) word ≡ true
@@ -132,3 +127,5 @@ is_other_word word k c h = go (keyword_of word) refl
         let same : j ≡ k = cc in
         true_is_not_false (bytes_eq (spelling k) word) ((bytes_eq-Decides (spelling k) word).1 (ap spelling (sym same)
         ∙ sym ((keyword_is word j).0 e))) h
+
+pub ruleset candidates = (is_found, is_no_candidate, is_other_word)

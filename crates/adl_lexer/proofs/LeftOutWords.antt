@@ -1,10 +1,7 @@
 -- The one word left out that a word can be, by its length.
-use Rattle.std.proofs.Common.{◌≡◌, ℕ, Bool, false, List, length, ap, ◌∙◌, arith}
+use Rattle.adl_lexer.proofs.Common.{Bool, List, ap, arith, bytes_eq, codes, false, is_left_out_word, length, ℕ, ◌||◌, ◌∙◌, ◌≡◌}
 use Rattle.std.proofs.Math.Bool.{or-false}
-use Rattle.std.specs.Prelude.{◌||◌, codes}
-use Rattle.std.specs.Str.{bytes_eq}
 use Rattle.cam_base.proofs.Bytes.{other_length}
-use Rattle.adl_lexer.specs.LexFaults.{is_left_out_word}
 
 not_connector : (word : List ℕ) → (length word ≡ 9 → ⊥)
     → is_left_out_word word ≡ (bytes_eq word (codes "struct") || (bytes_eq word (codes "enum") || false))
@@ -39,3 +36,5 @@ pub of_another : (word : List ℕ) → (length word ≡ 9 → ⊥) → (length w
     → is_left_out_word word ≡ false
 of_another word nine six four = not_connector word nine ∙ not_struct word (bytes_eq word (codes "enum") || false) six
     ∙ not_enum word four
+
+pub ruleset by_length = (of_nine, of_six, of_four, of_another)

@@ -1,3 +1,4 @@
+pub mod Common
 pub mod Classes
 pub mod Exactness
 pub mod Runs

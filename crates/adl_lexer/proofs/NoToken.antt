@@ -1,24 +1,13 @@
 -- A byte at fault for beginning nothing begins no token.
-use Rattle.std.proofs.Common.{◌≡◌, ℕ, Bool, true, false, List, [], ◌∷◌, ◌++◌, Option, Result, Some, None, Ok, Err, refl, sym, ap, subst, ◌∙◌, inl, inr}
-use Rattle.std.specs.Prelude.{◌==◌, ◌&&◌, nat_lt, length}
-use Rattle.std.specs.List.{list_all}
-use Rattle.std.proofs.lemmas.Bool.{cases_Bool}
-use Rattle.cam_base.specs.declared.code.Code.{Code}
+use Rattle.adl_lexer.proofs.Common.{Bool, Code, Err, Exact, Found, Kind, List, None, Ok, Option, Result, Some, Spells, Stop, [], after_angle, after_byte, after_run, after_text, among, angle_bytes, angle_first, ap, apart_none, blanks, can_be_empty}
+use Rattle.adl_lexer.proofs.Common.{cases_Bool, class_of, digits, false, flat, further, greater, if_true, inl, inr, is_digit, is_fraction, is_left_out_word, left_out, less, less_fault, letters, line_bytes, list_all, mark_bytes, minus, minus_fault}
+use Rattle.adl_lexer.proofs.Common.{nat_lt, number_fault_by, number_value, or_else, quote, reads, refl, run, sign_fault, slash, spelled_starts, starts, subst, sym, text_fault, token_form, too_deep, true, true_is_not_false, unless, word_bytes}
+use Rattle.adl_lexer.proofs.Common.{word_fault, ℕ, ◌&&◌, ◌++◌, ◌==◌, ◌∙◌, ◌∷◌, ◌≡◌}
+use Rattle.std.specs.Prelude.{length}
 use Rattle.cam_base.specs.declared.code.Code.TheVariants as code
-use Rattle.cam_base.specs.declared.token.Kind.{Kind}
-use Rattle.cam_base.specs.Numbers.{is_digit, number_value}
-use Rattle.cam_base.specs.declared.grammar_error.Stop.{Stop}
-use Rattle.cam_base.specs.Deciding.{can_be_empty, further}
-use Rattle.cam_base.specs.Form.{among}
-use Rattle.cam_base.specs.Reading.{starts, too_deep}
-use Rattle.cam_base.specs.Spelling.{Spells}
-use Rattle.cam_base.proofs.TerminalCodes.{apart_none, true_is_not_false, if_true}
-use Rattle.cam_base.proofs.Laws.{spelled_starts}
 use Rattle.cam_base.proofs.Theorems.{starts_none}
-use Rattle.cam_base.proofs.Whole.{Exact}
-use Rattle.adl_lexer.specs.Classes.{class_of, run, after_run, letters, digits, blanks, mark_bytes, angle_first, angle_bytes, word_bytes, line_bytes, left_out, quote, less, minus, greater, slash}
-use Rattle.adl_lexer.specs.LexFaults.{Found, unless, or_else, after_text, after_byte, after_angle, number_fault_by, is_fraction, is_left_out_word, word_fault, fault_at, text_fault, less_fault, minus_fault, sign_fault}
-use Rattle.adl_lexer.specs.TokenKinds.{reads, flat, token_form, word_line, number_line, hex_line, text_item, text_line, less_line, arrow_line, mark_line}
+use Rattle.adl_lexer.specs.LexFaults.{fault_at}
+use Rattle.adl_lexer.specs.TokenKinds.{word_line, number_line, hex_line, text_item, text_line, less_line, arrow_line, mark_line}
 use Rattle.adl_lexer.proofs.Classes.{one_of}
 use Rattle.adl_lexer.proofs.Exactness.{read_exact, token_exact, token_full}
 use Rattle.adl_lexer.proofs.Readings.{not_one_byte}

@@ -1,18 +1,10 @@
 -- What stands at the front, by the class of the first byte.
-use Rattle.std.proofs.Common.{◌≡◌, ℕ, true, false, List, ◌∷◌, Option, Result, Some, None, refl, sym, subst, ◌∙◌, inl, inr}
-use Rattle.std.specs.Prelude.{◌==◌}
-use Rattle.std.proofs.lemmas.Bool.{ne_eqb}
-use Rattle.cam_base.specs.declared.token.Kind.{Kind}
-use Rattle.cam_base.specs.declared.grammar_error.Stop.{Stop}
-use Rattle.cam_base.specs.Form.{among}
-use Rattle.cam_base.proofs.TerminalCodes.{if_true}
-use Rattle.adl_lexer.specs.declared.piece.Piece.{Piece}
+use Rattle.adl_lexer.proofs.Common.{Fits, Found, IsPiece, Kind, List, None, Option, Piece, Result, Some, Stop, after_comment, after_run, among, arrow_line, blanks, class_of, digits, false, if_true, inl, inr, less, less_fault, less_line, letters}
+use Rattle.adl_lexer.proofs.Common.{mark_line, minus, minus_fault, ne_eqb, number_fault, number_line, quote, reads, refl, run, sign_fault, slash, slash_fault, subst, sym, text_fault, text_line, token_form, true, word_bytes, word_fault, word_line, ℕ}
+use Rattle.adl_lexer.proofs.Common.{◌==◌, ◌∙◌, ◌∷◌, ◌≡◌}
 use Rattle.adl_lexer.specs.declared.piece.Piece.TheVariants as pieces
-use Rattle.adl_lexer.specs.Classes.{class_of, run, after_run, letters, digits, blanks, word_bytes, quote, less, minus, slash}
-use Rattle.adl_lexer.specs.Gaps.{after_comment, one_gap}
-use Rattle.adl_lexer.specs.LexFaults.{Found, fault_at, word_fault, number_fault, text_fault, less_fault, minus_fault, slash_fault, sign_fault}
-use Rattle.adl_lexer.specs.Pieces.{Fits, IsPiece}
-use Rattle.adl_lexer.specs.TokenKinds.{reads, token_form, word_line, number_line, text_line, less_line, arrow_line, mark_line}
+use Rattle.adl_lexer.specs.Gaps.{one_gap}
+use Rattle.adl_lexer.specs.LexFaults.{fault_at}
 use Rattle.adl_lexer.proofs.Classes.{letter_cases, digit_cases}
 
 -- what a piece fits may be said in other words

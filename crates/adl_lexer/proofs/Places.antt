@@ -1,8 +1,5 @@
 -- The places of tokens rise.
-use Rattle.std.proofs.Common.{◌≡◌, ◌<◌, ◌≤◌, ◌-◌, ℕ, List, [], ◌∷◌, length, ap, arith}
-use Rattle.cam_base.specs.declared.place.Place.{Place}
-use Rattle.cam_base.specs.declared.token.Token.{Token}
-use Rattle.adl_lexer.specs.Lexes.{LexesFrom}
+use Rattle.adl_lexer.proofs.Common.{LexesFrom, List, Place, Token, [], ap, arith, length, ℕ, ◌-◌, ◌<◌, ◌∷◌, ◌≡◌, ◌≤◌}
 use Rattle.adl_lexer.specs.Places.{PlacesRise}
 use Rattle.adl_lexer.proofs.Gaps.{gap_le}
 use Rattle.adl_lexer.proofs.Steps.{token_eats}

@@ -1,20 +1,13 @@
 -- At each byte stands a blank, a comment, a token or a fault.
-use Rattle.std.proofs.Common.{◌≡◌, ℕ, Bool, true, false, cond, List, [], ◌∷◌, Option, Some, None, Ok, refl, sym, ap, ◌∙◌, ◌⊎◌, inl, inr}
-use Rattle.std.specs.Prelude.{◌==◌}
-use Rattle.std.proofs.lemmas.Bool.{eqb-true, cases_Bool}
-use Rattle.cam_base.specs.declared.code.Code.{Code}
+use Rattle.adl_lexer.proofs.Common.{Bool, Code, Found, IsTokenAt, Kind, List, None, Ok, Option, Some, [], after_angle, after_byte, after_comment, after_run, after_text, among, ap, arrow_line, blanks, cases_Bool, class_of, cond, digits, eqb-true}
+use Rattle.adl_lexer.proofs.Common.{false, greater, if_false, if_true, inl, inr, is_star, left_out, less, less_fault, less_line, letters, line_bytes, mark_bytes, minus, minus_fault, number_fault_by, number_value, or_else, quote, reads, refl, run}
+use Rattle.adl_lexer.proofs.Common.{sign_fault, slash, slash_fault, sym, text_fault, text_line, token_form, true, unless, word_bytes, ℕ, ◌==◌, ◌∙◌, ◌∷◌, ◌≡◌, ◌⊎◌}
 use Rattle.cam_base.specs.declared.code.Code.TheVariants as code
-use Rattle.cam_base.specs.declared.token.Kind.{Kind}
 use Rattle.cam_base.specs.declared.token.Kind.TheVariants as kinds
 use Rattle.cam_base.specs.declared.token.Mark.TheVariants as marks
-use Rattle.cam_base.specs.Numbers.{number_value}
-use Rattle.cam_base.specs.Form.{among}
-use Rattle.cam_base.proofs.TerminalCodes.{if_true, if_false}
-use Rattle.adl_lexer.specs.Classes.{class_of, run, after_run, letters, digits, blanks, mark_bytes, word_bytes, line_bytes, left_out, quote, less, minus, greater, slash}
-use Rattle.adl_lexer.specs.Gaps.{after_comment, one_gap}
-use Rattle.adl_lexer.specs.LexFaults.{Found, unless, or_else, after_text, after_byte, after_angle, is_star, number_fault_by, fault_at, text_fault, less_fault, minus_fault, slash_fault, sign_fault}
-use Rattle.adl_lexer.specs.Lexes.{IsTokenAt}
-use Rattle.adl_lexer.specs.TokenKinds.{reads, token_form, text_line, less_line, arrow_line, mark_line}
+use Rattle.adl_lexer.specs.Gaps.{one_gap}
+use Rattle.adl_lexer.specs.LexFaults.{fault_at}
+use Rattle.adl_lexer.specs.TokenKinds.{mark_line}
 use Rattle.adl_lexer.proofs.Classes.{one_of}
 use Rattle.adl_lexer.proofs.Readings.{word_read, number_read, text_read, back_read, angle_read, arrow_read}
 use Rattle.adl_lexer.proofs.Steps.{token_at}

@@ -1,22 +1,13 @@
 -- What reading a token gives, by its kind.
-use Rattle.std.proofs.Common.{◌≡◌, ℕ, Bool, true, false, List, [], ◌∷◌, length, Ok, Some, None, refl, sym, ap, subst, ◌∙◌, arith, inl, inr}
-use Rattle.std.specs.Prelude.{◌==◌, ◌&&◌, ◌||◌}
-use Rattle.std.specs.List.{list_all}
-use Rattle.std.proofs.lemmas.Bool.{eqb-true, and_parts, cases_Bool}
+use Rattle.adl_lexer.proofs.Common.{Bool, Exact, List, None, Ok, Reader, Some, [], after_angle, after_byte, after_run, after_text, among, among-left, among-right, and_more, and_parts, angle_bytes, angle_first, ap, arith, backslash, can_be_empty}
+use Rattle.adl_lexer.proofs.Common.{cases_Bool, class_of, consumes, cross, digits, eqb-true, false, fits, flat, greater, hex_digits, if_false, if_true, inl, inr, is_decimal, is_digit, is_hex_digit, is_hexadecimal, kind_of_value, length, less}
+use Rattle.adl_lexer.proofs.Common.{letters, line_bytes, line_feed, list_all, many, many_more, many_none, minus, no_nil, none_is_not, number_value, plain_bytes, quote, reads, refl, run, same_Some, starts, subst, sym, too_deep, true, word_bytes}
+use Rattle.adl_lexer.proofs.Common.{word_kind, ℕ, ◌&&◌, ◌==◌, ◌>>=◌, ◌||◌, ◌∙◌, ◌∷◌, ◌≡◌}
 use Rattle.cam_base.specs.declared.token.Kind.TheVariants as kinds
 use Rattle.cam_base.specs.declared.token.Mark.TheVariants as marks
-use Rattle.cam_base.specs.Numbers.{is_digit, is_hex_digit, is_decimal, is_hexadecimal, fits, number_value}
-use Rattle.cam_base.specs.Form.{among}
-use Rattle.cam_base.specs.Reading.{◌>>=◌, Reader, many, starts, too_deep}
-use Rattle.cam_base.specs.Deciding.{can_be_empty}
-use Rattle.cam_base.proofs.TerminalCodes.{if_true, if_false, among-left, among-right}
-use Rattle.adl_lexer.specs.Classes.{class_of, run, after_run, letters, digits, hex_digits, word_bytes, plain_bytes, line_bytes, angle_first, angle_bytes, cross, line_feed, quote, less, minus, greater, backslash}
-use Rattle.adl_lexer.specs.LexFaults.{after_text, after_byte, after_angle}
-use Rattle.adl_lexer.specs.TokenKinds.{reads, flat, word_kind, number_kind, kind_of_value, word_line, hex_line, number_line, text_item, text_line, less_line, arrow_line}
+use Rattle.adl_lexer.specs.TokenKinds.{number_kind, word_line, hex_line, number_line, text_item, text_line, less_line, arrow_line}
 use Rattle.cam_base.proofs.GrammarFronts.{head_is, tail_is}
-use Rattle.cam_base.proofs.Laws.{no_nil, consumes}
-use Rattle.cam_base.proofs.Repeats.{and_more, many_more, many_none}
-use Rattle.cam_base.proofs.Whole.{Exact}
+use Rattle.cam_base.proofs.Values.{fits_true}
 use Rattle.std.specs.Str.Parse.{digits_value}
 use Rattle.adl_lexer.proofs.Classes.{digit_class, hex_class, zero_class, not_zero_class, cross_class, digit_cases, within, not_within}
 use Rattle.adl_lexer.proofs.Exactness.{read_exact}
@@ -34,19 +25,13 @@ word_read (b ∷ bs) h = rw (h, letter_is_word (class_of b) h, run_is word_bytes
 
 -- ---- angle names and marks of two bytes
 
-pub none_is_not : {C : Type 0} (x : List ℕ) → None ≡ Some x → C
-none_is_not x e = absurd cc
-
-pub some_of : (x y : List ℕ) → Some x ≡ Some y → x ≡ y
-some_of x y e = cc
-
 -- one byte of a class comes next
 one_byte : (c : ℕ) (bs rest : List ℕ) → after_byte c bs ≡ Some rest → (b : ℕ) × (bs ≡ b ∷ rest) × (class_of b ≡ c)
 one_byte c [] rest e = none_is_not rest e
 one_byte c (b ∷ bs) rest e = elim (cases_Bool (class_of b == c)) [
   | inl f ↦ (
     b,
-    ap (λ (w : List ℕ). b ∷ w) (some_of bs rest (sym (if_true (class_of b == c) (Some bs) None f) ∙ e)),
+    ap (λ (w : List ℕ). b ∷ w) (same_Some bs rest (sym (if_true (class_of b == c) (Some bs) None f) ∙ e)),
     eqb-true (class_of b) c f,
   )
   | inr f ↦ none_is_not rest (sym (if_false (class_of b == c) (Some bs) None f) ∙ e)
@@ -134,14 +119,14 @@ text_body [] rest e = none_is_not rest e
 text_body (b ∷ []) rest e = elim (cases_Bool (class_of b == quote)) [
   | inl h ↦
       let q = eqb-true (class_of b) quote h in
-      let same = some_of [] rest (sym (if_true (class_of b == quote) (Some []) None h) ∙ e) in
+      let same = same_Some [] rest (sym (if_true (class_of b == quote) (Some []) None h) ∙ e) in
       ([], b, no_item b [] q ∙ ap (λ (w : List ℕ). Ok ([], b ∷ w)) same, q)
   | inr h ↦ none_is_not rest (sym (if_false (class_of b == quote) (Some []) None h) ∙ e)
 ]
 text_body (b ∷ c ∷ bs) rest e = elim (cases_Bool (class_of b == quote)) [
   | inl h ↦
       let q = eqb-true (class_of b) quote h in
-      let same = some_of (c ∷ bs) rest (sym (if_true (class_of b == quote) (Some (c ∷ bs)) _ h) ∙ e) in
+      let same = same_Some (c ∷ bs) rest (sym (if_true (class_of b == quote) (Some (c ∷ bs)) _ h) ∙ e) in
       ([], b, no_item b (c ∷ bs) q ∙ ap (λ (w : List ℕ). Ok ([], b ∷ w)) same, q)
   | inr h ↦ elim (cases_Bool (class_of b == line_feed)) [
     | inl g ↦ none_is_not rest (sym (rw (h, g) refl) ∙ e)
@@ -174,10 +159,6 @@ text_read b bs rest h e = let p = text_body bs rest e in rw (h, p.2, p.3) refl
 number_kind_is : (text : List ℕ) (n : ℕ) → number_value text ≡ Some n → number_kind text ≡ kinds.Number n
 unfolding number_kind
 number_kind_is text n e = ap kind_of_value e
-
-fits_only : (b : Bool) (m n : ℕ) → fits b m ≡ Some n → b ≡ true
-fits_only true m n e = refl
-fits_only false m n e = absurd cc
 
 zero_read : (b : ℕ) (cs : List ℕ) → class_of b ≡ 3 → starts class_of (cross ∷ []) cs ≡ false
     → reads number_line (b ∷ cs) ≡ Ok (number_kind (b ∷ []), cs)
@@ -231,7 +212,7 @@ decimal_digits : (b : ℕ) (r : List ℕ) (n : ℕ) → (b == 48) ≡ false → 
 decimal_digits b [] n h e = refl
 decimal_digits b (x ∷ r) n h e =
     let p : number_value (b ∷ x ∷ r) ≡ fits (is_digit b && list_all is_digit (x ∷ r)) (digits_value 10 (b ∷ x ∷ r)) = rw h refl in
-    (and_parts (is_digit b) (list_all is_digit (x ∷ r)) (fits_only _ _ n (sym p ∙ e))).1
+    (and_parts (is_digit b) (list_all is_digit (x ∷ r)) (fits_true _ _ n (sym p ∙ e))).1
 
 module _ (b : ℕ) (n : ℕ) (zero : class_of b ≡ 3) where
   hex_whole : (x : ℕ) (r cs : List ℕ) → run word_bytes cs ≡ x ∷ r → class_of x ≡ 2 → is_hexadecimal r ≡ true
@@ -268,13 +249,13 @@ module _ (b : ℕ) (n : ℕ) (zero : class_of b ≡ 3) where
         | inl h ↦
             let f : fits (is_hexadecimal r) (digits_value 16 r) ≡ Some n =
             sym (if_true (x == 120 || x == 88) (fits (is_hexadecimal r) (digits_value 16 r)) _ h) ∙ e' in
-            hex_whole x r cs p (cross_class x h) (fits_only (is_hexadecimal r) (digits_value 16 r) n f) e
+            hex_whole x r cs p (cross_class x h) (fits_true (is_hexadecimal r) (digits_value 16 r) n f) e
         | inr h ↦
             let f : fits (is_decimal (48 ∷ x ∷ r)) (digits_value 10 (48 ∷ x ∷ r)) ≡ Some n =
             sym (if_false (x == 120 || x == 88) (fits (is_hexadecimal r) (digits_value 16 r))
             (fits (is_decimal (48 ∷ x ∷ r)) (digits_value 10 (48 ∷ x ∷ r))) h) ∙ e' in
             let none_left : length (x ∷ r) ≡ 0 =
-            eqb-true (length (x ∷ r)) 0 (fits_only (is_decimal (48 ∷ x ∷ r)) (digits_value 10 (48 ∷ x ∷ r)) n f) in
+            eqb-true (length (x ∷ r)) 0 (fits_true (is_decimal (48 ∷ x ∷ r)) (digits_value 10 (48 ∷ x ∷ r)) n f) in
             absurd (omega (arith, none_left))
       ]
 

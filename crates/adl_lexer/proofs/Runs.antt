@@ -1,14 +1,6 @@
 -- Runs of bytes.
-use Rattle.std.proofs.Common.{◌≡◌, ℕ, ◌-◌, ◌≤◌, true, false, List, [], ◌∷◌, ◌++◌, length, Ok, refl, ap, subst, ◌∙◌, arith, inl, inr, take}
-use Rattle.std.specs.Prelude.{◌==◌, not}
-use Rattle.std.proofs.lemmas.List.{length-append}
-use Rattle.std.proofs.lemmas.Bool.{cases_Bool}
-use Rattle.cam_base.proofs.Lists.{take-front}
-use Rattle.cam_base.specs.Form.{among}
-use Rattle.cam_base.specs.Reading.{one, many, starts}
-use Rattle.cam_base.proofs.Laws.{IsRead-one, consumes}
-use Rattle.cam_base.proofs.Repeats.{and_more, many_more, many_none}
-use Rattle.adl_lexer.specs.Classes.{class_of, run, after_run, line_bytes}
+use Rattle.adl_lexer.proofs.Common.{IsRead-one, List, Ok, [], after_run, among, and_more, ap, arith, cases_Bool, class_of, consumes, false, inl, inr, length, length-append, line_bytes, many, many_more, many_none, not, one, refl, run, starts, subst}
+use Rattle.adl_lexer.proofs.Common.{take, take-front, true, ℕ, ◌++◌, ◌-◌, ◌==◌, ◌∙◌, ◌∷◌, ◌≡◌, ◌≤◌}
 use Rattle.adl_lexer.proofs.Classes.{line_byte}
 
 run_step : (cs : List ℕ) (b : ℕ) (bs : List ℕ) → among cs (class_of b) ≡ true

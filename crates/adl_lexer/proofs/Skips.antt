@@ -1,10 +1,6 @@
 -- What a search for one byte passes over in a comment.
-use Rattle.std.proofs.Common.{◌≡◌, ℕ, zero, suc, ◌+◌, ◌<◌, List, [], ◌∷◌, length, drop, Option, Some, None, refl, sym, ap, ◌∙◌, add-one, arith, inl, inr}
-use Rattle.std.specs.Prelude.{◌==◌, if◌then◌else◌}
-use Rattle.std.proofs.lemmas.Bool.{cases_Bool}
+use Rattle.adl_lexer.proofs.Common.{List, None, Option, Some, [], add-one, after_close, after_first, after_line, after_slash, ap, arith, cases_Bool, drop, if◌then◌else◌, inl, inr, length, refl, suc, sym, zero, ℕ, ◌+◌, ◌<◌, ◌==◌, ◌∙◌, ◌∷◌, ◌≡◌}
 use Rattle.memchr.specs.Find.{IsFirstByte, Nowhere, Passes, is_byte}
-use Rattle.adl_lexer.specs.Gaps.{after_close, after_line}
-use Rattle.adl_lexer.specs.Pieces.{after_first, after_slash}
 
 -- a byte that is nowhere has nothing behind it
 pub first_absent : (wanted : ℕ) (bs : List ℕ) → IsFirstByte (is_byte wanted) bs None → after_first wanted bs ≡ None
@@ -99,3 +95,5 @@ closes bs cs ds e f = close_found bs cs e ∙ slash_closes cs ds f
 -- another byte doesn't
 pub goes_on : (bs cs : List ℕ) → after_first 42 bs ≡ Some cs → after_slash cs ≡ None → after_close bs ≡ after_close cs
 goes_on bs cs e f = close_found bs cs e ∙ other_goes_on cs f
+
+pub ruleset comment_ends = (close_absent, closes, goes_on, first_less)

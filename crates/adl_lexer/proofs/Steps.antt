@@ -1,21 +1,7 @@
 -- One step of the lexer, and what it leaves of the tokens and the faults.
-use Rattle.std.proofs.Common.{◌≡◌, ℕ, ◌<◌, ◌≤◌, true, List, [], ◌∷◌, ◌++◌, length, Some, None, Ok, refl, sym, ap, subst, ◌∙◌, append_assoc, arith, ◌⊎◌, inl, inr}
-use Rattle.std.proofs.lemmas.Bool.{cases_Bool}
-use Rattle.std.proofs.lemmas.List.{append-nil, length-append}
-use Rattle.cam_base.specs.declared.token.Kind.{Kind}
-use Rattle.cam_base.specs.declared.token.Token.{Token}
-use Rattle.cam_base.proofs.Lists.{longer_front}
-use Rattle.cam_base.specs.Deciding.{can_be_empty}
-use Rattle.cam_base.specs.Form.{among}
-use Rattle.cam_base.specs.Reading.{left}
-use Rattle.cam_base.specs.Spelling.{Spells}
-use Rattle.cam_base.proofs.TerminalCodes.{true_is_not_false, if_true}
-use Rattle.cam_base.proofs.Laws.{ok_is, spelled_starts}
-use Rattle.adl_lexer.specs.Classes.{class_of, after_run, blanks}
-use Rattle.adl_lexer.specs.Gaps.{one_gap, IsGap, none, more}
-use Rattle.adl_lexer.specs.LexFaults.{fault_at}
-use Rattle.adl_lexer.specs.Lexes.{IsTokenAt, place_of, LexesFrom, Reached, here, past}
-use Rattle.adl_lexer.specs.TokenKinds.{reads, flat, token_form}
+use Rattle.adl_lexer.proofs.Common.{IsGap, IsTokenAt, Kind, LexesFrom, List, None, Ok, Reached, Some, Spells, Token, [], after_run, among, ap, append-nil, append_assoc, arith, blanks, can_be_empty, cases_Bool, class_of, fault_at, flat, here, if_true}
+use Rattle.adl_lexer.proofs.Common.{inl, inr, left, length, length-append, longer_front, more, none, ok_is, past, place_of, reads, refl, spelled_starts, subst, sym, token_form, true, true_is_not_false, ℕ, ◌++◌, ◌<◌, ◌∙◌, ◌∷◌, ◌≡◌, ◌≤◌, ◌⊎◌}
+use Rattle.adl_lexer.specs.Gaps.{one_gap}
 use Rattle.adl_lexer.proofs.Exactness.{token_exact, token_full, token_first, token_first_is}
 use Rattle.adl_lexer.proofs.Gaps.{gap_class}
 

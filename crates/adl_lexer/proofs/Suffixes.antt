@@ -1,19 +1,8 @@
 -- What stands behind a gap or token is the end of the bytes, and a place cuts out its text.
-use Rattle.std.proofs.Common.{◌≡◌, ℕ, ◌-◌, Bool, true, false, cond, List, [], ◌∷◌, ◌++◌, length, Some, None, refl, sym, ap, subst, ◌∙◌, append_assoc, arith, inl, inr, take, drop}
-use Rattle.std.specs.List.{All}
-use Rattle.std.specs.Prelude.{◌==◌, ◌&&◌}
+use Rattle.adl_lexer.proofs.Common.{All, All-cons, All-nil, Bool, IsGap, IsTextOf, LexesFrom, List, None, Some, Token, [], after_close, after_comment, after_line, among, ap, append_assoc, arith, blanks, cases_Bool, class_of, cond, drop, false}
+use Rattle.adl_lexer.proofs.Common.{if_false, if_true, inl, inr, length, length-append, more, none, none_is_not, place_of, refl, same_Some, slash, subst, sym, take, text_at, true, ℕ, ◌&&◌, ◌++◌, ◌-◌, ◌==◌, ◌∙◌, ◌∷◌, ◌≡◌}
 use Rattle.std.proofs.Math.Seq.{take-append_seam, drop-append_seam}
-use Rattle.std.proofs.lemmas.List.{length-append}
-use Rattle.std.proofs.lemmas.List.Elements.{All-cons, All-nil}
-use Rattle.std.proofs.lemmas.Bool.{cases_Bool}
-use Rattle.cam_base.specs.declared.token.Token.{Token}
-use Rattle.cam_base.specs.Form.{among}
-use Rattle.cam_base.proofs.TerminalCodes.{if_true, if_false}
-use Rattle.adl_lexer.specs.Classes.{class_of, blanks, slash}
-use Rattle.adl_lexer.specs.Gaps.{after_close, after_line, after_comment, one_gap, IsGap, none, more}
-use Rattle.adl_lexer.specs.Lexes.{place_of, LexesFrom}
-use Rattle.adl_lexer.specs.TokenTexts.{IsTextOf, text_at}
-use Rattle.adl_lexer.proofs.Readings.{none_is_not, some_of}
+use Rattle.adl_lexer.specs.Gaps.{one_gap}
 use Rattle.adl_lexer.proofs.TokenTexts.{text_of_kind}
 
 -- these bytes end those
@@ -27,7 +16,7 @@ ends_in_end : (bs cs ds : List ℕ) → EndsIn bs cs → EndsIn cs ds → EndsIn
 ends_in_end bs cs ds e f = (e.0 ++ f.0, e.1 ∙ ap (λ (w : List ℕ). e.0 ++ w) f.1 ∙ sym (append_assoc e.0 f.0 ds))
 
 ends_in_some : (bs x cs : List ℕ) → EndsIn bs x → Some x ≡ Some cs → EndsIn bs cs
-ends_in_some bs x cs e p = subst (λ (w : List ℕ). EndsIn bs w) (some_of x cs p) e
+ends_in_some bs x cs e p = subst (λ (w : List ℕ). EndsIn bs w) (same_Some x cs p) e
 
 after_line_ends : (bs : List ℕ) → EndsIn bs (after_line bs)
 after_line_ends [] = ([], refl)

@@ -1,30 +1,15 @@
 -- The bytes of tokens.
-use Rattle.std.proofs.Common.{◌≡◌, ℕ, ◌≤◌, true, false, cond, List, [], ◌∷◌, ◌++◌, length, Option, Some, None, Ok, refl, sym, ap, subst, ◌∙◌, arith, inl, inr}
-use Rattle.std.specs.Prelude.{◌==◌, nat_lt}
-use Rattle.std.specs.List.{list_all}
-use Rattle.std.proofs.lemmas.Bool.{eqb-true, le-leb, ltb-false, cases_Bool}
-use Rattle.std.proofs.lemmas.List.{append_cancel_right}
+use Rattle.adl_lexer.proofs.Common.{Each, IsTextOf, IsTokenAt, Keyword, Kind, List, None, Ok, Option, Some, Spells, [], after_angle, after_byte, after_run, after_text, among, angle_bytes, angle_first, ap, append_cancel_right, arith, backslash}
+use Rattle.adl_lexer.proofs.Common.{can_be_empty, cases_Bool, class_of, cond, digits, eqb-true, false, flat, greater, if_true, inl, inr, is_left_out_word, is_name, is_word_byte, keyword_of, kind_or_word, le-leb, length, less, letters, line_bytes}
+use Rattle.adl_lexer.proofs.Common.{line_feed, list_all, ltb-false, mark, mark_text, minus, nat_lt, number_fault, number_fault_by, number_value, plain_bytes, quote, reads, refl, run, spelled_starts, starts, subst, sym, token_form, true}
+use Rattle.adl_lexer.proofs.Common.{true_is_not_false, word_bytes, word_fault, word_kind, ℕ, ◌++◌, ◌==◌, ◌∙◌, ◌∷◌, ◌≡◌, ◌≤◌}
 use Rattle.cam_base.specs.declared.code.Code.TheVariants as code
-use Rattle.cam_base.specs.declared.token.Keyword.{Keyword}
-use Rattle.cam_base.specs.declared.token.Kind.{Kind}
 use Rattle.cam_base.specs.declared.token.Kind.TheVariants as kinds
 use Rattle.cam_base.specs.declared.token.Mark.{Mark}
 use Rattle.cam_base.specs.declared.token.Mark.TheVariants as marks
-use Rattle.cam_base.specs.Deciding.{can_be_empty}
-use Rattle.cam_base.proofs.Laws.{spelled_starts}
 use Rattle.adl_lexer.proofs.Exactness.{number_exact, number_full}
-use Rattle.cam_base.specs.Names.{is_word_byte, is_name}
-use Rattle.cam_base.specs.Numbers.{number_value}
-use Rattle.cam_base.specs.Form.{among}
-use Rattle.cam_base.specs.Reading.{starts}
-use Rattle.cam_base.specs.Spelling.{Each, Spells}
-use Rattle.cam_base.proofs.TerminalCodes.{true_is_not_false, if_true}
-use Rattle.adl_lexer.specs.Classes.{class_of, run, after_run, letters, digits, word_bytes, angle_first, angle_bytes, plain_bytes, line_bytes, line_feed, backslash, quote, less, minus, greater}
-use Rattle.adl_lexer.specs.Keywords.{keyword_of}
-use Rattle.adl_lexer.specs.LexFaults.{after_angle, after_byte, after_text, fault_at, word_fault, number_fault, number_fault_by, is_left_out_word}
-use Rattle.adl_lexer.specs.Lexes.{IsTokenAt}
-use Rattle.adl_lexer.specs.TokenKinds.{reads, flat, token_form, kind_or_word, word_kind, word_line, number_line, text_item, text_line, less_line, arrow_line, mark_line, mark}
-use Rattle.adl_lexer.specs.TokenTexts.{IsTextOf, mark_text}
+use Rattle.adl_lexer.specs.LexFaults.{fault_at}
+use Rattle.adl_lexer.specs.TokenKinds.{word_line, number_line, text_item, text_line, less_line, arrow_line, mark_line}
 use Rattle.adl_lexer.proofs.Classes.{letter_cases, digit_cases, one_of}
 use Rattle.adl_lexer.proofs.ClassBytes.{byte_of, letter_of, word_byte_of}
 use Rattle.adl_lexer.proofs.KeywordWords.{keyword_is}

@@ -1,15 +1,10 @@
 -- Bytes have one list of tokens or one first fault, and not both.
-use Rattle.std.proofs.Common.{◌≡◌, ℕ, ◌-◌, ◌+◌, List, [], ◌∷◌, length, Some, None, refl, sym, ap, subst, ◌∙◌}
-use Rattle.cam_base.specs.declared.code.Code.{Code}
+use Rattle.adl_lexer.proofs.Common.{Code, IsFirstFault, IsGap, IsTokenAt, Kind, LexesFrom, List, None, Place, Reached, Some, Token, [], ap, here, length, more, name_in, none, none_is_not, past, place_of, refl, same_Some, subst, sym, ℕ, ◌+◌, ◌-◌, ◌∙◌}
+use Rattle.adl_lexer.proofs.Common.{◌∷◌, ◌≡◌}
 use Rattle.cam_base.specs.declared.place.Fault.{Fault}
-use Rattle.cam_base.specs.declared.place.Place.{Place}
-use Rattle.cam_base.specs.declared.token.Kind.{Kind}
-use Rattle.cam_base.specs.declared.token.Token.{Token}
-use Rattle.adl_lexer.specs.Gaps.{one_gap, IsGap, none, more}
-use Rattle.adl_lexer.specs.LexFaults.{fault_at, name_in}
-use Rattle.adl_lexer.specs.Lexes.{IsTokenAt, place_of, LexesFrom, Reached, here, past, IsFirstFault}
+use Rattle.adl_lexer.specs.Gaps.{one_gap}
+use Rattle.adl_lexer.specs.LexFaults.{fault_at}
 use Rattle.adl_lexer.proofs.Gaps.{fault_no_gap}
-use Rattle.adl_lexer.proofs.Readings.{none_is_not, some_of}
 use Rattle.adl_lexer.proofs.Steps.{token_no_gap, one_token_of, no_token_of_none}
 
 -- no blank and no comment stands here
@@ -22,7 +17,7 @@ one_stop bs x y none none p q = refl
 one_stop bs x y none (more e h) p q = absurd (p _ e)
 one_stop bs x y (more e g) none p q = absurd (q _ e)
 one_stop bs x y (more {cs = cs} e g) (more {cs = ds} f h) p q =
-    one_stop cs x y g (subst (λ (w : List ℕ). IsGap w y) (some_of ds cs (sym f ∙ e)) h) p q
+    one_stop cs x y g (subst (λ (w : List ℕ). IsGap w y) (same_Some ds cs (sym f ∙ e)) h) p q
 
 nil_stops : Stops []
 unfolding Stops one_gap
@@ -99,7 +94,7 @@ no_fault_reached file total bs x (t ∷ ts) f l (past {at = at} {after = after} 
 pub one_fault : (file : ℕ) (bytes : List ℕ) (f g : Fault) → IsFirstFault file bytes f → IsFirstFault file bytes g → f ≡ g
 one_fault file bytes f g p q =
     let same = one_place bytes p.rest q.rest (f.code, p.text) (g.code, q.text) p.reached q.reached p.stands q.stands in
-    let both : (f.code, p.text) ≡ (g.code, q.text) = found (f.code, p.text) (g.code, q.text) (sym p.stands ∙ ap fault_at same
+    let both : (f.code, p.text) ≡ (g.code, q.text) = same_Some (f.code, p.text) (g.code, q.text) (sym p.stands ∙ ap fault_at same
     ∙ q.stands) in
     let code : f.code ≡ g.code = ap (λ (w : Code × List ℕ). w.0) both in
     let text : p.text ≡ q.text = ap (λ (w : Code × List ℕ). w.1) both in
@@ -110,9 +105,6 @@ one_fault file bytes f g p q =
   where
     spot : List ℕ → List ℕ → Place
     spot rest text = record { file = file; first = length bytes - length rest; end = (length bytes - length rest) + length text }
-
-    found : (x y : Code × List ℕ) → Some x ≡ Some y → x ≡ y
-    found x y e = cc
 
     same_fault : (f g : Fault) → f.code ≡ g.code → f.place ≡ g.place → f.name ≡ g.name → f ≡ g
     same_fault f g p q r = λ i. record { code = p i; place = q i; name = r i }

@@ -1,20 +1,8 @@
 -- Parsing a file has one answer.
-use Rattle.std.proofs.Common.{◌≡◌, ℕ, List, Result, Ok, Err, sym, ap, ◌∙◌}
-use Rattle.cam_base.specs.declared.error.Refused.{Refused}
+use Rattle.adl_parse.proofs.Common.{Err, Fault, File, IsFileIn, IsSettled, List, Ok, Refused, Result, Token, Why, ap, fault_of, file_decides, file_goes_on, file_line, file_stops_once, limit, nested_is, nested_line, opens, see, sym, token_code, ℕ}
+use Rattle.adl_parse.proofs.Common.{◌∙◌, ◌≡◌}
 use Rattle.cam_base.specs.declared.error.Refused.TheVariants as refusals
-use Rattle.cam_base.specs.declared.place.Fault.{Fault}
-use Rattle.cam_base.specs.declared.token.Token.{Token}
-use Rattle.cam_base.specs.declared.grammar_error.Why.{Why}
-use Rattle.cam_base.proofs.Unique.{file_stops_once, file_goes_on}
-use Rattle.adl_ast.specs.declared.file.File.{File}
-use Rattle.adl_ast.specs.Codes.{token_code}
-use Rattle.adl_ast.specs.Forms.{nested_line, file_line}
-use Rattle.adl_ast.specs.Seeing.{see}
-use Rattle.adl_ast.specs.Spelling.{opens, limit}
-use Rattle.adl_ast.proofs.Decides.{nested_is, file_decides}
 use Rattle.adl_ast.proofs.Trees.{one_tree}
-use Rattle.adl_parse.specs.Faults.{fault_of}
-use Rattle.adl_parse.specs.Files.{IsFileIn, IsSettled}
 
 pub one_answer : (bytes : List ℕ) (tokens : List Token) (a b : Result File (Refused Fault)) → IsSettled a → IsSettled b
     → IsFileIn bytes tokens a → IsFileIn bytes tokens b → a ≡ b

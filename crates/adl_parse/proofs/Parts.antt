@@ -1,24 +1,11 @@
 -- What the reader of a part gives is what parsing it from a position on answers.
-use Rattle.std.proofs.Common.{◌≡◌, ℕ, ◌≤◌, ◌-◌, true, List, [], ◌++◌, drop, length, Ok, Err, sym, ap, subst, ◌∙◌}
+use Rattle.adl_parse.proofs.Common.{Err, Fails, Fault, IsRefusalOf, IsSpelledBy, List, Ok, ReadError, Refused, Rule, Token, Why, [], ap, drop, ends_within, fault_of, length, limit, nested_is, nested_line, opens, part_at, part_stops, part_stops_once}
+use Rattle.adl_parse.proofs.Common.{reads, see, seen_at, subst, sym, token_code, true, ℕ, ◌++◌, ◌-◌, ◌∙◌, ◌≡◌, ◌≤◌}
 use Rattle.std.proofs.lemmas.List.{drop-map, length-map}
-use Rattle.cam_base.specs.declared.error.Refused.{Refused}
 use Rattle.cam_base.specs.declared.error.Refused.TheVariants as refusals
-use Rattle.cam_base.specs.declared.place.Fault.{Fault}
-use Rattle.cam_base.specs.declared.token.Token.{Token}
-use Rattle.cam_base.specs.declared.grammar_error.ReadError.{ReadError}
 use Rattle.cam_base.specs.declared.grammar_error.ReadError.TheVariants as errors
-use Rattle.cam_base.specs.declared.grammar_error.Why.{Why}
 use Rattle.cam_base.specs.Deciding.{decides, further}
-use Rattle.cam_base.specs.Gives.{Fails}
-use Rattle.cam_base.proofs.Parsed.{ends_within, part_at, part_stops}
-use Rattle.cam_base.proofs.Unique.{part_stops_once}
 use Rattle.adl_ast.specs.declared.seen.Seen.{Seen}
-use Rattle.adl_ast.specs.Codes.{token_code}
-use Rattle.adl_ast.specs.Forms.{Rule, nested_line}
-use Rattle.adl_ast.specs.Seeing.{see, seen_at}
-use Rattle.adl_ast.specs.Spelling.{opens, reads, limit, IsSpelledBy}
-use Rattle.adl_ast.proofs.Decides.{nested_is}
-use Rattle.adl_parse.specs.Faults.{IsRefusalOf, fault_of}
 use Rattle.adl_parse.specs.Parts.{IsPartAt, FaultIsOne}
 
 seen_length : (bytes : List ℕ) (ts : List Token) → length (see bytes ts) ≡ length ts

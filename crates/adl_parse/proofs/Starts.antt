@@ -1,8 +1,5 @@
 -- The next token's code is among two lists of codes.
-use Rattle.std.proofs.Common.{◌≡◌, ℕ, Bool, true, false, cond, List, [], ◌∷◌, ◌++◌, refl, ap, ◌∙◌}
-use Rattle.std.specs.Prelude.{◌||◌, ◌==◌}
-use Rattle.cam_base.specs.Form.{among}
-use Rattle.cam_base.specs.Reading.{starts}
+use Rattle.adl_parse.proofs.Common.{Bool, List, [], among, ap, cond, false, refl, starts, true, ℕ, ◌++◌, ◌==◌, ◌||◌, ◌∙◌, ◌∷◌, ◌≡◌}
 
 or_cond : (b c d e : Bool) → e ≡ (c || d) → cond b true e ≡ (cond b true c || d)
 or_cond true c d e h = refl

@@ -1,23 +1,8 @@
 -- What the reader of files gives is what parsing a file answers.
-use Rattle.std.proofs.Common.{◌≡◌, ℕ, List, Ok, Err, sym, subst}
-use Rattle.cam_base.specs.declared.error.Refused.{Refused}
+use Rattle.adl_parse.proofs.Common.{Err, Fails, Fault, File, IsFileIn, IsRefusalOf, List, Ok, ReadError, Refused, Token, file_decides, file_line, file_stops, limit, nested_is, nested_line, opens, reads, see, subst, sym, token_code, whole, ℕ, ◌≡◌}
 use Rattle.cam_base.specs.declared.error.Refused.TheVariants as refusals
-use Rattle.cam_base.specs.declared.place.Fault.{Fault}
-use Rattle.cam_base.specs.declared.token.Token.{Token}
-use Rattle.cam_base.specs.declared.grammar_error.ReadError.{ReadError}
 use Rattle.cam_base.specs.declared.grammar_error.ReadError.TheVariants as errors
-use Rattle.cam_base.specs.Gives.{Fails}
-use Rattle.cam_base.specs.Reading.{whole}
 use Rattle.cam_base.proofs.Theorems.{whole_found}
-use Rattle.cam_base.proofs.Parsed.{file_stops}
-use Rattle.adl_ast.specs.declared.file.File.{File}
-use Rattle.adl_ast.specs.Codes.{token_code}
-use Rattle.adl_ast.specs.Forms.{nested_line, file_line}
-use Rattle.adl_ast.specs.Seeing.{see}
-use Rattle.adl_ast.specs.Spelling.{opens, reads, limit}
-use Rattle.adl_ast.proofs.Decides.{nested_is, file_decides}
-use Rattle.adl_parse.specs.Faults.{IsRefusalOf}
-use Rattle.adl_parse.specs.Files.{IsFileIn}
 
 module _ (bytes : List ℕ) (tokens slice : List Token) (is : slice ≡ tokens) where
   all_ok : (x : File) → whole (reads file_line) (see bytes tokens) ≡ Ok x → IsFileIn bytes tokens (Ok x)

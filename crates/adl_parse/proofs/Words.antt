@@ -1,18 +1,14 @@
 -- The codes of words apart from those of other tokens.
-use Rattle.std.proofs.Common.{◌≡◌, ℕ, Bool, true, false, cond, List, [], ◌∷◌, refl, sym, ap, ◌∙◌, inl, inr}
-use Rattle.std.specs.Prelude.{codes}
+use Rattle.adl_parse.proofs.Common.{Bool, List, [], among, ap, codes, cond, false, inl, inr, kind_code, refl, sym, true, without_value, word_code, word_codes, ℕ, ◌==◌, ◌∙◌, ◌∷◌, ◌≡◌}
 use Rattle.std.specs.Str.{bytes_eq}
 use Rattle.cam_base.specs.declared.token.Kind.{Kind}
 use Rattle.cam_base.specs.declared.token.Kind.TheVariants as kinds
 use Rattle.std.proofs.lemmas.Bool.{cases_Bool}
 use Rattle.std.proofs.lemmas.Bool.Decides.{eqb_tells}
-use Rattle.std.specs.Prelude.{◌==◌}
-use Rattle.adl_ast.specs.Codes.{kind_code, without_value, word_code, word_codes}
 use Rattle.adl_ast.proofs.OneKind.{same_code}
 use Rattle.adl_parse.specs.Words.{codes_of, is_word}
 use Rattle.adl_parse.specs.declared.token.WordKind.{WordKind}
 use Rattle.adl_parse.specs.declared.token.WordKind.TheVariants.{Void, NotVoid, Buf, NotBuf}
-use Rattle.cam_base.specs.Form.{among}
 
 pub of_sign : (kind : Kind) (text : List ℕ) → is_word kind ≡ false → kind_code kind text ≡ kind_code kind []
 of_sign kinds.Word text h = absurd cc

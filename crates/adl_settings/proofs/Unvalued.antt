@@ -6,14 +6,12 @@ use Rattle.adl_meaning.specs.Members.{as_attribute, attribute_of}
 use Rattle.adl_meaning.specs.Values.{default_in, given_by}
 use Rattle.adl_settings.proofs.ValueSearch.{referred}
 use Rattle.adl_settings.specs.Named.{gives, is_attribute, is_valued, members_of, sets_name}
+use Rattle.cam_base.proofs.Options.{or_cond}
 
 -- ---- tests
 
 pub or_from_cond : (k n : Name) (new had : Bool) → new ≡ cond (bytes_eq k n) true had → new ≡ (had || bytes_eq n k)
-or_from_cond k n new had put = put ∙ by_test (bytes_eq k n) had ∙ ap (λ b. had || b) (bytes_eq-sym k n)
-  where
-    by_test : (b had : Bool) → cond b true had ≡ (had || b)
-    by_test b had = grind (arith, nat_tests)
+or_from_cond k n new had put = put ∙ or_cond (bytes_eq k n) had ∙ ap (λ b. had || b) (bytes_eq-sym k n)
 
 pub or_behind : (a b c : Bool) → ((a || b) || c) ≡ (a || (b || c))
 or_behind a b c = grind (arith, nat_tests)

@@ -8,7 +8,6 @@ pub use Rattle.adl_meaning.specs.declared.flat.FlatConnection.{FlatConnection}
 pub use Rattle.adl_meaning.specs.declared.flat.FlatEnd.{FlatEnd}
 pub use Rattle.adl_meaning.specs.declared.flat.Leaf.{Leaf}
 pub use Rattle.arch_policy.specs.Bound.{IsBound, IsBoundAt, IsBoundBy, bound_to}
-pub use Rattle.arch_policy.specs.Ends.{EndAt, IsEnd, LockAt}
 pub use Rattle.arch_policy.specs.Gives.{gives, leaves, opposite, same_object}
 pub use Rattle.arch_policy.specs.Labels.{comes_before, connection_numbers, device_numbers, domain_numbers, firsts, in_order, label_numbers, label_texts, put_before, put_in, rank}
 pub use Rattle.arch_policy.specs.LockEdges.{IsOfLeaf, IsWithLock}
@@ -29,21 +28,22 @@ pub use Rattle.cam_base.specs.Gather.{IsIn, gather}
 pub use Rattle.cam_base.specs.Paths.{joined}
 pub use Rattle.cap_machine.proofs.Gathering.{OfFirst, all_first, first_more}
 pub use Rattle.cap_model.proofs.EdgeGrowth.{adds_none, adds_same, adds_then}
-pub use Rattle.cap_model.proofs.EdgeOrder.{not_before_self, same_edge-sym, same_edge_self, same_edge_true}
+pub use Rattle.cap_model.proofs.EdgeOrder.{same_edge_self, same_edge_true}
 pub use Rattle.cap_model.specs.Adds.{Adds, IsOfSet}
-pub use Rattle.cap_model.specs.Edges.{Before, edge, same_edge}
+pub use Rattle.cap_model.specs.Edges.{edge, same_edge}
+pub use Rattle.cap_model.specs.EdgesLeft.{edges_left}
 pub use Rattle.cap_model.specs.Tables.{IsFirstFrom, IsSorted, has}
 pub use Rattle.cap_model.specs.declared.edge.Edge.{Edge}
 pub use Rattle.conn_rules.specs.Row.{RW, rows_of, same_connector, same_role}
 pub use Rattle.conn_rules.specs.declared.rule.ObjectKind.{ObjectKind}
 pub use Rattle.conn_rules.specs.declared.rule.ObjectKind.TheVariants.{NoObject, OfDevice, OfEndpoint, OfFrames, OfIrq, OfNotification}
 pub use Rattle.cspace_layout.specs.Members.{is_lock, members_at}
-pub use Rattle.std.proofs.Common.{Bool, Equal, Greater, Less, List, None, Option, Ordering, Some, [], ap, append-nil, arith, cond, drop, false, get_or, inl, inr, length, map, not, refl, rules, subst, suc, sym, take, true, true≢false, zero, ℕ, ⊎_elim, ◌&&◌}
-pub use Rattle.std.proofs.Common.{◌++◌, ◌+◌, ◌<◌, ◌==◌, ◌^◌, ◌||◌, ◌↔◌, ◌∙◌, ◌∷◌, ◌≡◌, ◌≢◌, ◌≤◌, ◌⊎◌}
+pub use Rattle.std.proofs.Common.{Bool, Equal, Greater, IfSome, Less, List, None, Option, Ordering, Some, [], ap, append-nil, arith, cond, drop, false, get_or, inl, inr, length, map, map-id, not, refl, rules, subst, suc, sym, take, true, true≢false}
+pub use Rattle.std.proofs.Common.{zero, ℕ, ⊎_elim, ◌&&◌, ◌++◌, ◌+◌, ◌-◌, ◌<◌, ◌==◌, ◌^◌, ◌||◌, ◌↔◌, ◌∙◌, ◌∷◌, ◌≡◌, ◌≢◌, ◌≤◌, ◌⊎◌}
 pub use Rattle.std.proofs.lemmas.Bool.{and_from, and_parts, cases_lt, eq-eqb, eqb-true}
-pub use Rattle.std.proofs.lemmas.List.{get_or-map, get_or_default, length-map, take_all, take_more}
-pub use Rattle.std.proofs.lemmas.List.Sorted.{Contains-permutation, IsPartitionPoint-from_clause, IsPermutation-map, IsPermutation-sym, list_any-IsPermutation}
-pub use Rattle.std.proofs.lemmas.Map.Keys.{IsDistinct-from_apart, Less-from_sorted}
-pub use Rattle.std.proofs.lemmas.Option.{get_or_from_slice_get, slice_get-get_or, slice_get_read, slice_get_within}
-pub use Rattle.std.specs.List.{AllByRecursion, Contains, IsDistinct, count_by, dedup, filter, flat_map, list_all, list_any, slice_get}
-pub use Rattle.std.specs.Str.{bytes_eq}
+pub use Rattle.std.proofs.lemmas.Iterator.Consumers.{YieldsList-end, YieldsList-from_first, YieldsList-turn}
+pub use Rattle.std.proofs.lemmas.List.{get_or-map, get_or_default, length-map, length_push, take_all}
+pub use Rattle.std.proofs.lemmas.List.Sorted.{Contains-permutation, IsPartitionPoint-from_clause, IsPermutation-map, IsPermutation-sym}
+pub use Rattle.std.proofs.lemmas.Option.{get_or_from_slice_get, same_Some, slice_get_read, slice_get_within}
+pub use Rattle.std.specs.Cmp.Lexicographic.{pointwise, slice_cmp}
+pub use Rattle.std.specs.List.{AllByRecursion, Contains, count_by, dedup, filter, flat_map, list_all, list_any, slice_get}

@@ -1,10 +1,8 @@
 -- Texts that are read as names with dots
-use Rattle.arch_policy.proofs.Common.{List, None, Option, Some, [], ap, arith, drop, false, flat_map, get_or, length, sym, take, take_all, true, ℕ, ◌++◌, ◌+◌, ◌<◌, ◌∙◌, ◌∷◌, ◌≡◌, ◌≤◌}
-use Rattle.std.proofs.Common.{IfSome, ◌-◌}
+use Rattle.arch_policy.proofs.Common.{IfSome, List, None, Option, Some, [], ap, arith, drop, false, flat_map, get_or, length, pointwise, sym, take, take_all, true, ℕ, ◌++◌, ◌+◌, ◌-◌, ◌<◌, ◌∙◌, ◌∷◌, ◌≡◌, ◌≤◌}
 use Rattle.std.proofs.lemmas.Bool.Decides.{Decides-eqb}
 use Rattle.std.proofs.lemmas.Slice.Eq.{strip_prefix_is}
 use Rattle.std.specs.Borrow.{Bor}
-use Rattle.std.specs.Cmp.Lexicographic.{pointwise}
 use Rattle.std.specs.Option.{MatchOption}
 use Rattle.std.specs.Prelude.{nat_eq}
 use Rattle.cam_base.proofs.Lists.{drop_first}
@@ -25,5 +23,6 @@ pub dotted_turn : (names : List (List ℕ)) (i : ℕ) (name left rest : List ℕ
     → 1 ≤ length left → get_or left 0 0 ≡ 46 → take (length left - 1) (drop 1 left) ≡ name ++ rest
     → rest ≡ flat_map (λ m. 46 ∷ m) (drop (i + 1) names) → left ≡ flat_map (λ m. 46 ∷ m) (drop i names)
 dotted_turn names i name left rest l is long dot front more =
-    first_then left long ∙ ap (λ d. d ∷ take (length left - 1) (drop 1 left)) dot ∙ ap (λ r. 46 ∷ r) front ∙ ap (λ r. 46 ∷ name ++ r) more
+    first_then left long ∙ ap (λ d. d ∷ take (length left - 1) (drop 1 left)) dot ∙ ap (λ r. 46 ∷ r) front
+    ∙ ap (λ r. 46 ∷ name ++ r) more
     ∙ ap (flat_map (λ m. 46 ∷ m)) (sym (drop_first names i name l is))

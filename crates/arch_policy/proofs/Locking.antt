@@ -1,6 +1,6 @@
 -- The edges of locks, leaf by leaf, are those of the locks of domains.
-use Rattle.arch_policy.proofs.Common.{Adds, Edge, IsCertificateOf, IsLockEdge, IsOfLeaf, IsOfSet, IsPolicyOf, IsSetOf, IsWithLock, Leaf, List, RW, Some, Tables, adds_none, adds_same, ap, domain_label, from_any, has}
-use Rattle.arch_policy.proofs.Common.{in_place, inl, inr, is_lock, list_any, members_at, place_of, refl, subst, sym, true, ℕ, ⊎_elim, ◌↔◌, ◌∙◌, ◌≡◌, ◌⊎◌}
+use Rattle.arch_policy.proofs.Common.{Adds, Edge, IsCertificateOf, IsLockEdge, IsOfLeaf, IsOfSet, IsPolicyOf, IsSetOf, IsWithLock, Leaf, List, RW, Some, Tables, adds_none, adds_same, ap, domain_label, from_any, has, in_place, inl, inr, is_lock}
+use Rattle.arch_policy.proofs.Common.{list_any, members_at, place_of, refl, same_Some, subst, sym, true, ℕ, ⊎_elim, ◌↔◌, ◌∙◌, ◌≡◌, ◌⊎◌}
 use Rattle.adl_ast.specs.declared.component.Member.TheVariants as members
 use Rattle.arch_policy.proofs.Listed.{lock_of_member}
 use Rattle.arch_policy.proofs.Lists.{in_any}
@@ -22,12 +22,9 @@ pub leaf_adds : (t : Tables) (leaf : Leaf) (d : ℕ) (a b : List Edge) → leaf.
 leaf_adds t leaf d a b inside locks grown =
     adds_same (IsWithLock (domain_label t d)) (IsOfLeaf t leaf)
     (λ e h. record { domain = d; inside = inside; locks = locks; with_lock = h })
-    (λ e h. let same : h.domain ≡ d = one h.domain (sym h.inside ∙ inside) in there e h.domain same h.with_lock)
+    (λ e h. let same : h.domain ≡ d = same_Some h.domain d (sym h.inside ∙ inside) in there e h.domain same h.with_lock)
     a b grown
   where
-    one : (x : ℕ) → Some x ≡ Some d → x ≡ d
-    one x e = cc
-
     there : (e : Edge) (x : ℕ) → x ≡ d → IsWithLock (domain_label t x) e → IsWithLock (domain_label t d) e
     there e x same h = record {
       from = h.from ∙ ap (domain_label t) same;

@@ -1,22 +1,14 @@
 -- Where tokens spell the files of a source, the names of labels' paths are identifiers.
-use Rattle.assigned_laws.proofs.Common.{AreNamesSound, AreSpelled, Bool, Composition, Connection, Group, HasPath, Held, Id, Instance, IsIn, IsOne, Line, List, Name, Owner, Part, Path, Some, Source, [], a_connection, as_held, at, body, cond, false}
-use Rattle.assigned_laws.proofs.Common.{first_on, flat_of, from_flat_map, from_map, held_by, held_in, hierarchy_of, in_append, inl, inr, is_name, line_spelled, name_of, named_in, one_of, part_of_body, refl, subst, sym, top_number, true, ℕ, ◌++◌, ◌∙◌}
+use Rattle.assigned_laws.proofs.Common.{AreNamesSound, AreSpelled, Composition, Connection, Group, HasPath, Held, Id, Instance, IsIn, IsOne, Line, Name, Owner, Part, Path, Some, Source, [], a_connection, as_held, at, body}
+use Rattle.assigned_laws.proofs.Common.{first_on, flat_of, from_flat_map, from_map, held_by, held_in, hierarchy_of, in_append, inl, inr, is_name, line_spelled, name_of, named_in, one_of, part_of_body, subst, sym, top_number, true, ℕ, ◌∙◌}
 use Rattle.assigned_laws.proofs.Common.{◌∷◌, ◌≡◌}
 use Rattle.adl_ast.specs.Forms.{word, connection_line, composition_member_line, group_line, instance_form, instance_line}
-use Rattle.adl_ast.specs.Seeing.{named}
+use Rattle.cam_base.proofs.Naming.{named_is}
 use Rattle.adl_ast.specs.declared.composition.Line.TheVariants as lines
 use Rattle.assigned_laws.proofs.LabelPaths.{Ends, held_instance, label_ends}
 
 abbrev pub IsIdentifier : Name → Type 0
 IsIdentifier n = is_name n ≡ true
-
--- what a word of the source names
-named_is : (text : List ℕ) → IsIdentifier (named text)
-named_is text = by_test (is_name text) refl
-  where
-    by_test : (b : Bool) → is_name text ≡ b → IsIdentifier (cond b text (95 ∷ []))
-    by_test true h = h
-    by_test false h = refl
 
 -- ---- lines of compositions
 

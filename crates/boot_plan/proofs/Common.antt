@@ -17,7 +17,6 @@ pub use Rattle.boot_plan.specs.declared.plan_refusal.PlanRefusal.TheVariants.{No
 pub use Rattle.boot_plan.specs.declared.untyped.Untyped.{Untyped}
 pub use Rattle.cam_base.specs.LinesLeft.{line_of, lines_left}
 pub use Rattle.cam_io.proofs.Saying.{said_all, says_line, says_lines, says_nothing, says_then}
-pub use Rattle.cam_io.specs.Saying.{Says}
 pub use Rattle.cap_model.specs.Kept.{IsKept, fits, if_any, keeps, keeps_fill, keeps_slots}
 pub use Rattle.cap_model.specs.declared.object.Object.{Object}
 pub use Rattle.cap_model.specs.declared.object.Object.TheVariants.{CNode, Endpoint, Frame, Irq, Notification, Pages, Thread}
@@ -26,7 +25,7 @@ pub use Rattle.cap_model.specs.declared.spec.Spec.{Spec}
 pub use Rattle.std.proofs.Common.{Bool, Err, List, None, Ok, Option, Result, Some, [], ap, append-nil, append_assoc, arith, cond, drop, false, get_or, get_or-set_other, get_or-set_same, inl, inr, leb, length, lit<, map, min, nat_lt, not, refl, rules}
 pub use Rattle.std.proofs.Common.{subst, suc, sym, take, true, zero, ℕ, ⊎_elim, ◌%◌, ◌&&◌, ◌*◌, ◌++◌, ◌+◌, ◌-◌, ◌/◌, ◌<◌, ◌==◌, ◌^◌, ◌||◌, ◌∙◌, ◌∷◌, ◌≡◌, ◌≢◌, ◌≤◌, ◌⊎◌}
 pub use Rattle.std.proofs.Math.Nat.{le_of_mul-le-mul_right, mul-le-mul_right, mul-mod_left, one-le-pow, pow-le-pow_right, pow-suc}
-pub use Rattle.std.proofs.lemmas.Bool.{and_from, and_parts, cases_lt, eqb-true, le-leb, le-ltb, lt-ltb, or_parts}
+pub use Rattle.std.proofs.lemmas.Bool.{and_from, and_parts, cases_lt, eqb-true, le-leb, le-ltb, leb-true, lt-ltb, not-true, or_parts, or_right}
 pub use Rattle.std.proofs.lemmas.Bool.Decides.{nat_tests}
 pub use Rattle.std.proofs.lemmas.List.{at_drop_all, at_drop_more, drop_more, get_or_append_left, get_or_default, get_or_push, length-take-le, length_push, take_all, take_more}
 pub use Rattle.std.proofs.lemmas.List.Folds.{list_all-append, list_any-append, list_any_more}

@@ -1,6 +1,7 @@
 -- Offsets of regions that are laid end to end, the greatest first.
 use Rattle.boot_plan.proofs.Common.{Apart, Bool, Bytes, IsInOrder, IsPermutation, LieIn, LieInOne, List, Untyped, [], address, and_from, and_parts, ap, are_regions, arith, bytes_end, cases_lt, false, get_or, had, inl, inr, is_region, le-leb, leb}
-use Rattle.boot_plan.proofs.Common.{length, list_any, list_any-IsPermutation, nat_lt, nat_tests, not, rank, refl, region_end, room_bytes, subst, suc, sum_by-cons, sym, true, ℕ, ⊎_elim, ◌&&◌, ◌+◌, ◌-◌, ◌<◌, ◌^◌, ◌||◌, ◌∙◌, ◌∷◌, ◌≡◌, ◌≤◌, ◌⊎◌}
+use Rattle.boot_plan.proofs.Common.{leb-true, length, list_any, list_any-IsPermutation, nat_lt, nat_tests, not, not-true, or_right, rank, refl, region_end, room_bytes, subst, suc, sum_by-cons, sym, true, ℕ, ⊎_elim, ◌&&◌, ◌+◌, ◌-◌, ◌<◌, ◌^◌, ◌∙◌, ◌∷◌}
+use Rattle.boot_plan.proofs.Common.{◌≡◌, ◌≤◌, ◌⊎◌}
 use Rattle.boot_plan.proofs.Multiples.{Multiple, multiple_add, multiple_coarse, multiple_from, multiple_gap, multiple_one, multiple_sub, power_pos}
 use Rattle.boot_plan.proofs.Solo.{Solo, solo_apart, solo_rest}
 use Rattle.boot_plan.proofs.Usual.{region_parts}
@@ -185,23 +186,12 @@ unfolding test
 tested_lie b r t =
     let p = and_parts (not r.device) (leb r.paddr b.first && leb (bytes_end b) (region_end r)) t in
     let q = and_parts (leb r.paddr b.first) (leb (bytes_end b) (region_end r)) p.1 in
-    record { kind = no r.device p.0; low = le r.paddr b.first q.0; high = le (bytes_end b) (region_end r) q.1 }
-  where
-    no : (d : Bool) → not d ≡ true → d ≡ false
-    no true e = absurd cc
-    no false e = refl
-
-    le : (n m : ℕ) → leb n m ≡ true → n ≤ m
-    le n m h = grind (arith, nat_tests)
+    record { kind = not-true r.device p.0; low = leb-true r.paddr b.first q.0; high = leb-true (bytes_end b) (region_end r) q.1 }
 
 any_from : (b : Bytes) (rs : List Untyped) → LieInOne false b rs → list_any (test b) rs ≡ true
 any_from b [] l = absurd l
 any_from b (r ∷ rs) (inl l) = rw (lie_tested b r l) refl
-any_from b (r ∷ rs) (inr l) = or_true (test b r) (list_any (test b) rs) (any_from b rs l)
-  where
-    or_true : (x y : Bool) → y ≡ true → (x || y) ≡ true
-    or_true true y e = refl
-    or_true false y e = e
+any_from b (r ∷ rs) (inr l) = or_right (test b r) (list_any (test b) rs) (any_from b rs l)
 
 from_any : (b : Bytes) (rs : List Untyped) → list_any (test b) rs ≡ true → LieInOne false b rs
 from_any b [] e = absurd cc

@@ -1,7 +1,7 @@
 -- A placement has room: bytes that are apart and lie in regions are no more than those of the regions.
 use Rattle.boot_plan.proofs.Common.{AllApart, AllByRecursion, AllSuit, Apart, Block, Bool, Bytes, DevicePage, HasRoom, LacksRoom, LieIn, LieInOne, List, Need, None, Nothing, Option, Placed, Some, Untyped, [], all_bytes, and_parts, ap, arith}
-use Rattle.boot_plan.proofs.Common.{block_bytes, bytes_end, cases_lt, cond, false, had, inl, inr, le-leb, leb, length, nat_tests, needed, not, pow-suc, refl, region_end, room_bytes, suc, sum_by-cons, sym, true, zero, ℕ, ⊎_elim, ◌&&◌, ◌+◌, ◌<◌, ◌^◌}
-use Rattle.boot_plan.proofs.Common.{◌∙◌, ◌∷◌, ◌≡◌, ◌≤◌}
+use Rattle.boot_plan.proofs.Common.{block_bytes, bytes_end, cases_lt, cond, false, had, inl, inr, le-leb, leb, leb-true, length, nat_tests, needed, not, not-true, pow-suc, refl, region_end, room_bytes, suc, sum_by-cons, sym, true, zero, ℕ, ⊎_elim}
+use Rattle.boot_plan.proofs.Common.{◌&&◌, ◌+◌, ◌<◌, ◌^◌, ◌∙◌, ◌∷◌, ◌≡◌, ◌≤◌}
 use Rattle.boot_plan.proofs.Multiples.{power_pos}
 use Rattle.boot_plan.proofs.Powers.{pow_le}
 
@@ -73,9 +73,6 @@ zip_all P Q (b ∷ bs) h k = ((h.0, k.0), zip_all P Q bs h.1 k.1)
 not_le : (n m : ℕ) → not (leb n m) ≡ true → m < n
 not_le n m h = grind (arith, nat_tests)
 
-le_of : (n m : ℕ) → leb n m ≡ true → n ≤ m
-le_of n m h = grind (arith, nat_tests)
-
 -- bytes that are apart within bounds are no more than stand between the bounds
 inside : (most low high : ℕ) (bs : List Bytes) → length bs ≤ most → low ≤ high → AllByRecursion (Within low high) bs → AllApart bs
     → low + sizes bs ≤ high
@@ -88,7 +85,7 @@ inside (suc most) low high (b ∷ bs) few le w apart =
     let front = inside most low b.first (sift in_front bs) (let f = fewer in_front bs in omega arith) w.0.low_end
     (sift_all (λ c. Within low high c × Apart b c) (Within low b.first) in_front bs (λ c e k. record {
       low_end = k.0.low_end;
-      high_end = le_of (bytes_end c) b.first e;
+      high_end = leb-true (bytes_end c) b.first e;
     }) all) (sift_apart in_front bs apart.1) in
     let back = inside most (bytes_end b) high (sift (λ c. not (in_front c)) bs) (let f = fewer (λ c. not (in_front c)) bs in
     omega arith) w.0.high_end
@@ -112,11 +109,7 @@ unfolding lies_in
 lies_parts r b e =
     let p = and_parts (not r.device) (leb r.paddr b.first && leb (bytes_end b) (region_end r)) e in
     let q = and_parts (leb r.paddr b.first) (leb (bytes_end b) (region_end r)) p.1 in
-    (no r.device p.0, le_of r.paddr b.first q.0, le_of (bytes_end b) (region_end r) q.1)
-  where
-    no : (d : Bool) → not d ≡ true → d ≡ false
-    no true e = absurd cc
-    no false e = refl
+    (not-true r.device p.0, leb-true r.paddr b.first q.0, leb-true (bytes_end b) (region_end r) q.1)
 
 lies_told : (r : Untyped) (b : Bytes) → LieIn false b r → lies_in r b ≡ true
 unfolding lies_in
@@ -233,7 +226,7 @@ chosen_great least rs (Block bits ∷ ns) (Some first ∷ places) h = go (leb le
   where
     go : (t : Bool) → leb least bits ≡ t → AllByRecursion (GreatIn least rs) (chosen least ns places)
         → AllByRecursion (GreatIn least rs) (put t (record { first = first; bits = bits }) (chosen least ns places))
-    go true e ih = (record { great = le_of least bits e; lies = h.0.1 }, ih)
+    go true e ih = (record { great = leb-true least bits e; lies = h.0.1 }, ih)
     go false e ih = ih
 
 chosen_sizes : (least : ℕ) (rs : List Untyped) (ns : List Need) (places : List (Option ℕ)) → AllSuit rs ns places

@@ -1,8 +1,8 @@
 -- Pages of devices: which regions have them, and which are needed already.
 use Rattle.boot_plan.proofs.Common.{Block, Bool, DevicePage, Err, IfOk, IsIndexOf, IsPermutation, IsSetOf, List, Need, NoDevice, None, Nothing, Ok, Option, PlanRefusal, Result, SharedFrame, Some, Untyped, [], and_parts, ap, are_usual, arith}
-use Rattle.boot_plan.proofs.Common.{at_drop_all, at_drop_more, cases_lt, cond, device_refusal, drop, eqb-true, false, get_or, has_page, has_pages, is_needed, is_region, is_usual, le-leb, le-ltb, leb, length, list_any, list_any-IsPermutation}
-use Rattle.boot_plan.proofs.Common.{list_any-append, list_any_more, lt-ltb, nat_lt, nat_tests, not, page, pages_of, refl, region_end, subst, sym, take, take_all, take_more, true, ℕ, ⊎_elim, ◌%◌, ◌&&◌, ◌++◌, ◌+◌, ◌<◌, ◌==◌, ◌^◌, ◌||◌, ◌∙◌, ◌∷◌, ◌≡◌}
-use Rattle.boot_plan.proofs.Common.{◌≤◌}
+use Rattle.boot_plan.proofs.Common.{at_drop_all, at_drop_more, cases_lt, cond, device_refusal, drop, eqb-true, false, get_or, has_page, has_pages, is_needed, is_region, is_usual, le-leb, le-ltb, leb, leb-true, length, list_any}
+use Rattle.boot_plan.proofs.Common.{list_any-IsPermutation, list_any-append, list_any_more, lt-ltb, nat_lt, nat_tests, not, page, pages_of, refl, region_end, subst, sym, take, take_all, take_more, true, ℕ, ⊎_elim, ◌%◌, ◌&&◌, ◌++◌, ◌+◌, ◌<◌, ◌==◌}
+use Rattle.boot_plan.proofs.Common.{◌^◌, ◌||◌, ◌∙◌, ◌∷◌, ◌≡◌, ◌≤◌}
 use Rattle.std.proofs.lemmas.List.{append-nil}
 use Rattle.std.specs.BTreeSet.{BTreeSet, contains}
 use Rattle.std.specs.Ordering.{is_eq, nat_cmp}
@@ -68,16 +68,13 @@ great_region paddr r sound great device at = ⊎_elim
 pub small_region : (paddr : ℕ) (r : Untyped) → r.bits < 12 → has_page paddr r ≡ false
 small_region paddr r small = go r.device (leb r.paddr paddr) refl (leb (paddr + 4096) (region_end r)) refl
   where
-    le : (n m : ℕ) → leb n m ≡ true → n ≤ m
-    le n m h = grind (arith, nat_tests)
-
     go : (d : Bool) (a : Bool) → leb r.paddr paddr ≡ a → (b : Bool) → leb (paddr + 4096) (region_end r) ≡ b
         → (d && (a && b)) ≡ false
     go d true e true f =
         let few = pow_le r.bits 11 (omega arith) in
         let size : 2 ^ 11 ≡ 2048 = refl in
-        let p = le r.paddr paddr e in
-        let q = le (paddr + 4096) (region_end r) f in
+        let p = leb-true r.paddr paddr e in
+        let q = leb-true (paddr + 4096) (region_end r) f in
         absurd (omega (arith, few, size, p, q))
     go true true e false f = refl
     go true false e b f = refl
@@ -125,10 +122,7 @@ pub found_pages : (rs : List Untyped) (i : ℕ) (d : Untyped) (found new : List 
     → AreFound rs i found → new ≡ found ++ pages_of (get_or rs i d) ∷ [] → AreFound rs (i + 1) new
 found_pages rs i d found new l sound has so_far pushed =
     let p = and_parts (get_or rs i d).device (leb 12 (get_or rs i d).bits) has in
-    found_more rs i d found new l sound (le 12 (get_or rs i d).bits p.1) p.0 so_far pushed
-  where
-    le : (n m : ℕ) → leb n m ≡ true → n ≤ m
-    le n m h = grind (arith, nat_tests)
+    found_more rs i d found new l sound (leb-true 12 (get_or rs i d).bits p.1) p.0 so_far pushed
 
 no_pages : (r : Untyped) → has_pages r ≡ false → (paddr : ℕ) → has_page paddr r ≡ false
 no_pages r h paddr = go r.device refl (leb 12 r.bits) refl

@@ -1,7 +1,8 @@
 -- Packed blocks are a placement.
 use Rattle.boot_plan.proofs.Common.{AllApart, AllByRecursion, AllSuit, Apart, AreFree, AreStarts, Block, Bool, Bytes, DevicePage, HasRoom, IsInOrder, IsPermutation, LieInOne, List, Need, NoDevice, None, Nothing, Placed, SharedFrame, Some, Suits}
-use Rattle.boot_plan.proofs.Common.{Untyped, [], address, all_bytes, and_parts, ap, are_regions, are_usual, arith, cases_lt, device_refusal, eqb-true, false, had, has_page, inl, inr, is_needed, is_usual, leb, length, list_any, list_any-append}
-use Rattle.boot_plan.proofs.Common.{nat_tests, needed, or_parts, packed, refl, region_end, room_bytes, slice_index, slice_set, subst, sum_by-IsPermutation, sym, true, ℕ, ⊎_elim, ◌%◌, ◌&&◌, ◌++◌, ◌+◌, ◌==◌, ◌^◌, ◌∙◌, ◌∷◌, ◌≡◌, ◌≤◌, ◌⊎◌}
+use Rattle.boot_plan.proofs.Common.{Untyped, [], address, all_bytes, and_parts, ap, are_regions, are_usual, arith, cases_lt, device_refusal, eqb-true, false, had, has_page, inl, inr, is_needed, is_usual, leb, leb-true, length, list_any}
+use Rattle.boot_plan.proofs.Common.{list_any-append, nat_tests, needed, or_parts, packed, refl, region_end, room_bytes, slice_index, slice_set, subst, sum_by-IsPermutation, sym, true, ℕ, ⊎_elim, ◌%◌, ◌&&◌, ◌++◌, ◌+◌, ◌==◌, ◌^◌, ◌∙◌, ◌∷◌, ◌≡◌, ◌≤◌}
+use Rattle.boot_plan.proofs.Common.{◌⊎◌}
 use Rattle.boot_plan.proofs.Bases.{regions_permuted}
 use Rattle.boot_plan.proofs.Filling.{InRoom, aligned, block, in_room, lie_permuted, lies, offsets_apart}
 use Rattle.boot_plan.proofs.Multiples.{Multiple, multiple_from, multiple_gap, multiple_rem}
@@ -15,9 +16,6 @@ page_in : (paddr : ℕ) (rs : List Untyped) → list_any (has_page paddr) rs ≡
 page_in paddr [] e = absurd cc
 page_in paddr (r ∷ rs) e = go (has_page paddr r) refl (λ k. page_in paddr rs k)
   where
-    le : (n m : ℕ) → leb n m ≡ true → n ≤ m
-    le n m h = grind (arith, nat_tests)
-
     go : (b : Bool) → has_page paddr r ≡ b
         → (list_any (has_page paddr) rs ≡ true → LieInOne true (record { first = paddr; bits = 12 }) rs)
         → LieInOne true (record { first = paddr; bits = 12 }) (r ∷ rs)
@@ -27,8 +25,8 @@ page_in paddr (r ∷ rs) e = go (has_page paddr r) refl (λ k. page_in paddr rs 
         let size : 2 ^ 12 ≡ 4096 = refl in
         inl (record {
           kind = p.0;
-          low = le r.paddr paddr q.0;
-          high = let h = le (paddr + 4096) (region_end r) q.1 in
+          low = leb-true r.paddr paddr q.0;
+          high = let h = leb-true (paddr + 4096) (region_end r) q.1 in
               omega (arith, h, size);
         })
     go false t ih = inr (ih (rw t at e))

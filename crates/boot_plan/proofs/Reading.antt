@@ -1,6 +1,7 @@
 -- Lines of regions.
 use Rattle.boot_plan.proofs.Common.{Bool, List, None, Ok, Option, Some, Untyped, [], ap, append_assoc, are_regions, arith, device_of, false, first_bad, is_region, judged, length, length_push, line_given, list_all-append, nat_lt, nat_tests}
 use Rattle.boot_plan.proofs.Common.{numbers_of, refl, region_at, region_in, region_of, regions_in, regions_limit, subst, sym, true, unless_bad, ℕ, ◌++◌, ◌+◌, ◌<◌, ◌∙◌, ◌∷◌, ◌≡◌, ◌≤◌}
+use Rattle.std.proofs.lemmas.Option.{same_Some}
 use Rattle.std.specs.Borrow.{Bor}
 use Rattle.boot_plan.specs.declared.untyped.UntypedFault.{UntypedFault}
 use Rattle.cam_base.specs.Fields.{fields}
@@ -52,11 +53,8 @@ at_sound device paddr bits r e = go (is_region paddr bits) refl
         let s : region_at device (Some (paddr, bits)) ≡ Some (record { paddr = paddr; bits = bits; device = device }) =
         rw t refl in
         let q : Untyped = record { paddr = paddr; bits = bits; device = device } in
-        let same : q ≡ r = some_same q r (sym s ∙ e) in
+        let same : q ≡ r = same_Some q r (sym s ∙ e) in
         subst (λ (k : Untyped). is_region k.paddr k.bits ≡ true) same t
-      where
-        some_same : (x y : Untyped) → Some x ≡ Some y → x ≡ y
-        some_same x y h = cc
     go false t = let s = rw t at e in absurd cc
 
 in_sound : (device : Option Bool) (numbers : Option (ℕ × ℕ)) (r : Untyped) → region_in device numbers ≡ Some r

@@ -1,7 +1,7 @@
 -- Regions of which no two share an address: each address lies in one of them at most.
-use Rattle.boot_plan.proofs.Common.{Apart, Bool, Bytes, IsPermutation, LieIn, LieInOne, List, None, Option, Some, Untyped, [], and_parts, append-nil, append_assoc, arith, bytes_end, cases_lt, cond, false, first_overlap, inl, inr, leb, nat_lt}
-use Rattle.boot_plan.proofs.Common.{nat_tests, option_map, overlap_at, overlap_behind, position, position_from, refl, region_end, shares, subst, sum_by, sum_by-IsPermutation, sum_by-append, sum_by-cons, sym, true, ℕ, ⊎_elim, ◌&&◌, ◌++◌, ◌+◌, ◌<◌}
-use Rattle.boot_plan.proofs.Common.{◌∙◌, ◌∷◌, ◌≡◌, ◌≤◌}
+use Rattle.boot_plan.proofs.Common.{Apart, Bool, Bytes, IsPermutation, LieIn, LieInOne, List, None, Option, Some, Untyped, [], and_parts, append-nil, append_assoc, arith, bytes_end, cases_lt, cond, false, first_overlap, inl, inr, le-leb, leb, lt-ltb}
+use Rattle.boot_plan.proofs.Common.{nat_lt, nat_tests, option_map, overlap_at, overlap_behind, position, position_from, refl, region_end, shares, subst, sum_by, sum_by-IsPermutation, sum_by-append, sum_by-cons, sym, true, ℕ, ⊎_elim, ◌&&◌, ◌++◌, ◌+◌}
+use Rattle.boot_plan.proofs.Common.{◌<◌, ◌∙◌, ◌∷◌, ◌≡◌, ◌≤◌}
 use Rattle.std.proofs.lemmas.Iterator.Adapters.{position_from-zero}
 use Rattle.cam_base.proofs.Options.{neither}
 use Rattle.boot_plan.proofs.Multiples.{power_pos}
@@ -83,15 +83,9 @@ solo_rest r rs s = record { at_most = λ x. omega (arith, s.at_most x, sum_by-co
 holds_in : (device : Bool) (b : Bytes) (r : Untyped) (x : ℕ) → LieIn device b r → b.first ≤ x → x < bytes_end b → one x r ≡ 1
 unfolding one holds
 holds_in device b r x lie low high =
-    let l : leb r.paddr x ≡ true = up r.paddr x (omega (arith, lie.low)) in
-    let h : nat_lt x (region_end r) ≡ true = under x (region_end r) (omega (arith, lie.high)) in
+    let l : leb r.paddr x ≡ true = le-leb r.paddr x (omega (arith, lie.low)) in
+    let h : nat_lt x (region_end r) ≡ true = lt-ltb x (region_end r) (omega (arith, lie.high)) in
     rw (l, h) refl
-  where
-    up : (n m : ℕ) → n ≤ m → leb n m ≡ true
-    up n m h = grind (arith, nat_tests)
-
-    under : (n m : ℕ) → n < m → nat_lt n m ≡ true
-    under n m h = grind (arith, nat_tests)
 
 counted_in : (device : Bool) (b : Bytes) (rs : List Untyped) (x : ℕ) → LieInOne device b rs → b.first ≤ x → x < bytes_end b
     → 1 ≤ sum_by (one x) rs

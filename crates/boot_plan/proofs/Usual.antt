@@ -1,7 +1,7 @@
 -- What needs and regions keep: how large they are.
 use Rattle.boot_plan.proofs.Common.{Block, Bool, CNode, DevicePage, Endpoint, Entry, Frame, Irq, List, Need, None, Nothing, Notification, Object, Pages, Some, Spec, Thread, Untyped, [], and_from, and_parts, are_regions, are_usual, arith, block_bytes}
-use Rattle.boot_plan.proofs.Common.{cond, eqb-true, false, fits, get_or, if_any, is_region, is_usual, keeps, keeps_fill, keeps_slots, leb, length, list_all, map, nat_lt, nat_tests, need, needed, needs, not, refl, room_bytes, suc, sum_by-cons}
-use Rattle.boot_plan.proofs.Common.{table_bits, true, zero, ℕ, ◌%◌, ◌&&◌, ◌+◌, ◌<◌, ◌==◌, ◌^◌, ◌∷◌, ◌≡◌, ◌≤◌}
+use Rattle.boot_plan.proofs.Common.{cond, eqb-true, false, fits, get_or, if_any, is_region, is_usual, keeps, keeps_fill, keeps_slots, leb, leb-true, length, list_all, map, nat_lt, nat_tests, need, needed, needs, not, refl, room_bytes, suc}
+use Rattle.boot_plan.proofs.Common.{sum_by-cons, table_bits, true, zero, ℕ, ◌%◌, ◌&&◌, ◌+◌, ◌<◌, ◌==◌, ◌^◌, ◌∷◌, ◌≡◌, ◌≤◌}
 use Rattle.cap_model.specs.declared.level.Arch.{Arch}
 use Rattle.cap_model.specs.declared.level.Arch.TheVariants.{Arm11, Aarch64}
 use Rattle.cap_model.specs.declared.level.Level.{Level}
@@ -33,10 +33,7 @@ region_parts paddr bits h =
     let a = and_parts (leb 4 bits) (leb bits 47 && (paddr % 2 ^ bits == 0 && leb (paddr + 2 ^ bits) (2 ^ 48))) h in
     let b = and_parts (leb bits 47) (paddr % 2 ^ bits == 0 && leb (paddr + 2 ^ bits) (2 ^ 48)) a.1 in
     let c = and_parts (paddr % 2 ^ bits == 0) (leb (paddr + 2 ^ bits) (2 ^ 48)) b.1 in
-    (le 4 bits a.0, le bits 47 b.0, eqb-true (paddr % 2 ^ bits) 0 c.0, le (paddr + 2 ^ bits) (2 ^ 48) c.1)
-  where
-    le : (n m : ℕ) → leb n m ≡ true → n ≤ m
-    le n m h = grind (arith, nat_tests)
+    (leb-true 4 bits a.0, leb-true bits 47 b.0, eqb-true (paddr % 2 ^ bits) 0 c.0, leb-true (paddr + 2 ^ bits) (2 ^ 48) c.1)
 
 pub block_small : (least : ℕ) (n : Need) → is_usual n ≡ true → block_bytes least n ≤ 1048576
 block_small least Nothing h = omega arith

@@ -30,3 +30,4 @@ pub mod FieldsMore
 pub mod Telling
 pub mod ShortTexts
 pub mod Errors
+pub mod Comments

@@ -1,8 +1,9 @@
--- A word and a number are a name.
-use Rattle.cam_base.proofs.Common.{AllByRecursion, List, [], all_below_base_digits_of, and_from, and_parts, arith, decimal, decimal-digits_of, decimal_digit, is_letter, is_name, is_word_byte, le-leb, leb, leb-true, length, length-append, length-decimal-le}
-use Rattle.cam_base.proofs.Common.{list_all, list_all-append, map, or_right, refl, suc, true, zero, ℕ, ◌++◌, ◌+◌, ◌<◌, ◌^◌, ◌∙◌, ◌∷◌, ◌≡◌, ◌≤◌}
+-- What stands for a name is one; a word and a number are a name.
+use Rattle.cam_base.proofs.Common.{AllByRecursion, Bool, List, [], all_below_base_digits_of, and_from, and_parts, arith, cond, decimal, decimal-digits_of, decimal_digit, is_letter, is_name, is_word_byte, le-leb, leb, leb-true, length, length-append, length-decimal-le}
+use Rattle.cam_base.proofs.Common.{false, list_all, list_all-append, map, or_right, refl, suc, true, zero, ℕ, ◌++◌, ◌+◌, ◌<◌, ◌^◌, ◌∙◌, ◌∷◌, ◌≡◌, ◌≤◌}
 use Rattle.std.proofs.Common.{◌&&◌}
 use Rattle.std.specs.Int.Digits.{digits_of}
+use Rattle.cam_base.specs.Names.{named}
 
 digit : (d : ℕ) → d < 10 → is_word_byte (48 + d) ≡ true
 digit d h = or_right (is_letter (48 + d)) (leb 48 (48 + d) && leb (48 + d) 57) (and_from (leb 48 (48 + d)) (leb (48 + d) 57)
@@ -17,6 +18,13 @@ pub list_all-decimal : (n : ℕ) → n < 2 ^ 64 → list_all is_word_byte (decim
 list_all-decimal zero h = rw (decimal_digit 0 (omega arith)) refl
 list_all-decimal (suc n) h = rw (decimal-digits_of (suc n) (omega arith) h)
     (all_digits (digits_of 10 (suc n)) (all_below_base_digits_of 10 (suc n) (omega arith)))
+
+pub named_is : (text : List ℕ) → is_name (named text) ≡ true
+named_is text = by_test (is_name text) refl
+  where
+    by_test : (b : Bool) → is_name text ≡ b → is_name (cond b text (95 ∷ [])) ≡ true
+    by_test true e = e
+    by_test false e = refl
 
 pub name_short : (text : List ℕ) → is_name text ≡ true → length text ≤ 127
 name_short [] h = omega arith

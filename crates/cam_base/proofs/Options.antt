@@ -1,5 +1,8 @@
--- Of two answers the first that is there.
+-- What is there is not none; of two answers the first that is there, or that is true.
 use Rattle.cam_base.proofs.Common.{Bool, None, Option, Some, cond, false, is_some, option_map, option_or, refl, true, true≢false, ◌||◌, ◌≡◌}
+
+pub none_is_not : {C A : Type 0} (x : A) → None ≡ Some x → C
+none_is_not x e = absurd cc
 
 pub option_or-none : {V : Type 0} (o : Option V) → o ≡ option_or o None
 option_or-none None = refl
@@ -38,3 +41,10 @@ neither (Some x) b e = absurd cc
 pub is_none : {V : Type 0} (o : Option V) → is_some o ≡ false → o ≡ None
 is_none None e = refl
 is_none (Some x) e = absurd (true≢false e)
+
+-- the first is true, or else the second
+pub or_cond : (a b : Bool) → cond a true b ≡ (b || a)
+or_cond true true = refl
+or_cond true false = refl
+or_cond false true = refl
+or_cond false false = refl

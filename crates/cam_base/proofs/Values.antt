@@ -1,6 +1,10 @@
 -- The values of digits, and which of them fit 64 bits.
 use Rattle.cam_base.proofs.Common.{Bool, List, None, Some, [], arith, digit_value, digits_value_after, false, fits, nat_lt, nat_tests, refl, sym, true, ℕ, ◌*◌, ◌+◌, ◌<◌, ◌^◌, ◌∷◌, ◌≡◌, ◌≤◌}
 
+pub fits_true : (b : Bool) (n m : ℕ) → fits b n ≡ Some m → b ≡ true
+fits_true true n m e = refl
+fits_true false n m e = absurd cc
+
 pub fits_below : (n : ℕ) → n < 2 ^ 64 → fits true n ≡ Some n
 fits_below n h = let t : nat_lt n (2 ^ 64) ≡ true = grind (arith, nat_tests) in rw t refl
 

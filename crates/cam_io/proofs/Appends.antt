@@ -1,8 +1,7 @@
 -- Bytes at the end of a channel, one piece after another.
-use Rattle.std.proofs.Common.{◌≡◌, refl, sym, ap, ◌∙◌, subst, ◌+◌, ◌-◌, length, length-drop, arith, take, drop, IsTrue, ℕ, Bool, true, false, cond, ◌==◌, List, [], ◌++◌, Option, None, Some, append_assoc, append-nil}
+use Rattle.cam_io.proofs.Common.{Bool, IsTrue, List, None, Option, Sink, Some, [], ap, append-nil, append_assoc, arith, cond, drop, false, is_open, length, length-drop, refl, subst, sym, take, take-add, true, ℕ, ◌++◌, ◌+◌, ◌-◌, ◌==◌, ◌∙◌, ◌≡◌}
 use Rattle.std.proofs.lemmas.List.{take_all}
-use Rattle.std.proofs.Math.Seq.{take-add}
-use Rattle.cam_io.specs.Sinks.{Sink, more, appended, is_open}
+use Rattle.cam_io.specs.Sinks.{more, appended}
 
 cond_nil : (b : Bool) (xs : List ℕ) → cond b (xs ++ []) xs ≡ xs
 cond_nil true xs = append-nil xs

@@ -1,10 +1,8 @@
 -- A channel of several is changed.
-use Rattle.std.proofs.Common.{◌≡◌, refl, ap, ◌∙◌, ℕ, zero, suc, ◌<◌, Bool, true, false, cond, ◌==◌, List, [], ◌∷◌, ◌++◌, length, slice_get, slice_set, ◌≤◌, Some, IsTrue, take, ◌-◌, ◌||◌, ◌⊎◌, inl, inr, rules, arith}
-use Rattle.std.proofs.lemmas.Bool.Decides.{nat_tests}
-use Rattle.std.proofs.Math.Dec.{eqb-suc-zero, eqb-zero-suc, eqb-suc-suc}
-use Rattle.cam_io.specs.Sinks.{more, named, appended, with_begun, is_open}
-use Rattle.cam_io.specs.MemOutputs.{of_channel, room_of, sink_of}
-use Rattle.cam_io.specs.Channels.{Channel, blank, named_channel, filled}
+use Rattle.cam_io.proofs.Common.{Bool, Channel, IsTrue, List, Some, [], ap, arith, blank, cond, eqb-suc-suc, eqb-suc-zero, eqb-zero-suc, false, filled, inl, inr, is_open, length, named_channel, nat_tests, of_channel, refl, room_of, rules, slice_get}
+use Rattle.cam_io.proofs.Common.{slice_set, suc, take, true, zero, ℕ, ◌++◌, ◌-◌, ◌<◌, ◌==◌, ◌||◌, ◌∙◌, ◌∷◌, ◌≡◌, ◌≤◌, ◌⊎◌}
+use Rattle.cam_io.specs.Sinks.{more, named, appended, with_begun}
+use Rattle.cam_io.specs.MemOutputs.{sink_of}
 
 changed : {A : Type 0} (p : Channel → A) (d : A) (f : A → A) (cs : List Channel) (i k : ℕ) (c x : Channel)
     → slice_get cs i ≡ Some c → p x ≡ f (p c) → of_channel p d (slice_set cs i x) k ≡ cond (k == i) (f (of_channel p d cs k))

@@ -1,6 +1,5 @@
 -- Counts that rose in one of several calls.
-use Rattle.std.proofs.Common.{◌≡◌, inl, inr, ℕ, ◌≤◌, arith}
-use Rattle.cam_io.specs.Causes.{Rose, one_more}
+use Rattle.cam_io.proofs.Common.{Rose, arith, inl, inr, one_more, ℕ, ◌≡◌, ◌≤◌}
 
 -- a count that did not fall before it rose
 pub rose_after : (before mid now : ℕ) → before ≤ mid → Rose mid now → Rose before now

@@ -1,9 +1,6 @@
 -- Fronts of a file, as a reader of the whole has them.
-use Rattle.std.proofs.Common.{◌≡◌, sym, ap, ◌∙◌, subst, ◌≤◌, ℕ, ◌+◌, List, [], ◌++◌, length, take, drop, Option, None, Some, arith}
-use Rattle.std.proofs.lemmas.List.{length-append, length-take, length-drop}
-use Rattle.std.proofs.Math.Seq.{take-add}
-use Rattle.cam_io.specs.Reading.{IsGot}
-use Rattle.cam_io.specs.declared.files.Got.TheVariants.{Bytes}
+use Rattle.cam_io.proofs.Common.{Bytes, IsGot, List, None, Option, Some, [], ap, arith, drop, length, length-append, length-take, subst, sym, take, take-add, ℕ, ◌++◌, ◌+◌, ◌∙◌, ◌≡◌, ◌≤◌}
+use Rattle.std.proofs.lemmas.List.{length-drop}
 
 -- these bytes stand at the file's beginning, and none where there is no file
 abbrev pub IsFront : Option (List ℕ) → List ℕ → Type 0

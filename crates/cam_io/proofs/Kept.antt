@@ -1,7 +1,5 @@
 -- What reading leaves, over two calls.
-use Rattle.std.proofs.Common.{ℕ, List, arith}
-use Rattle.cam_io.specs.Contents.{Contents}
-use Rattle.cam_io.specs.Reading.{KeepsFiles}
+use Rattle.cam_io.proofs.Common.{Contents, KeepsFiles, List, arith, ℕ}
 
 pub keeps_twice : {F : Type 0} {told : F → Contents → Type 0} {faults : F → List ℕ → ℕ} (a b c : F) → KeepsFiles told faults a b
     → KeepsFiles told faults b c → KeepsFiles told faults a c

@@ -1,8 +1,5 @@
 -- What is learned over several calls.
-use Rattle.std.proofs.Common.{◌≤◌, ℕ, List}
-use Rattle.std.specs.FinMap.{get}
-use Rattle.cam_io.specs.Contents.{Contents}
-use Rattle.cam_io.specs.Reading.{HaveSameFront, KeepsFiles, LearnsOnly}
+use Rattle.cam_io.proofs.Common.{Contents, HaveSameFront, KeepsFiles, LearnsOnly, List, get, ℕ, ◌≤◌}
 use Rattle.cam_io.proofs.Seeing.{fewer_same}
 
 -- after a read of no more than the first bytes of a file, no more is learned than these

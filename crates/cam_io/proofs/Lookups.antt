@@ -1,15 +1,9 @@
 -- Files in memory by their names.
-use Rattle.std.proofs.Common.{◌≡◌, refl, sym, ap, ◌∙◌, subst, ℕ, zero, suc, ◌+◌, ◌≤◌, Bool, true, false, cond, not, is_some, List, [], ◌∷◌, take, map, slice_get, slice_set, Option, None, Some, add-one, arith, ◌⊎◌, inl, inr}
-use Rattle.std.proofs.lemmas.Map.Text.{is_eq-slice_cmp}
-use Rattle.std.proofs.lemmas.Slice.Eq.{bytes_eq-Decides}
-use Rattle.std.proofs.lemmas.Cmp.{nat_list_cmp_total}
+use Rattle.cam_io.proofs.Common.{Bool, List, NamedFile, None, Option, Some, [], add-one, ap, arith, bytes_eq, bytes_eq-Decides, cond, contains_key, count_at, count_of, counts_for, empty, false, find, from_entries, get, get-from_entries, inl, inr}
+use Rattle.cam_io.proofs.Common.{is_eq-slice_cmp, is_some, lookup, map, nat_list_cmp_total, not, one_more, refl, replaced, slice_get, slice_set, subst, suc, sym, take, true, zero, ℕ, ◌+◌, ◌∙◌, ◌∷◌, ◌≡◌, ◌≤◌, ◌⊎◌}
 use Rattle.std.specs.Ordering.{nat_cmp}
 use Rattle.std.specs.Cmp.Lexicographic.{slice_cmp}
-use Rattle.std.specs.FinMap.{contains_key, empty, find, get, from_entries, get-from_entries}
-use Rattle.std.specs.Str.{bytes_eq}
-use Rattle.cam_io.specs.Causes.{one_more}
-use Rattle.cam_io.specs.NamedFiles.{lookup, replaced, contents_of, count_at, count_of, counts_for}
-use Rattle.cam_io.specs.declared.named_file.NamedFile.{NamedFile}
+use Rattle.cam_io.specs.NamedFiles.{contents_of}
 
 -- the bytes of a file that may be missing
 abbrev pub bytes_of : Option NamedFile → Option (List ℕ)

@@ -1,13 +1,7 @@
 -- A name is given bytes.
-use Rattle.std.proofs.Common.{◌≡◌, refl, sym, ap, ◌∙◌, subst, ℕ, Bool, true, false, cond, List, [], ◌∷◌, ◌++◌, map, Option, None, Some, inl, inr, ◌<◌, length, slice_get, slice_set, get_or}
-use Rattle.std.proofs.lemmas.Option.{slice_get_read}
-use Rattle.std.proofs.lemmas.Map.Text.{is_eq-slice_cmp}
-use Rattle.std.proofs.lemmas.Cmp.{nat_list_cmp_total}
-use Rattle.std.proofs.lemmas.List.{map-append}
-use Rattle.std.specs.FinMap.{get, insert, from_entries, get-insert, same_map, from_entries_push, slice_cmp-IsAntisymmetric, nat_cmp-IsAntisymmetric}
-use Rattle.std.specs.Str.{bytes_eq}
-use Rattle.cam_io.specs.NamedFiles.{lookup, replaced, contents_of, count_at, count_of}
-use Rattle.cam_io.specs.declared.named_file.NamedFile.{NamedFile}
+use Rattle.cam_io.proofs.Common.{Bool, List, NamedFile, None, Option, Some, [], ap, bytes_eq, cond, count_at, count_of, false, from_entries, from_entries_push, get, get-insert, get_or, inl, inr, insert, is_eq-slice_cmp, length, lookup, map}
+use Rattle.cam_io.proofs.Common.{map-append, nat_cmp-IsAntisymmetric, nat_list_cmp_total, refl, replaced, same_map, slice_cmp-IsAntisymmetric, slice_get, slice_get_read, slice_set, subst, sym, true, ℕ, ◌++◌, ◌<◌, ◌∙◌, ◌∷◌, ◌≡◌}
+use Rattle.cam_io.specs.NamedFiles.{contents_of}
 use Rattle.cam_io.proofs.Lookups.{apart, bytes_of, bytes_same, just, entry, find_lookup, get_contents}
 
 -- the file f with these bytes

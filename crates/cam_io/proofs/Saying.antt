@@ -1,10 +1,7 @@
 -- What a writer says piece by piece, and what is written at the end.
-use Rattle.std.proofs.Common.{◌≡◌, refl, sym, ap, subst, ◌∙◌, ℕ, ◌+◌, ◌<◌, ◌≤◌, Bool, true, false, List, [], ◌++◌, take, take_all, get_or, length, Bor, Result, Ok, Err, OnOk, is_err, IsTrue, append_assoc, append-nil}
-use Rattle.std.proofs.lemmas.Option.{get_or_from_slice_get, slice_get-get_or}
-use Rattle.std.specs.List.{flat_map}
+use Rattle.cam_io.proofs.Common.{Bool, Bor, Err, Flushes, IsTrue, List, Ok, OnOk, Result, Said, Says, Sink, Writes, [], ap, append-nil, append_assoc, false, flat_map, get_or, get_or_from_slice_get, is_err, is_open, length, outcome, refl}
+use Rattle.cam_io.proofs.Common.{slice_get-get_or, subst, sym, take, take_all, true, ℕ, ◌++◌, ◌+◌, ◌<◌, ◌∙◌, ◌≡◌, ◌≤◌}
 use Rattle.cam_base.specs.Texts.{◌⊹◌}
-use Rattle.cam_io.specs.Saying.{Flushes, Said, Says, outcome}
-use Rattle.cam_io.specs.Sinks.{Sink, Writes, is_open}
 use Rattle.cam_io.specs.declared.files.Failed.{Failed}
 use Rattle.cam_io.specs.declared.outputs.Outputs.{Ghosts}
 use Rattle.cam_io.specs.declared.writer.Writer.{Writer}
@@ -122,8 +119,9 @@ module _ {O : Type 0} {T : Ghosts O} where
   says_lines {X} f {u} {v} xs i h a = subst (λ (ys : List X). Says u (flat_map f ys) v) (take_all i xs h) a
 
   -- a text that is said from the first on is written, once nothing waits
-  pub said_all : {u v w : Writer O T} {r : Result (Unit {0}) Failed} {c m : ℕ} {s : Sink} {text : List ℕ} {out : O} → u.channel ≡ c
-      → Said s [] m u → Says u text v → Flushes v r w → out ≡ w.out.now → Writes r c text s (T.sink out) m (T.faults out)
+  pub said_all : {u v w : Writer O T} {r : Result (Unit {0}) Failed} {c m : ℕ} {s : Sink} {text : List ℕ} {out : O}
+      → u.channel ≡ c → Said s [] m u → Says u text v → Flushes v r w → out ≡ w.out.now
+      → Writes r c text s (T.sink out) m (T.faults out)
   said_all {u} {v} {w} {r} {c} {m} {s} {text} channel first all flushed is =
       let it = flushed.said.said s text m (all.said s [] m first) in
       let same : w.channel ≡ c = flushed.said.channel ∙ (all.channel ∙ channel) in

@@ -1,10 +1,8 @@
 -- Scripts, act by act.
-use Rattle.std.proofs.Common.{IsErr, ◌≡◌, inl, inr, sym, ap, subst, ◌∙◌, ℕ, ◌≤◌, ◌==◌, ◌||◌, Bool, true, false, cond, List, [], ◌∷◌, IsTrue, Result, Ok, Err, arith, rules}
-use Rattle.std.proofs.lemmas.Bool.Decides.{nat_tests}
-use Rattle.cam_io.specs.Sinks.{Sink, IsOpen, Writes, with_begun}
+use Rattle.cam_io.proofs.Common.{Bool, Err, IsErr, IsOpen, IsTrue, List, Ok, Result, Rose, Sink, Writes, [], ap, arith, cond, false, inl, inr, nat_tests, rules, subst, sym, true, ℕ, ◌==◌, ◌||◌, ◌∙◌, ◌∷◌, ◌≡◌, ◌≤◌}
+use Rattle.cam_io.specs.Sinks.{with_begun}
 use Rattle.cam_io.proofs.Appends.{begun_appended}
 use Rattle.cam_io.proofs.Counts.{rose_after}
-use Rattle.cam_io.specs.Causes.{Rose}
 use Rattle.cam_io.specs.Scripts.{Act, Begin, Write, after, CutShort, Acts}
 
 -- one text

@@ -1,18 +1,11 @@
 -- What was seen of names: entries by their names, and an entry more or in place of another.
-use Rattle.std.proofs.Common.{◌≡◌, refl, sym, ap, ◌∙◌, subst, ℕ, zero, suc, ◌+◌, ◌<◌, ◌≤◌, Bool, true, false, cond, List, [], ◌∷◌, ◌++◌, length, take, arith, slice_get, slice_set, Option, None, Some, Result, Ok, Err, add-one, ◌⊎◌, inl, inr}
-use Rattle.std.specs.FinMap.{get}
-use Rattle.std.proofs.lemmas.List.{take-take}
-use Rattle.std.proofs.lemmas.Slice.Eq.{bytes_eq-Decides}
-use Rattle.std.specs.Option.{option_map}
+use Rattle.cam_io.proofs.Common.{Agrees, Bool, Contents, Err, Grows, HasAny, HasSeen, HaveSameFront, IsGot, Learns, List, None, Ok, Option, Result, Seen, Some, [], add-one, ap, arith, bytes_eq, bytes_eq-Decides, cond, false, get, inl, inr, length}
+use Rattle.cam_io.proofs.Common.{option_map, refl, seen_of, slice_get, slice_set, subst, suc, sym, take, take-take, true, zero, ℕ, ◌++◌, ◌+◌, ◌<◌, ◌∙◌, ◌∷◌, ◌≡◌, ◌≤◌, ◌⊎◌}
 use Rattle.std.specs.Result.{IfOk}
-use Rattle.std.specs.Str.{bytes_eq}
-use Rattle.cam_io.specs.Contents.{Contents}
-use Rattle.cam_io.specs.Reading.{IsGot, HaveSameFront}
-use Rattle.cam_io.specs.Seen.{seen_of, replaced, HasSeen, HasAny, Agrees, Grows, Learns}
+use Rattle.cam_io.specs.Seen.{replaced}
 use Rattle.cam_io.specs.declared.files.Got.{Got}
 use Rattle.cam_io.specs.declared.seen.Extent.{Extent}
 use Rattle.cam_io.specs.declared.seen.Extent.TheVariants.{Unasked, Absent, Begun, Whole}
-use Rattle.cam_io.specs.declared.seen.Seen.{Seen}
 
 not_this : (b : Bool) (x : Seen) (o : Option Seen) → cond b (Some x) o ≡ None → (b ≡ false) × (o ≡ None)
 not_this true x o e = cc

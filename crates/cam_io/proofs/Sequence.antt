@@ -1,8 +1,5 @@
 -- Writers one after another: what a function that calls several cites at each exit.
-use Rattle.std.proofs.Common.{◌≡◌, ◌∙◌, subst, ℕ, ◌-◌, ◌≤◌, List, [], ◌∷◌, take, drop, Result, Ok, Err, IsErr, arith, length, length-drop}
-use Rattle.std.proofs.lemmas.List.{take_all, take-append-drop}
-use Rattle.cam_io.specs.Causes.{Rose}
-use Rattle.cam_io.specs.Sinks.{Sink, Writes, appended}
+use Rattle.cam_io.proofs.Common.{Err, IsErr, List, Ok, Result, Sink, Writes, [], arith, length, ℕ, ◌-◌, ◌∷◌, ◌≡◌}
 use Rattle.cam_base.specs.Texts.{◌⊹◌}
 use Rattle.cam_io.proofs.Counts.{rose_after}
 use Rattle.cam_io.proofs.Writing.{wrote_nothing, ok_then, cut_first, cut_then}
@@ -37,28 +34,6 @@ module _ {E : Type 0} {c : ℕ} where
     err = cut_first s u c a b w.err;
     later = w.later;
     failed = w.failed;
-  }
-
-  -- the rest of the bytes behind a front of them
-  pub writes_behind : {r : Result (Unit {0}) E} {s t u : Sink} {m n k : ℕ} (bytes : List ℕ) (i : ℕ)
-      → t ≡ appended s c (take i bytes) → m ≤ n → Writes r c (take (length bytes - i) (drop i bytes)) t u n k
-      → Writes r c bytes s u m k
-  unfolding ◌⊹◌
-  writes_behind {r} {s} {t} {u} {m} {n} {k} bytes i e l w =
-      let whole : take (length bytes - i) (drop i bytes) ≡ drop i bytes = take_all (length bytes - i) (drop i bytes)
-      (omega (arith, length-drop i bytes)) in
-      let rest : Writes r c (drop i bytes) t u n k = rw whole at w in
-      let front : Writes {E = E} (Ok tt) c (take i bytes) s t m n = record { ok = e; err = tt; later = l; failed = tt } in
-      subst (λ (all : List ℕ). Writes r c all s u m k) (take-append-drop i bytes) (writes_after rest front)
-
-  -- nothing of the bytes
-  pub writes_failed : {e : E} {s t : Sink} {m n : ℕ} (bytes : List ℕ) → t ≡ s → m ≤ n → Rose m n
-      → Writes {E = E} (Err e) c bytes s t m n
-  writes_failed {s = s} bytes e l h = record {
-    ok = tt;
-    err = record { count = 0; front = e ∙ wrote_nothing s c };
-    later = l;
-    failed = h;
   }
 
   -- the error that `?` hands on

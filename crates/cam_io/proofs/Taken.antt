@@ -1,6 +1,5 @@
 -- Files of the host, by their places.
-use Rattle.std.proofs.Common.{◌≡◌, refl, ℕ, zero, suc, ◌<◌, ◌==◌, true, false, cond, List, [], ◌∷◌, length, slice_set, Option, None, Some, arith}
-use Rattle.std.proofs.Math.Dec.{eqb-suc-zero, eqb-zero-suc, eqb-suc-suc}
+use Rattle.cam_io.proofs.Common.{List, None, Option, Some, [], arith, cond, eqb-suc-suc, eqb-suc-zero, eqb-zero-suc, false, length, refl, slice_set, suc, true, zero, ℕ, ◌<◌, ◌==◌, ◌∷◌, ◌≡◌}
 use Rattle.cam_io.specs.Sinks.{named, more, appended, with_begun}
 use Rattle.cam_io.specs.Host.{taken_at, host_sink}
 

@@ -1,10 +1,6 @@
 -- Texts that are written in pieces: what a writer cites of one piece after another.
-use Rattle.std.proofs.Common.{◌≡◌, ℕ, ◌+◌, ◌<◌, min, List, [], ◌∷◌, ◌++◌, take, get_or, length, IsTrue, sym, ap, ◌∙◌, refl, arith, append-nil}
-use Rattle.std.proofs.lemmas.List.{take-append-le, take_more, take_min}
-use Rattle.std.proofs.Math.Seq.{take-append-add}
-use Rattle.std.specs.List.{flat_map}
-use Rattle.std.proofs.lemmas.Grind.{flat_map-append}
-use Rattle.cam_io.specs.Sinks.{Sink, IsCut, is_open, appended}
+use Rattle.cam_io.proofs.Common.{IsCut, IsTrue, List, Sink, [], ap, append-nil, appended, arith, flat_map, flat_map-append, get_or, is_open, length, min, refl, sym, take, take-append-add, take-append-le, take_min, take_more, ℕ, ◌++◌, ◌+◌, ◌<◌, ◌∙◌}
+use Rattle.cam_io.proofs.Common.{◌∷◌, ◌≡◌}
 use Rattle.cam_base.specs.Texts.{◌⊹◌}
 use Rattle.cam_io.proofs.Appends.{appended_nil, appended_twice, open_appended}
 

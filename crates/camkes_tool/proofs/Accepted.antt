@@ -1,15 +1,19 @@
 -- Of files that hold the texts that are written of a build, `check` says yes.
 use Rattle.camkes_tool.proofs.Common.{Answer, Build, Check, Command, Contents, Edge, Err, Fault, Fits, HoldTexts, Holds, HoldsAsRead, InputFault, IsCert, IsCertText, IsChecked, IsInput, IsLabelling, IsPolicy, IsPolicyText, IsReadAs, IsStatus}
-use Rattle.camkes_tool.proofs.Common.{IsStatusOfTexts, IsSystem, IsTold, IsTrioValid, List, None, NoneRose, Ok, Option, Outcome, Policy, Rose, Sink, Some, Spec, Tells, Text, ap, arith, as_read, canonical, cert_read, cert_text, cond, first_cert_fault}
-use Rattle.camkes_tool.proofs.Common.{inl, inr, is_well, is_yes, length, policy_read, policy_text, same_Some, spec_back, subst, sym, tell_text, trio_valid, true, ℕ, ◌∙◌, ◌≡◌, ◌≤◌, ◌⊎◌}
+use Rattle.camkes_tool.proofs.Common.{IsStatusOfTexts, IsSystem, IsTold, IsTrioValid, List, None, NoneRose, Ok, Option, Outcome, Policy, Rose, Sink, Some, Spec, Tells, Text, ap, arith, canonical, cert_text, cond, first_cert_fault, inl, inr, is_well}
+use Rattle.camkes_tool.proofs.Common.{is_yes, length, no_fault_of_text, policy_text, same_Some, subst, sym, tell_text, true, ℕ, ◌∙◌, ◌≡◌, ◌≤◌, ◌⊎◌}
 use Rattle.std.proofs.lemmas.Bool.{ltb-false}
 use Rattle.std.specs.FinMap.{get}
 use Rattle.camkes_tool.specs.ReadBack.{AreReadBack}
 use Rattle.cam_base.specs.declared.error.Refused.TheVariants as refused
-use Rattle.capdl_text.proofs.Unique.{no_fault_of_text}
 use Rattle.camkes_tool.proofs.Accepting.{labels_stand, none_some}
 use Rattle.cam_base.specs.declared.error.Unread.TheVariants.{NoMemory, ReadFault}
 use Rattle.camkes_tool.proofs.Statuses.{exact_status}
+use Rattle.camkes_tool.proofs.TrioValid.{trio_valid}
+use Rattle.camkes_tool.proofs.SpecBack.{spec_back}
+use Rattle.camkes_tool.proofs.PolicyBack.{policy_read}
+use Rattle.camkes_tool.proofs.CertBack.{cert_read}
+use Rattle.camkes_tool.proofs.HeldAsRead.{as_read}
 
 module _ (m : Contents) (old new : List ℕ → ℕ) where
   -- ---- inputs

@@ -1,8 +1,8 @@
 -- How many edges a policy and a certificate have.
-use Rattle.camkes_tool.proofs.BackCommon.{Bool, Domain, Edge, IsCertificateOf, IsFlat, IsIn, IsLockEdge, IsPolicyOf, IsSorted, List, None, Option, Tables, [], ap, arith, assemblies, codes, cond, domain_label, edge, edge_count, false, first_edge_fault}
-use Rattle.camkes_tool.proofs.BackCommon.{gather, has, has_in, in_gather, in_has, in_left, in_map, in_right, inl, inr, length, length-append, ltb-false, map, nat_lt, option_map, refl, slice_get, subst, suc, sym, true, ℕ, ◌*◌, ◌++◌, ◌+◌, ◌∙◌, ◌∷◌, ◌≡◌}
-use Rattle.camkes_tool.proofs.BackCommon.{◌≤◌}
-use Rattle.std.specs.Cmp.Derive.{one_truth}
+use Rattle.camkes_tool.proofs.Common.{one_truth}
+use Rattle.camkes_tool.proofs.BackCommon.{Bool, Domain, Edge, IsCertificateOf, IsFlat, IsIn, IsLockEdge, IsPolicyOf, IsSorted, List, None, Option, Tables, [], ap, arith, assemblies, codes, cond, domain_label, edge, edge_count, false}
+use Rattle.camkes_tool.proofs.BackCommon.{first_edge_fault, gather, has, has_in, in_gather, in_has, in_left, in_map, in_right, inl, inr, length, length-append, ltb-false, map, nat_lt, option_map, refl, slice_get, subst, suc, sym, true, ℕ, ◌*◌, ◌++◌}
+use Rattle.camkes_tool.proofs.BackCommon.{◌+◌, ◌∙◌, ◌∷◌, ◌≡◌, ◌≤◌}
 use Rattle.adl_ast.specs.declared.composition.Assembly.{Assembly}
 use Rattle.adl_meaning.specs.declared.item_at.ItemAt.{ItemAt}
 use Rattle.arch_policy.proofs.Counted.{table_counts}

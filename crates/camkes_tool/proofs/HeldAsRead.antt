@@ -1,14 +1,12 @@
 -- Whatever is read of the texts of a build is the build's own, and so what holds of the build holds of it.
+use Rattle.camkes_tool.proofs.Common.{HoldsAsRead, IsCertText, IsReadAs, ReachesText, somes_one}
 use Rattle.camkes_tool.proofs.BackCommon.{Authority, Build, Contents, Edge, IsBuildOf, IsCertReadBack, IsLabelling, IsPolicyReadBack, IsSound, IsSpecReadBack, IsTrioValid, Judged, Labels, List, Ok, Policy, Spec, Verdict, Yes, build_sound, cert_text}
 use Rattle.camkes_tool.proofs.BackCommon.{object_labels, subst, sym, ℕ, ◌↔◌, ◌∙◌, ◌≡◌, ◌≢◌}
 use Rattle.assigned_laws.specs.Texts.{IsAssignedText}
-use Rattle.policy_text.specs.PolicyTexts.{IsCertText}
 use Rattle.camkes_tool.proofs.CertBack.{cert_read}
-use Rattle.cam_base.proofs.NumberedLists.{somes_one}
 use Rattle.camkes_tool.proofs.PolicyBack.{policy_read}
 use Rattle.camkes_tool.proofs.SpecBack.{spec_back}
 use Rattle.camkes_tool.proofs.TrioValid.{trio_valid}
-use Rattle.camkes_tool.specs.AsRead.{HoldsAsRead, IsReadAs, ReachesText}
 
 module _ (b : Build) (sound : IsSound b) (spec_is : IsSpecReadBack b) (policy_is : IsPolicyReadBack b)
     (cert_is : IsCertReadBack b) (trio : IsTrioValid b) where

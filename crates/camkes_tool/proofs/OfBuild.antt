@@ -1,17 +1,18 @@
 -- Where the capDL and the policy that are read are written of a build, an audit has the edges that are listed of its source, and
 -- the least certificate is the build's.
-use Rattle.camkes_tool.proofs.Common.{Build, Contents, Edge, HoldBuild, HoldSystem, IsListText, IsPolicyText, IsReadAs, LabelNames, List, Policy, Spec, Text, ap, apart_lines, build_sound, canonical, object_labels, policy_read, policy_text}
-use Rattle.camkes_tool.proofs.Common.{read_labels, same_Some, spec_back, subst, sym, ℕ, ◌∙◌, ◌≡◌}
-use Rattle.std.specs.Cmp.Derive.{one_truth}
+use Rattle.camkes_tool.proofs.Common.{Build, Contents, Edge, HoldBuild, HoldSystem, IsListText, IsPolicyText, IsReadAs, LabelNames, List, Policy, Spec, Step, Text, ap, apart_lines, build_sound, canonical, object_labels, one_truth, policy_text}
+use Rattle.camkes_tool.proofs.Common.{same_Some, subst, sym, ℕ, ◌∙◌, ◌≡◌}
 use Rattle.cap_model.proofs.TableMembers.{one_table}
 use Rattle.cap_model.specs.Tables.{IsSorted, has}
 use Rattle.cap_model.specs.declared.object_labels.Labels.{Labels}
 use Rattle.camkes_tool.proofs.ListFaults.{none_listed}
 use Rattle.camkes_tool.proofs.PolicyReached.{policy_reached}
 use Rattle.cap_audit.specs.Reports.{IsReport}
-use Rattle.cap_machine.specs.declared.step.Step.{Step}
 use Rattle.least_cert.proofs.LeastKeeps.{least_valid, valid_keeps}
 use Rattle.least_cert.specs.LeastCertificate.{IsLeast}
+use Rattle.camkes_tool.proofs.SpecBack.{spec_back}
+use Rattle.camkes_tool.proofs.HeldAsRead.{read_labels}
+use Rattle.camkes_tool.proofs.PolicyBack.{policy_read}
 
 module _ (m : Contents) (cdl policy root : List ℕ) (sources : Contents) (b : Build)
     (holds : HoldBuild m cdl policy root sources b)

@@ -1,9 +1,9 @@
 -- For the same words and contents there is one answer, aside from failed reads and want of memory.
-use Rattle.camkes_tool.proofs.Common.{Answer, AreNamedBy, AreOne, AreOneButChoice, Audit, Begin, Build, SourceError, Certify, Check, Command, Compile, Compiled, Contents, Err, Explain, Explained, Faulted, Fits, FitsCompiled, FitsExplained}
-use Rattle.camkes_tool.proofs.Common.{FitsGenerated, FitsListed, FitsTexts, Generate, Generated, InputError, IsAudited, IsCertified, IsChecked, IsExplained, IsGenerated, IsListed, IsPlanned, IsRun, IsTabled, List, Listed, Listing, NoMemory, None, Ok}
-use Rattle.camkes_tool.proofs.Common.{Option, Outcome, Plan, ReadFault, Refused, Replay, Result, Sections, Sink, Some, Summary, Tells, TextNames, Told, Usage, Write, [], after, answer_but_choice, ap, arith, audited_one, build_first, build_summary}
-use Rattle.camkes_tool.proofs.Common.{builds_same, but_choice, canonical, cert_text, certified_one, checked_one, cond, false, inl, inr, is_chosen, is_well, leaves_choice, one_explained, one_first, one_listing, planned_one, policy_text, ran_one, refl}
-use Rattle.camkes_tool.proofs.Common.{script, status_of, string_bytes, subst, sym, tabled_one, text_of, texts_script, yields, ℕ, ◌∙◌, ◌∷◌, ◌≡◌, ◌≤◌}
+use Rattle.camkes_tool.proofs.Common.{Answer, AreNamedBy, AreOne, AreOneButChoice, Audit, Begin, Build, Certify, Check, Command, Compile, Compiled, Contents, Err, Explain, Explained, Faulted, Fits, FitsCompiled, FitsExplained, FitsGenerated}
+use Rattle.camkes_tool.proofs.Common.{FitsListed, FitsTexts, Generate, Generated, InputError, IsAudited, IsCertified, IsChecked, IsExplained, IsGenerated, IsListed, IsPlanned, IsRun, IsTabled, List, Listed, Listing, NoMemory, None, Ok, Option}
+use Rattle.camkes_tool.proofs.Common.{Outcome, Plan, ReadFault, Refused, Replay, Result, Sections, Sink, Some, SourceError, Summary, Tells, TextNames, Told, Usage, Write, [], after, answer_but_choice, ap, arith, audited_one, build_first}
+use Rattle.camkes_tool.proofs.Common.{build_summary, builds_same, but_choice, canonical, cert_text, certified_one, checked_one, cond, false, inl, inr, is_chosen, is_well, leaves_choice, one_explained, one_first, one_listing, planned_one, policy_text}
+use Rattle.camkes_tool.proofs.Common.{ran_one, refl, script, status_of, string_bytes, subst, sym, tabled_one, text_of, texts_script, ℕ, ◌∙◌, ◌∷◌, ◌≡◌, ◌≤◌}
 use Rattle.cam_base.specs.declared.place.Fault.{Fault}
 use Rattle.arch_compile.specs.Maps.{build_map}
 use Rattle.command_words.specs.declared.command.Command.TheVariants.{List as ListOf}
@@ -13,6 +13,7 @@ use Rattle.camkes_tool.proofs.OneGenerated.{one_generated}
 use Rattle.explain.specs.declared.answer.Answer.{Answer as Reply}
 use Rattle.text_commands.specs.OneAnswer as texts
 use Rattle.text_commands.specs.declared.outcome.Outcome.TheVariants.{Audited, Certified, Checked, Planned, Ran, Tabled}
+use Rattle.camkes_tool.specs.Answers.{yields}
 
 same_answer : (a : Answer) → AreOne a a
 same_answer a = record { status = refl; script = λ is. refl; compiled = refl; faulted = refl; refused = refl; found = refl }

@@ -1,9 +1,8 @@
 -- What generating answers is one, aside from want of memory.
-use Rattle.camkes_tool.proofs.Common.{Build, SourceError, Err, IsGenerated, Ok, Result, Summary, ap, build_first, builds_same, false, generated, one_first, root_name, sym, ℕ, ◌∙◌, ◌≡◌}
+use Rattle.camkes_tool.proofs.Common.{Build, Err, IsGenerated, Ok, Result, SourceError, Summary, ap, build_first, builds_same, false, generated, one_first, root_name, sym, yields, ℕ, ◌∙◌, ◌≡◌}
 use Rattle.arch_compile.specs.Summary.{summary_of}
 use Rattle.front_end.proofs.OneAnswer.{faults_same}
 use Rattle.cam_base.specs.declared.error.Unread.TheVariants as error
-use Rattle.cam_base.specs.Unread.{yields}
 
 module _ (count : ℕ) where
   summaries_same : (f g : Summary) → IsGenerated count (Ok f) → IsGenerated count (Ok g) → f ≡ g

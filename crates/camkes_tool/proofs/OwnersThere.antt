@@ -1,6 +1,7 @@
 -- Each object of connected tables belongs to a domain, a connection or a device that is there and has a label.
-use Rattle.camkes_tool.proofs.BackCommon.{Bool, Entry, FlatConnection, FlatEnd, IsIn, None, OfConnection, OfLeaf, Option, Owner, Some, [], ap, cond, false, frame_owner, from_gather, from_map, in_append, in_place, inl, inr, irq_owner, label_of, number_of}
-use Rattle.camkes_tool.proofs.BackCommon.{option_map_or, range_with_len, refl, slice_get, spec_of, subst, sym, true, ℕ, ◌∙◌, ◌≡◌}
+use Rattle.camkes_tool.proofs.Common.{Tables}
+use Rattle.camkes_tool.proofs.BackCommon.{Bool, Entry, FlatConnection, FlatEnd, IsIn, None, OfConnection, OfLeaf, Option, Owner, Some, [], ap, cond, false, frame_owner, from_gather, from_map, in_append, in_place, inl, inr, irq_owner, label_of}
+use Rattle.camkes_tool.proofs.BackCommon.{number_of, option_map_or, range_with_len, refl, slice_get, spec_of, subst, sym, true, ℕ, ◌∙◌, ◌≡◌}
 use Rattle.adl_meaning.specs.declared.connector.Connector.{Connector}
 use Rattle.adl_meaning.specs.declared.connector.Connector.TheVariants.{Rpc, Notification, SharedMemory, Mmio, Interrupt, Direct}
 use Rattle.arch_policy.specs.Owners.{has_label}
@@ -11,7 +12,6 @@ use Rattle.spec_laws.proofs.Whose.{device_at, entry_is, label_there, labels, own
 use Rattle.spec_laws.specs.Connected.{IsConnected}
 use Rattle.spec_laws.specs.Policy.{given_tables}
 use Rattle.system_spec.proofs.There.{IsDomain, IsThere, Notifies}
-use Rattle.system_spec.specs.Tables.{Tables}
 use Rattle.system_spec.specs.declared.part.What.{What}
 use Rattle.system_spec.specs.declared.part.What.TheVariants.{CNodeOf, ThreadOf, EndpointOf, NotificationOf, LockOf, IrqOf, TableOf, FrameOf}
 use Rattle.vspace_layout.specs.Frames.{connection_frames, device_frame, device_frames, frame, frames, frames_at, is_first, memory_part, own_frame, own_frames, own_part, register_frames, register_part, shared_frames, shared_part}

@@ -1,8 +1,8 @@
 -- Paths of labels have at most 16 names. A device's is that of a leaf, and a domain's has no more names than one of its leaves.
 -- A connection joins an interface of a leaf below its composition.
 use Rattle.camkes_tool.proofs.BackCommon.{AreNamesSound, Domain, FlatConnection, FlatEnd, HasPath, IsIn, List, None, OfConnection, OfDomain, OfLeaf, Option, Owner, Path, Placed, Some, Source, [], ap, arith, flat_domain, flat_end, flat_ends, flat_of}
-use Rattle.camkes_tool.proofs.BackCommon.{from_filter_map, from_get_map, in_map, in_place, inl, inr, le-max_left, le-max_right, leaf_of, leaves, length, length-append, map, map_some, option_map, place_of, refl, subst, sym, unwrap_or, ℕ, ◌++◌, ◌+◌, ◌∙◌}
-use Rattle.camkes_tool.proofs.BackCommon.{◌∷◌, ◌≡◌, ◌≤◌}
+use Rattle.camkes_tool.proofs.BackCommon.{from_filter_map, from_get_map, in_map, in_place, inl, inr, le-max_left, le-max_right, leaf_of, leaves, length, length-append, map, map_some, option_map, place_of, refl, subst, sym, unwrap_or, ℕ, ◌++◌, ◌+◌}
+use Rattle.camkes_tool.proofs.BackCommon.{◌∙◌, ◌∷◌, ◌≡◌, ◌≤◌}
 use Rattle.adl_ast.specs.declared.composition.End.{End}
 use Rattle.adl_ast.specs.declared.composition.Role.TheVariants.{From}
 use Rattle.adl_hierarchy.proofs.DomainNames.{domains_are}

@@ -1,13 +1,13 @@
 -- Policies of builds are read back: they keep each limit of their reader, and what every policy keeps.
+use Rattle.camkes_tool.proofs.Common.{Tables}
 use Rattle.camkes_tool.proofs.BackCommon.{All, AllPairs, AreFacts, Build, Contents, Edge, Entry, Flat, Images, IsBuildOf, IsIn, IsMade, IsPolicy, IsPolicyReadBack, List, Ok, Policy, Refused, Result, Some, Source, TextFault, and_parts, ap, arith}
 use Rattle.camkes_tool.proofs.BackCommon.{build_facts, dotted, entry, flat_of, from_ones, gather_ones, get_or, get_or_from_slice_get, identifiers, images_beside, in_has, in_place, inl, is_name, is_some, is_word, label_lines, label_name, label_of}
-use Rattle.camkes_tool.proofs.BackCommon.{label_texts, labelled, labels_of, length, line_called, lines_apart, list_all, made_connected, made_fit, map, names_tell, not, part_label, parts, place_of, policies_one, policy_back, policy_text, refl, slice_get}
-use Rattle.camkes_tool.proofs.BackCommon.{slice_get-get_or, slice_get_within, source_tables, spec_of, subst, sym, system_tables, true, ℕ, ◌<◌, ◌∙◌, ◌≡◌, ◌≢◌, ◌≤◌}
+use Rattle.camkes_tool.proofs.BackCommon.{label_texts, labelled, labels_of, length, line_called, lines_apart, list_all, made_connected, made_fit, map, names_tell, not, part_label, parts, place_of, policies_one, policy_back, policy_text, refl}
+use Rattle.camkes_tool.proofs.BackCommon.{slice_get, slice_get-get_or, slice_get_within, source_tables, spec_of, subst, sym, system_tables, true, ℕ, ◌<◌, ◌∙◌, ◌≡◌, ◌≢◌, ◌≤◌}
 use Rattle.assigned_laws.proofs.LabelPaths.{not_empty}
 use Rattle.cap_model.proofs.Kept.{all_at}
 use Rattle.capdl_text.specs.TokenFaults.{is_left_out_word}
 use Rattle.policy_text.specs.Writable.{IsWritable}
-use Rattle.system_spec.specs.Tables.{Tables}
 use Rattle.camkes_tool.proofs.CertBack.{policy_few, small_is}
 use Rattle.camkes_tool.proofs.LabelNames.{IsShortName, name_part, path_named}
 use Rattle.camkes_tool.proofs.Labelled.{IsLabel, edge_labels, few_labels, label_small, named_at}

@@ -1,6 +1,6 @@
 -- The edges of a build's policy are those that runs of its spec reach between different labels, by the numbers of labels.
+use Rattle.camkes_tool.proofs.Common.{Reaches}
 use Rattle.camkes_tool.proofs.BackCommon.{Authority, Build, Contents, Has, IsBuildOf, List, build_facts, edge, images_beside, object_labels, own_reached, ℕ, ◌↔◌, ◌≢◌}
-use Rattle.cap_machine.specs.Runs.{Reaches}
 
 pub policy_reached : (root : List ℕ) (contents : Contents) (b : Build) → IsBuildOf root contents b
     → (l : ℕ) (a : Authority) (m : ℕ)

@@ -101,8 +101,8 @@ module _ (m : Contents) (before now : List ℕ → ℕ) where
   is_audited cdl policy o (inl (spec, system, inr (e, told, is))) = absurd cc
   is_audited cdl policy o (inr (e, told, is)) = absurd cc
 
-  module _ (cdl policy : List ℕ) (report : AuditReport) (spec : Spec) (names : LabelNames) (audited : IsAudited m before now cdl policy
-      (Ok (found.Audited report spec names))) where
+  module _ (cdl policy : List ℕ) (report : AuditReport) (spec : Spec) (names : LabelNames)
+      (audited : IsAudited m before now cdl policy (Ok (found.Audited report spec names))) where
     report_by : IsAudited m before now cdl policy (Ok (found.Audited report spec names))
         → IsReportOf m cdl policy report spec names
     report_by (inl (read_as, system, inl (allowed, read, inl (labels, labelled, (shown, is, has))))) =

@@ -1,7 +1,6 @@
 -- A yes of `check` is sound.
-use Rattle.camkes_tool.proofs.Common.{Answer, Bool, Contents, Edge, FitsTexts, Holds, IsChecked, IsPolicy, IsPolicyText, IsSafe, IsSystem, List, Ok, Outcome, Policy, Spec, Text, cond, false, inl, inr, is_well, is_yes, refl, runs_stay, status_of}
-use Rattle.camkes_tool.proofs.Common.{subst, true, ℕ, ◌≡◌}
-use Rattle.cert_check.specs.Valid.{Stays}
+use Rattle.camkes_tool.proofs.Common.{Answer, Bool, Contents, Edge, FitsTexts, Holds, IsChecked, IsPolicy, IsPolicyText, IsSafe, IsSystem, List, Ok, Outcome, Policy, Spec, Stays, Text, cond, false, inl, inr, is_well, is_yes, refl, runs_stay}
+use Rattle.camkes_tool.proofs.Common.{status_of, subst, true, ℕ, ◌≡◌}
 use Rattle.cert_check.specs.Verdicts.{Judged}
 use Rattle.cert_check.specs.declared.verdict.Verdict.{Verdict}
 use Rattle.cert_check.specs.declared.verdict.Verdict.TheVariants.{Yes, No}

@@ -1,9 +1,8 @@
 -- Specs of builds are read back: each part by the law of its own layer.
+use Rattle.camkes_tool.proofs.Common.{canonical, one_spec}
 use Rattle.camkes_tool.proofs.BackCommon.{AreFacts, Build, Contents, Images, IsBuildOf, IsSpecReadBack, IsWritable, List, Option, Source, build_facts, can_lay, flat_of, images_beside, made_fit, spec_of, subst, sym, system_tables, ℕ}
 use Rattle.adl_settings.specs.Settled.{settled_of}
-use Rattle.cap_model.specs.Canonical.{canonical}
 use Rattle.capdl_write.proofs.Whole.{canonical_text}
-use Rattle.capdl_text.proofs.Unique.{one_spec}
 use Rattle.spec_laws.proofs.Fits.{layouts_are_limited}
 use Rattle.spec_laws.proofs.SourcePlain.{layouts_are_plain}
 use Rattle.spec_laws.proofs.ReadImages.{read_images_are_plain}

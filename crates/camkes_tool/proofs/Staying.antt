@@ -1,24 +1,18 @@
 -- Each plain step leaves memory as it was at boot.
+use Rattle.camkes_tool.proofs.Common.{Bool, Contains, HoldsPlain, IsPlainStep, List, None, Run, Some, Spec, Step, [], ap, false, inl, inr, not, refl, set, subst, sym, true, ℕ, ◌==◌, ◌∙◌, ◌∷◌, ◌≡◌}
 use Rattle.cap_machine.proofs.Applied.{read_written}
 use Rattle.cap_machine.proofs.Fitting.{from_filter}
-use Rattle.cap_machine.specs.Effects.{called, dropped, grown, grown_at, replied, waiting, with_pending, without}
-use Rattle.cap_machine.specs.Runs.{Run}
+use Rattle.cap_machine.specs.Effects.{dropped, grown, grown_at, waiting, with_pending, without}
 use Rattle.cap_machine.specs.StepTable.{StepTo}
-use Rattle.cap_machine.specs.declared.step.Step.{Step}
 use Rattle.cap_model.specs.State.{Node, State, boot, no_node, no_thread, node_at, thread_at}
 use Rattle.cap_model.specs.declared.cap.Cap.{Cap}
-use Rattle.cap_model.specs.declared.spec.Spec.{Spec}
 use Rattle.cap_model.specs.declared.state.Content.{Content}
 use Rattle.cap_model.specs.declared.state.Content.TheVariants.{Capability, SavedReply}
 use Rattle.cap_model.specs.declared.state.ThreadState.{ThreadState}
 use Rattle.flow_model.proofs.Reached.{Reached, reached_next}
-use Rattle.std.proofs.Common.{Bool, List, None, Option, Some, [], ap, false, inl, inr, not, refl, set, subst, sym, true, ℕ, ◌++◌}
-use Rattle.std.proofs.Common.{◌==◌, ◌∙◌, ◌∷◌, ◌≡◌}
 use Rattle.std.proofs.lemmas.List.Elements.{Contains-push_cases}
-use Rattle.std.specs.List.{Contains}
 use Rattle.cap_machine.specs.declared.step.Step.TheVariants as steps
 use Rattle.reach_laws.proofs.PlainSteps.{steps_plain}
-use Rattle.reach_laws.specs.Plain.{HoldsPlain, IsPlainStep}
 use Rattle.camkes_tool.specs.Static.{IsStatic}
 
 module _ (spec : Spec) where
@@ -77,7 +71,8 @@ module _ (spec : Spec) where
       let first : State = record s { nodes = grown_at s.nodes c (SavedReply p) } in
       let kept : IsStatic spec first =
       node_static s c (grown (node_at s c) (SavedReply p)) is
-      (λ i cap there. elim (Contains-push_cases (node_at s c).slots ((node_at s c).next, SavedReply p) (i, Capability cap) there) [
+      (λ i cap there.
+      elim (Contains-push_cases (node_at s c).slots ((node_at s c).next, SavedReply p) (i, Capability cap) there) [
         | inl old ↦ old
         | inr new ↦ absurd (let w : SavedReply p ≡ Capability cap = ap (λ (z : ℕ × Content). z.1) new in
             cc)

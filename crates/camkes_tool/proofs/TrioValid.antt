@@ -1,12 +1,10 @@
 -- The spec, policy and certificate of a build keep the rules of the checker, by the labels that the policy gives to objects.
+use Rattle.camkes_tool.proofs.Common.{Tables, Valid, somes_one}
 use Rattle.camkes_tool.proofs.BackCommon.{AreFacts, Build, Contents, Edge, Entry, Images, IsBuildOf, IsLabelling, IsMade, IsSound, IsTrioValid, Judged, Labels, List, No, Ok, Some, Source, Spec, Verdict, Yes, ap, build_facts, build_sound, entry}
 use Rattle.camkes_tool.proofs.BackCommon.{images_beside, labelled, labels_are, labels_of, made_fit, map, names_tell, object_label, part_label, parts, refl, spec_of, subst, sym, system_tables, ℕ, ◌∙◌, ◌≡◌}
-use Rattle.cert_check.specs.Valid.{Valid}
 use Rattle.reach_laws.proofs.ValidCertificates.{valid}
 use Rattle.spec_laws.specs.Fit.{IsFit}
-use Rattle.system_spec.specs.Tables.{Tables}
 use Rattle.camkes_tool.proofs.LabelsBack.{labels_back}
-use Rattle.cam_base.proofs.NumberedLists.{somes_one}
 
 judged_yes : {spec : Spec} {labels : List ℕ} {policy cert : List Edge} (verdict : Verdict) → Valid spec labels policy cert
     → Judged spec labels policy cert verdict → verdict ≡ Yes

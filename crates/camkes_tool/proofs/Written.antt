@@ -1,8 +1,12 @@
 -- What `compile` leaves with status 0 is a sound build, written whole, whose texts are read back.
 use Rattle.camkes_tool.proofs.Common.{Answer, Check, Command, Compile, Compiled, Contents, Explained, Faulted, Fits, FitsCompiled, Generated, InAll, IsSafe, IsWritten, List, Listed, NoMemory, Option, ReadFault, Refused, Sink, Some, Tells, Told}
-use Rattle.camkes_tool.proofs.Common.{Usage, arith, as_read, build_sound, cert_read, inl, inr, policy_read, spec_back, status_of, subst, sym, ℕ, ◌∙◌, ◌≡◌}
+use Rattle.camkes_tool.proofs.Common.{Usage, arith, build_sound, inl, inr, status_of, subst, sym, ℕ, ◌∙◌, ◌≡◌}
 use Rattle.arch_compile.proofs.OfSources.{build_of_source}
 use Rattle.camkes_tool.proofs.Safe.{answered_safe}
+use Rattle.camkes_tool.proofs.SpecBack.{spec_back}
+use Rattle.camkes_tool.proofs.PolicyBack.{policy_read}
+use Rattle.camkes_tool.proofs.CertBack.{cert_read}
+use Rattle.camkes_tool.proofs.HeldAsRead.{as_read}
 
 pub zero_not_five : (n : ℕ) → n ≡ 0 → n ≡ 5 → ⊥
 zero_not_five n e h = omega arith

@@ -32,7 +32,13 @@ contains_at xs x c = (c.0, let s = slice_get-get_or xs c.0 x c.1 in cc c.2)
 pub at_contains : {A : Type 0} (xs : List A) (x : A) (k : ℕ) → slice_get xs k ≡ Some x → Contains xs x
 at_contains xs x k h = (k, slice_get_within xs k x h, get_or_from_slice_get xs k x x h)
 
--- a slot of the boot state is one of the spec
+-- a slot of the spec is one of the boot state
+pub boot_contains : (slots : List (ℕ × Cap)) (k : ℕ) (slot : ℕ × Cap) → slice_get slots k ≡ Some slot
+    → Contains (map boot_slot slots) (slot.0, Capability slot.1)
+boot_contains slots k slot h = at_contains (map boot_slot slots) (boot_slot slot) k (let e = slice_get-map boot_slot slots k in
+    rw (e, h) refl)
+
+-- and a slot of the boot state is one of the spec
 pub slot_of : (slots : List (ℕ × Cap)) (k i : ℕ) (content : Content) → slice_get (map boot_slot slots) k ≡ Some (i, content)
     → (slot : ℕ × Cap) × (slice_get slots k ≡ Some slot) × (Capability slot.1 ≡ content) × (slot.0 ≡ i)
 slot_of slots k i content h = go (slice_get slots k) refl where

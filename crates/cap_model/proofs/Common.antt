@@ -22,18 +22,18 @@ pub use Rattle.cap_model.specs.contracts.edge.EdgeOrd.TheImpl.Laws.{matches_eq-l
 pub use Rattle.cap_model.specs.declared.cap.Cap.{Cap}
 pub use Rattle.cap_model.specs.declared.edge.Edge.{Edge}
 pub use Rattle.cap_model.specs.declared.kind.Kind.{Kind}
-pub use Rattle.cap_model.specs.declared.kind.Kind.TheVariants.{Endpoint, Frame, Irq, Notification, Pages}
+pub use Rattle.cap_model.specs.declared.kind.Kind.TheVariants.{CNode, Endpoint, Frame, Irq, Notification, Pages, Thread}
 pub use Rattle.cap_model.specs.declared.object.Object.{Object}
 pub use Rattle.cap_model.specs.declared.rows.Class.{Class}
 pub use Rattle.cap_model.specs.declared.rows.Row.{Row}
 pub use Rattle.cap_model.specs.declared.spec.Entry.{Entry}
 pub use Rattle.cap_model.specs.declared.spec.Spec.{Spec}
 pub use Rattle.std.proofs.Common.{Bool, Bor, Equal, Err, Greater, IfOk, IfSome, Less, List, None, Ok, Option, Ordering, Result, Some, [], ap, append-nil, append_assoc, arith, cond, drop, false, get_or, if◌then◌else◌, inl, inr, is_ok, leb, length}
-pub use Rattle.std.proofs.Common.{lit<, map, nat_le, nat_lt, refl, rules, slice_get, subst, suc, sym, take, true, zero, ℕ, ◌&&◌, ◌*◌, ◌++◌, ◌+◌, ◌-◌, ◌<◌, ◌==◌, ◌^◌, ◌||◌, ◌↔◌, ◌∙◌, ◌∷◌, ◌≡◌, ◌≢◌, ◌≤◌, ◌⊎◌}
+pub use Rattle.std.proofs.Common.{lit<, map, nat_le, nat_lt, not, refl, rules, slice_get, subst, suc, sym, take, true, zero, ℕ, ◌&&◌, ◌*◌, ◌++◌, ◌+◌, ◌-◌, ◌<◌, ◌==◌, ◌^◌, ◌||◌, ◌↔◌, ◌∙◌, ◌∷◌, ◌≡◌, ◌≢◌, ◌≤◌, ◌⊎◌}
 pub use Rattle.std.proofs.Math.Seq.{drop-append_seam, take-append_seam}
 pub use Rattle.std.proofs.lemmas.Bool.{and_parts, cases_lt, eqb-true, ltb-true, not-true, or_parts}
 pub use Rattle.std.proofs.lemmas.Bool.Decides.{Decides-ltb, eqb_tells, nat_tests}
-pub use Rattle.std.proofs.lemmas.List.{drop-map, get_or-map, length-append, length-drop, length-map, length-take-le, take-append-drop, take-append-le, take-map, take_all}
+pub use Rattle.std.proofs.lemmas.List.{drop-map, get_or-map, length-append, length-drop, length-map, length-take-le, map-append, take-append-drop, take-append-le, take-map, take_all}
 pub use Rattle.std.proofs.lemmas.List.Concat.{flat_map-append}
 pub use Rattle.std.proofs.lemmas.List.Kept.{Contains-dedup, Contains-from_dedup, IsStrictlySortedBy-dedup, IsStrictlySortedBy-filter}
 pub use Rattle.std.proofs.lemmas.List.Sorted.{Contains-permutation, IsPartitionPoint-from_clause, IsPermutation-sym}
@@ -45,4 +45,3 @@ pub use Rattle.std.specs.List.{All, AllPairs, Contains, IsDistinct, dedup, filte
 pub use Rattle.std.specs.List.Sorted.{IsBinarySearchResult, IsPartitionPoint, IsPartitionedBy, IsPermutation, IsSearchInRange, IsStrictlySortedBy}
 pub use Rattle.std.specs.Option.{is_some, option_map}
 pub use Rattle.std.specs.Ordering.{is_eq, is_gt, is_le, is_lt, nat_cmp, ordering_index, ordering_reverse, ordering_then}
-pub use Rattle.std.specs.Prelude.{not}

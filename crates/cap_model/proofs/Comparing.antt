@@ -1,6 +1,6 @@
 -- What the comparisons of a set of edges say of the edges that it has.
-use Rattle.cap_model.proofs.Common.{Bool, Edge, Equal, List, [], ap, cond, false, has, if◌then◌else◌, is_eq, is_equal, length, list_any, one_truth, refl, same_edge, subst, sym, total-law, true, ◌+◌, ◌||◌, ◌∙◌, ◌∷◌, ◌≡◌}
-use Rattle.std.proofs.Common.{not}
+use Rattle.cap_model.proofs.Common.{Bool, Edge, Equal, List, [], ap, cond, false, has, if◌then◌else◌, is_eq, is_equal, length, list_any, not, one_truth, refl, same_edge, subst, sym, total-law, true, ◌+◌, ◌||◌, ◌∙◌, ◌∷◌, ◌≡◌}
+use Rattle.cam_base.proofs.Options.{or_cond}
 use Rattle.cap_model.specs.contracts.edge.EdgeOrd.TheImpl.{ghosts as ordered}
 use Rattle.cap_model.proofs.EdgeCompare.{cmp-same}
 use Rattle.cap_model.proofs.EdgeOrder.{same_edge_true, same_edge_self, same_edge-sym}
@@ -18,12 +18,6 @@ compared_same d e = one_truth (is_eq (ordered.cmp d e)) (same_edge d e)
 pub contains_same : (edges : List Edge) (e : Edge) → list_any (λ (d : Edge). is_eq (ordered.cmp e d)) edges ≡ has edges e
 contains_same [] e = refl
 contains_same (d ∷ edges) e = rw (compared_same e d, same_edge-sym e d, contains_same edges e) refl
-
-or_cond : (a b : Bool) → cond a true b ≡ (b || a)
-or_cond true true = refl
-or_cond true false = refl
-or_cond false true = refl
-or_cond false false = refl
 
 -- the clause of `insert`, in words of edges
 pub inserted_same : (old new : List Edge) (edge : Edge)

@@ -1,5 +1,6 @@
 -- What the comparisons of edges in code say of the order.
-use Rattle.cap_model.proofs.Common.{Before, Edge, Equal, Greater, Less, arith, matches_eq-law, refl, rules, total-law, true, ◌≡◌}
+use Rattle.cap_model.proofs.Common.{Before, Edge, Equal, Greater, Less, arith, false, is_lt, matches_eq-law, ordering_then, refl, rules, total-law, true, ◌≡◌}
+use Rattle.std.specs.declared.cmp.Ordering.{Ordering}
 use Rattle.std.proofs.lemmas.Grind.{common_steps}
 use Rattle.cap_model.specs.contracts.edge.EdgeOrd.TheImpl.{ghosts as ordered}
 use Rattle.cap_model.specs.contracts.edge.EdgePartialEq.TheImpl.{ghosts as compared}
@@ -15,3 +16,9 @@ cmp-same d e h = eq-same d e (rw (matches_eq-law d e, h) refl)
 
 pub cmp-after : (d e : Edge) → ordered.cmp d e ≡ Greater → Before e d
 cmp-after d e h = cmp-before e d (rw (total-law.antisymm e d, h) refl)
+
+-- what isn't less by two comparisons isn't less by the first
+pub first_not_less : (o q : Ordering) → is_lt (ordering_then o q) ≡ false → is_lt o ≡ false
+first_not_less Less q h = h
+first_not_less Equal q h = refl
+first_not_less Greater q h = refl

@@ -1,5 +1,6 @@
 -- The edges that are left once a row is begun.
-use Rattle.cap_model.proofs.Common.{Authority, Class, List, Row, Some, [], ap, append_assoc, arith, drop, edge_to, edges_of, get_or, length, map, refl, reply_to, slice_get, subst, suc, sym, table_edges, take, take_all, ℕ, ◌++◌, ◌-◌, ◌<◌, ◌∙◌, ◌∷◌, ◌≡◌, ◌≤◌}
+use Rattle.cap_model.proofs.Common.{Authority, Class, List, Row, Some, [], ap, append_assoc, arith, drop, edge_to, edges_of, get_or, length, map, refl, reply_to, slice_get, subst, suc, sym, table_edges, take, take_all, ℕ, ◌++◌, ◌-◌, ◌<◌, ◌∙◌, ◌∷◌}
+use Rattle.cap_model.proofs.Common.{◌≡◌, ◌≤◌}
 
 module _ (rows : List Row) (r : Row) (some : 1 ≤ length rows) (first : r ≡ get_or rows 0 r) where
   pub head_rest : rows ≡ r ∷ take (length rows - 1) (drop 1 rows)
@@ -30,7 +31,8 @@ module _ (rows : List Row) (r : Row) (some : 1 ≤ length rows) (first : r ≡ g
       let rest = take (length rows - 1) (drop 1 rows) in
       rw (f, b, m) (
       ap (λ es. map (edge_to r.label) (take c.before c.pairs.items) ++ es)
-      (sym (append_assoc (map (reply_to r.label) r.replies.items) (map (edge_to r.label) (drop c.before c.pairs.items)) (table_edges classes rest)))
+      (sym (append_assoc (map (reply_to r.label) r.replies.items) (map (edge_to r.label) (drop c.before c.pairs.items))
+      (table_edges classes rest)))
       ∙ sym (append_assoc (map (edge_to r.label) (take c.before c.pairs.items)) (map (reply_to r.label) r.replies.items
       ++ map (edge_to r.label) (drop c.before c.pairs.items)) (table_edges classes rest))
       ∙ ap (λ o. edges_of o r ++ table_edges classes rest) (sym there)

@@ -1,6 +1,6 @@
 -- An object is found under its own name.
-use Rattle.cap_model.proofs.Common.{Decides-ltb, Entry, IsKept, Spec, and_parts, ap, arith, list_any, names_differ, not, not-true, or_parts, position_or_len, subst, sym}
-use Rattle.std.specs.Prelude.{◌≡◌, ◌<◌, ℕ, zero, suc, Bool, true, false, List, [], ◌∷◌, map, length, Some, slice_get, nat_lt, refl}
+use Rattle.cap_model.proofs.Common.{Decides-ltb, Entry, IsKept, Spec, and_parts, ap, arith, list_any, names_differ, not-true, or_parts, position_or_len, subst, sym}
+use Rattle.std.specs.Prelude.{not, ◌≡◌, ◌<◌, ℕ, zero, suc, Bool, true, false, List, [], ◌∷◌, map, length, Some, slice_get, nat_lt, refl}
 use Rattle.std.specs.Str.{bytes_eq}
 use Rattle.std.proofs.lemmas.Slice.Eq.{bytes_eq-Decides}
 use Rattle.cap_model.specs.Lookup.{place_of}

@@ -1,8 +1,7 @@
 -- What the parts of a kept spec give.
-use Rattle.cap_model.proofs.Common.{Cap, Endpoint, Entry, Frame, Irq, IsKept, Kind, Notification, Object, Pages, Spec, and_parts, ap, arith, entry_object, eqb-true, fits, fits_kind, is_at, is_kind, is_root_object, is_some, is_space_root, keeps}
-use Rattle.cap_model.proofs.Common.{keeps_slots, kind_at, kind_number, kind_of_object, list_all, ltb-true, object_at, option_map, rise, same_kind, subst, sym, ◌∙◌}
+use Rattle.cap_model.proofs.Common.{CNode, Cap, Endpoint, Entry, Frame, Irq, IsKept, Kind, Notification, Object, Pages, Spec, Thread, and_parts, ap, arith, entry_object, eqb-true, fits, fits_kind, is_at, is_kind, is_root_object, is_some}
+use Rattle.cap_model.proofs.Common.{is_space_root, keeps, keeps_slots, kind_at, kind_number, kind_of_object, list_all, ltb-true, object_at, option_map, rise, same_kind, subst, sym, ◌∙◌}
 use Rattle.std.specs.Prelude.{◌≡◌, ◌<◌, ◌==◌, ◌&&◌, ℕ, zero, suc, Bool, true, List, [], ◌∷◌, length, Option, Some, None, slice_get, nat_lt, refl, if◌then◌else◌}
-use Rattle.cap_model.specs.declared.kind.Kind.TheVariants.{CNode, Thread}
 use Rattle.cap_model.specs.declared.level.Arch.{Arch}
 use Rattle.cap_model.specs.declared.level.Level.TheVariants.{Global, Upper, Directory, Table}
 

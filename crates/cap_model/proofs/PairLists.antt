@@ -1,5 +1,5 @@
 -- Lists of pairs by their order: two that compare as equal are one list.
-use Rattle.cap_model.proofs.Common.{Authority, Equal, Greater, IsTotalOrder, Less, List, Ordering, [], ap, edge_to, is_eq, list_cmp, on_total, ordering_reverse, ordering_then, refl, total-law, true, ℕ, ◌∙◌, ◌∷◌, ◌≡◌}
+use Rattle.cap_model.proofs.Common.{Authority, Equal, Greater, IsTotalOrder, Less, List, Ordering, [], ap, edge_to, is_eq, is_equal, list_cmp, on_total, ordering_reverse, ordering_then, refl, total-law, true, ℕ, ◌∙◌, ◌∷◌, ◌≡◌}
 use Rattle.std.specs.Cmp.Lexicographic.{lists_total}
 use Rattle.cap_model.specs.contracts.edge.EdgeOrd.TheImpl.{ghosts as ordered}
 use Rattle.cap_model.proofs.EdgeCompare.{cmp-same}
@@ -31,9 +31,4 @@ pub list_itself : (ps : List (Authority × ℕ)) → list_cmp ps ps ≡ Equal
 list_itself ps = itself (list_cmp ps ps) ((lists_total pair_total).antisymm ps ps)
 
 pub is_eq-same : (ps qs : List (Authority × ℕ)) → is_eq (list_cmp ps qs) ≡ true → ps ≡ qs
-is_eq-same ps qs e = one_list ps qs (equal (list_cmp ps qs) e)
-  where
-    equal : (o : Ordering) → is_eq o ≡ true → o ≡ Equal
-    equal Less e = cc
-    equal Equal e = refl
-    equal Greater e = cc
+is_eq-same ps qs e = one_list ps qs (is_equal (list_cmp ps qs) e)

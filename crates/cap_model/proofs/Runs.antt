@@ -1,7 +1,7 @@
 -- The edges out of one label, in order, as pairs before and behind Reply and as replies.
 use Rattle.cap_model.proofs.Common.{AtMost, Authority, Before, Class, Edge, IsClass, IsPartitionPoint, IsPartitionedBy, IsRun, IsSorted, List, Reply, Row, Some, [], ap, arith, cases_lt, drop, drop-append_seam, edge_to, edges_of, false, get_behind}
-use Rattle.cap_model.proofs.Common.{get_drop, get_front, get_or, get_or_from_slice_get, inl, inr, length, length-append, length-drop, length-map, length-take-le, map, map_some, nat_le, nat_lt, number_of, pair_of, refl, reply_to, slice_get}
-use Rattle.cap_model.proofs.Common.{slice_get-get_or, slice_get-map, slice_get_within, split_get, subst, suc, sym, take, take-append-drop, take-append_seam, take_all, true, zero, ℕ, ◌++◌, ◌+◌, ◌-◌, ◌<◌, ◌∙◌, ◌∷◌, ◌≡◌, ◌≤◌, ◌⊎◌}
+use Rattle.cap_model.proofs.Common.{get_drop, get_front, get_or, get_or_from_slice_get, inl, inr, length, length-append, length-drop, length-map, length-take-le, map, map-append, map_some, nat_le, nat_lt, number_of, pair_of, refl, reply_to}
+use Rattle.cap_model.proofs.Common.{slice_get, slice_get-get_or, slice_get-map, slice_get_within, split_get, subst, suc, sym, take, take-append-drop, take-append_seam, take_all, true, zero, ℕ, ◌++◌, ◌+◌, ◌-◌, ◌<◌, ◌∙◌, ◌∷◌, ◌≡◌, ◌≤◌, ◌⊎◌}
 use Rattle.cap_model.proofs.EdgeOrder.{edges_same, same_number}
 use Rattle.cap_model.proofs.TableMembers.{later_at_most}
 
@@ -101,10 +101,6 @@ module _ (label : ℕ) (run : List Edge) (xs ys zs : List Edge) (is_run : IsRun 
   sorted_parts : IsSorted (xs ++ (ys ++ zs))
   sorted_parts = subst IsSorted parts is_run.sorted
 
-  map_append : {X Y : Type 0} (f : X → Y) (us vs : List X) → map f (us ++ vs) ≡ map f us ++ map f vs
-  map_append f [] vs = refl
-  map_append f (u ∷ us) vs = ap (λ z. f u ∷ z) (map_append f us vs)
-
   from_ends : (i : ℕ) (e : Edge) → slice_get (xs ++ zs) i ≡ Some e → e.from ≡ label
   from_ends i e p = elim (split_get xs zs i e p) [ inl h ↦ from_xs i e h | inr h ↦ from_zs h.0 e h.2 ]
 
@@ -112,7 +108,7 @@ module _ (label : ℕ) (run : List Edge) (xs ys zs : List Edge) (is_run : IsRun 
   run_class c pairs before = record {
     within = (let a = ap (λ (ps : List (Authority × ℕ)). length ps) pairs in
         let b = length-append (map pair_of xs) (map pair_of zs) in let d = length-map xs pair_of in omega arith);
-    sorted = subst (λ ps. IsSorted (map (edge_to 0) ps)) (map_append pair_of xs zs ∙ sym pairs)
+    sorted = subst (λ ps. IsSorted (map (edge_to 0) ps)) (map-append pair_of xs zs ∙ sym pairs)
         (moved 0 label (xs ++ zs) (sorted_ends xs ys zs sorted_parts) from_ends);
     front = λ i p l e. elim (at i p e) [
       | inl h ↦ (let less = front i h.0 h.1 in let same : number_of h.0.authority ≡ number_of p.0 = ap

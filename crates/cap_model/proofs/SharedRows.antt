@@ -1,7 +1,7 @@
 -- A table in which several labels have the edges of the same pairs.
 use Rattle.cap_model.proofs.Common.{All, AllPairs, AreShared, Authority, Before, Class, Edge, IsClass, IsIn, IsPartitionPoint, IsPartitionedBy, IsSorted, IsTable, List, PairBefore, Reply, Row, Some, [], ap, arith, cases_lt, drop, edge_to, edges_of}
-use Rattle.cap_model.proofs.Common.{false, flat_map, from_flat_map, from_map, get_or, get_or_from_slice_get, in_place, inl, inr, length, length-append, length-map, map, map_some, nat_lt, number_of, place_of, refl, reply_to, shared_edges, single}
-use Rattle.cap_model.proofs.Common.{slice_get, slice_get-get_or, slice_get-map, slice_get_within, split_get, subst, suc, sym, table_edges, take, take-append-drop, take_all, true, zero, ℕ, ◌*◌, ◌++◌, ◌<◌, ◌∙◌, ◌∷◌, ◌≡◌, ◌≢◌, ◌≤◌}
+use Rattle.cap_model.proofs.Common.{false, flat_map, from_flat_map, from_map, get_or, get_or_from_slice_get, in_place, inl, inr, length, length-append, length-map, map, map-append, map_some, nat_lt, number_of, place_of, refl, reply_to, shared_edges}
+use Rattle.cap_model.proofs.Common.{single, slice_get, slice_get-get_or, slice_get-map, slice_get_within, split_get, subst, suc, sym, table_edges, take, take-append-drop, take_all, true, zero, ℕ, ◌*◌, ◌++◌, ◌<◌, ◌∙◌, ◌∷◌, ◌≡◌, ◌≢◌, ◌≤◌}
 use Rattle.std.proofs.Math.Nat.{suc-mul}
 use Rattle.cap_model.proofs.EdgeOrder.{same_number}
 use Rattle.cam_base.proofs.NumberedLists.{at_place as row_at}
@@ -64,10 +64,6 @@ pairs_class c pairs same rise others bound point = record {
     there i p e = subst (λ ps. slice_get ps i ≡ Some p) same e
 
 -- ---- the same pairs for each label
-
-map_append : {X Y : Type 0} (f : X → Y) (us vs : List X) → map f (us ++ vs) ≡ map f us ++ map f vs
-map_append f [] vs = refl
-map_append f (u ∷ us) vs = ap (λ z. f u ∷ z) (map_append f us vs)
 
 sorted_both : (xs ys : List Edge) → IsSorted xs → IsSorted ys → ((d e : Edge) → IsIn d xs → IsIn e ys → Before d e)
     → IsSorted (xs ++ ys)
@@ -133,7 +129,7 @@ module _ (labels : List ℕ) (pairs : List (Authority × ℕ)) (rows : List Row)
       ap (λ k. edges_of (slice_get (c ∷ []) k) r) (shared.class i r p)
       ∙ ap (λ ms. map (edge_to r.label) (take c.before c.pairs.items)
       ++ (map (reply_to r.label) ms ++ map (edge_to r.label) (drop c.before c.pairs.items))) (shared.replies i r p)
-      ∙ sym (map_append (edge_to r.label) (take c.before c.pairs.items) (drop c.before c.pairs.items))
+      ∙ sym (map-append (edge_to r.label) (take c.before c.pairs.items) (drop c.before c.pairs.items))
       ∙ ap (λ ps. map (edge_to r.label) ps) (take-append-drop c.before c.pairs.items ∙ same)
       ∙ ap (λ m. map (edge_to m) pairs) label
 

@@ -1,17 +1,14 @@
 -- What a list of edges has, by places and by elements; what a sorted list is determined by.
 use Rattle.cap_model.proofs.Common.{AtMost, Authority, Before, Bool, Contains, Edge, Has, IsSorted, List, Some, [], ap, arith, cases_lt, edge, false, get_or_from_slice_get, has, inl, inr, refl, same_edge, slice_get, slice_get_read, slice_get_within}
 use Rattle.cap_model.proofs.Common.{subst, suc, sym, true, zero, ℕ, ◌||◌, ◌↔◌, ◌∷◌, ◌≡◌, ◌≤◌, ◌⊎◌}
+use Rattle.std.proofs.Math.Bool.{or-true}
 use Rattle.cap_model.proofs.EdgeOrder.{same_edge_true, same_edge_self, at_most_self, before_at_most, not_before_self, not_before_both}
-
-or_true : (b : Bool) → b || true ≡ true
-or_true true = refl
-or_true false = refl
 
 -- a list has what stands at a place of it
 pub has_at : (edges : List Edge) (i : ℕ) (e : Edge) → slice_get edges i ≡ Some e → has edges e ≡ true
 has_at [] i e h = absurd cc
 has_at (d ∷ edges) zero e h = let same : d ≡ e = cc in rw (same, same_edge_self e) refl
-has_at (d ∷ edges) (suc i) e h = rw (has_at edges i e h) (or_true (same_edge d e))
+has_at (d ∷ edges) (suc i) e h = rw (has_at edges i e h) (or-true (same_edge d e))
 
 -- and what it has stands at a place
 pub at_has : (edges : List Edge) (e : Edge) → has edges e ≡ true → (i : ℕ) × (slice_get edges i ≡ Some e)
@@ -68,13 +65,13 @@ tails_same d xs ys p q same e = go (has xs e) (has ys e) refl refl where
   go true true f g = refl
   go false false f g = refl
   go true false f g = absurd (
-      let h : has (d ∷ ys) e ≡ true = (let s = same e in let t : has (d ∷ xs) e ≡ true = rw f (or_true (same_edge d e)) in cc) in
+      let h : has (d ∷ ys) e ≡ true = (let s = same e in let t : has (d ∷ xs) e ≡ true = rw f (or-true (same_edge d e)) in cc) in
       elim (first_or_later d e ys h) [
         | inl is ↦ not_before_self e (subst (λ (x : Edge). Before x e) is (head_before d e xs p f))
         | inr k ↦ let z : true ≡ false = cc in cc
       ])
   go false true f g = absurd (
-      let h : has (d ∷ xs) e ≡ true = (let s = same e in let t : has (d ∷ ys) e ≡ true = rw g (or_true (same_edge d e)) in cc) in
+      let h : has (d ∷ xs) e ≡ true = (let s = same e in let t : has (d ∷ ys) e ≡ true = rw g (or-true (same_edge d e)) in cc) in
       elim (first_or_later d e xs h) [
         | inl is ↦ not_before_self e (subst (λ (x : Edge). Before x e) is (head_before d e ys q g))
         | inr k ↦ let z : true ≡ false = cc in cc

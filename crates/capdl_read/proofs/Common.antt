@@ -1,4 +1,5 @@
 -- The names that most proofs cite, passed on from one place. Declares nothing.
+pub use Rattle.cam_base.proofs.Errors.{passed_on}
 pub use Rattle.cam_base.proofs.Lists.{cond_nil, drop_first, flat_map_nil, nil_append}
 pub use Rattle.cam_base.proofs.Loops.{behind_eats, fails, goes_on, is_done, with_front}
 pub use Rattle.cam_base.proofs.Options.{is_some-option_or, option_or-none}
@@ -55,7 +56,7 @@ pub use Rattle.name_tables.specs.Keys.{Key, has_key, same_key}
 pub use Rattle.name_tables.specs.Naming.{spread_found}
 pub use Rattle.std.proofs.Common.{Bool, Equal, Err, Greater, Less, List, None, Ok, Option, Result, Some, [], add-one, ap, append_assoc, arith, cond, drop, false, get_or, inl, inr, is_some, length, map, refl, rules, slice_get, subst, suc, sym, take}
 pub use Rattle.std.proofs.Common.{true, zero, ℕ, ◌++◌, ◌+◌, ◌-◌, ◌<◌, ◌^◌, ◌∙◌, ◌∷◌, ◌≡◌, ◌≤◌, ◌⊎◌}
-pub use Rattle.std.proofs.lemmas.Bool.{and_parts, eqb-true, le-ltb, leb-true, ltb-true, or_parts}
+pub use Rattle.std.proofs.lemmas.Bool.{and_from, and_parts, eqb-true, le-ltb, leb-true, ltb-true, not-true, or_parts}
 pub use Rattle.std.proofs.lemmas.Bool.Decides.{nat_tests}
 pub use Rattle.std.proofs.lemmas.List.{drop_all, length-drop, length-map, take_all}
 pub use Rattle.std.proofs.lemmas.Result.{err_from_is_err_and}

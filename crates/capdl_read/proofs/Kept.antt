@@ -1,11 +1,11 @@
 -- The spec of a tree in which no fault stands keeps what every spec keeps.
 use Rattle.capdl_read.proofs.Common.{Arch, Bool, CapdlUnknown, FrameField, Holder, IrqLine, IsBelow, IsKept, Kind, KindLine, Known, Knows, List, None, ObjectLine, Option, SlotKey, SlotLine, Some, Spec, SpecTree, Tcb, Text, TextFault, ThreadField, []}
-use Rattle.capdl_read.proofs.Common.{and_parts, ap, are_bits, arith, at_id, bytes_eq, bytes_eq-Decides, cap_said, cond, cond_nil, differ, entry_said, eqb-true, false, fields_from, fields_twice, fill_of, fill_off, fill_or, fill_said, fits, fits_as}
-use Rattle.capdl_read.proofs.Common.{fits_kind, flat_map, flat_map_nil, frame_value_off, held, holder_off, if_any, inl, inr, insert_entry, irq_keyed, irq_off, is_at, is_kind, is_root_object, is_space_root, keeps, keeps_cnode, keeps_fill, keeps_lines}
-use Rattle.capdl_read.proofs.Common.{keeps_table, keeps_tcb, keys_twice, kind_at, kind_fields, kind_of_object, kind_off, kind_said, known_as, knows, leb, length, length-map, limits, lines_from, list_all, list_any, map, most_objects, names_twice}
-use Rattle.capdl_read.proofs.Common.{nat_cmp, nil_append, no_tcb, not, object_said, off_in, option_map, or_parts, paddr_or, paddr_said, param_off, past, past_in, place_or, place_said, put_field, refl, rise, same_kind, size_of, size_said, slice_get}
-use Rattle.capdl_read.proofs.Common.{slot_off, slot_ranges, slots_off, slots_past, slots_said, spec_of, subst, suc, sym, takes, thread_said, thread_value_off, tree_faults, true, twice_in, twices, unknown, unknown_in, unknowns, zero, ℕ, ◌%◌, ◌&&◌}
-use Rattle.capdl_read.proofs.Common.{◌++◌, ◌+◌, ◌==◌, ◌^◌, ◌∙◌, ◌∷◌, ◌≡◌, ◌≤◌, ◌⊎◌}
+use Rattle.capdl_read.proofs.Common.{and_from, and_parts, ap, are_bits, arith, at_id, bytes_eq, bytes_eq-Decides, cap_said, cond, cond_nil, differ, entry_said, eqb-true, false, fields_from, fields_twice, fill_of, fill_off, fill_or, fill_said, fits}
+use Rattle.capdl_read.proofs.Common.{fits_as, fits_kind, flat_map, flat_map_nil, frame_value_off, held, holder_off, if_any, inl, inr, insert_entry, irq_keyed, irq_off, is_at, is_kind, is_root_object, is_space_root, keeps, keeps_cnode, keeps_fill}
+use Rattle.capdl_read.proofs.Common.{keeps_lines, keeps_table, keeps_tcb, keys_twice, kind_at, kind_fields, kind_of_object, kind_off, kind_said, known_as, knows, leb, length, length-map, limits, lines_from, list_all, list_any, map, most_objects}
+use Rattle.capdl_read.proofs.Common.{names_twice, nat_cmp, nil_append, no_tcb, not, not-true, object_said, off_in, option_map, or_parts, paddr_or, paddr_said, param_off, past, past_in, place_or, place_said, put_field, refl, rise, same_kind, size_of}
+use Rattle.capdl_read.proofs.Common.{size_said, slice_get, slot_off, slot_ranges, slots_off, slots_past, slots_said, spec_of, subst, suc, sym, takes, thread_said, thread_value_off, tree_faults, true, twice_in, twices, unknown, unknown_in, unknowns}
+use Rattle.capdl_read.proofs.Common.{zero, ℕ, ◌%◌, ◌++◌, ◌+◌, ◌==◌, ◌^◌, ◌∙◌, ◌∷◌, ◌≡◌, ◌≤◌, ◌⊎◌}
 use Rattle.std.specs.Option.{is_some}
 use Rattle.std.proofs.lemmas.Option.{slice_get-map}
 use Rattle.cap_model.specs.declared.kind.Kind.TheVariants as kinds
@@ -235,14 +235,8 @@ module _ (t : SpecTree) (sound : tree_faults t ≡ []) where
     root_here = ap (λ z. is_root_object spec.arch (object_at spec z)) place_is ∙ (there s.object.name k is).1
 
     cap_fits : flat_map (param_off k.kind) s.params ≡ [] → fits spec (cap_said known s) ≡ true
-    cap_fits e = ap (λ (z : Option Kind). fits_kind z (cap_said known s)) kind_here ∙ both _ _ (rights_fit k.kind s.params e)
+    cap_fits e = ap (λ (z : Option Kind). fits_kind z (cap_said known s)) kind_here ∙ and_from _ _ (rights_fit k.kind s.params e)
         (badge_fits k.kind s.params e)
-      where
-        both : (a b : Bool) → a ≡ true → b ≡ true → (a && b) ≡ true
-        both a b p q = rw (p, q) refl
-
-  and_true : (a b : Bool) → a ≡ true → b ≡ true → (a && b) ≡ true
-  and_true a b p q = rw (p, q) refl
 
   -- ---- holders
 
@@ -281,7 +275,7 @@ module _ (t : SpecTree) (sound : tree_faults t ≡ []) where
     where
       one : (key : SlotKey) → IsBelow (Some n) key → fits spec (cap_said known s) ≡ true
           → IsFit t.arch known (fits spec) n key (cap_said known s)
-      one (keys.Number m) b f = and_true _ _ b f
+      one (keys.Number m) b f = and_from _ _ b f
       one keys.Cspace b f = tt
       one keys.Vspace b f = tt
       one keys.Buffer b f = tt
@@ -294,7 +288,7 @@ module _ (t : SpecTree) (sound : tree_faults t ≡ []) where
       one : (key : SlotKey) → IsBelow (Some n) key → takes t.arch (Some (held_by j (kinds.Pages level) (Some n))) key
           (g.0).object.kind s.params ≡ true → IsFit t.arch known (fits_as spec (child level)) n key (cap_said known s)
       one (keys.Number m) b f =
-          and_true _ _ b (and_true _ _ (at_is s (g.0).object (g.0).is (child level) ∙ f)
+          and_from _ _ b (and_from _ _ (at_is s (g.0).object (g.0).is (child level) ∙ f)
           (cap_fits s (g.0).object (g.0).is (g.0).params))
       one keys.Cspace b f = tt
       one keys.Vspace b f = tt
@@ -310,7 +304,7 @@ module _ (t : SpecTree) (sound : tree_faults t ≡ []) where
       one (keys.Number m) f = tt
       one keys.Cspace f = at_is s (g.0).object (g.0).is kinds.CNode ∙ f
       one keys.Vspace f = root_here s (g.0).object (g.0).is ∙ f
-      one keys.Buffer f = and_true _ _ (at_is s (g.0).object (g.0).is kinds.Frame ∙ f)
+      one keys.Buffer f = and_from _ _ (at_is s (g.0).object (g.0).is kinds.Frame ∙ f)
           (cap_fits s (g.0).object (g.0).is (g.0).params)
 
   held_all : (j : ℕ) (size : Option ℕ) (ss : List SlotLine) → AllGood t.arch known (held_by j kinds.Irq size) ss
@@ -334,7 +328,7 @@ module _ (t : SpecTree) (sound : tree_faults t ≡ []) where
   node_kept j n ss b g =
       let size : cond (are_bits n) (Some (2 ^ n)) None ≡ Some (2 ^ n) = rw b refl in
       let g' = subst (λ (z : Option ℕ). AllGood t.arch known (held_by j kinds.CNode z) ss) size g in
-      and_true _ _ b (said_kept t.arch known (fits spec) (2 ^ n) ss (node_fit j (2 ^ n) ss g'))
+      and_from _ _ b (said_kept t.arch known (fits spec) (2 ^ n) ss (node_fit j (2 ^ n) ss g'))
 
   table_kept : (j : ℕ) (level : Level) (size : Option ℕ) (ss : List SlotLine) → is_some size ≡ true
       → AllGood t.arch known (held_by j (kinds.Pages level) size) ss → keeps_table spec level size (slots_said known ss) ≡ true
@@ -355,7 +349,7 @@ module _ (t : SpecTree) (sound : tree_faults t ≡ []) where
       (named_all h ss g) first in
       let prio : leb (thread_said known fs ss).prio 255 ≡ true = ap (λ z. leb z 255) (named_prio t.arch known begun ss)
       ∙ fields_prio no_tcb fs e refl in
-      and_true _ _ (and_true _ _ prio f.0) (and_true _ _ f.1 f.2)
+      and_from _ _ (and_from _ _ prio f.0) (and_from _ _ f.1 f.2)
 
   kind_kept : (j : ℕ) (k : KindLine) (ss : List SlotLine) → kind_off t.arch k ≡ []
       → AllGood t.arch known (held_by j (kind_said k) (size_said t.arch k)) ss → keeps spec (object_said known k ss) ≡ true
@@ -363,7 +357,7 @@ module _ (t : SpecTree) (sound : tree_faults t ≡ []) where
   kind_kept j line.Notification ss e g = refl
   kind_kept j (line.CNode bits) ss e g = node_kept j bits.value ss (cond_nil (are_bits bits.value) _ e) g
   kind_kept j (line.Thread fs) ss e g = tcb_kept (held_by j kinds.Thread None) fs ss e g
-  kind_kept j (line.Frame fs) ss e g = and_true _ _ (paddr_fits fs e) (fill_fits fs e)
+  kind_kept j (line.Frame fs) ss e g = and_from _ _ (paddr_fits fs e) (fill_fits fs e)
   kind_kept j (line.Pages level place) ss e g =
       table_kept j level (size t.arch level) ss (cond_nil (is_some (size t.arch level)) _ e) g
   kind_kept j line.Irq ss e g = held_fits t.arch known (is_at spec kinds.Notification) ss (held_all j (Some 1) ss g)
@@ -372,7 +366,7 @@ module _ (t : SpecTree) (sound : tree_faults t ≡ []) where
       → keeps spec (object_said known o.kind (lines_of o)) ≡ true)
       → list_all (λ e. keeps spec e.object) (map (entry_said known t.holders) os) ≡ true
   objects_from [] h = refl
-  objects_from (o ∷ os) h = and_true _ _ (h zero o refl) (objects_from os (λ i p g. h (suc i) p g))
+  objects_from (o ∷ os) h = and_from _ _ (h zero o refl) (objects_from os (λ i p g. h (suc i) p g))
 
   objects_kept : list_all (λ e. keeps spec e.object) spec.entries ≡ true
   objects_kept =
@@ -452,18 +446,14 @@ module _ (t : SpecTree) (sound : tree_faults t ≡ []) where
       → differ bytes_eq (map (λ i. i.name) (map (λ l. l.object) ls)) ≡ true → AllLacked done ls → rise done ≡ true
       → parts_differ done ≡ true → list_all (λ x. is_at spec kinds.Irq x.1) done ≡ true
       → keeps_lines spec (lines_from known done ls) ≡ true
-  lines_from_kept done [] a d g r p k = and_true _ _ (and_true _ _ r p) k
+  lines_from_kept done [] a d g r p k = and_from _ _ (and_from _ _ r p) k
   lines_from_kept done (l ∷ ls) a d g r p k =
       let q = and_parts (not (list_any (λ n. bytes_eq n l.object.name) (map (λ i. i.name) (map (λ l. l.object) ls)))) _ d in
       let kind : is_at spec kinds.Irq (place_of l) ≡ true = ap (is_at spec kinds.Irq) (ap place_or a.0.1)
       ∙ ap (λ (z : Option Kind). is_kind z kinds.Irq) (there l.object.name a.0.0 a.0.1).0 ∙ a.0.2 in
-      lines_from_kept (put done l) ls a.1 q.1 (lacked_more done l ls a.0 a.1 (flip _ q.0) g.1)
+      lines_from_kept (put done l) ls a.1 q.1 (lacked_more done l ls a.0 a.1 (not-true _ q.0) g.1)
       (rise_insert done l.number.value (place_of l) r) (differ_insert done l.number.value (place_of l) g.0 p)
       (all_insert (λ x. is_at spec kinds.Irq x.1) done l.number.value (place_of l) k kind)
-    where
-      flip : (b : Bool) → not b ≡ true → b ≡ false
-      flip true e = absurd cc
-      flip false e = refl
 
   nothing_lacked : (ls : List IrqLine) → AllLacked [] ls
   nothing_lacked [] = tt

@@ -1,6 +1,6 @@
 -- What names stand for is there.
 use Rattle.capdl_read.proofs.Common.{Arch, Bool, CapdlTwice, Id, Known, List, ObjectLine, Some, [], ap, arith, at_id, bytes_eq, bytes_eq-Decides, cond, differ, false, known_as, known_from, list_any, map, names_after, names_twice, nil_append, not}
-use Rattle.capdl_read.proofs.Common.{or_parts, refl, slice_get, suc, sym, true, zero, ℕ, ◌&&◌, ◌+◌, ◌||◌, ◌∙◌, ◌∷◌, ◌≡◌}
+use Rattle.capdl_read.proofs.Common.{not-true, or_parts, refl, slice_get, suc, sym, true, zero, ℕ, ◌&&◌, ◌+◌, ◌||◌, ◌∙◌, ◌∷◌, ◌≡◌}
 use Rattle.capdl_read.proofs.Nothing.{is_false}
 
 abbrev pub Name : Type 0
@@ -74,17 +74,13 @@ known_here arch place (q ∷ os) zero o d g =
 known_here arch place (q ∷ os) (suc j) o d g =
     let k = parts (not (list_any (λ n. bytes_eq n q.id.name) (map (λ i. i.name) (map (λ o. o.id) os))))
     (differ bytes_eq (map (λ i. i.name) (map (λ o. o.id) os))) d in
-    let apart : bytes_eq o.id.name q.id.name ≡ false = other os j g (flip _ k.0) in
+    let apart : bytes_eq o.id.name q.id.name ≡ false = other os j g (not-true _ k.0) in
     rw apart (known_here arch (place + 1) os j o k.1 g ∙ ap (λ i. Some (known_as arch i o))
     (let z : (place + 1) + j ≡ place + suc j = omega arith in z))
   where
     parts : (a b : Bool) → (a && b) ≡ true → (a ≡ true) × (b ≡ true)
     parts true b e = (refl, e)
     parts false b e = absurd cc
-
-    flip : (b : Bool) → not b ≡ true → b ≡ false
-    flip true e = absurd cc
-    flip false e = refl
 
     other : (os : List ObjectLine) (j : ℕ) → slice_get os j ≡ Some o
         → list_any (λ n. bytes_eq n q.id.name) (map (λ i. i.name) (map (λ o. o.id) os)) ≡ false

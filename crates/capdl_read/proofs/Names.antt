@@ -1,23 +1,15 @@
 -- The objects of a text have names.
-use Rattle.capdl_read.proofs.Common.{Bool, Entry, Holder, Id, IsSpecSpelled, IsSpelledBy, Knows, List, ObjectLine, Seen, Spec, SpecTree, Text, [], and_parts, ap, entry_said, false, knows, list_all, map, object_form, refl, subst, sym, true, ℕ, ◌++◌}
-use Rattle.capdl_read.proofs.Common.{◌∷◌, ◌≡◌}
+use Rattle.capdl_read.proofs.Common.{Entry, Holder, Id, IsSpecSpelled, IsSpelledBy, Knows, List, ObjectLine, Seen, Spec, SpecTree, Text, [], and_parts, entry_said, knows, list_all, map, object_form, refl, subst, sym, true, ℕ, ◌∷◌, ◌≡◌}
 use Rattle.cam_base.specs.Names.{is_name}
 use Rattle.capdl_text.specs.Forms.{object_line, spec_line}
-use Rattle.capdl_text.specs.Seeing.{id_of, named}
+use Rattle.cam_base.proofs.Naming.{named_is}
 use Rattle.cam_base.specs.Spelling.{Each}
-
-always_named : (text : List ℕ) → is_name (named text) ≡ true
-always_named text = go (is_name text) refl
-  where
-    go : (b : Bool) → is_name text ≡ b → is_name (named text) ≡ true
-    go true e = rw e e
-    go false e = rw e refl
 
 line_named : (o : ObjectLine) (ts : List Seen) → IsSpelledBy object_form o ts → is_name o.id.name ≡ true
 unfolding object_line
 line_named o ts (x, is, (a, b, parts, (s, id, one), rest)) =
     subst (λ (z : ObjectLine). is_name z.id.name ≡ true) (sym is) (subst (λ (i : Id). is_name i.name ≡ true) (sym id)
-    (always_named s.text))
+    (named_is s.text))
 
 lines_named : (os : List ObjectLine) (ts : List Seen) → Each (IsSpelledBy object_form) os ts
     → list_all (λ o. is_name o.id.name) os ≡ true

@@ -1,13 +1,7 @@
 -- From what the lexer and the grammar answer to what reading a tree answers.
-use Rattle.capdl_read.proofs.Common.{AreLexemes, Err, IsParsed, IsTreeRead, List, Ok, Refused, Result, SpecTree, TextFault, Token, of_syntax, of_tokens, subst, sym, ℕ, ◌≡◌}
-use Rattle.std.specs.Result.{IsErrAnd}
+use Rattle.capdl_read.proofs.Common.{AreLexemes, Err, IsParsed, IsTreeRead, List, Ok, Refused, Result, SpecTree, TextFault, Token, of_syntax, of_tokens, ℕ}
 use Rattle.cam_base.specs.declared.error.Refused.TheVariants as refused
 use Rattle.capdl_text.specs.Lexes.{Lexes}
-
-pub passed_on : {T : Type 0} (Answers : Result T (Refused TextFault) → Type 0) (answer : Result T (Refused TextFault))
-    (refusal : Refused TextFault) → IsErrAnd answer (λ other. other ≡ refusal) → Answers (Err refusal) → Answers answer
-passed_on Answers (Ok x) refusal is read = absurd is
-passed_on Answers (Err other) refusal is read = subst (λ (r : Refused TextFault). Answers (Err r)) (sym is) read
 
 pub not_lexed : (bytes : List ℕ) (e : Refused TextFault) → AreLexemes bytes (Err e) → IsTreeRead bytes (Err e)
 not_lexed bytes (refused.Fault f) is = λ few. of_tokens few is

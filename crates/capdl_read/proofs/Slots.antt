@@ -1,7 +1,8 @@
 -- Slots of a holder in whose lines no fault stands.
-use Rattle.capdl_read.proofs.Common.{Arch, Bool, Cap, CapdlUnknown, Id, IsBelow, Kind, Known, Knows, List, None, Option, SlotKey, SlotLine, Some, Tcb, TextFault, [], ap, at_id, badge_said, cap_off, cap_said, cond, cond_nil, false, flat_map}
-use Rattle.capdl_read.proofs.Common.{has_badge, if_any, insert_entry, keeps_slots, key_off, key_past, kind_rights, list_all, named_from, nat_cmp, nat_lt, nil_append, not, notification_said, numbered_or, param_off, params_off, place_said, put_named}
-use Rattle.capdl_read.proofs.Common.{put_slot, refl, rights_said, rise, same_kind, slot_off, slots_from, slots_past, suc, sym, takes, true, unknown, within, zero, ℕ, ◌&&◌, ◌++◌, ◌==◌, ◌||◌, ◌∙◌, ◌∷◌, ◌≡◌}
+use Rattle.capdl_read.proofs.Common.{Arch, Bool, Cap, CapdlUnknown, Id, IsBelow, Kind, Known, Knows, List, None, Option, SlotKey, SlotLine, Some, Tcb, [], at_id, badge_said, cap_off, cap_said, cond_nil, false, flat_map, has_badge, if_any}
+use Rattle.capdl_read.proofs.Common.{keeps_slots, key_off, key_past, kind_rights, list_all, named_from, nat_lt, nil_append, notification_said, numbered_or, param_off, params_off, place_said, put_named, put_slot, refl, rights_said, rise, slot_off}
+use Rattle.capdl_read.proofs.Common.{slots_from, slots_past, takes, true, unknown, within, ℕ, ◌&&◌, ◌++◌, ◌==◌, ◌||◌, ◌∙◌, ◌∷◌, ◌≡◌}
+use Rattle.std.proofs.Math.Bool.{or-true}
 use Rattle.std.specs.Option.{is_some}
 use Rattle.cap_model.specs.declared.kind.Kind.TheVariants as kinds
 use Rattle.cap_model.specs.declared.rights.Rights.{Rights}
@@ -24,11 +25,7 @@ rights_fit kind (params.Badge place n ∷ ps) e =
 
 pub badge_fits : (kind : Kind) (ps : List Param) → flat_map (param_off kind) ps ≡ []
     → (has_badge kind || badge_said ps == 0) ≡ true
-badge_fits kind [] e = either (has_badge kind)
-  where
-    either : (b : Bool) → (b || true) ≡ true
-    either true = refl
-    either false = refl
+badge_fits kind [] e = or-true (has_badge kind)
 badge_fits kind (params.Rights r place ∷ ps) e =
     badge_fits kind ps (nil_append (param_off kind (params.Rights r place)) (flat_map (param_off kind) ps) e).1
 badge_fits kind (params.Badge place n ∷ ps) e =

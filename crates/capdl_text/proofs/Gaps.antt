@@ -1,10 +1,10 @@
 -- Where a gap stands, no token and no fault does.
 use Rattle.capdl_text.proofs.Common.{Bool, Found, Kind, List, None, Option, Some, TextCode, [], after_close, after_dash, after_line, after_slash, arith, cases_Bool, cond, false, inl, inr, is_blank, is_digit, is_end, is_letter, is_star, length}
-use Rattle.capdl_text.proofs.Common.{mark_fault, nat_tests, refl, same_Some, sym, true, unless, ℕ, ◌&&◌, ◌<◌, ◌==◌, ◌||◌, ◌∙◌, ◌∷◌, ◌≡◌, ◌≤◌}
+use Rattle.capdl_text.proofs.Common.{mark_fault, nat_tests, none_is_not, refl, same_Some, sym, true, unless, ℕ, ◌<◌, ◌==◌, ◌||◌, ◌∙◌, ◌∷◌, ◌≡◌, ◌≤◌}
 use Rattle.capdl_text.specs.Gaps.{one_gap}
 use Rattle.capdl_text.specs.TokenFaults.{fault_at}
 use Rattle.capdl_text.specs.TokenKinds.{kind_of, mark_of}
-use Rattle.capdl_text.proofs.Tokens.{none_is_not}
+use Rattle.cam_base.proofs.Comments.{after_close_le}
 
 -- what the first byte of a gap is
 pub is_gap_byte : ℕ → Bool
@@ -59,16 +59,6 @@ after_line_le (b ∷ bs) = elim (cases_Bool (b == 10)) [
   | inr h ↦ let le = after_line_le bs in
       rw h (omega arith)
 ]
-
-after_close_le : (bs cs : List ℕ) → after_close bs ≡ Some cs → length cs ≤ length bs
-after_close_le [] cs e = none_is_not cs e
-after_close_le (a ∷ []) cs e = none_is_not cs e
-after_close_le (a ∷ b ∷ bs) cs e = go (a == 42 && b == 47) (λ p. after_close_le (b ∷ bs) cs p) e
-  where
-    go : (t : Bool) → (after_close (b ∷ bs) ≡ Some cs → length cs ≤ length (b ∷ bs))
-        → cond t (Some bs) (after_close (b ∷ bs)) ≡ Some cs → length cs ≤ length (a ∷ b ∷ bs)
-    go true ih p = let same = same_Some bs cs p in rw (← same) (omega arith)
-    go false ih p = let le = ih p in omega arith
 
 after_slash_le : (bs cs : List ℕ) → after_slash bs ≡ Some cs → length cs ≤ length bs
 after_slash_le [] cs e = none_is_not cs e

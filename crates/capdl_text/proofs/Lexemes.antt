@@ -1,15 +1,14 @@
 -- Tokens as readers keep them are the tokens.
 use Rattle.capdl_text.proofs.Common.{Bool, IsTokenAt, Kind, Lexeme, List, Mark, None, Option, Some, Sort, Token, [], after_close, after_dash, after_line, after_slash, among, ap, append_assoc, arith, bytes_eq, codes, cond, digits_kind, drop, drop-map}
-use Rattle.capdl_text.proofs.Common.{drop_at, ends_text, false, get_or, is_blank, is_digit, is_end, is_letter, is_word_byte, kind_code, kind_with, leb, length, length-append, length-map, list_all, mark_of, name_codes, nat_tests, number_value}
-use Rattle.capdl_text.proofs.Common.{option_map, place_of, refl, same_Some, see, sees, sort_code, sort_of, subst, sym, take, take_at, text_at, token_code, token_of, tokens_of, true, unwrap_or, value_at, word_of, ℕ, ◌&&◌, ◌++◌, ◌-◌, ◌==◌, ◌∙◌, ◌∷◌}
-use Rattle.capdl_text.proofs.Common.{◌≡◌, ◌≤◌}
+use Rattle.capdl_text.proofs.Common.{drop_at, ends_text, false, get_or, is_blank, is_digit, is_end, is_letter, is_word_byte, kind_code, kind_with, leb, length, length-append, length-map, list_all, mark_of, name_codes, nat_tests, none_is_not}
+use Rattle.capdl_text.proofs.Common.{number_value, option_map, place_of, refl, same_Some, see, sees, sort_code, sort_of, subst, sym, take, take_at, text_at, token_code, token_of, tokens_of, true, unwrap_or, value_at, word_of, ℕ, ◌&&◌, ◌++◌, ◌-◌}
+use Rattle.capdl_text.proofs.Common.{◌==◌, ◌∙◌, ◌∷◌, ◌≡◌, ◌≤◌}
 use Rattle.capdl_text.specs.declared.token.Kind.TheVariants as kinds
 use Rattle.capdl_text.specs.declared.token.Sort.TheVariants as sorts
 use Rattle.capdl_text.specs.declared.token.Word.{Word}
 use Rattle.cam_base.specs.Reading.{starts}
 use Rattle.capdl_text.specs.Gaps.{one_gap}
 use Rattle.capdl_text.specs.TokenKinds.{kind_of}
-use Rattle.capdl_text.proofs.Tokens.{none_is_not}
 
 -- ---- codes
 

@@ -1,9 +1,9 @@
 -- Bytes have one list of tokens or one first fault of tokens, and not both.
-use Rattle.capdl_text.proofs.Common.{IsGap, IsTokenAt, IsTokenFault, Kind, LexesFrom, List, None, Reached, Some, TextCode, TextFault, Token, [], ap, here, length, more, none, past, place_of, refl, same_Some, subst, sym, ℕ, ◌+◌, ◌-◌, ◌∙◌, ◌∷◌, ◌≡◌}
+use Rattle.capdl_text.proofs.Common.{IsGap, IsTokenAt, IsTokenFault, Kind, LexesFrom, List, None, Reached, Some, TextCode, TextFault, Token, [], ap, here, length, more, none, none_is_not, past, place_of, refl, same_Some, subst, sym, ℕ, ◌+◌, ◌-◌, ◌∙◌}
+use Rattle.capdl_text.proofs.Common.{◌∷◌, ◌≡◌}
 use Rattle.capdl_text.specs.Gaps.{one_gap}
 use Rattle.capdl_text.specs.TokenFaults.{fault_at}
 use Rattle.capdl_text.proofs.Gaps.{fault_no_gap}
-use Rattle.capdl_text.proofs.Tokens.{none_is_not}
 use Rattle.capdl_text.proofs.Steps.{token_no_gap, one_token_of, no_token_of_none}
 
 -- no blank and no comment stands here

@@ -1,9 +1,8 @@
 -- One step of the lexer, and what it leaves of the tokens.
-use Rattle.capdl_text.proofs.Common.{IsTokenAt, Kind, LexesFrom, List, Reached, Some, Token, [], ap, append-nil, arith, here, inl, inr, length, length-append, longer_front, more, none, one_gap, past, place_of, refl, same_Some, sym, ℕ, ◌++◌, ◌<◌, ◌∙◌}
-use Rattle.capdl_text.proofs.Common.{◌∷◌, ◌≡◌, ◌≤◌, ◌⊎◌}
+use Rattle.capdl_text.proofs.Common.{IsTokenAt, Kind, LexesFrom, List, Reached, Some, Token, [], ap, append-nil, arith, here, inl, inr, length, length-append, longer_front, more, none, none_is_not, one_gap, past, place_of, refl, same_Some, sym, ℕ}
+use Rattle.capdl_text.proofs.Common.{◌++◌, ◌<◌, ◌∙◌, ◌∷◌, ◌≡◌, ◌≤◌, ◌⊎◌}
 use Rattle.capdl_text.specs.TokenKinds.{kind_of}
 use Rattle.capdl_text.proofs.Gaps.{gap_byte, token_no_gap_byte}
-use Rattle.capdl_text.proofs.Tokens.{none_is_not}
 
 -- two tokens at one place are one
 one_token : (bs : List ℕ) (k l : Kind) (rest after : List ℕ) → IsTokenAt bs k rest → IsTokenAt bs l after

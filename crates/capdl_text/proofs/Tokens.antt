@@ -1,15 +1,13 @@
 -- What the step takes from the front is a token, and the longest one there.
 use Rattle.capdl_text.proofs.Common.{Bool, IsTokenAt, Kind, List, Mark, None, Option, Some, [], after_run, after_text, and_parts, ap, append-nil, arith, bytes_eq, bytes_eq-Decides, cases_Bool, codes, cond, digits_kind, digits_taken, ends_text}
 use Rattle.capdl_text.proofs.Common.{eqb-true, false, fault_at, fits, if◌then◌else◌, inl, inr, is_decimal, is_digit, is_end, is_hex_digit, is_hexadecimal, is_letter, is_some, is_word_byte, length, list_all, mark_of, mark_taken, nat_tests}
-use Rattle.capdl_text.proofs.Common.{number_value, option_map, refl, run, same_Some, subst, suc, sym, text_taken, true, true_is_not_false, word_of, word_taken, ℕ, ◌&&◌, ◌++◌, ◌==◌, ◌||◌, ◌∙◌, ◌∷◌, ◌≡◌}
+use Rattle.capdl_text.proofs.Common.{none_is_not, number_value, option_map, refl, run, same_Some, subst, suc, sym, text_taken, true, true_is_not_false, word_of, word_taken, ℕ, ◌&&◌, ◌++◌, ◌==◌, ◌||◌, ◌∙◌, ◌∷◌, ◌≡◌}
+use Rattle.cam_base.proofs.Values.{fits_true}
 use Rattle.std.specs.Str.Parse.{digits_value}
 use Rattle.capdl_text.specs.declared.token.Kind.TheVariants as kinds
 use Rattle.capdl_text.specs.Pieces.{one_token}
 use Rattle.capdl_text.specs.TokenKinds.{kind_of}
 use Rattle.capdl_text.proofs.Runs.{run_after, run_passes}
-
-pub none_is_not : {C A : Type 0} (x : A) → None ≡ Some x → C
-none_is_not x e = absurd cc
 
 -- the first byte behind a run doesn't pass
 pub run_stops : (test : ℕ → Bool) (bs : List ℕ) (c : ℕ) (cs : List ℕ) → after_run test bs ≡ c ∷ cs → test c ≡ false
@@ -58,10 +56,6 @@ decimal_word (b ∷ bs) h = by_test (b == 48) bs refl h
     by_test true (c ∷ bs) e h = true_is_not_false (length (c ∷ bs) == 0) h (not_zero (length bs))
     by_test false bs e h = let p = and_parts (is_digit b) (list_all is_digit bs) h in
         rw (digit_or b p.0, all_of is_digit is_word_byte digit_or bs p.1) refl
-
-fits_true : (b : Bool) (n m : ℕ) → fits b n ≡ Some m → b ≡ true
-fits_true true n m e = refl
-fits_true false n m e = none_is_not m e
 
 pub number_word : (bs : List ℕ) (n : ℕ) → number_value bs ≡ Some n → list_all is_word_byte bs ≡ true
 number_word [] n e = refl

@@ -1,7 +1,8 @@
 -- The pieces of a canonical text are tokens without faults, and none runs into the next.
-use Rattle.capdl_write.proofs.Common.{Bool, Fine, List, None, Option, Piece, Rights, Some, Tcb, [], after_text, all_blank, and_parts, ap, arith, bytes_eq, cases_Bool, codes, colon, comma, dec, decimal, drop, elf_pieces, ends_text, equals, false}
-use Rattle.capdl_write.proofs.Common.{goes_on, has_rights, hex, hex_text, if_any, inl, inr, is_letter, is_name, is_number, is_plain, is_tcb, is_word, is_word_byte, laid, leb, length, letter, list_all, ltb-true, nat_lt, nat_tests, not, number_value}
-use Rattle.capdl_write.proofs.Common.{paren_l, paren_r, quoted, refl, rights_word, run, suc, sym, tcb_pieces, true, word, word_fault, word_of, word_or, zero, ℕ, ◌&&◌, ◌++◌, ◌<◌, ◌==◌, ◌^◌, ◌||◌, ◌∙◌, ◌∷◌, ◌≡◌, ◌≤◌}
+use Rattle.capdl_write.proofs.Common.{Bool, Fine, List, None, Option, Piece, Rights, Some, Tcb, [], after_text, all_blank, and_parts, ap, arith, codes, colon, comma, dec, drop, elf_pieces, ends_text, false, goes_on, has_rights, if_any, is_letter}
+use Rattle.capdl_write.proofs.Common.{is_name, is_number, is_plain, is_tcb, is_word, is_word_byte, laid, leb, length, letter, list_all, ltb-true, nat_lt, nat_tests, not, paren_r, refl, rights_word, run, suc, tcb_pieces, true, word, word_fault}
+use Rattle.capdl_write.proofs.Common.{word_of, word_or, ℕ, ◌&&◌, ◌++◌, ◌<◌, ◌==◌, ◌^◌, ◌||◌, ◌∙◌, ◌∷◌, ◌≡◌}
+use Rattle.std.proofs.lemmas.Bool.{not-true}
 use Rattle.capdl_text.specs.declared.token.Kind.TheVariants as kinds
 use Rattle.capdl_text.specs.TokenFaults.{is_left_out_word, fault_at}
 use Rattle.capdl_text.specs.TokenKinds.{mark_of, kind_of}
@@ -26,12 +27,8 @@ word_fine (b ∷ bs) h =
     let found : fault_at (b ∷ bs) ≡ word_fault (run is_word_byte (b ∷ bs)) = rw l.0 refl in (
       rw (l.0, l.1) refl,
       found ∙ ap word_fault (run_all (b ∷ bs) all)
-          ∙ rw (word_long b bs g.0, flip (is_left_out_word (b ∷ bs)) k.1) refl,
+          ∙ rw (word_long b bs g.0, not-true (is_left_out_word (b ∷ bs)) k.1) refl,
     )
-  where
-    flip : (b : Bool) → not b ≡ true → b ≡ false
-    flip true e = absurd cc
-    flip false e = refl
 
 -- a word piece in front of fine ones
 pub fine_word : (n blanks : List ℕ) (ps : List Piece) → is_word n ≡ true → all_blank blanks ≡ true
@@ -47,13 +44,9 @@ plain_ends (b ∷ text) h =
     let k = and_parts (not (b == 34) && not (b == 10)) (is_plain text) h in
     let g = and_parts (not (b == 34)) (not (b == 10)) k.0 in
     let r = plain_ends text k.1 in
-    let q = flip (b == 34) g.0 in
-    let l = flip (b == 10) g.1 in
+    let q = not-true (b == 34) g.0 in
+    let l = not-true (b == 10) g.1 in
     (rw (q, l, r.0) refl, rw (q, l, r.1) refl)
-  where
-    flip : (b : Bool) → not b ≡ true → b ≡ false
-    flip true e = absurd cc
-    flip false e = refl
 
 pub text_fine : (text : List ℕ) → is_plain text ≡ true → (kind_of (34 ∷ text ++ 34 ∷ []) ≡ Some kinds.Text)
     × (fault_at (34 ∷ text ++ 34 ∷ []) ≡ None)

@@ -1,20 +1,18 @@
 -- A text of pieces has the tokens of its pieces.
-use Rattle.capdl_write.proofs.Common.{Bool, Fine, Found, IsTokenAt, LexesFrom, List, None, Option, Piece, Some, Token, [], after_run, after_text, all_blank, and_parts, ap, bytes_eq, cases_Bool, codes, cond, digit_or, digits_fault, digits_kind}
-use Rattle.capdl_write.proofs.Common.{digits_word, ends_text, eqb-true, false, goes_on, inl, inr, is_digit, is_end, is_letter, is_line_byte, is_star, is_word_byte, laid, length, list_all, mark_fault, mark_of, none_is_not, not, number_value}
-use Rattle.capdl_write.proofs.Common.{option_map, refl, run, runs_on, subst, sym, token_at, tokens, true, unless, word_fault, word_of, word_or, ℕ, ◌&&◌, ◌++◌, ◌==◌, ◌||◌, ◌∙◌, ◌∷◌, ◌≡◌}
-use Rattle.std.specs.Option.{is_some}
-use Rattle.std.proofs.lemmas.Option.{same_Some}
-use Rattle.cam_base.specs.declared.text_fault.TextCode.{TextCode}
+use Rattle.capdl_write.proofs.Common.{Bool, Fine, Found, List, None, Option, Piece, Some, Token, [], after_run, after_text, all_blank, and_parts, ap, bytes_eq, cases_Bool, codes, cond, digits_fault, digits_kind, digits_word, ends_text, eqb-true}
+use Rattle.capdl_write.proofs.Common.{false, goes_on, inl, inr, is_digit, is_end, is_letter, is_line_byte, is_star, is_word_byte, laid, list_all, mark_fault, mark_of, not, number_value, option_map, refl, run, runs_on, same_Some, subst, sym, token_at}
+use Rattle.capdl_write.proofs.Common.{tokens, true, unless, word_fault, word_of, word_or, ℕ, ◌&&◌, ◌++◌, ◌==◌, ◌||◌, ◌∙◌, ◌∷◌, ◌≡◌}
 use Rattle.cam_base.specs.declared.text_fault.TextCode.TheVariants.{CapdlByte}
 use Rattle.capdl_text.specs.declared.token.Kind.{Kind}
 use Rattle.capdl_text.specs.declared.token.Kind.TheVariants as kinds
 use Rattle.capdl_text.specs.declared.token.Mark.{Mark}
-use Rattle.capdl_text.specs.Gaps.{is_blank, after_slash, after_dash, one_gap, none, more}
-use Rattle.capdl_text.specs.Pieces.{Taken, word_taken, digits_taken, text_taken, mark_taken, one_token}
+use Rattle.capdl_text.specs.Gaps.{is_blank, after_slash, after_dash, one_gap, none}
+use Rattle.capdl_text.specs.Pieces.{Taken, word_taken, digits_taken, mark_taken, one_token}
 use Rattle.capdl_text.specs.TokenFaults.{fault_at}
 use Rattle.capdl_text.specs.TokenKinds.{kind_of}
 use Rattle.capdl_text.proofs.Steps.{lexes_gap, no_kind}
 use Rattle.cam_base.proofs.TerminalCodes.{true_is_not_false}
+use Rattle.capdl_text.specs.Lexes.{LexesFrom}
 
 -- ---- runs
 

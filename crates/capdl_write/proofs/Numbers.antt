@@ -4,6 +4,7 @@ use Rattle.capdl_write.proofs.Common.{is_word_byte, length, list_all, nat_tests,
 use Rattle.std.specs.Str.Parse.{digits_value}
 use Rattle.cam_base.specs.Numbers.{fits}
 use Rattle.cam_base.proofs.Decimals.{number_value-decimal}
+use Rattle.cam_base.proofs.Values.{fits_true}
 use Rattle.cam_base.proofs.Hexadecimals.{number_value-hex_text}
 use Rattle.capdl_text.specs.declared.token.Kind.TheVariants as kinds
 use Rattle.capdl_text.specs.TokenFaults.{fault_at}
@@ -27,10 +28,6 @@ number_fine b bs n d v k =
 value_digit : (b : ℕ) (bs : List ℕ) (n : ℕ) → number_value (b ∷ bs) ≡ Some n → is_digit b ≡ true
 value_digit b [] n e = decimal_first b [] (fits_true (is_decimal (b ∷ [])) (digits_value 10 (b ∷ [])) n e)
   where
-    fits_true : (t : Bool) (v m : ℕ) → fits t v ≡ Some m → t ≡ true
-    fits_true true v m q = refl
-    fits_true false v m q = absurd cc
-
     decimal_first : (b : ℕ) (bs : List ℕ) → is_decimal (b ∷ bs) ≡ true → is_digit b ≡ true
     decimal_first b bs h = by_test (b == 48) refl h
       where
@@ -40,10 +37,6 @@ value_digit b [] n e = decimal_first b [] (fits_true (is_decimal (b ∷ [])) (di
         by_test false e g = (and_parts (is_digit b) (list_all is_digit bs) g).0
 value_digit b (x ∷ ds) n e = by_hex (b == 48 && (x == 120 || x == 88)) refl e
   where
-    fits_true : (t : Bool) (v m : ℕ) → fits t v ≡ Some m → t ≡ true
-    fits_true true v m q = refl
-    fits_true false v m q = absurd cc
-
     by_test : (z : Bool) → (b == 48) ≡ z → cond z (length (x ∷ ds) == 0) (is_digit b && list_all is_digit (x ∷ ds)) ≡ true
         → is_digit b ≡ true
     by_test true e g = let s : b ≡ 48 = eqb-true b 48 e in rw s refl

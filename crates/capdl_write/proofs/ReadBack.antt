@@ -1,15 +1,15 @@
 -- Reading the tokens of a canonical text gives its tree.
-use Rattle.capdl_write.proofs.Common.{Aarch64, Arm11, Bool, CNode, Cap, Directory, Eats, Endpoint, Entry, Fill, Frame, Global, Id, Irq, Level, List, Many, None, Notification, Number, Object, Ok, Option, Pages, Piece, Result, Rights, Rule, Seen, Some}
-use Rattle.capdl_write.proofs.Common.{Span, Spec, Table, Tcb, Thread, ThreadField, Upper, [], among, and_more, and_parts, ap, arch_word, arith, behind, brace_l, brace_r, codes, colon, comma, dec, decides, decimal, eats, elf_pieces, equals, false}
-use Rattle.capdl_write.proofs.Common.{fill_pieces, has_rights, has_slot, hex, inner, is_name, left_out_is, left_out_line, length, length-append, level_word, list_all, many, many_more, many_none, mark_code, name_at, name_codes, next_frame_field}
-use Rattle.capdl_write.proofs.Common.{next_frame_field_eats, not, object_eats, object_form, object_pieces, objects_pieces, opens, paddr_pieces, paren_l, paren_r, quoted, reads, refl, rights_word, square_l, square_r, starts, suc, sym, take, take_at}
-use Rattle.capdl_write.proofs.Common.{thread_field_decides, thread_field_form, token_code, true, whole, word, word_code, zero, ℕ, ◌&&◌, ◌++◌, ◌+◌, ◌-◌, ◌<◌, ◌==◌, ◌∙◌, ◌∷◌, ◌≡◌}
+use Rattle.capdl_write.proofs.Common.{Aarch64, Arm11, CNode, Cap, Directory, Eats, Endpoint, Entry, Fill, Frame, Global, Irq, Level, List, None, Notification, Number, Object, Ok, Option, Pages, Piece, Rights, Rule, Seen, Some, Span, Table, Tcb}
+use Rattle.capdl_write.proofs.Common.{Thread, ThreadField, Upper, [], among, and_parts, arith, behind, brace_l, brace_r, codes, colon, comma, dec, eats, elf_pieces, false, fill_pieces, hex, inner, is_name, left_out_is, left_out_line, length}
+use Rattle.capdl_write.proofs.Common.{length-append, level_word, list_all, many, many_more, many_none, mark_code, name_codes, next_frame_field, next_frame_field_eats, object_eats, object_form, object_pieces, objects_pieces, opens, paddr_pieces}
+use Rattle.capdl_write.proofs.Common.{paren_r, quoted, reads, refl, square_l, square_r, starts, take_at, thread_field_form, token_code, true, word, word_code, ℕ, ◌++◌, ◌+◌, ◌-◌, ◌∙◌, ◌∷◌, ◌≡◌}
 use Rattle.capdl_text.specs.declared.field.Field.TheVariants as fields
 use Rattle.capdl_text.specs.declared.token.Mark.TheVariants as marks
 use Rattle.capdl_text.specs.declared.token.Word.{Word}
 use Rattle.capdl_text.specs.declared.token.Word.TheVariants as words
 use Rattle.capdl_text.specs.Words.{word_of, field_of}
-use Rattle.capdl_text.specs.Forms.{number_field_line, elf_field_line, thread_field_line, thread_fields_line, maybe_thread_fields, thread_line, paddr_line, fill_line, fill_field_line, frame_field_line, next_frame_field_line, frame_line, cnode_line, kind_line, object_line}
+use Rattle.capdl_text.specs.Forms.{number_field_line, elf_field_line, thread_field_line, thread_fields_line, maybe_thread_fields, thread_line, paddr_line, fill_line, fill_field_line, frame_field_line, next_frame_field_line, frame_line, cnode_line}
+use Rattle.capdl_text.specs.Forms.{kind_line, object_line}
 use Rattle.capdl_text.specs.declared.tree.FrameField.{FrameField}
 use Rattle.capdl_text.specs.declared.tree.FrameValue.TheVariants as frame
 use Rattle.capdl_text.specs.declared.tree.KindLine.{KindLine}
@@ -18,6 +18,7 @@ use Rattle.capdl_text.specs.declared.tree.ObjectLine.{ObjectLine}
 use Rattle.capdl_text.specs.declared.tree.ThreadValue.{ThreadValue}
 use Rattle.capdl_text.specs.declared.tree.ThreadValue.TheVariants as thread
 use Rattle.capdl_write.proofs.Shown.{shown}
+use Rattle.cam_base.specs.Deciding.{decides}
 
 -- every word may name an object
 pub any : (w : Word) → among name_codes (word_code w) ≡ true

@@ -1,17 +1,13 @@
 -- Reading the holders, the interrupt lines and the whole of a canonical text.
-use Rattle.capdl_write.proofs.Common.{Aarch64, Arch, Arm11, Bool, CNode, Cap, Eats, Endpoint, Entry, Frame, Holder, Id, Irq, IrqLine, IsSpecSpelled, List, None, Notification, Number, Object, Ok, Option, Pages, Param, Piece, Rights, Rule, Seen}
-use Rattle.capdl_write.proofs.Common.{SlotKey, SlotLine, Some, Span, Spec, SpecTree, Tcb, Thread, [], and_parts, ap, arch_line, arch_word, behind, brace_l, brace_r, buffer_pieces, cap_pieces, caps_pieces, codes, colon, comma, dec, decides, decimal}
-use Rattle.capdl_write.proofs.Common.{eats, false, flat_map, has_rights, has_slot, held_irq, held_pieces, held_slots, held_tcb, hex, holder_eats, holder_form, holder_line, holder_pieces, holders_pieces, irq_eats, irq_form, irqs_line, irqs_pieces}
-use Rattle.capdl_write.proofs.Common.{is_name, key_codes, last_pieces, left_out_is, left_out_line, letter, list_all, many, many_none, mark_code, maybe_irqs, name_at, name_codes, named_pieces, not, number_code, object_form, objects_pieces, opens}
-use Rattle.capdl_write.proofs.Common.{param_decides, param_form, paren_l, paren_r, pieces, reads, refl, rights_of, rights_word, slot_eats, slot_form, slots_pieces, spec_decides, spec_line, starts, sym, target_pieces, tcb_slots, token_code, true}
-use Rattle.capdl_write.proofs.Common.{whole, whole_found, word, ℕ, ◌&&◌, ◌++◌, ◌==◌, ◌||◌, ◌∙◌, ◌∷◌, ◌≡◌}
+use Rattle.capdl_write.proofs.Common.{Bool, Eats, List, Number, Ok, Param, Piece, Rights, Rule, Seen, SlotKey, SlotLine, Span, [], behind, behind_eats, codes, colon, comma, dec, false, has_rights, hex, is_name, letter, many, many_none, mark_code}
+use Rattle.capdl_write.proofs.Common.{param_eats, param_form, paren_r, reads, refl, rights_of, rights_word, slot_form, starts, target_pieces, token_code, true, word, ℕ, ◌||◌, ◌∷◌, ◌≡◌}
 use Rattle.capdl_text.specs.declared.token.Mark.TheVariants as marks
 use Rattle.capdl_text.specs.declared.token.Word.TheVariants as words
 use Rattle.capdl_text.specs.Words.{word_of, field_of}
-use Rattle.capdl_text.specs.Forms.{badge_line, param_line, params_line, maybe_params, key_line, slot_line, irq_line}
+use Rattle.capdl_text.specs.Forms.{badge_line, param_line, params_line, maybe_params, key_line, slot_line}
 use Rattle.capdl_text.specs.declared.tree.Param.TheVariants as params
 use Rattle.capdl_text.specs.declared.tree.SlotKey.TheVariants as keys
-use Rattle.capdl_write.proofs.ReadBack.{any, one_more, at_number, objects_at, read_objects, word-badge, word-cspace, word-vspace, word-buffer, word-irq, word-maps, word-arch, word-arm11, word-aarch64, word-objects, word-caps}
+use Rattle.capdl_write.proofs.ReadBack.{any, one_more, at_number, word-badge, word-cspace, word-vspace, word-buffer}
 use Rattle.capdl_write.proofs.Shown.{shown}
 
 -- a word of rights stands for rights, and says them
@@ -44,13 +40,8 @@ rights_back r h = go r.read r.write r.grant r.reply h
     go false false false true e = (refl, refl)
     go false false false false e = absurd cc
 
-next_param_decides : decides opens (behind (mark_code marks.Comma) param_form) ≡ true
-unfolding param_line badge_line
-next_param_decides = refl
-
 next_param_eats : Eats (reads (behind (mark_code marks.Comma) param_form))
-next_param_eats = eats token_code left_out_line opens left_out_is 0 (behind (mark_code marks.Comma) param_form)
-    next_param_decides refl
+next_param_eats = behind_eats token_code (mark_code marks.Comma ∷ []) (reads param_form) param_eats
 
 module _ (pl : List Piece → Span) where
   abbrev paren_code : List ℕ

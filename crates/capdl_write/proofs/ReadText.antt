@@ -1,10 +1,9 @@
 -- Reading the tokens of a whole canonical text gives its tree: the lists of slots, holders and interrupt lines, and the whole.
-use Rattle.capdl_write.proofs.Common.{Aarch64, Arch, Arm11, Bool, CNode, Cap, Endpoint, Entry, Frame, Holder, Id, Irq, IrqLine, IsSpecSpelled, IsWritable, List, None, Notification, Object, Ok, Option, Pages, Piece, Result, Rule, Seen, SlotKey}
-use Rattle.capdl_write.proofs.Common.{SlotLine, Some, Span, Spec, SpecTree, Tcb, Thread, [], and_parts, arch_form, arch_word, brace_l, brace_r, buffer_pieces, cap_pieces, caps_pieces, codes, colon, dec, false, has_rights, has_slot, held_irq}
-use Rattle.capdl_write.proofs.Common.{held_pieces, held_slots, held_tcb, hex, holder_eats, holder_form, holder_pieces, holders_pieces, if_any, irq_eats, irq_form, irqs_pieces, is_left_out_word, is_name, is_number, is_some, is_word, key_codes}
-use Rattle.capdl_write.proofs.Common.{last_pieces, left_out_is, left_out_line, list_all, many, many_none, mark_code, name_at, name_codes, named_pieces, not, number_code, object_form, objects_pieces, opens, pieces, reads, refl, slot_eats, slot_form}
-use Rattle.capdl_write.proofs.Common.{slots_pieces, spec_decides, starts, tcb_slots, token_code, true, whole, whole_found, word, word_of, ℕ, ◌&&◌, ◌==◌, ◌∷◌, ◌≡◌}
-use Rattle.std.proofs.Common.{◌||◌}
+use Rattle.capdl_write.proofs.Common.{Aarch64, Arch, Arm11, CNode, Cap, Endpoint, Entry, Frame, Holder, Irq, IsSpecSpelled, IsWritable, List, None, Notification, Object, Ok, Option, Pages, Piece, Seen, SlotKey, SlotLine, Some, Span, Spec, Tcb}
+use Rattle.capdl_write.proofs.Common.{Thread, [], and_parts, arch_form, arch_word, brace_l, brace_r, buffer_pieces, caps_pieces, codes, colon, dec, false, has_rights, has_slot, held_irq, held_pieces, held_slots, held_tcb, hex, holder_eats}
+use Rattle.capdl_write.proofs.Common.{holder_form, holder_pieces, holders_pieces, if_any, irq_eats, irq_form, irqs_pieces, is_left_out_word, is_name, is_number, is_word, key_codes, last_pieces, left_out_is, left_out_line, list_all, many, many_none}
+use Rattle.capdl_write.proofs.Common.{mark_code, name_at, name_codes, named_pieces, not, number_code, objects_pieces, opens, pieces, reads, refl, slot_eats, slot_form, slots_pieces, spec_decides, starts, tcb_slots, token_code, true, whole, word}
+use Rattle.capdl_write.proofs.Common.{word_of, ℕ, ◌&&◌, ◌==◌, ◌∷◌, ◌≡◌}
 use Rattle.capdl_text.specs.declared.token.Mark.TheVariants as marks
 use Rattle.capdl_text.specs.Forms.{holder_line, irq_line, irqs_line, maybe_irqs, arch_line, spec_line}
 use Rattle.capdl_text.specs.declared.tree.SlotKey.TheVariants as keys
@@ -12,6 +11,9 @@ use Rattle.capdl_write.proofs.Named.{all_from, are_words, is_named, is_target, i
 use Rattle.capdl_write.proofs.ReadBack.{any, one_more, at_number, objects_at, read_objects, word-cspace, word-vspace, word-buffer, word-irq, word-maps, word-arch, word-arm11, word-aarch64, word-objects, word-caps}
 use Rattle.capdl_write.proofs.ReadHolders.{no_rights_at, plain_at, read_slot, read_buffer, read_cspace, read_vspace, slot_at}
 use Rattle.capdl_write.proofs.Shown.{shown}
+use Rattle.cam_base.proofs.Theorems.{whole_found}
+use Rattle.capdl_text.specs.declared.tree.SpecTree.{SpecTree}
+use Rattle.capdl_text.specs.declared.tree.IrqLine.{IrqLine}
 
 -- a word that can be written is a name
 pub word_name : (n : List ℕ) → is_word n ≡ true → is_name n ≡ true

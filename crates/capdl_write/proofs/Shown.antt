@@ -1,6 +1,7 @@
 -- The tokens of a laid-out text, with their bytes.
-use Rattle.capdl_write.proofs.Common.{List, Piece, Seen, Span, [], ap, append_assoc, laid, length, refl, see, subst, sym, text_at, tokens, ℕ, ◌++◌, ◌-◌, ◌∙◌, ◌∷◌, ◌≡◌}
+use Rattle.capdl_write.proofs.Common.{List, Piece, Seen, Span, [], ap, append_assoc, laid, length, refl, subst, sym, tokens, ℕ, ◌++◌, ◌-◌, ◌∙◌, ◌∷◌, ◌≡◌}
 use Rattle.capdl_text.proofs.Lexemes.{text_there}
+use Rattle.capdl_text.specs.TokensSeen.{see, text_at}
 
 -- the pieces as tokens, each at a place that depends on what stands from there on
 abbrev pub shown : (List Piece → Span) → List Piece → List Seen

@@ -3,8 +3,8 @@ use Rattle.capdl_write.proofs.Common.{Arch, Bool, CNode, Cap, Directory, Each, E
 use Rattle.capdl_write.proofs.Common.{SlotLine, Some, Span, Spec, Table, Thread, ThreadField, Upper, [], and_from, and_parts, ap, arith, brace_r, bytes_eq, bytes_eq-Decides, child, codes, differ, each_then, false, fields_twice, fits, fits_as}
 use Rattle.capdl_write.proofs.Common.{fits_kind, flat_map, has_badge, has_key, has_rights, hex, holders_pieces, holds, if_any, inl, inr, irq_keyed, irq_off, is_at, is_kind, is_root_object, is_some, is_space_root, keeps, keeps_fill, keeps_slots}
 use Rattle.capdl_write.proofs.Common.{keeps_table, key_past, keys_after, keys_twice, kind_of_object, kind_off, kind_rights, kind_takes, leb, list_all, list_any, map, name_at, names_after, names_differ, nat_lt, nat_tests, not, not-true, object_at}
-use Rattle.capdl_write.proofs.Common.{objects_pieces, off_in, option_map, param_off, params_twice, past_in, refl, rise, rise_tail, same_kind, size, slice_get, slot_keyed, slot_off, slots_past, suc, sym, takes, thread_keyed, thread_value_off, true}
-use Rattle.capdl_write.proofs.Common.{twice_in, unknown, unknown_in, within, word, zero, ℕ, ◌%◌, ◌&&◌, ◌++◌, ◌+◌, ◌==◌, ◌^◌, ◌||◌, ◌∙◌, ◌∷◌, ◌≡◌, ◌⊎◌}
+use Rattle.capdl_write.proofs.Common.{objects_pieces, off_in, option_map, param_off, params_twice, past_in, refl, rise, rise_tail, same_Some, same_kind, size, slice_get, slot_keyed, slot_off, slots_past, suc, sym, takes, thread_keyed}
+use Rattle.capdl_write.proofs.Common.{thread_value_off, true, twice_in, unknown, unknown_in, within, word, zero, ℕ, ◌%◌, ◌&&◌, ◌++◌, ◌+◌, ◌==◌, ◌^◌, ◌||◌, ◌∙◌, ◌∷◌, ◌≡◌, ◌⊎◌}
 use Rattle.cap_model.specs.declared.kind.Kind.TheVariants as kinds
 use Rattle.name_tables.specs.Keys.{Key, same_key}
 use Rattle.capdl_text.specs.KindField.{is_space_root as root_kind}
@@ -520,10 +520,7 @@ module _ (pl : List Piece → Span) (spec : Spec) (known : Knows) (all : KnowsAl
 
   same_place : (a b : ℕ) (x y : Object) → known (name_at spec a) ≡ Some (known_object spec.arch a x)
       → known (name_at spec b) ≡ Some (known_object spec.arch b y) → name_at spec a ≡ name_at spec b → a ≡ b
-  same_place a b x y p q e = ap (λ (k : Known). k.place) (some_one (sym p ∙ ap known e ∙ q))
-    where
-      some_one : {u v : Known} → Some u ≡ Some v → u ≡ v
-      some_one h = cc
+  same_place a b x y p q e = ap (λ (k : Known). k.place) (same_Some _ _ (sym p ∙ ap known e ∙ q))
 
   names_apart : (a b : ℕ) → is_at spec kinds.Irq a ≡ true → is_at spec kinds.Irq b ≡ true → not (a == b) ≡ true
       → not (bytes_eq (name_at spec a) (name_at spec b)) ≡ true

@@ -1,11 +1,9 @@
 -- A canonical text is a text of its spec.
-use Rattle.capdl_write.proofs.Common.{Bool, CNode, Cap, Each, Endpoint, Entry, Frame, Holder, Id, Irq, IsSpecSpelled, IsWritable, Lexes, List, None, Notification, Object, Option, Pages, Piece, Seen, SlotLine, Some, Span, Spec, SpecTree, Thread}
-use Rattle.capdl_write.proofs.Common.{Token, [], and_parts, ap, arith, brace_r, canonical, caps_of, caps_pieces, codes, differ, drop, drop_all, false, fields_twice, flat_map, held_pieces, holders_pieces, irq_keyed, irq_off, is_at, keys_twice}
-use Rattle.capdl_write.proofs.Common.{kind_fields, kind_off, knows, laid, last_pieces, length, length-append, list_all, map, names_twice, off_in, past_in, pieces, refl, rise, see, slot_ranges, some, spec_of, subst, suc, sum, sym, tokens, true}
-use Rattle.capdl_write.proofs.Common.{twice_in, twices, unknown, unknown_in, unknowns, zero-add, ℕ, ◌&&◌, ◌++◌, ◌+◌, ◌==◌, ◌∙◌, ◌∷◌, ◌≡◌, ◌≤◌, ◌⊎◌}
+use Rattle.capdl_write.proofs.Common.{CNode, Cap, Each, Endpoint, Entry, Frame, Holder, Id, Irq, IsSpecSpelled, IsWritable, List, None, Notification, Object, Option, Pages, Piece, Seen, SlotLine, Some, Span, Spec, Thread, Token, [], and_parts, ap}
+use Rattle.capdl_write.proofs.Common.{brace_r, canonical, caps_of, caps_pieces, codes, differ, drop_all, false, flat_map, held_pieces, holders_pieces, is_at, kind_fields, knows, laid, last_pieces, length, length-append, list_all, map, off_in}
+use Rattle.capdl_write.proofs.Common.{past_in, pieces, refl, rise, slot_ranges, some, spec_of, subst, suc, sum, sym, tokens, true, twice_in, twices, unknown_in, unknowns, zero-add, ℕ, ◌&&◌, ◌+◌, ◌==◌, ◌∙◌, ◌∷◌, ◌≡◌, ◌≤◌}
 use Rattle.std.proofs.lemmas.List.Sums.{sum_by-cons}
 use Rattle.cap_model.specs.declared.kind.Kind.TheVariants as kinds
-use Rattle.cam_base.specs.declared.text_fault.TextFault.{TextFault}
 use Rattle.capdl_text.specs.Limits.{caps_named, limits, most_caps, most_objects, objects_named, past}
 use Rattle.capdl_text.specs.Texts.{Text, is_long}
 use Rattle.capdl_text.specs.TreeFaults.{tree_faults}
@@ -14,9 +12,9 @@ use Rattle.capdl_write.proofs.Known.{KnowsAll, found_at, known_object}
 use Rattle.capdl_write.proofs.Laying.{laid_lexes}
 use Rattle.capdl_write.proofs.Lines.{all_laid}
 use Rattle.capdl_write.proofs.ReadBack.{objects_at}
-use Rattle.capdl_write.proofs.ReadText.{slots_at, cspace_at, irq_slot_at, lines_at, held_at, holders_at, irqs_at, tree_at, tree_spelled}
+use Rattle.capdl_write.proofs.ReadText.{slots_at, cspace_at, irq_slot_at, lines_at, held_at, holders_at, tree_at, tree_spelled}
 use Rattle.capdl_write.proofs.Says.{entries_back, lines_back}
-use Rattle.capdl_write.proofs.Shown.{placed, seen_tokens, shown}
+use Rattle.capdl_write.proofs.Shown.{placed, seen_tokens}
 use Rattle.capdl_write.proofs.Sound.{IsFine, all_fine, all_fields_once, flat_none, held_names_once, irq_names_once, irqs_found, irqs_suit, names_once, nil_both, numbers_once, objects_suit}
 
 -- ---- limits

@@ -1,8 +1,7 @@
 -- No edge is lacking exactly where the rules hold.
-use Rattle.cert_check.proofs.Common.{AsyncSend, Authority, BreaksBind, BreaksBoot, BreaksCall, BreaksControl, Call, Control, Edge, GrantBack, Handle, Has, Held, Holds, LeastOf, Missing, Passes, Receive, Reply, Spec, Structural, Valid, Violation}
-use Rattle.cert_check.proofs.Common.{arith, boot, cases_lt, edge, has, inl, inr, subst, sym, ◌+◌, ◌<◌}
+use Rattle.cert_check.proofs.Common.{AsyncSend, Authority, BreaksBind, BreaksBoot, BreaksCall, BreaksControl, Call, Control, Edge, Grant, GrantBack, Handle, Has, Held, Holds, LeastOf, Missing, Passes, Receive, Reply, Spec, Structural, Valid}
+use Rattle.cert_check.proofs.Common.{Violation, arith, boot, cases_lt, edge, has, inl, inr, subst, sym, ◌+◌, ◌<◌}
 use Rattle.std.specs.Prelude.{◌≡◌, ◌≢◌, ℕ, Bool, true, false, List, Option, refl}
-use Rattle.authorities.specs.declared.authority.Authority.TheVariants.{Grant}
 use Rattle.cert_check.specs.declared.verdict.Verdict.TheVariants.{No, Yes}
 use Rattle.std.proofs.lemmas.Grind.{common_steps}
 use Rattle.cert_check.specs.Rules.{rule_number}

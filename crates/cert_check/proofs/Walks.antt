@@ -1,23 +1,16 @@
 -- A walk through the first edges of a rule, past the partners that are held.
 use Rattle.cert_check.proofs.Common.{Alike, AreMet, AreOthers, AtMost, Breaks, Contains, Contains-append_left, Contains-permutation, Contains-push, Contains-push_cases, Edge, FindsLeast, FindsLeastAt, GoesLike, HasPartners, IfSome, IsLeastAlike}
 use Rattle.cert_check.proofs.Common.{IsLed, IsNonDecreasingBy-from_sort, IsPermutation-sym, IsReach, IsSorted, LesserOf, List, MeetToo, Meeting, None, OfPartners, Option, Some, Violation, With, [], ap, arith, at_contains, at_has, cases_lt}
-use Rattle.cert_check.proofs.Common.{contains_at, edge, end_of, eqb-false, false, first_authority, get_or, get_or_from_slice_get, has, has_at, inl, inr, later_at_most, leb-false, leb-true, length, ltb-false, ltb-true, nat_le, nat_lt}
+use Rattle.cert_check.proofs.Common.{contains_at, edge, end_of, eqb-false, false, first_authority, first_not_less, get_or, get_or_from_slice_get, has, has_at, inl, inr, later_at_most, leb-false, leb-true, length, ltb-false, ltb-true, nat_le, nat_lt}
 use Rattle.cert_check.proofs.Common.{partner_authority, partner_of, refl, slice_get, slice_get-get_or, slice_get_within, subst, sym, true, ℕ, ◌++◌, ◌+◌, ◌-◌, ◌<◌, ◌==◌, ◌∙◌, ◌∷◌, ◌≡◌, ◌≤◌, ◌⊎◌}
 use Rattle.std.specs.List.Sorted.{IsNonDecreasingBy, IsPartitionPoint, IsPermutation, IsSorted as IsInOrder}
-use Rattle.std.specs.Ordering.{is_lt, nat_cmp, ordering_then}
-use Rattle.std.specs.declared.cmp.Ordering.{Ordering}
-use Rattle.std.specs.declared.cmp.Ordering.TheVariants.{Less, Equal, Greater}
+use Rattle.std.specs.Ordering.{nat_cmp, ordering_then}
 use Rattle.cert_check.specs.declared.meetings.Meeting.TheVariants as rules
 use Rattle.cert_check.specs.declared.partners.Met.{Met}
 use Rattle.cert_check.proofs.Pairs.{first_has, first_is, partner_has, partner_is, partner_to, parts}
 use Rattle.cert_check.proofs.Search.{NoneUpTo, none_start, none_more, none_on}
 use Rattle.cert_check.proofs.Twins.{twin, twin_first, twin_partner, twin_breaks, twin_not_after, alike_self, alike_has, alike_chain, first_no_reply, partner_no_reply}
 use Rattle.cert_check.proofs.Violations.{Covered, covered_later, found_covers, found_is, kept_covers, kept_is, finds_least, first_of}
-
-not_less : (o q : Ordering) → is_lt (ordering_then o q) ≡ false → is_lt o ≡ false
-not_less Less q h = h
-not_less Equal q h = refl
-not_less Greater q h = refl
 
 pair_of : (p : ℕ × ℕ) (a b : ℕ) → p.0 ≡ a → p.1 ≡ b → p ≡ (a, b)
 pair_of p a b f g = ap (λ (x : ℕ). (x, p.1)) f ∙ ap (λ (y : ℕ). (a, y)) g
@@ -101,7 +94,8 @@ module _ (ends : List (ℕ × ℕ)) where
 
   pub rising_of : IsInOrder (λ p q. ordering_then (nat_cmp p.0 q.0) (nat_cmp p.1 q.1)) ends → IsNonDecreasingBy (λ p. p.0) ends
   rising_of sorted = IsNonDecreasingBy-from_sort (λ (p : ℕ × ℕ). p.0) ends (λ k d low less.
-      not_less (nat_cmp (get_or ends (k + 1) d).0 (get_or ends k d).0) (nat_cmp (get_or ends (k + 1) d).1 (get_or ends k d).1)
+      first_not_less (nat_cmp (get_or ends (k + 1) d).0 (get_or ends k d).0)
+      (nat_cmp (get_or ends (k + 1) d).1 (get_or ends k d).1)
       (sorted k d low less))
 
 module _ (rule : Meeting) (cert : List Edge) where

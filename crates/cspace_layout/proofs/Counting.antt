@@ -1,25 +1,11 @@
 -- The counts of uses are the lengths of their lists.
-use Rattle.std.proofs.Common.{◌≡◌, ◌||◌, ◌+◌, ℕ, suc, Bool, true, false, cond, List, [], ◌∷◌, length, map, refl, sym, ◌∙◌, ap, arith}
-use Rattle.std.specs.Prelude.{nat_lt, max, sum}
-use Rattle.std.specs.List.{count_by, flat_map, list_any}
-use Rattle.std.proofs.lemmas.Bool.{ltb-true, ltb-false}
+use Rattle.cspace_layout.proofs.Common.{Bool, Flat, List, Member, SlotUse, Source, System, [], ap, arith, capped, cond, count_by, counts, domain_counts, domain_uses, ends_at, ends_of, false, flat_map, gather, greatest, is_lock, leaf_members, length}
+use Rattle.cspace_layout.proofs.Common.{length_append, list_any, lock_uses, ltb-false, ltb-true, map, max, nat_lt, plan_of, refl, slots_of, suc, sum, sym, true, uses_at, uses_of, ℕ, ◌+◌, ◌||◌, ◌∙◌, ◌∷◌, ◌≡◌}
 use Rattle.std.proofs.lemmas.List.Sums.{sum_by-cons}
 use Rattle.std.proofs.lemmas.Simd.{map-map}
 use lib.Dec.{ltb}
-use Rattle.adl_meaning.specs.Prelude.{Member, Source}
 use Rattle.adl_meaning.specs.declared.flat.Domain.{Domain}
-use Rattle.adl_meaning.specs.declared.flat.Flat.{Flat}
-use Rattle.cam_base.specs.Gather.{gather}
-use Rattle.cam_base.proofs.Gathered.{length_append}
-use Rattle.cspace_layout.specs.Counted.{capped, domain_counts}
-use Rattle.cspace_layout.specs.Laid.{uses_at, uses_of}
-use Rattle.cspace_layout.specs.LeafEnds.{ends_at, ends_of}
-use Rattle.cspace_layout.specs.Members.{is_lock, leaf_members}
-use Rattle.cspace_layout.specs.SlotFaults.{counts, greatest}
-use Rattle.cspace_layout.specs.System.{System}
-use Rattle.cspace_layout.specs.Uses.{domain_uses, lock_uses, plan_of, slots_of}
 use Rattle.cspace_layout.specs.declared.plan.SlotPlan.{SlotPlan}
-use Rattle.cspace_layout.specs.declared.plan.SlotUse.{SlotUse}
 use Rattle.cspace_layout.specs.declared.plan.SlotUse.TheVariants.{OwnLock}
 use Rattle.cspace_layout.proofs.Using.{leaf_laid}
 

@@ -1,11 +1,9 @@
 -- The keyword of the first assembly, as it is looked for file by file.
-use Rattle.std.proofs.Common.{◌≡◌, ◌+◌, ℕ, List, [], ◌∷◌, ◌++◌, length, map, Some, None, refl, sym, ◌∙◌, ap, arith}
-use Rattle.std.specs.Prelude.{option_map}
-use Rattle.adl_meaning.specs.Prelude.{Assembly, Ended, Item, Place, Source, SourceFile, as_assembly, enumerate_from, filter_map, flat_map, items_in, option_or, slice_get}
-use Rattle.adl_meaning.specs.declared.item_at.ItemAt.{ItemAt}
+use Rattle.cspace_layout.proofs.Common.{Ended, Item, ItemAt, List, None, Place, Some, Source, SourceFile, [], ap, arith, as_assembly, enumerate_from, fault_at, filter_map, items_in, keyword, keyword_among, keyword_in, keyword_of, length, limit_fault}
+use Rattle.cspace_layout.proofs.Common.{map, option_map, option_or, place_in, refl, sym, ℕ, ◌++◌, ◌+◌, ◌∙◌, ◌∷◌, ◌≡◌}
+use Rattle.adl_meaning.specs.Prelude.{Assembly, flat_map, slice_get}
 use Rattle.std.proofs.lemmas.List.Elements.{filter_map-append}
 use Rattle.adl_ast.specs.declared.file.Item.TheVariants as items
-use Rattle.cspace_layout.specs.Limit.{fault_at, keyword, keyword_among, keyword_in, keyword_of, limit_fault, place_in}
 
 first_of_two : (xs ys : List (ItemAt × Assembly)) → place_in (slice_get (xs ++ ys) 0) ≡ option_or (place_in (slice_get xs 0))
     (place_in (slice_get ys 0))

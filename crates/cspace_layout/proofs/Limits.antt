@@ -1,8 +1,6 @@
 -- The first limit of the counts, at the keyword of the assembly, is the first fault of slots.
-use Rattle.std.proofs.Common.{◌≡◌, ℕ, Bool, true, false, cond, List, [], ◌∷◌, ◌++◌, length, map, Option, Some, None, refl, sym, ◌∙◌, ap, arith}
-use Rattle.std.specs.Prelude.{nat_lt, sum, option_map}
-use Rattle.std.specs.List.{flat_map, slice_get}
-use Rattle.std.proofs.lemmas.Bool.{ltb-true, ltb-false}
+use Rattle.cspace_layout.proofs.Common.{Bool, Flat, ItemAt, List, None, Option, Some, [], ap, arith, capped, cond, counts, domain_counts, false, fault_at, first_limit, first_slot_fault, flat_map, greatest, keyword, length, limit_fault, limits_passed}
+use Rattle.cspace_layout.proofs.Common.{ltb-false, ltb-true, map, name_of, nat_lt, option_map, place_in, refl, slice_get, slots_of, sum, sym, true, ℕ, ◌++◌, ◌∙◌, ◌∷◌, ◌≡◌}
 use lib.Dec.{ltb}
 use Rattle.cam_base.specs.Codes.{number_of}
 use Rattle.cam_base.specs.declared.code.Code.TheVariants as code
@@ -10,17 +8,11 @@ use Rattle.cam_base.specs.declared.place.Fault.{Fault}
 use Rattle.cam_base.specs.declared.place.Place.{Place}
 use Rattle.adl_ast.specs.declared.composition.Assembly.{Assembly}
 use Rattle.adl_ast.specs.declared.source.Source.{Source}
-use Rattle.adl_meaning.specs.declared.flat.Flat.{Flat}
-use Rattle.adl_meaning.specs.declared.item_at.ItemAt.{ItemAt}
 use Rattle.adl_meaning.specs.Faults.{least}
 use Rattle.adl_meaning.specs.Items.{assemblies}
-use Rattle.cspace_layout.specs.Limit.{fault_at, keyword, limit_fault, place_in}
 use Rattle.cspace_layout.specs.Within.{IsWithin}
 use Rattle.cspace_layout.specs.declared.count.Limit.{Limit}
 use Rattle.cspace_layout.specs.declared.count.Limit.TheVariants.{Slots, AllSlots}
-use Rattle.cspace_layout.specs.Counted.{capped, domain_counts, first_limit, name_of}
-use Rattle.cspace_layout.specs.SlotFaults.{counts, greatest, limits_passed, first_slot_fault}
-use Rattle.cspace_layout.specs.Uses.{slots_of}
 use Rattle.cspace_layout.proofs.Counting.{any_over, counts_mapped, sum_capped}
 use Rattle.adl_meaning.proofs.Least.{lex_self}
 use Rattle.cspace_layout.proofs.Keyword.{has_place}

@@ -1,12 +1,9 @@
 -- Loops that take what a list has, one after another.
-use Rattle.std.proofs.Common.{◌≡◌, ◌∙◌, ℕ, suc, List, [], ◌∷◌, ◌++◌, Option, Some, length, take, append_assoc, append-nil, map-id, refl, sym, ap}
-use Rattle.std.specs.List.{slice_get}
+use Rattle.cspace_layout.proofs.Common.{List, Option, Some, [], ap, append-nil, append_assoc, gather, length, map-id, refl, slice_get, slice_get_read, suc, sym, take, ℕ, ◌++◌, ◌∙◌, ◌∷◌, ◌≡◌}
 use Rattle.std.specs.Iterator.{Yields}
 use Rattle.std.specs.Vec.Iter.{into_iter_items, into_iter_len, into_iter_steps}
 use Rattle.std.proofs.lemmas.Iterator.Adapters.{YieldsList-from_vec}
 use Rattle.std.proofs.lemmas.Iterator.Consumers.{YieldsList-so_far, YieldsList-turn}
-use Rattle.std.proofs.lemmas.Option.{slice_get_read}
-use Rattle.cam_base.specs.Gather.{gather}
 
 -- what was taken is a front of the list, and what is taken next stands behind it
 pub record Turned {A : Type 0} (all xs : List A) (x : A) : Type 0 where

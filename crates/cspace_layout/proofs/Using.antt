@@ -1,21 +1,8 @@
 -- The uses of the ends of a leaf, in their order, are those of its interfaces.
-use Rattle.std.proofs.Common.{◌≡◌, ℕ, zero, suc, Bool, true, false, cond, List, [], ◌∷◌, ◌++◌, Option, Some, None, refl, ◌∙◌, ap, append-nil}
-use Rattle.std.specs.List.{flat_map, slice_get}
-use Rattle.std.specs.Prelude.{option_map}
-use Rattle.adl_meaning.specs.Prelude.{Member, Source, option_and_then}
-use Rattle.adl_meaning.specs.declared.flat.Flat.{Flat}
-use Rattle.adl_meaning.specs.declared.flat.FlatConnection.{FlatConnection}
-use Rattle.adl_meaning.specs.declared.flat.FlatEnd.{FlatEnd}
-use Rattle.adl_meaning.specs.declared.flat.Leaf.{Leaf}
-use Rattle.cam_base.specs.Gather.{gather}
-use Rattle.cam_base.proofs.Gathered.{gather_same, flat_map-gather}
-use Rattle.cspace_layout.specs.declared.end_at.EndAt.{EndAt}
-use Rattle.cspace_layout.specs.LeafEnds.{joins, end_here, ends_at, ends_in, ends_of, member_ends, leaf_ends}
-use Rattle.cspace_layout.specs.Laid.{uses_at, uses_by, uses_of}
+use Rattle.cspace_layout.proofs.Common.{Bool, EndAt, Flat, FlatConnection, FlatEnd, Leaf, List, Member, None, Option, Some, Source, System, [], ap, append-nil, cond, end_here, end_uses, ends_at, ends_in, ends_of, false, flat_map, flat_map-gather}
+use Rattle.cspace_layout.proofs.Common.{gather, gather_same, joined_uses, joins, leaf_ends, leaf_members, lock_uses, member_ends, member_uses, members_at, members_of_leaf, option_and_then, option_map, refl, slice_get, suc, true, uses_at, uses_by}
+use Rattle.cspace_layout.proofs.Common.{uses_of, zero, ℕ, ◌++◌, ◌∙◌, ◌∷◌, ◌≡◌}
 use Rattle.cspace_layout.specs.Lookups.{end_in}
-use Rattle.cspace_layout.specs.Members.{leaf_members, members_at, members_of_leaf}
-use Rattle.cspace_layout.specs.System.{System}
-use Rattle.cspace_layout.specs.Uses.{end_uses, joined_uses, member_uses, lock_uses}
 
 module _ (flat : Flat) where
   abbrev cs : List FlatConnection

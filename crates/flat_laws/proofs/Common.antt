@@ -7,17 +7,17 @@ pub use Rattle.adl_hierarchy.proofs.Limits.{AreInLimits, in_limits}
 pub use Rattle.adl_hierarchy.proofs.Lists.{in_get}
 pub use Rattle.adl_hierarchy.specs.Leads.{AreDotted}
 pub use Rattle.adl_meaning.specs.Prelude.{All, AreNamesSound, Body, Component, Composition, End, Ended, Export, Fault, File, From, HaveFewMembers, Hierarchy, Id, Instance, Interface, Item, Known, Member, Name, Part, Path, Placed, Reached, Role, Seen}
-pub use Rattle.adl_meaning.specs.Prelude.{Source, SourceFile, Strung, To, Wire, behind, body, bytes_eq, components, connections, cons_option, count_by, declared_by, domain_number, domain_of, domains, enumerate_from, export_named, exports_of, filter}
-pub use Rattle.adl_meaning.specs.Prelude.{filter_map, find, first_flat_fault, first_join_fault, first_size_fault, firsts_after, flat_connection, flat_domain, flat_end, flat_ends, flat_map, flat_of, hierarchy_of, instances_in, interface_of}
-pub use Rattle.adl_meaning.specs.Prelude.{is_composite, is_hardware, is_inside, is_interface, item_of, items_in, items_of, joined_by, kind_named, known_in, leaf_number, leaf_of, leaves, name_of, option_and_then, option_map_or, option_or, part_named}
-pub use Rattle.adl_meaning.specs.Prelude.{place_by, port_in, reached, reached_by, reached_within, same_kind, same_path, slice_get, top_number, unknown_interface, where_false, wires_of}
+pub use Rattle.adl_meaning.specs.Prelude.{Source, SourceFile, Strung, To, Wire, as_component, behind, body, bytes_eq, components, connections, cons_option, count_by, declared_by, domain_number, domain_of, domains, enumerate_from, export_named}
+pub use Rattle.adl_meaning.specs.Prelude.{exports_of, filter, filter_map, find, first_flat_fault, first_join_fault, first_size_fault, firsts_after, flat_connection, flat_domain, flat_end, flat_ends, flat_map, flat_of, hierarchy_of, instances_in}
+pub use Rattle.adl_meaning.specs.Prelude.{interface_of, is_composite, is_hardware, is_inside, is_interface, item_of, items_in, items_of, joined_by, kind_named, known_in, leaf_number, leaf_of, leaves, name_of, option_and_then, option_map_or}
+pub use Rattle.adl_meaning.specs.Prelude.{option_or, part_named, place_by, port_in, reached, reached_by, reached_within, same_kind, same_path, slice_get, top_number, unknown_interface, where_false, wires_of}
 pub use Rattle.adl_meaning.specs.declared.connector.Connector.{Connector}
 pub use Rattle.adl_meaning.specs.declared.flat.Domain.{Domain}
 pub use Rattle.adl_meaning.specs.declared.flat.FlatConnection.{FlatConnection}
 pub use Rattle.adl_meaning.specs.declared.flat.FlatEnd.{FlatEnd}
 pub use Rattle.adl_meaning.specs.declared.flat.Leaf.{Leaf}
 pub use Rattle.adl_meaning.specs.declared.item_at.ItemAt.{ItemAt}
-pub use Rattle.adl_settings.specs.Joints.{Joint, as_component, found_at, found_of, found_on, founds_in, interface_at, joint_at, positioned, positioned_after}
+pub use Rattle.adl_settings.specs.Joints.{Joint, found_at, found_of, found_on, founds_in, interface_at, joint_at, positioned, positioned_after}
 pub use Rattle.adl_settings.specs.Settled.{end_settings, leaves_found, settled_of}
 pub use Rattle.adl_types.proofs.Typed.{well_typed}
 pub use Rattle.adl_types.specs.TypeFaults.{count_of, first_type_fault, is_kind_of, may_have}

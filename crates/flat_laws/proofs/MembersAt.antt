@@ -1,7 +1,6 @@
 -- The members of a component are those at its place in the source.
-use Rattle.flat_laws.proofs.Common.{Component, Ended, IsIn, Item, ItemAt, Some, Source, ap, arith, components, enumerate_from, from_enumerate, from_filter_map, from_flat_map, from_map, items_in, items_of, items_of_file, members_at, members_in}
-use Rattle.flat_laws.proofs.Common.{members_of, refl, slice_get, subst, ℕ, ◌∙◌, ◌≡◌}
-use Rattle.adl_meaning.specs.Prelude.{as_component}
+use Rattle.flat_laws.proofs.Common.{Component, Ended, IsIn, Item, ItemAt, Some, Source, ap, arith, as_component, components, enumerate_from, from_enumerate, from_filter_map, from_flat_map, from_map, items_in, items_of, items_of_file, members_at}
+use Rattle.flat_laws.proofs.Common.{members_in, members_of, refl, slice_get, subst, ℕ, ◌∙◌, ◌≡◌}
 use Rattle.adl_ast.specs.declared.file.Item.TheVariants as items
 
 -- an item stands at its place

@@ -1,11 +1,11 @@
 -- Where each end joins an interface of a leaf, each has its settings.
-use Rattle.flat_laws.proofs.Common.{AreTyped, Component, Ended, FlatConnection, FlatEnd, Interface, IsIn, IsTypedEnd, Item, Joint, Leaf, List, None, Option, Some, Source, SourceFile, [], ap, as_component, cons_option, end_settings, filter_map}
-use Rattle.flat_laws.proofs.Common.{flat_of, found_at, found_of, found_on, founds_in, get_map, hierarchy_of, in_get, inl, inr, interface_at, items_of_file, joint_at, kept, length, length-map, members_at, members_in, members_of, option_and_then}
-use Rattle.flat_laws.proofs.Common.{option_map, positioned, positioned_after, refl, settled_of, slice_get, suc, sym, zero, ℕ, ◌∙◌, ◌∷◌, ◌≡◌}
+use Rattle.flat_laws.proofs.Common.{AreTyped, Component, Ended, FlatConnection, FlatEnd, Interface, IsIn, IsTypedEnd, Item, Joint, Leaf, List, None, Option, Some, Source, SourceFile, [], ap, cons_option, end_settings, filter_map, flat_of, found_at}
+use Rattle.flat_laws.proofs.Common.{found_of, found_on, founds_in, get_map, hierarchy_of, in_get, inl, inr, interface_at, items_of_file, joint_at, kept, length, length-map, members_at, members_in, members_of, option_and_then, option_map, positioned}
+use Rattle.flat_laws.proofs.Common.{positioned_after, refl, settled_of, slice_get, suc, sym, zero, ℕ, ◌∙◌, ◌∷◌, ◌≡◌}
 use Rattle.adl_ast.specs.declared.component.Member.TheVariants as members
 use Rattle.adl_ast.specs.declared.file.Item.TheVariants as items
 use Rattle.adl_settings.specs.EndMeaning.{end_setting}
-use Rattle.adl_settings.specs.Joints.{as_interface, behind}
+use Rattle.adl_settings.specs.Joints.{as_component, as_interface, behind}
 use Rattle.adl_settings.specs.declared.found.Found.{Found}
 use Rattle.flat_laws.specs.EndSettings.{AreEndsSettled}
 use Rattle.adl_settings.proofs.EndNumbers.{position_of}

@@ -6,7 +6,8 @@ use Rattle.cam_base.specs.Depth.{deep}
 use Rattle.cam_base.specs.Form.{Form, Give, One, Then, Or, Many, As, Starts, Nested}
 use Rattle.cam_base.specs.Spelling.{Meaning, Each, Spells}
 use Rattle.adl_ast.specs.Codes.{token_code}
-use Rattle.adl_ast.specs.Forms.{Rule, nested_line, flag_line, import_line, plain_port_line, buf_line, data_line, dataport_line, interface_line, attribute_line, lock_line, composition_line, configuration_line, member_line, member_form, component_line, procedure_line, assembly_line, item_line, ended_line, ended_form, file_line}
+use Rattle.adl_ast.specs.Forms.{Rule, nested_line, flag_line, import_line, plain_port_line, buf_line, data_line, dataport_line, interface_line, attribute_line, lock_line, composition_line, configuration_line, member_line, member_form, component_line}
+use Rattle.adl_ast.specs.Forms.{procedure_line, assembly_line, item_line, ended_line, ended_form, file_line}
 use Rattle.adl_ast.specs.Spelling.{limit, IsSpelledBy}
 use Rattle.adl_ast.specs.declared.file.Item.TheVariants as items
 use Rattle.adl_hierarchy.proofs.Sources.{component_item}

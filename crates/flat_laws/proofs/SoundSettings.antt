@@ -1,15 +1,11 @@
 -- Where no fault of settings stands, none stands at a leaf, none at a connection, and no two devices have one interrupt.
-use Rattle.std.proofs.Common.{◌≡◌, [], ◌++◌, None}
-use Rattle.adl_meaning.specs.Prelude.{Source, flat_map, flat_of, hierarchy_of}
+use Rattle.flat_laws.proofs.Common.{None, Source, [], flat_map, flat_of, founds_in, hierarchy_of, leaves_found, none_left, none_right, ◌++◌, ◌≡◌}
 use Rattle.adl_meaning.proofs.Least.{least-empty}
 use Rattle.adl_settings.specs.BadValue.{bad_in_leaf}
 use Rattle.adl_settings.specs.DeviceOverlap.{overlaps, regions}
 use Rattle.adl_settings.specs.IrqTwice.{irqs, irqs_twice}
-use Rattle.adl_settings.specs.Joints.{founds_in}
 use Rattle.adl_settings.specs.SettingFaults.{faults_on, first_setting_fault, setting_faults, value_faults}
 use Rattle.adl_settings.specs.SettingTwice.{settings_twice}
-use Rattle.adl_settings.specs.Settled.{leaves_found}
-use Rattle.cam_base.proofs.NumberedLists.{none_left, none_right}
 
 pub record AreSettingsSound (s : Source) : Type 0 where
   pub leaves : flat_map bad_in_leaf (leaves_found (hierarchy_of s) (flat_of s)) ≡ []

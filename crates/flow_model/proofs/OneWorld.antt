@@ -1,17 +1,15 @@
 -- An act leads from a world to one world at most, and so do acts one after the other.
-use Rattle.flow_model.proofs.Common.{Act, ActRun, ActTo, Acts, Attempt, AttemptTo, Bool, Cap, Capability, Content, List, Option, Own, SavedReply, Some, Spec, State, World, [], allowed, answer, ap, await, content_in, device, done, fire, load, message}
+use Rattle.flow_model.proofs.Common.{Act, ActRun, ActTo, Acts, Attempt, AttemptTo, Bool, Cap, Capability, Content, List, Own, SavedReply, Some, Spec, State, World, [], allowed, answer, ap, await, content_in, device, done, fire, load, message}
 use Rattle.flow_model.proofs.Common.{more, put, refused, send, signal, signals, step, store, subst, sym, tell, tell_saved, thread_of, ℕ, ◌∙◌, ◌∷◌, ◌≡◌}
+use Rattle.std.proofs.lemmas.Option.{same_Some}
 use Rattle.cap_machine.proofs.Table.{one_next}
 use Rattle.cap_model.specs.declared.state.Pending.{Pending}
-
-one_some : {A : Type 0} (o : Option A) (x y : A) → o ≡ Some x → o ≡ Some y → x ≡ y
-one_some o x y e f = cc
 
 one_content : (s : State) (t c d i : ℕ) (x y : Content) → Acts s t c → Acts s t d → content_in s c i ≡ Some x
     → content_in s d i ≡ Some y → x ≡ y
 one_content s t c d i x y acts other there here =
-    let same : c ≡ d = one_some _ c d acts.root other.root in
-    one_some _ x y there (subst (λ (n : ℕ). content_in s n i ≡ Some y) (sym same) here)
+    let same : c ≡ d = same_Some c d (sym acts.root ∙ other.root) in
+    same_Some x y (sym there ∙ subst (λ (n : ℕ). content_in s n i ≡ Some y) (sym same) here)
 
 one_cap : (kind : ℕ → Bool) (s : State) (t c d i : ℕ) (x y : Cap) → Acts s t c → Acts s t d → Own kind s c i x
     → Own kind s d i y → x ≡ y
@@ -44,7 +42,8 @@ one_attempt spec w new other (send t i u j x) (c, to, d, from, acts, own, may, p
     e ∙ ap (λ (cap : Cap). record w { seen = more (more w.seen u (message cap.badge x)) t done })
     (one_cap _ w.state t c k i to at acts does own has) ∙ sym g
 one_attempt spec w new other (tell t x) (c, reply, acts, owes, e) (k, given, does, owed, g) =
-    e ∙ ap (λ (p : Pending). record w { seen = more (more w.seen p.caller (answer x)) t done }) (one_some _ reply given owes owed)
+    e ∙ ap (λ (p : Pending). record w { seen = more (more w.seen p.caller (answer x)) t done })
+    (same_Some reply given (sym owes ∙ owed))
     ∙ sym g
 one_attempt spec w new other (tell_saved t i x) (c, reply, acts, there, e) (k, given, does, here, g) =
     e ∙ ap (λ (p : Pending). record w { seen = more (more w.seen p.caller (answer x)) t done })
@@ -64,7 +63,7 @@ pub one_act : (spec : Spec) (w new other : World) (act : Act) → ActTo spec w a
 one_act spec w new other (allowed attempt) a b = one_attempt spec w new other attempt a b
 one_act spec w new other (refused attempt) (runs, never, e) (also, neither, g) = e ∙ sym g
 one_act spec w new other (fire d x) (n, bound, e) (m, also, g) = e ∙ ap (λ (o : ℕ). record w { pending = more w.pending o x })
-    (one_some _ n m bound also) ∙ sym g
+    (same_Some n m (sym bound ∙ also)) ∙ sym g
 one_act spec w new other (device f x) (is, e) (also, g) = e ∙ sym g
 
 pub one_world : (spec : Spec) (w new other : World) (acts : List Act) → ActRun spec w acts new → ActRun spec w acts other

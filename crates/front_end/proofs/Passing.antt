@@ -1,5 +1,6 @@
 -- A phase that refuses tells the first fault, where those before it found none.
-use Rattle.front_end.proofs.Common.{Err, Fault, IsErr, IsErrAnd, None, Ok, Option, Refused, Result, Some, option_or, subst, sym, ◌≡◌}
+use Rattle.front_end.proofs.Common.{Err, Fault, IsErrAnd, None, Option, Refused, Result, Some, option_or, ◌≡◌}
+use Rattle.cam_base.proofs.Errors.{passed_on}
 use Rattle.adl_meaning.specs.Prelude.{Refuses}
 use Rattle.cam_base.specs.declared.error.Refused.TheVariants as refused
 
@@ -19,18 +20,16 @@ fourth X Y (refused.Fault f) None None (Some g) d p q r m = absurd cc
 fourth X Y (refused.Fault f) None (Some g) c d p q r m = absurd cc
 fourth X Y (refused.Fault f) (Some g) b c d p q r m = absurd cc
 
-passed : {X : Type 0} (r : Result X (Refused Fault)) (e : Refused Fault) (o : Option Fault) → IsErr r → IsErrAnd r (λ x. x ≡ e)
-    → Refuses {T = X} (Err e) o → Refuses r o
-passed (Ok x) e o is h m = absurd h
-passed {X} (Err f) e o is h m = subst (λ z. Refuses {T = X} (Err z) o) (sym h) m
-
-pub third_told : {X : Type 0} (Y : Type 0) (r : Result X (Refused Fault)) (e : Refused Fault) (a b c d : Option Fault) → IsErr r
+pub third_told : {X : Type 0} (Y : Type 0) (r : Result X (Refused Fault)) (e : Refused Fault) (a b c d : Option Fault)
     → IsErrAnd r (λ x. x ≡ e) → a ≡ None → b ≡ None
     → Refuses {T = Y} (Err e) c → Refuses r (option_or a (option_or b (option_or c d)))
-third_told {X} Y r e a b c d is h p q m = passed r e (option_or a (option_or b (option_or c d))) is h (third X Y e a b c d p q m)
+third_told {X} Y r e a b c d is p q m =
+    passed_on (λ (z : Result X (Refused Fault)). Refuses z (option_or a (option_or b (option_or c d)))) r e is
+    (third X Y e a b c d p q m)
 
-pub fourth_told : {X : Type 0} (Y : Type 0) (r : Result X (Refused Fault)) (e : Refused Fault) (a b c d : Option Fault) → IsErr r
+pub fourth_told : {X : Type 0} (Y : Type 0) (r : Result X (Refused Fault)) (e : Refused Fault) (a b c d : Option Fault)
     → IsErrAnd r (λ x. x ≡ e) → a ≡ None → b ≡ None → c ≡ None
     → Refuses {T = Y} (Err e) d → Refuses r (option_or a (option_or b (option_or c d)))
-fourth_told {X} Y r e a b c d is h p q n m = passed r e (option_or a (option_or b (option_or c d))) is h
+fourth_told {X} Y r e a b c d is p q n m =
+    passed_on (λ (z : Result X (Refused Fault)). Refuses z (option_or a (option_or b (option_or c d)))) r e is
     (fourth X Y e a b c d p q n m)

@@ -140,7 +140,8 @@ from_line s owner k (lines.Group g) f h j x =
     (is_none (known_in s i.0.component.name) t.0) (sym t.1)
 from_line s owner k (lines.Connection w) f h j x =
     let there = in_filter_map as_connection (lines.Connection w) w k.lines j refl in
-    elim (in_append f (unknown_connector w) (flat_map (λ (e : End). unknown_in_dotted (known_in s) (held_as k) e.words) w.ends) x) [
+    elim (in_append f (unknown_connector w) (flat_map (λ (e : End). unknown_in_dotted (known_in s) (held_as k) e.words) w.ends)
+    x) [
       | inl y ↦ let t = from_false (is_some (connector_of w.connector.name)) (unknown w.connector) f y in
           a_connector owner k w h there (is_none (connector_of w.connector.name) t.0) (sym t.1)
       | inr y ↦ let e = from_flat_map (λ (e : End). unknown_in_dotted (known_in s) (held_as k) e.words) f w.ends y in

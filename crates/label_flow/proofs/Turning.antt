@@ -1,6 +1,7 @@
 -- Edges turned round: chains over them lead back.
 use Rattle.label_flow.proofs.Common.{AreBelow, AreSources, Bool, Chain, Contains, Edge, Found, IsClosed, IsSearch, List, None, Option, Passes, Search, Searches, Some, [], ap, arith, contains_at, eqb-true, false, from_holder, inl, inr, is_some}
 use Rattle.label_flow.proofs.Common.{length, map, option_map, place_of, refl, slice_get, slice_get-map, subst, suc, sym, to_holder, true, turned, zero, ℕ, ◌++◌, ◌+◌, ◌<◌, ◌==◌, ◌||◌, ◌∙◌, ◌∷◌, ◌≡◌, ◌≤◌, ◌⊎◌}
+use Rattle.std.proofs.Math.Bool.{or-true}
 use Rattle.label_flow.proofs.Passed.{at_contains, chain_more, flows_pass, none_apart}
 use Rattle.label_flow.proofs.Searching.{ends_apart}
 
@@ -77,12 +78,8 @@ module _ (edges : List Edge) (to count : ℕ) (s : Search) (searches : Searches 
 
   to_found : (l : ℕ) → Leads edges to l → is_placed to s.places.items l ≡ true
   to_found l leads = go (place_of s.places.items l) refl where
-    last : (b : Bool) → b || true ≡ true
-    last true = refl
-    last false = refl
-
     go : (o : Option ℕ) → place_of s.places.items l ≡ o → is_placed to s.places.items l ≡ true
-    go (Some i) is = rw is (last (l == to))
+    go (Some i) is = rw is (or-true (l == to))
     go None is = absurd (none_apart edges to l leads.0 (ends_apart edges to l count s searches is) leads.1)
 
 -- a search over turned edges finds the sources

@@ -2,6 +2,7 @@
 use Rattle.least_cert.proofs.Common.{AsyncSend, Authority, Begins, Bool, Call, Closes, Closure, Control, Edge, Gifted, Grant, GrantBack, Grows, Handle, Has, HasBoot, IsCertificate, IsClosedFor, IsLeast, IsSound, KeepsRules, Knows, List, Looks}
 use Rattle.least_cert.proofs.Common.{LooksAt, Receive, Reply, Some, Spec, [], ap, arith, edge, eqb-true, false, has, has_at, inl, inr, leader_at, length, length-append, or_cases, or_left, or_right, refl, same_edge, slice_get, subst, suc, sym, take}
 use Rattle.least_cert.proofs.Common.{take-append-le, take_all, true, zero, ℕ, ◌++◌, ◌+◌, ◌<◌, ◌==◌, ◌||◌, ◌∙◌, ◌∷◌, ◌≡◌, ◌≢◌, ◌≤◌, ◌⊎◌}
+use Rattle.cam_base.proofs.Orders.{same_itself}
 use Rattle.least_cert.proofs.Growth.{gifted_grows, grows_none, grows_then, knows_grows, one_grows}
 use Rattle.least_cert.proofs.Leading.{knows_led, knows_least, led_knows, number_other}
 use Rattle.least_cert.proofs.Listing.{has_last}
@@ -93,9 +94,7 @@ same_or_not : (m n : ℕ) → (m ≡ n) ⊎ (m ≢ n)
 same_or_not m n = by (m == n) refl where
   by : (b : Bool) → m == n ≡ b → (m ≡ n) ⊎ (m ≢ n)
   by true is = inl (eqb-true m n is)
-  by false is = inr (λ same. absurd (let yes_it : m == n ≡ true = rw same (self n) in cc)) where
-    self : (k : ℕ) → k == k ≡ true
-    self k = grind arith
+  by false is = inr (λ same. absurd (let yes_it : m == n ≡ true = rw same (same_itself n) in cc))
 
 module _ (c : Closure) (boots : HasBoot c) (sound : IsSound c) (closed : IsClosedFor c.queue c) (cert : List Edge)
     (is : IsCertificate c cert) where

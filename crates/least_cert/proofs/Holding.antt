@@ -1,6 +1,6 @@
 -- The held edges of the boot state are what the capabilities of CNodes confer.
 use Rattle.least_cert.proofs.Common.{Adds, AddsAll, AreHeld, AreLinks, Authority, Begins, Closure, Contains, Edge, Entry, Grant, InLeast, IsEmpty, IsSound, KeepsRules, List, OfCap, OfHolder, OfHolders, OfLeast, OfObject, OfOther, OfOthers, Some}
-use Rattle.least_cert.proofs.Common.{Spec, [], arith, between_labels, edge, filter_map, has, inl, inr, label_of, map, refl, slice_get, slice_get-map, subst, sym, true, ℕ, ◌∙◌, ◌≡◌, ◌≢◌, ◌⊎◌}
+use Rattle.least_cert.proofs.Common.{Spec, [], arith, between_labels, edge, filter_map, has, inl, inr, label_of, map, refl, slice_get, subst, sym, true, ℕ, ◌∙◌, ◌≡◌, ◌≢◌, ◌⊎◌}
 use Rattle.cap_machine.proofs.BootSources.{auth_source, source_auth}
 use Rattle.cap_model.specs.Auth.{Auth, Held, Structural}
 use Rattle.cap_model.specs.State.{Node, boot, boot_node, boot_slot, no_node, node_at}
@@ -8,7 +8,7 @@ use Rattle.cap_model.specs.declared.cap.Cap.{Cap}
 use Rattle.cap_model.specs.declared.object.Object.{Object}
 use Rattle.cap_model.specs.declared.object.Object.TheVariants.{Endpoint, Notification, CNode, Thread, Frame, Pages, Irq}
 use Rattle.cap_model.specs.declared.state.Content.TheVariants.{Capability}
-use Rattle.cap_model.proofs.BootPlaces.{at_contains, at_entry, contains_at, entry_at, slot_of}
+use Rattle.cap_model.proofs.BootPlaces.{at_entry, contains_at, entry_at, slot_of, boot_contains}
 use Rattle.least_cert.proofs.Growth.{knows_grows}
 use Rattle.least_cert.proofs.LeastKeeps.{least_keeps}
 use Rattle.least_cert.proofs.Listing.{from_mapped, to_mapped}
@@ -43,11 +43,6 @@ module _ (spec : Spec) (labels : List ℕ) where
             absurd (let c : Contains no_node.slots (i, Capability x) = subst (λ (n : Node). Contains n.slots (i, Capability x))
             none there in let w = c.1 in omega arith)
       ]
-
-  boot_contains : (slots : List (ℕ × Cap)) (k : ℕ) (slot : ℕ × Cap) → slice_get slots k ≡ Some slot
-      → Contains (map boot_slot slots) (slot.0, Capability slot.1)
-  boot_contains slots k slot h = at_contains (map boot_slot slots) (boot_slot slot) k (let e = slice_get-map boot_slot slots k in
-      rw (e, h) refl)
 
   object_held : (o : ℕ) (entry : Entry) (object : Object) (e : Edge) → slice_get spec.entries o ≡ Some entry
       → entry.object ≡ object

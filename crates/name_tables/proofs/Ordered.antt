@@ -1,24 +1,16 @@
 -- What tables in the order of digests find, in terms of the lists that contracts see.
-use Rattle.std.proofs.Common.{◌≡◌, ◌∙◌, ap, sym, refl, arith, ℕ, Bool, true, false, cond, List, [], ◌∷◌, map, Option, Some, None, is_some}
-use Rattle.std.specs.Prelude.{◌==◌, ◌&&◌}
+use Rattle.name_tables.proofs.Common.{Bool, List, Name, None, Option, Some, [], and-false, and_from, and_parts, ap, are_digested, arith, bytes_eq, bytes_eq-Decides, cond, digest, false, found, is_digested, is_some, lookup, map, nat_tests}
+use Rattle.name_tables.proofs.Common.{option_copied, option_or, refl, sym, true, ℕ, ◌&&◌, ◌==◌, ◌∙◌, ◌∷◌, ◌≡◌}
 use Rattle.std.specs.BTreeMap.{insert_entry}
 use Rattle.std.specs.Cmp.{tied_then, unsigned_tied}
 use Rattle.std.specs.Cmp.Lexicographic.{slice_cmp}
-use Rattle.std.specs.Map.{lookup}
 use Rattle.std.specs.Borrow.{Bor}
-use Rattle.std.specs.Option.{option_copied, option_or}
 use Rattle.std.specs.Ordering.{is_eq, match_ordering, nat_cmp, ordering_then}
-use Rattle.std.specs.Str.{bytes_eq}
 use Rattle.std.specs.declared.cmp.Ordering.{Ordering}
 use Rattle.std.specs.declared.cmp.Ordering.TheVariants.{Less, Equal, Greater}
-use Rattle.std.proofs.Math.Bool.{and-false}
-use Rattle.std.proofs.lemmas.Bool.{and_parts, and_from}
-use Rattle.std.proofs.lemmas.Bool.Decides.{nat_tests}
 use Rattle.std.proofs.lemmas.Map.Text.{is_eq-slice_cmp}
-use Rattle.std.proofs.lemmas.Slice.Eq.{bytes_eq-Decides}
-use Rattle.name_tables.specs.ByName.{Name, found}
 use Rattle.name_tables.proofs.NameLookups.{found_put}
-use Rattle.name_tables.specs.Naming.{Key, digest, is_digested, are_digested}
+use Rattle.name_tables.specs.Naming.{Key}
 
 abbrev key : Name → Key
 key n = (digest n, record { ref_ptr = (0, 0); now = n })

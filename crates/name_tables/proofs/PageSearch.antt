@@ -1,15 +1,9 @@
 -- Which regions share a page with one, where they are in the order of their first places, and how far the first so many reach.
-use Rattle.std.proofs.Common.{◌≡◌, ◌∙◌, ◌<◌, ◌≤◌, ◌+◌, ℕ, zero, suc, true, false, not, ◌&&◌, ◌||◌, nat_lt, List, [], ◌∷◌, ◌++◌, length, get_or, take, refl, sym, ap, subst, arith, ⊎_elim}
-use Rattle.std.specs.List.{list_any}
-use Rattle.std.specs.List.Sorted.{IsPartitionPoint}
-use Rattle.std.proofs.lemmas.Bool.{and_right, cases_lt}
-use Rattle.std.proofs.lemmas.List.{get_or_append_left, get_or_push, length_push}
+use Rattle.name_tables.proofs.Common.{AreReaches, IsPartitionPoint, IsReach, List, Region, [], and-true, and_right, ap, arith, cases_lt, ends_behind, false, get_or, get_or_append_left, get_or_push, is_same, length, length_push, list_any, nat_lt, not}
+use Rattle.name_tables.proofs.Common.{refl, shares, subst, suc, sym, take, true, zero, ℕ, ⊎_elim, ◌++◌, ◌+◌, ◌<◌, ◌||◌, ◌∙◌, ◌∷◌, ◌≡◌, ◌≤◌}
+use Rattle.std.proofs.Common.{◌&&◌}
 use Rattle.std.proofs.Math.Seq.{take-suc}
-use Rattle.std.proofs.Math.Bool.{and-true}
-use Rattle.name_tables.specs.Reaching.{ends_behind, IsReach, AreReaches}
-use Rattle.name_tables.specs.Sharing.{is_same, shares}
 use Rattle.name_tables.specs.declared.reach.Reach.{Reach}
-use Rattle.name_tables.specs.declared.region.Region.{Region}
 
 -- ---- the regions that begin before the end e of region a
 

@@ -1,16 +1,10 @@
 -- What a table finds that has a few names at each place.
-use Rattle.std.proofs.Common.{◌≡◌, ◌∙◌, ◌<◌, ◌%◌, ◌==◌, ◌≢◌, ◌++◌, ap, sym, refl, arith, ℕ, Bool, true, false, cond, List, [], ◌∷◌, length, get_or, Option, Some, None}
-use Rattle.std.proofs.lemmas.Bool.Decides.{nat_tests}
+use Rattle.name_tables.proofs.Common.{AreOthers, Bool, List, Name, None, Option, Some, [], ap, arith, at_place, bytes_eq, bytes_eq-Decides, cond, digest, false, found, get_or, get_or-set_other, has_room, length, length-set, nat_tests, option_or}
+use Rattle.name_tables.proofs.Common.{option_or-none, refl, spread_found, sym, true, ℕ, ◌%◌, ◌++◌, ◌<◌, ◌∙◌, ◌∷◌, ◌≡◌, ◌≢◌}
+use Rattle.std.proofs.Common.{◌==◌}
 use Rattle.std.proofs.lemmas.Grind.{get_or-set_at}
-use Rattle.std.proofs.lemmas.List.{get_or-set_other, length-set}
-use Rattle.std.proofs.lemmas.Slice.Eq.{bytes_eq-Decides}
 use Rattle.std.proofs.Math.ListN.{set}
-use Rattle.std.specs.Option.{option_or}
-use Rattle.std.specs.Str.{bytes_eq}
-use Rattle.cam_base.proofs.Options.{option_or-none}
-use Rattle.name_tables.specs.ByName.{Name, found}
 use Rattle.name_tables.proofs.NameLookups.{found_in}
-use Rattle.name_tables.specs.Naming.{digest, has_room, at_place, spread_found, AreOthers}
 
 abbrev Entries : Type 0 → Type 0
 Entries V = List (Name × V)

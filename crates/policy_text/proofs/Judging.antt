@@ -1,13 +1,13 @@
 -- One line judged or noted, and then the lines behind it.
-use Rattle.policy_text.proofs.Common.{Authority, Bool, Entry, Err, HasFewEdges, IsAdded, IsErrAnd, IsFault, IsLineJudged, IsNear, IsRefusal, IsSeen, Kind, Line, List, NoMemory, None, Number, Ok, OnOk, Option, PolicySyntax, Refused, Result, Seen}
-use Rattle.policy_text.proofs.Common.{Some, TextFault, Told, Words, [], ap, append_assoc, arith, at_line, bytes_eq, cond, count_by, drop, drop_more, edge, edges_limit, false, fault_at, first_wrong, form_fault, get_or, gives, has, has_label, is_edge}
-use Rattle.policy_text.proofs.Common.{label, length, map_more, map_push, meant, min, nat_le, object, option_map, option_or, or-false, or_assoc, or_comm, refl, said, subst, sum_by-append, sum_by-take-le, sym, take, take-map, told, told_line}
-use Rattle.policy_text.proofs.Common.{told_lines, true, wrong_entry, ℕ, ◌++◌, ◌+◌, ◌<◌, ◌||◌, ◌∙◌, ◌∷◌, ◌≡◌, ◌≤◌}
+use Rattle.policy_text.proofs.Common.{Authority, Bool, Entry, Err, HasFewEdges, IsAdded, IsFault, IsLineJudged, IsNear, IsRefusal, IsSeen, Kind, Line, List, NoMemory, None, Notes, Number, Ok, OnOk, Option, PolicySyntax, Refused, Result, Seen, Some}
+use Rattle.policy_text.proofs.Common.{TextFault, Told, Words, [], ap, append_assoc, arith, at_line, bytes_eq, cond, count_by, drop, drop_more, edge, edges_limit, false, fault_at, first_wrong, form_fault, get_or, gives, has_label, is_edge, label}
+use Rattle.policy_text.proofs.Common.{length, map_more, map_push, meant, min, nat_le, object, option_map, option_or, or-false, or_assoc, or_comm, refl, said, subst, sum_by-append, sum_by-take-le, sym, take, take-map, told, told_line, told_lines}
+use Rattle.policy_text.proofs.Common.{true, wrong_entry, ℕ, ◌++◌, ◌+◌, ◌<◌, ◌||◌, ◌∙◌, ◌∷◌, ◌≡◌, ◌≤◌}
 use Rattle.cam_base.specs.declared.error.Refused.TheVariants as refused
 use Rattle.policy_text.specs.declared.entry.EntryLine.{EntryLine}
 use Rattle.policy_text.specs.declared.read.Noted.{Noted}
-use Rattle.policy_text.specs.TextsRead.{FindsFault, AreNoted, Notes}
 use Rattle.policy_text.proofs.Before.{told-cons, form-cons, has_label-append, one_if, told_one}
+use Rattle.policy_text.specs.WordSets.{has}
 
 -- ---- faults of texts in parts
 
@@ -23,17 +23,6 @@ fault_is a b r same h = subst (λ (o : Option TextFault). IsFault o r) same h
 
 pub none_then : (a b : Option TextFault) → a ≡ None → b ≡ None → option_or a b ≡ None
 none_then a b none none' = ap (λ o. option_or o b) none ∙ none'
-
--- a refusal that is passed on
-pub passed : (fault : Option TextFault) (answer : Result (Unit {0}) (Refused TextFault)) (r : Refused TextFault)
-    → IsErrAnd answer (λ other. other ≡ r) → IsFault fault r → FindsFault fault answer
-passed fault (Ok x) r is h = absurd is
-passed fault (Err other) r is h = subst (λ (e : Refused TextFault). IsFault fault e) (sym is) h
-
-pub notes_refused : (kind : Kind) (lines : List Line) (answer : Result Noted (Refused TextFault)) (r : Refused TextFault)
-    → IsErrAnd answer (λ other. other ≡ r) → IsFault (form_fault kind lines) r → AreNoted kind lines answer
-notes_refused kind lines (Ok x) r is h = absurd is
-notes_refused kind lines (Err other) r is h = subst (λ (e : Refused TextFault). IsFault (form_fault kind lines) e) (sym is) h
 
 -- ---- one line is judged
 

@@ -1,6 +1,6 @@
 -- A table of the labels of objects that is filled line by line, and the labels of a spec's objects.
-use Rattle.policy_text.proofs.Common.{Bool, Err, IsErrAnd, IsFault, IsLabelling, List, None, Ok, Option, Policy, Refused, Result, Some, TextFault, ap, at_drop_more, bytes_eq, cond, drop, false, first_unlabelled, get_or, length, object_label}
-use Rattle.policy_text.proofs.Common.{option_or, option_or-cond, refl, subst, sym, true, unlabelled, ℕ, ◌+◌, ◌<◌, ◌∙◌, ◌∷◌, ◌≡◌}
+use Rattle.policy_text.proofs.Common.{Bool, IsErrAnd, IsFault, IsLabelling, List, None, Option, Policy, Refused, Result, Some, TextFault, ap, at_drop_more, bytes_eq, cond, drop, false, first_unlabelled, get_or, length, object_label, option_or}
+use Rattle.policy_text.proofs.Common.{option_or-cond, passed_on, refl, subst, sym, true, unlabelled, ℕ, ◌+◌, ◌<◌, ◌∙◌, ◌∷◌, ◌≡◌}
 use mathlib.Core.Path.{fun_ext}
 use Rattle.cap_model.specs.declared.object_labels.Labels.{Labels}
 use Rattle.cap_model.specs.declared.spec.Entry.{Entry}
@@ -47,8 +47,6 @@ pub labelling_fails : (spec : Spec) (policy : Policy) (label : List ℕ → Opti
     (r : Refused TextFault)
     → ((name : List ℕ) → label name ≡ object_label policy.objects name) → IsErrAnd answer (λ other. other ≡ r)
     → IsFault (first_unlabelled label spec.entries) r → IsLabelling spec policy answer
-labelling_fails spec policy label (Ok x) r same is h = absurd is
-labelling_fails spec policy label (Err other) r same is h =
-    subst (λ (o : Option TextFault). IsFault o other) (ap (λ (f : List ℕ → Option ℕ). first_unlabelled f spec.entries)
-    (fun_ext same))
-    (subst (λ (e : Refused TextFault). IsFault (first_unlabelled label spec.entries) e) (sym is) h)
+labelling_fails spec policy label answer r same is h =
+    passed_on (IsLabelling spec policy) answer r is (subst (λ (o : Option TextFault). IsFault o r)
+    (ap (λ (f : List ℕ → Option ℕ). first_unlabelled f spec.entries) (fun_ext same)) h)

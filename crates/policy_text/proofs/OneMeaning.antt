@@ -1,7 +1,8 @@
 -- Lines mean at most one policy, and one table of edges; bytes have one answer.
-use Rattle.policy_text.proofs.Common.{Edge, Err, IsAnswer, IsCertRead, IsFault, IsPolicyRead, List, None, Ok, Option, Policy, Refused, Result, Says, SaysEdges, TextFault, Told, ap, cert_lines, first_cert_fault, first_policy_fault, one_table}
-use Rattle.policy_text.proofs.Common.{policy_lines, refl, sym, ℕ, ◌∙◌, ◌≡◌}
+use Rattle.policy_text.proofs.Common.{Edge, Err, IsAnswer, IsCertRead, IsFault, IsPolicyRead, List, None, Ok, Option, Policy, Refused, Result, SaysEdges, TextFault, Told, ap, cert_lines, first_cert_fault, first_policy_fault, one_table, policy_lines}
+use Rattle.policy_text.proofs.Common.{refl, sym, ℕ, ◌∙◌, ◌≡◌}
 use Rattle.cam_base.specs.declared.error.Refused.TheVariants as refused
+use Rattle.policy_text.specs.PolicyTexts.{Says}
 
 policies_same : (p q : Policy) → p.labels ≡ q.labels → p.objects ≡ q.objects → p.edges ≡ q.edges → p ≡ q
 policies_same p q l o e =

@@ -1,10 +1,9 @@
 -- What the readers cite as they refuse a text and as they answer.
-use Rattle.policy_text.proofs.Common.{AreLabelled, BTreeSet, Bool, Edge, Err, IsBuilt, IsCertRead, IsCertText, IsErrAnd, IsFault, IsPolicy, IsPolicyOf, IsPolicyRead, IsPolicyText, IsSmall, IsSorted, Kind, List, None, Number, Ok, Option, Parts}
-use Rattle.policy_text.proofs.Common.{Policy, Refused, Result, SaysEdges, Some, TextFault, Told, Words, [], ap, arith, body, cert_lines, contains, false, first_cert_fault, first_fault, first_policy_fault, first_wrong, form_fault, has_label}
-use Rattle.policy_text.proofs.Common.{head_fault, is_labelled, label_name, nat_cmp, nat_lt, nat_tests, option_map_or, option_or, policy_lines, refl, subst, sym, told, true, true≢false, unwrap_or, value, within, ℕ, ◌<◌, ◌^◌, ◌∙◌, ◌≡◌}
+use Rattle.policy_text.proofs.Common.{AreLabelled, BTreeSet, Bool, Edge, IsBuilt, IsCertRead, IsCertText, IsErrAnd, IsFault, IsPolicy, IsPolicyOf, IsPolicyRead, IsPolicyText, IsSmall, IsSorted, Kind, List, None, Number, Option, Parts, Policy}
+use Rattle.policy_text.proofs.Common.{Refused, Result, SaysEdges, Some, TextFault, Told, Words, [], ap, arith, body, cert_lines, contains, false, first_fault, first_wrong, form_fault, has, has_label, head_fault, is_labelled, label_name, nat_cmp}
+use Rattle.policy_text.proofs.Common.{nat_lt, nat_tests, option_map_or, option_or, passed_on, policy_lines, refl, subst, sym, told, true, true≢false, unwrap_or, value, within, ℕ, ◌<◌, ◌^◌, ◌∙◌, ◌≡◌}
 use mathlib.Core.Path.{fun_ext}
 use Rattle.std.specs.Option.{is_some}
-use Rattle.cap_model.specs.Tables.{has}
 use Rattle.policy_text.specs.declared.kind.Kind.TheVariants as kinds
 use Rattle.policy_text.specs.WordSets as words
 use Rattle.policy_text.proofs.Judging.{fault_first, fault_then, none_then}
@@ -40,19 +39,6 @@ module _ (kind : Kind) (knows : Number → Bool) (bytes : List ℕ) where
 
   pub clean_lines : first_wrong knows [] (told kind (body bytes)) ≡ None → Clean knows [] (told kind (body bytes))
   clean_lines h = clean knows [] (told kind (body bytes)) h (formed_all kind (body bytes))
-
--- a refusal that is passed on
-pub policy_refused : (bytes : List ℕ) (answer : Result Policy (Refused TextFault)) (r : Refused TextFault)
-    → IsErrAnd answer (λ other. other ≡ r) → IsFault (first_policy_fault bytes) r → IsPolicyRead bytes answer
-policy_refused bytes (Ok x) r is h = absurd is
-policy_refused bytes (Err other) r is h = subst (λ (e : Refused TextFault). IsFault (first_policy_fault bytes) e) (sym is) h
-
-pub cert_refused : (policy : Policy) (bytes : List ℕ) (answer : Result (List Edge) (Refused TextFault)) (r : Refused TextFault)
-    → IsErrAnd answer (λ other. other ≡ r)
-    → IsFault (first_cert_fault policy bytes) r → IsCertRead policy bytes answer
-cert_refused policy bytes (Ok x) r is h = absurd is
-cert_refused policy bytes (Err other) r is h =
-    subst (λ (e : Refused TextFault). IsFault (first_cert_fault policy bytes) e) (sym is) h
 
 -- the numbers of label lines
 pub lines_known : (numbers : Words) (ts : List Told) → ((n : List ℕ) → words.has numbers n ≡ has_label ts n)
@@ -115,7 +101,7 @@ pub policy_wrong : (numbers : Words) (bytes : List ℕ) (answer : Result Policy 
     → IsFault (first_wrong (words.has numbers) [] (policy_lines bytes)) r → IsErrAnd answer (λ other. other ≡ r)
     → IsPolicyRead bytes answer
 policy_wrong numbers bytes answer r head form each h is =
-    policy_refused bytes answer r is
+    passed_on (IsPolicyRead bytes) answer r is
     (fault_wrong kinds.Policy (has_label (policy_lines bytes)) bytes r head form
     (subst (λ (k : Number → Bool). IsFault (first_wrong k [] (policy_lines bytes)) r)
     (lines_known numbers (policy_lines bytes) each) h))
@@ -143,7 +129,7 @@ pub cert_wrong : (numbers : BTreeSet ℕ) (policy : Policy) (bytes : List ℕ) (
     → IsFault (first_wrong (λ n. option_map_or (λ v. contains nat_cmp numbers v) (value n) false) [] (cert_lines bytes)) r
     → IsErrAnd answer (λ other. other ≡ r) → IsCertRead policy bytes answer
 cert_wrong numbers policy bytes answer r head form each h is =
-    cert_refused policy bytes answer r is
+    passed_on (IsCertRead policy bytes) answer r is
     (fault_wrong kinds.Certificate (is_labelled policy) bytes r head form
     (subst (λ (k : Number → Bool). IsFault (first_wrong k [] (cert_lines bytes)) r) (labels_known numbers policy each) h))
 

@@ -1,11 +1,9 @@
 -- Texts that are said of the items of a list, one after another.
-use Rattle.std.proofs.Common.{List, [], ap, append-nil, subst, sym, ℕ, ◌++◌, ◌∙◌, ◌∷◌, ◌≡◌}
-use Rattle.std.specs.List.{flat_map}
+use Rattle.policy_text.proofs.Common.{List, Says, [], ap, flat_map, says_more, subst, sym, ℕ, ◌++◌, ◌∙◌, ◌∷◌, ◌≡◌}
+use Rattle.std.proofs.Common.{append-nil}
 use Rattle.std.proofs.lemmas.List.Concat.{flat_map-append}
-use Rattle.cam_io.specs.Saying.{Says}
 use Rattle.cam_io.specs.declared.outputs.Outputs.{Ghosts}
 use Rattle.cam_io.specs.declared.writer.Writer.{Writer}
-use Rattle.cam_io.proofs.Saying.{says_more}
 
 module _ {O : Type 0} {T : Ghosts O} {X : Type 0} (f : X → List ℕ) where
   pub says_next : {u v w : Writer O T} (xs : List X) (x : X) → Says u (flat_map f xs) v → Says v (f x) w

@@ -1,8 +1,9 @@
 -- What is kept of the lines so far, after one line more.
 use Rattle.policy_text.proofs.Common.{Authority, Bool, Entry, Err, HasEdges, HasFewEdges, HasRoom, IfSome, IsAdded, IsSeen, Line, List, NoMemory, None, Number, Ok, OnOk, Option, Result, Seen, Some, Takes, Told, Words, [], ap, arith, bytes_eq, cond}
-use Rattle.policy_text.proofs.Common.{count_by, edge, edges_limit, false, gives, has, is_edge, is_label, is_new_edge, is_object, label, labels_object, list_any, names_label, nat_le, new_edges, not, object, refl, says_edge, subst, sum_by-append, sym}
-use Rattle.policy_text.proofs.Common.{true, wrong_entry, ℕ, ◌&&◌, ◌++◌, ◌+◌, ◌||◌, ◌∙◌, ◌∷◌, ◌≡◌, ◌≤◌}
+use Rattle.policy_text.proofs.Common.{count_by, edge, edges_limit, false, gives, is_edge, is_label, is_new_edge, is_object, label, labels_object, list_any, names_label, nat_le, new_edges, not, object, refl, says_edge, subst, sum_by-append, sym, true}
+use Rattle.policy_text.proofs.Common.{wrong_entry, ℕ, ◌&&◌, ◌++◌, ◌+◌, ◌||◌, ◌∙◌, ◌∷◌, ◌≡◌, ◌≤◌}
 use Rattle.policy_text.proofs.Before.{any_more, count_more, edges_more, one_if}
+use Rattle.policy_text.specs.WordSets.{has}
 
 -- a label that isn't wrong has a number that no line in front of it has
 fresh_label : (knows : Number → Bool) (before : List Told) (line : Line) (n name : List ℕ)

@@ -2,6 +2,7 @@
 use Rattle.reach_laws.proofs.Common.{All, Bool, Cap, Capability, Contains, Kind, List, Node, None, Object, Option, Own, Pending, Run, SavedReply, Some, Spec, State, StepTo, ThreadState, [], and_parts, ap, arith, boot, content_in, dropped, false}
 use Rattle.reach_laws.proofs.Common.{get_or, grown, grown_at, inl, inr, is_at, is_root_object, is_space_root, kind_at, no_node, no_thread, node_at, none_saved, not, nothing_pending, object_at, refl, set, subst, sym, thread_at, true, true≢false}
 use Rattle.reach_laws.proofs.Common.{waiting, with_pending, without, ℕ, ◌==◌, ◌∙◌, ◌∷◌, ◌≡◌}
+use Rattle.std.proofs.lemmas.Bool.{not-true}
 use Rattle.std.proofs.lemmas.List.Elements.{All-contains, All-push, All-filter, Contains-get_or}
 use Rattle.std.proofs.lemmas.Map.Views.{Contains-from_lookup}
 use Rattle.cap_machine.specs.declared.step.Step.{Step}
@@ -87,10 +88,6 @@ module _ (spec : Spec) where
       (All-filter (λ (slot : ℕ × Content). not (slot.0 == i)) (λ (slot : ℕ × Content). PlainContent spec slot.1)
       (node_at s c).slots (plain.nodes c))
 
-  from_not : (b : Bool) → not b ≡ true → b ≡ false
-  from_not true h = absurd (true≢false (sym h))
-  from_not false h = refl
-
   none_some : (reply : Pending) → ◌≡◌ {A = Option Pending} None (Some reply) → reply.grants ≡ false
   none_some reply e = absurd cc
 
@@ -101,11 +98,11 @@ module _ (spec : Spec) where
   plain_step s new (Put t i j r) plain (c, to, cap, acts, own, there, is) =
       absurd (true≢false (sym (of_kind s c i kinds.CNode to plain own)))
   plain_step s new (Grant t i u j k r) plain (c, to, cap, d, from, acts, own, may, there, peer, is) =
-      let none = from_not to.rights.grant (of_kind s c i kinds.Endpoint to plain own) in
+      let none = not-true to.rights.grant (of_kind s c i kinds.Endpoint to plain own) in
       let some = (and_parts to.rights.write to.rights.grant may).1 in
       absurd (true≢false (sym some ∙ none))
   plain_step s new (Call t i u j) plain (c, to, d, from, acts, own, may, peer, is) =
-      let none : from.rights.grant ≡ false = from_not from.rights.grant (of_kind s d j kinds.Endpoint from plain peer.own) in
+      let none : from.rights.grant ≡ false = not-true from.rights.grant (of_kind s d j kinds.Endpoint from plain peer.own) in
       let reply : Pending = record { caller = t; grants = from.rights.grant } in
       let owed = plain_owing s u (Some reply) plain (λ q e. let same : reply ≡ q = cc in
       ap (λ (z : Pending). z.grants) (sym same) ∙ none) in (

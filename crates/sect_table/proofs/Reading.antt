@@ -1,8 +1,9 @@
 -- What is read of a file, part by part.
-use Rattle.sect_table.proofs.Common.{Class, Elf, ElfFault, Err, Image, List, None, Ok, Option, ProgramHeader, Refused, Result, Some, ap, class_in, fault_behind, fault_within, first_fault, headers, headers_fault, image_of, length, limit_fault}
+use Rattle.sect_table.proofs.Common.{Class, Elf, ElfFault, Err, Image, List, None, Ok, Option, ProgramHeader, Refused, Result, Some, ap, class_in, fault_behind, first_fault, headers, headers_fault, image_of, length, limit_fault}
 use Rattle.sect_table.proofs.Common.{option_or, refl, subst, sym, table_fault, ℕ, ◌∙◌, ◌≡◌}
 use Rattle.std.specs.Result.{IsErrAnd}
 use Rattle.cam_base.specs.declared.error.Refused.TheVariants as refused
+use Rattle.cam_base.proofs.Errors.{passed_on}
 use Rattle.sect_table.specs.Elf.{IsRead}
 use Rattle.sect_table.specs.SectionsRead.{AreSectionsRead, sound_behind, sound_class, unless_at_fault}
 
@@ -73,15 +74,10 @@ limit_or_memory : (name bytes : List ℕ) (class : Class) (r : Refused ElfFault)
 limit_or_memory name bytes class (refused.Fault f) e h = first_is_limit bytes class e ∙ h
 limit_or_memory name bytes class refused.NoMemory e h = tt
 
-passed_on : (name bytes : List ℕ) (answer : Result Image (Refused ElfFault)) (r : Refused ElfFault)
-    → IsErrAnd answer (λ other. other ≡ r) → IsRead name bytes (Err r) → IsRead name bytes answer
-passed_on name bytes (Ok image) r is read = absurd is
-passed_on name bytes (Err other) r is read = subst (λ (z : Refused ElfFault). IsRead name bytes (Err z)) (sym is) read
-
 -- want of memory, or too many sections
 pub sections_refused : (name bytes : List ℕ) (class : Class) (hs : List ProgramHeader) (answer : Result Image (Refused ElfFault))
     (r : Refused ElfFault) → Ok class ≡ sound_class bytes → hs ≡ headers class bytes
     → AreSectionsRead hs (Err r) → IsErrAnd answer (λ other. other ≡ r) → IsRead name bytes answer
 sections_refused name bytes class hs answer r e same h is =
     let P : List ProgramHeader → Type 0 = λ z. AreSectionsRead z (Err r) in
-    passed_on name bytes answer r is (limit_or_memory name bytes class r e (subst P same h))
+    passed_on (IsRead name bytes) answer r is (limit_or_memory name bytes class r e (subst P same h))

@@ -1,6 +1,8 @@
 -- Tables are read back.
 use Rattle.sect_table.proofs.Common.{AllByRecursion, Err, HasRow, HasTable, Image, IsRead, Line, List, None, Ok, Option, Refused, Result, Section, Some, [], ap, arith, cond, fault_in, first_bad, header, header_of, image_in, inl, inr, is_some, length}
-use Rattle.sect_table.proofs.Common.{lines, list_all, nat_lt, nat_tests, refl, section_at, section_of, sections_of, spaced_fields, subst, sym, table_text, true, ℕ, ◌+◌, ◌<◌, ◌∙◌, ◌∷◌, ◌≡◌, ◌≤◌, ◌⊎◌}
+use Rattle.sect_table.proofs.Common.{lines, list_all, nat_lt, refl, section_at, section_of, sections_of, spaced_fields, subst, sym, table_text, true, ℕ, ◌+◌, ◌∙◌, ◌∷◌, ◌≡◌, ◌≤◌, ◌⊎◌}
+use Rattle.std.proofs.lemmas.Bool.{lt-ltb}
+use Rattle.std.proofs.lemmas.Option.{same_Some}
 use Rattle.cam_base.specs.declared.error.Refused.TheVariants as refused
 use Rattle.cam_base.specs.declared.place.Fault.{Fault}
 use Rattle.sect_table.specs.Tables.{first_fault, image_of}
@@ -25,15 +27,12 @@ read_more n line more s ss few e r = record {
   sections = rw e (ap (λ k. s ∷ k) r.sections);
 }
 
-below : (n m : ℕ) → n < m → nat_lt n m ≡ true
-below n m h = grind (arith, nat_tests)
-
 rows_read : (ss : List Section) (at n : ℕ) → AllByRecursion HasRow ss → n + length ss ≤ 256 → Read n (told at (rows ss)) ss
 rows_read [] at n h few = record { fine = refl; sections = refl }
 rows_read (s ∷ ss) at n h few =
     let ih = rows_read ss (at + (length (row s) + 1)) (n + 1) h.1 (omega arith) in
     let all = read_more n (record { first = at; text = row s }) (told (at + (length (row s) + 1)) (rows ss)) s ss
-    (below n 256 (omega arith)) (row_read s h.0) ih in
+    (lt-ltb n 256 (omega arith)) (row_read s h.0) ih in
     subst (λ k. Read n k (s ∷ ss)) (sym (told_more at (row s) (rows ss) (row_loud s h.0))) all
 
 -- the lines of a table
@@ -73,10 +72,7 @@ table_read file image h =
 -- what a reader answers
 pub answered : (file : ℕ) (image : Image) (r : Result Image (Refused Fault)) → HasTable image
     → IsRead file image.name (table_text image) r → (r ≡ Ok image) ⊎ (r ≡ Err refused.NoMemory)
-answered file image (Ok other) h read = let t = table_read file image h in inl (ap Ok (some_same other image (sym read.1 ∙ t.1)))
-  where
-    some_same : (a b : Image) → Some a ≡ Some b → a ≡ b
-    some_same a b e = cc
+answered file image (Ok other) h read = let t = table_read file image h in inl (ap Ok (same_Some other image (sym read.1 ∙ t.1)))
 answered file image (Err (refused.Fault fault)) h read = let t = table_read file image h in
     absurd (none (first_fault file (table_text image)) t.0 read)
   where

@@ -3,6 +3,7 @@ use Rattle.sect_table.proofs.Common.{AllByRecursion, AreBytes, Bool, Class, Elf,
 use Rattle.sect_table.proofs.Common.{fault_behind, fault_of_used, fault_within, file_end, file_header, header_fault, header_length, headers, headers_fault, headers_from, image_of, is_aligned, is_sized, is_sound, is_used, is_whole, is_writable, leb}
 use Rattle.sect_table.proofs.Common.{length, limit_fault, list_all, lit<, loaded, ltb-true, memory_end, nat_lt, nat_tests, not, option_or, page_down, page_up, pow-le-pow_right, pow-suc, program_header, refl, sections_of_all, sections_of_used, short}
 use Rattle.sect_table.proofs.Common.{subst, suc, sym, table_fault, take, true, zero, zeros, zeros_behind, ℕ, ◌%◌, ◌++◌, ◌+◌, ◌-◌, ◌<◌, ◌==◌, ◌^◌, ◌∙◌, ◌∷◌, ◌≡◌, ◌≤◌}
+use Rattle.std.proofs.lemmas.Bool.{leb-true}
 use Rattle.cam_base.proofs.Options.{neither}
 use Rattle.sect_table.specs.Fields.{field, little}
 use Rattle.sect_table.specs.ElfSections.{sections_of}
@@ -113,16 +114,10 @@ sized_is : (h : ProgramHeader) → is_sized h ≡ true → (h.file ≤ h.memory)
 sized_is h e =
     let p = and_parts (leb h.file h.memory) (nat_lt (page_up (memory_end h)) (2 ^ 64)) e in
     let l = ltb-true (page_up (memory_end h)) (2 ^ 64) p.1 in
-    (le h.file h.memory p.0, omega (arith, l), l)
-  where
-    le : (n m : ℕ) → leb n m ≡ true → n ≤ m
-    le n m q = grind (arith, nat_tests)
+    (leb-true h.file h.memory p.0, omega (arith, l), l)
 
 whole_is : (h : ProgramHeader) (size : ℕ) → (h.file == 0) ≡ false → is_whole size h ≡ true → h.offset + h.file ≤ size
-whole_is h size z e = le (h.offset + h.file) size (rw z at e)
-  where
-    le : (n m : ℕ) → leb n m ≡ true → n ≤ m
-    le n m q = grind (arith, nat_tests)
+whole_is h size z e = leb-true (h.offset + h.file) size (rw z at e)
 
 aligned_is : (h : ProgramHeader) → (h.file == 0) ≡ false → is_aligned h ≡ true → h.offset % 4096 ≡ h.vaddr % 4096
 aligned_is h z e = eqb-true (h.offset % 4096) (h.vaddr % 4096) (rw z at e)

@@ -1,11 +1,10 @@
 -- Sections of a domain that lie apart begin at addresses that differ.
 use Rattle.source_images.proofs.Common.{AreApart, Bool, Image, Images, IsIn, List, None, Option, Placed, Section, Some, [], and_from, and_left, and_parts, and_right, ap, arith, both_ways, cases_Bool, clashes, clashes_with, eq-eqb, eqb-true, false}
-use Rattle.source_images.proofs.Common.{from_any, from_gather, image_number, inl, inr, is_run, is_sound, list_any, lt-ltb, ltb-true, nat_eq, ne_eqb, not, not-true, option_map_or, placed, refl, runs, sections_if, sections_of}
-use Rattle.source_images.proofs.Common.{share_page, suc, sym, true, zero, ℕ, ⊎_elim, ◌%◌, ◌&&◌, ◌+◌, ◌/◌, ◌<◌, ◌^◌, ◌∙◌, ◌∷◌, ◌≡◌}
+use Rattle.source_images.proofs.Common.{from_any, from_gather, image_number, in_any, inl, inr, is_run, is_sound, list_any, lt-ltb, ltb-true, nat_eq, ne_eqb, not, not-true, option_map_or, placed, refl, runs, sections_if, sections_of, share_page, suc}
+use Rattle.source_images.proofs.Common.{sym, true, zero, ℕ, ⊎_elim, ◌%◌, ◌&&◌, ◌+◌, ◌/◌, ◌<◌, ◌^◌, ◌∙◌, ◌∷◌, ◌≡◌}
 use Rattle.std.specs.Prelude.{IsTrue}
 use Rattle.source_images.proofs.SectionsTold.{comes_from}
 use Rattle.source_images.proofs.Sorting.{Differ, Later, later_gather, later_within}
-use Rattle.cam_base.proofs.NumberedLists.{in_any}
 
 -- ---- each section of a domain has numbers of its own
 

@@ -1,8 +1,7 @@
 -- Which images clash, section by section.
-use Rattle.source_images.proofs.Common.{Bool, IsPermutation, List, Placed, [], ap, arith, at_drop_all, cases_eq, clashes, clashes_with, drop, drop_first, eq-eqb, false, get_or, get_or-set_other, get_or-set_same, length, length-map, list_any}
-use Rattle.source_images.proofs.Common.{list_any-IsPermutation, list_any-map, map, nat_eq, ne_eqb, not, placed_told, refl, region_of, replicate, sections_told, set, share_page, shares, suc, sym, true, zero, ℕ, ⊎_elim, ◌&&◌, ◌+◌, ◌<◌, ◌||◌, ◌∙◌, ◌∷◌}
-use Rattle.source_images.proofs.Common.{◌≡◌, ◌≤◌}
-use Rattle.std.proofs.Math.Bool.{and-false, or-false}
+use Rattle.source_images.proofs.Common.{Bool, IsPermutation, List, Placed, [], and-false, ap, arith, at_drop_all, cases_eq, clashes, clashes_with, drop, drop_first, eq-eqb, false, get_or, get_or-set_other, get_or-set_same, length, length-map}
+use Rattle.source_images.proofs.Common.{list_any, list_any-IsPermutation, list_any-map, map, nat_eq, ne_eqb, not, or-false, placed_told, refl, region_of, replicate, sections_told, set, share_page, shares, suc, sym, true, zero, ℕ, ⊎_elim, ◌&&◌, ◌+◌}
+use Rattle.source_images.proofs.Common.{◌<◌, ◌||◌, ◌∙◌, ◌∷◌, ◌≡◌, ◌≤◌}
 use Rattle.name_tables.specs.declared.region.Region.{Region}
 use Rattle.source_images.specs.declared.sections.Placed.{Placed as Given}
 

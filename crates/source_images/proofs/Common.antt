@@ -5,12 +5,14 @@ pub use Rattle.adl_meaning.specs.Faults.{earlier, least, noted, precedes, where_
 pub use Rattle.adl_meaning.specs.Lists.{firsts, firsts_after}
 pub use Rattle.adl_meaning.specs.declared.flat.Flat.{Flat}
 pub use Rattle.adl_meaning.specs.declared.flat.Leaf.{Leaf}
+pub use Rattle.cam_base.proofs.Errors.{err_is}
 pub use Rattle.cam_base.proofs.Gathered.{from_gather, gather_turn, in_append, in_place, listed_at, place_of}
 pub use Rattle.cam_base.proofs.Lists.{drop_first, length-filter_map, list_any-map, nil_append, position_from-snoc}
-pub use Rattle.cam_base.proofs.NumberedLists.{all_in, at_place, below, from_any, from_flat_map, from_map, get_map, none_in, read_place}
+pub use Rattle.cam_base.proofs.NumberedLists.{all_in, at_place, below, from_any, from_flat_map, from_map, get_map, in_any, none_in, read_place}
 pub use Rattle.cam_base.specs.Fields.{spaced_fields}
 pub use Rattle.cam_base.specs.Gather.{IsIn, gather}
 pub use Rattle.cam_base.specs.Lines.{Line, lines}
+pub use Rattle.cam_base.specs.Unread.{SourceError, yields}
 pub use Rattle.cam_base.specs.declared.place.Fault.{Fault}
 pub use Rattle.cam_base.specs.declared.place.Place.{Place}
 pub use Rattle.cam_io.specs.Contents.{Contents}
@@ -39,13 +41,13 @@ pub use Rattle.source_images.specs.TableImages.{images_in, images_of}
 pub use Rattle.source_images.specs.Told.{AreTablesRead, IsAnswer, IsFound, IsTableRead, file_name, files_told, first_missing, first_of, first_read, merged, merged_with, missing_by, missing_reading, names_told, reading_in, reading_of, readings_of}
 pub use Rattle.source_images.specs.Told.{table_at, table_told, tables_told, with_fault, with_more, with_type}
 pub use Rattle.source_images.specs.Types.{Name, type_number, type_of, types}
-pub use Rattle.cam_base.specs.Unread.{SourceError, yields}
 pub use Rattle.source_images.specs.declared.images.Images.{Images}
 pub use Rattle.source_images.specs.declared.reading.Reading.{Reading}
 pub use Rattle.source_images.specs.declared.tables.Table.{Table}
-pub use Rattle.std.proofs.Common.{Bool, Err, IsTrue, List, None, Ok, Option, Result, Some, [], add-one, ap, append_assoc, arith, cond, drop, false, get_or, inl, inr, is_some, length, lit<, map, nat_eq, nat_lt, not, refl, replicate, rules, set}
-pub use Rattle.std.proofs.Common.{subst, suc, sym, take, true, true≢false, zero, ℕ, ⊎_elim, ◌%◌, ◌&&◌, ◌*◌, ◌++◌, ◌+◌, ◌-◌, ◌/◌, ◌<◌, ◌^◌, ◌||◌, ◌∙◌, ◌∷◌, ◌≡◌, ◌≢◌, ◌≤◌, ◌⊎◌}
-pub use Rattle.std.proofs.lemmas.Bool.{and_cases, and_from, and_left, and_parts, and_right, both_ways, cases_Bool, cases_eq, eq-eqb, eqb-true, leb-false, leb-true, lt-ltb, ltb-false, ltb-true, ne_eqb, not-false, not-true, or_left, or_right}
+pub use Rattle.std.proofs.Common.{Bool, Err, IsTrue, List, None, Ok, Option, Result, Some, [], add-one, ap, append_assoc, arith, cond, drop, false, get_or, inl, inr, is_some, length, lit<, map, nat_eq, nat_lt, not, refl, replicate, rules, set, subst}
+pub use Rattle.std.proofs.Common.{suc, sym, take, true, true≢false, zero, ℕ, ⊎_elim, ◌%◌, ◌&&◌, ◌*◌, ◌++◌, ◌+◌, ◌-◌, ◌/◌, ◌<◌, ◌^◌, ◌||◌, ◌∙◌, ◌∷◌, ◌≡◌, ◌≢◌, ◌≤◌, ◌⊎◌}
+pub use Rattle.std.proofs.Math.Bool.{and-false, or-false, or-true}
+pub use Rattle.std.proofs.lemmas.Bool.{and_cases, and_from, and_left, and_parts, and_right, both_ways, cases_Bool, cases_eq, eq-eqb, eqb-true, leb-false, leb-true, lt-ltb, ltb-false, ltb-true, ne_eqb, not-false, not-true}
 pub use Rattle.std.proofs.lemmas.Bool.Decides.{nat_tests}
 pub use Rattle.std.proofs.lemmas.Grind.{common_steps, flat_map-append}
 pub use Rattle.std.proofs.lemmas.Iterator.Adapters.{position_from-zero}
@@ -57,5 +59,5 @@ pub use Rattle.std.specs.Borrow.{Bor}
 pub use Rattle.std.specs.List.{All, AllPairs, cons_option, filter_map, flat_map, fold, list_all, list_any, position, position_from, range_with_len, slice_get, slice_range, sum_by, zip}
 pub use Rattle.std.specs.List.Sorted.{IsNonDecreasingBy, IsPermutation}
 pub use Rattle.std.specs.Option.{option_and_then, option_map, option_map_or, option_or}
-pub use Rattle.std.specs.Prelude.{IfOk, OnOk, leb, min, string_bytes, sum, unwrap_or}
+pub use Rattle.std.specs.Prelude.{IfOk, leb, min, string_bytes, sum, unwrap_or}
 pub use Rattle.std.specs.Str.{IsUtf8, bytes_eq}

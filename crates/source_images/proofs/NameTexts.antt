@@ -1,5 +1,5 @@
 -- Names of types are text, and so is the folder of a file.
-use Rattle.source_images.proofs.Common.{Bool, IsTrue, IsUtf8, List, [], and_parts, ap, arith, common_steps, cond, eq-eqb, false, folder_of, get_or, is_slash, length, list_all, list_any, nat_tests, ne_eqb, refl, slice_range, suc, sym, take, true}
+use Rattle.source_images.proofs.Common.{IsTrue, IsUtf8, List, [], and_parts, ap, arith, common_steps, cond, eq-eqb, false, folder_of, get_or, is_slash, length, list_all, list_any, nat_tests, ne_eqb, or-true, refl, slice_range, suc, sym, take, true}
 use Rattle.source_images.proofs.Common.{true≢false, zero, ℕ, ◌+◌, ◌<◌, ◌||◌, ◌∙◌, ◌∷◌, ◌≡◌, ◌≢◌}
 use Rattle.std.proofs.lemmas.Str.{IsUtf8-from_ascii}
 use Rattle.cam_base.specs.Names.{is_letter, is_name, is_word_byte}
@@ -38,11 +38,7 @@ folder_of-none (x ∷ xs) h = ap (λ b. cond b (x ∷ folder_of xs) []) (no_slas
 some_slash : (xs : List ℕ) (k : ℕ) → k < length xs → get_or xs k 0 ≡ 47 → list_any is_slash xs ≡ true
 some_slash [] k lt e = absurd (omega arith)
 some_slash (x ∷ xs) zero lt e = ap (λ b. b || list_any is_slash xs) (eq-eqb x 47 e)
-some_slash (x ∷ xs) (suc k) lt e = ap (λ b. is_slash x || b) (some_slash xs k (omega arith) e) ∙ or_true (is_slash x)
-  where
-    or_true : (b : Bool) → (b || true) ≡ true
-    or_true true = refl
-    or_true false = refl
+some_slash (x ∷ xs) (suc k) lt e = ap (λ b. is_slash x || b) (some_slash xs k (omega arith) e) ∙ or-true (is_slash x)
 
 -- of a name whose last slash stands there
 pub folder_of-last : (xs : List ℕ) (k : ℕ) → k < length xs → get_or xs k 0 ≡ 47

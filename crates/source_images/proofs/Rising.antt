@@ -1,7 +1,7 @@
 -- The pages of sections that lie apart, by address.
-use Rattle.source_images.proofs.Common.{Aarch64, All, AllPairs, Arch, AreApart, Arm11, Images, IsIn, List, Placed, Some, [], and_cases, and_from, and_parts, ap, arith, both_ways, by_address, cases_Bool, clashes_with, eqb-true, false, flat_map}
-use Rattle.source_images.proofs.Common.{from_flat_map, from_map, get_or, inl, inr, is_inside, leb, leb-true, ltb-false, name_of, nat_eq, nat_lt, not, page_at, page_count, pages_of, range_with_len, refl, section_pages, sections_end, sections_of}
-use Rattle.source_images.proofs.Common.{share_page, slice_get, suc, sym, true, zero, ℕ, ⊎_elim, ◌%◌, ◌&&◌, ◌*◌, ◌+◌, ◌/◌, ◌<◌, ◌∙◌, ◌∷◌, ◌≡◌, ◌≤◌}
+use Rattle.source_images.proofs.Common.{Aarch64, All, AllPairs, Arch, AreApart, Arm11, Images, IsIn, List, Placed, [], and_cases, and_from, and_parts, ap, arith, both_ways, by_address, cases_Bool, clashes_with, eqb-true, false, flat_map}
+use Rattle.source_images.proofs.Common.{from_flat_map, from_map, get_or, inl, inr, is_inside, leb, leb-true, ltb-false, name_of, nat_eq, nat_lt, not, page_at, page_count, pages_of, range_with_len, refl, same_Some, section_pages, sections_end}
+use Rattle.source_images.proofs.Common.{sections_of, share_page, slice_get, suc, sym, true, zero, ℕ, ⊎_elim, ◌%◌, ◌&&◌, ◌*◌, ◌+◌, ◌/◌, ◌<◌, ◌∙◌, ◌∷◌, ◌≡◌, ◌≤◌}
 use Rattle.source_images.specs.declared.pages.SectionPage.{SectionPage}
 use Rattle.source_images.proofs.Apart.{address, addresses_differ, no_clash, same_numbers, sound_numbers}
 use Rattle.source_images.proofs.InOrder.{order_climbs, order_moves}
@@ -71,12 +71,9 @@ one_section images leaves x y i j e =
     let number : x.number ≡ y.number = eqb-true x.number y.number both.1 in
     let from = comes_from images leaves x i in
     let to = comes_from images leaves y j in
-    let same : from.image ≡ to.image = some_same (sym from.at ∙ ap (λ m. slice_get images.images m) image ∙ to.at) in
-    some_same (sym from.section ∙ ap (λ z. slice_get z.sections x.number) same ∙ ap (λ n. slice_get to.image.sections n) number
-    ∙ to.section)
-  where
-    some_same : {X : Type 0} {a b : X} → Some a ≡ Some b → a ≡ b
-    some_same q = cc
+    let same : from.image ≡ to.image = same_Some _ _ (sym from.at ∙ ap (λ m. slice_get images.images m) image ∙ to.at) in
+    same_Some _ _ (sym from.section ∙ ap (λ z. slice_get z.sections x.number) same
+    ∙ ap (λ n. slice_get to.image.sections n) number ∙ to.section)
 
 module _ (images : Images) (leaves : List ℕ) (h : AreApart images leaves) where
   behind : (x y : Placed) → IsIn x (sections_of images leaves) → IsIn y (sections_of images leaves) → address x < address y

@@ -44,11 +44,10 @@ pub use Rattle.adl_meaning.specs.declared.settled.Settled.{Settled}
 pub use Rattle.adl_settings.specs.Allowed.{badge_in, badge_kind, irq_in, is_badge_text, number_in, paddr_in, priority_in, size_in, sized, stack_in, whole_pages, within}
 pub use Rattle.adl_settings.specs.BadValue.{bad_at_end, bad_in_connection, bad_in_leaf}
 pub use Rattle.adl_settings.specs.EndMeaning.{badge_of, bytes_of, default_bytes, end_setting, irq_of, paddr_of}
-pub use Rattle.adl_settings.specs.IrqTwice.{irq_from, irq_twice_at, irqs_in, irqs_twice}
-pub use Rattle.adl_settings.specs.Joints.{Joint, behind, found_at, found_on, founds_in, has_badge, interface_at, is_device_event, is_device_memory, joint_at, joint_of, positioned, positioned_after}
+pub use Rattle.adl_settings.specs.Joints.{Joint, behind, found_at, found_of, found_on, founds_in, has_badge, interface_at, is_device_event, is_device_memory, joint_at, joint_of, positioned, positioned_after}
 pub use Rattle.adl_settings.specs.Meant.{bad_unless, bad_value, meaning, meant, where_set}
 pub use Rattle.adl_settings.specs.Missing.{lacks_value, missing_at, missing_in}
-pub use Rattle.adl_settings.specs.SettingFaults.{first_setting_fault, setting_faults, value_faults}
+pub use Rattle.adl_settings.specs.SettingFaults.{faults_on, first_setting_fault}
 pub use Rattle.adl_settings.specs.Settled.{LeafFound, end_settings, leaf_found, leaf_setting, leaves_found, settled_of}
 pub use Rattle.adl_settings.specs.declared.found.Found.{Found}
 pub use Rattle.adl_types.specs.TypeFaults.{count_of, first_type_fault, is_kind_of}
@@ -62,10 +61,11 @@ pub use Rattle.arch_policy.specs.declared.owner.Owner.TheVariants.{OfConnection,
 pub use Rattle.authorities.specs.declared.authority.Authority.{Authority}
 pub use Rattle.authorities.specs.declared.authority.Authority.TheVariants.{AsyncSend, Handle, Read, Write}
 pub use Rattle.cam_base.proofs.Gathered.{flat_map-gather, from_gather, from_ones, from_place, gather_ones, gather_same, gathered, get_behind, get_front, get_ones, in_append, in_gather, in_left, in_place, in_right, length_append, place_of, split_get}
-pub use Rattle.cam_base.proofs.NumberedLists.{at_place, begins_with, below, below_count, found, from_enumerate, from_filter_map, from_flat_map, from_get_map, from_map, from_range, get_drop, get_map, in_filter_map, in_flat_map, in_map, length-gather}
-pub use Rattle.cam_base.proofs.NumberedLists.{map_ones, map_some, none_in, none_left, none_right}
+pub use Rattle.cam_base.proofs.Naming.{is_name-numbered, name_short, named_is}
+pub use Rattle.cam_base.proofs.NumberedLists.{at_place, begins_with, below, below_count, found, from_enumerate, from_filter_map, from_flat_map, from_get_map, from_map, from_range, get_drop, get_map, in_any, in_filter_map, in_flat_map, in_map}
+pub use Rattle.cam_base.proofs.NumberedLists.{length-gather, map_ones, map_some, none_in, none_left, none_right}
 pub use Rattle.cam_base.specs.Gather.{IsIn, before, gather}
-pub use Rattle.cam_base.specs.Names.{is_letter, is_name, is_word_byte}
+pub use Rattle.cam_base.specs.Names.{is_letter, is_name, is_word_byte, named}
 pub use Rattle.cam_io.specs.Contents.{Contents}
 pub use Rattle.cap_model.proofs.BootPlaces.{at_contains, at_entry, contains_at, entry_at}
 pub use Rattle.cap_model.proofs.Eaches.{Each}
@@ -93,7 +93,7 @@ pub use Rattle.cap_model.specs.declared.object.Tcb.{Tcb}
 pub use Rattle.cap_model.specs.declared.rights.Rights.{Rights}
 pub use Rattle.cap_model.specs.declared.spec.Entry.{Entry}
 pub use Rattle.cap_model.specs.declared.spec.Spec.{Spec}
-pub use Rattle.capdl_write.specs.Writable.{IsWritable, are_slots, caps_of, is_fill, is_laid, is_number, is_tcb, is_word, some}
+pub use Rattle.capdl_write.specs.Writable.{IsWritable, are_slots, caps_of, is_fill, is_laid, is_number, is_plain, is_tcb, is_word, some}
 pub use Rattle.conn_rules.specs.Ends.{allows, end_rule}
 pub use Rattle.conn_rules.specs.Row.{NONE, RW, rows_of, same_role}
 pub use Rattle.conn_rules.specs.declared.rule.ObjectKind.{ObjectKind}
@@ -101,7 +101,7 @@ pub use Rattle.conn_rules.specs.declared.rule.ObjectKind.TheVariants.{OfDevice, 
 pub use Rattle.cspace_layout.specs.LeafEnds.{end_here, ends_at, ends_in, ends_of, joins, leaf_ends, member_ends}
 pub use Rattle.cspace_layout.specs.Lookups.{end_in, end_of, setting_of}
 pub use Rattle.cspace_layout.specs.Members.{is_lock, leaf_members, members_at, members_of_leaf}
-pub use Rattle.cspace_layout.specs.SlotFaults.{counts, first_slot_fault, greatest, slot_faults}
+pub use Rattle.cspace_layout.specs.SlotFaults.{counts, first_slot_fault, greatest, limits_passed, slot_faults}
 pub use Rattle.cspace_layout.specs.Uses.{domain_uses, end_uses, joined_uses, leaf_uses, lock_uses, member_uses, plan_of, slots_of}
 pub use Rattle.cspace_layout.specs.declared.end_at.EndAt.{EndAt}
 pub use Rattle.cspace_layout.specs.declared.plan.SlotPlan.{SlotPlan}
@@ -126,7 +126,7 @@ pub use Rattle.page_tables.proofs.Rising.{kept_rise, shape_of_layer, slots_below
 pub use Rattle.page_tables.proofs.Rooting.{one_root, root_first, upper_below}
 pub use Rattle.page_tables.proofs.Running.{from_runs, in_runs, one_table, tables_exact, tables_rise}
 pub use Rattle.page_tables.proofs.Walking.{above, arrives, found_before}
-pub use Rattle.page_tables.specs.Counts.{levels_of}
+pub use Rattle.page_tables.specs.Counts.{levels_of, table_count}
 pub use Rattle.page_tables.specs.Fits.{AreShapes}
 pub use Rattle.page_tables.specs.Levels.{IsChild, layer, layers, sizes, slot_of, table_of, tables_of, upper, uppers}
 pub use Rattle.page_tables.specs.Runs.{Ascends, Rises, head_of, heads, put_front, runs, under}
@@ -139,7 +139,7 @@ pub use Rattle.reach_laws.proofs.EndLabels.{IsDomains, device_end, domain_no_con
 pub use Rattle.reach_laws.specs.Arranged.{Holds, RootOf}
 pub use Rattle.reach_laws.specs.Flat.{HasDevice, IsFlat, is_at_device}
 pub use Rattle.reach_laws.specs.Pieces.{HasPieces, IsAccess, OfJoints, OfThreads}
-pub use Rattle.reach_laws.specs.Plain.{HoldsPlain, is_plain, option_plain, plain_kind}
+pub use Rattle.reach_laws.specs.Plain.{HoldsPlain, option_plain, plain_kind}
 pub use Rattle.reach_laws.specs.Windows.{HasPage, HasWindows, InTable, IsWindow, window_rights}
 pub use Rattle.sect_table.specs.declared.image.Image.{Image}
 pub use Rattle.sect_table.specs.declared.image.Section.{Section}
@@ -198,7 +198,7 @@ pub use Rattle.system_spec.specs.MapLines.{domain_lines, domain_slots, domain_th
 pub use Rattle.system_spec.specs.Names.{level_series, name_of, prefix, root_series}
 pub use Rattle.system_spec.specs.Objects.{badge_at, buffer_cap, by_number, cap, end_rights, first_rights, frame_at, frame_object, joint, joint_by, line_by, lines, object, put_line, rights_at, role_badge, settled_badge, slots_at, tcb, use_cap}
 pub use Rattle.system_spec.specs.Parts.{all_tables, cnodes, domain_locks, domain_tables, domain_tcbs, endpoint, endpoint_by, endpoints, first_of, frame_parts, irq, irq_by, irqs, is_of, level_number, level_of, lock, locks, notification}
-pub use Rattle.system_spec.specs.Parts.{notification_by, notifications, numbered, of_level, owned, page_mapping, page_rights, page_table, page_tables, part, parts, place, sections, table_part, table_parts, tables_at, tcbs, together}
+pub use Rattle.system_spec.specs.Parts.{notification_by, notifications, numbered, of_level, owned, page_mapping, page_rights, page_table, page_tables, part, parts, place, sections, table_part, table_parts, tables_at, tcbs}
 pub use Rattle.system_spec.specs.Ready.{AreNamed, NamesOneOf}
 pub use Rattle.system_spec.specs.Tables.{Tables, arch, component_name, device_place, entry_in, frame_owner, irq_number, irq_owner, leaf_entry, leaf_name, name_of_item, pages_at, priority, threads_at, uses_at, windows_at}
 pub use Rattle.system_spec.specs.TablesFrom.{tables_from}
@@ -226,7 +226,7 @@ pub use Rattle.vspace_layout.specs.Given.{Given, base, ends, given, leaves_of}
 pub use Rattle.vspace_layout.specs.Laid.{page, space, spaces_of, thread_place, window_at}
 pub use Rattle.vspace_layout.specs.MappedPages.{mapped_pages, may_read, may_write, page_of, pages_from, pages_of_region, region_page, region_part, section_page, section_part}
 pub use Rattle.vspace_layout.specs.Memory.{first_to, first_to_end, is_shared, is_to, leads_to, memory_paddr, memory_pages, memory_place, registers, registers_in, same_port, to_place}
-pub use Rattle.vspace_layout.specs.PageLimits.{first_page_limit, limits_passed, page_counts, page_faults, table_counts, tables_needed}
+pub use Rattle.vspace_layout.specs.PageLimits.{first_page_limit, page_counts, page_faults, table_counts, tables_needed}
 pub use Rattle.vspace_layout.specs.Regions.{buffer_start, end_window, is_window, leaf_windows, pages_in, region, region_start, regions, regions_in, sees_memory, stack_pages, thread_regions, threads_of, window_pages, window_region, windows_of}
 pub use Rattle.vspace_layout.specs.SpaceLaws.{PagesRise, SectionsStand}
 pub use Rattle.vspace_layout.specs.Threads.{is_called, leaf_threads, server, serves, thread}

@@ -1,22 +1,14 @@
 -- The names of components are names, in files that tokens spell.
-use Rattle.spec_laws.proofs.Common.{AreFilesShort, AreNamesSound, Body, Bool, Component, Ended, IsIn, IsOne, Item, ItemAt, Leaf, List, Option, Some, Source, [], ap, as_component, body_number, component_name, components, cond, false, flat_of}
-use Rattle.spec_laws.proofs.Common.{from_filter_map, from_get_map, hierarchy_of, in_get, is_name, item_component, item_line, item_spelled, items_of, leaf_component, leaf_of, leaves, name_of_item, option_map_or, refl, slice_get, subst, sym, true}
-use Rattle.spec_laws.proofs.Common.{unwrap_or, ℕ, ◌∙◌, ◌∷◌, ◌≡◌}
+use Rattle.spec_laws.proofs.Common.{AreFilesShort, AreNamesSound, Body, Component, Ended, IsIn, IsOne, Item, ItemAt, Leaf, List, Option, Some, Source, [], ap, as_component, body_number, component_name, components, flat_of, from_filter_map}
+use Rattle.spec_laws.proofs.Common.{from_get_map, hierarchy_of, in_get, is_name, item_component, item_line, item_spelled, items_of, leaf_component, leaf_of, leaves, name_of_item, named, named_is, option_map_or, slice_get, subst, sym, true, unwrap_or}
+use Rattle.spec_laws.proofs.Common.{ℕ, ◌∙◌, ◌≡◌}
 use Rattle.adl_ast.specs.Forms.{component_line}
-use Rattle.adl_ast.specs.Seeing.{named}
 use Rattle.adl_ast.specs.declared.file.Item.TheVariants as items
 use Rattle.adl_ast.specs.declared.id.Id.{Id}
 use Rattle.adl_hierarchy.proofs.Sources.{component_item}
 use Rattle.flat_laws.proofs.MembersAt.{item_at}
 
 -- ---- names of spelled components
-
-named_is : (text : List ℕ) → is_name (named text) ≡ true
-named_is text = by_test (is_name text) refl
-  where
-    by_test : (b : Bool) → is_name text ≡ b → is_name (cond b text (95 ∷ [])) ≡ true
-    by_test true e = e
-    by_test false e = refl
 
 pub component_named : (c : Component) → IsOne component_line c → is_name c.id.name ≡ true
 unfolding component_line

@@ -1,9 +1,8 @@
 -- The spec of connected tables is laid out.
 use Rattle.spec_laws.proofs.Common.{AreApart, Authority, CNodeOf, Cap, Directory, EndpointOf, FlatConnection, Global, Handler, HasPieces, Held, Holds, HoldsPlain, IrqOf, IsConnected, IsDomains, IsIn, IsKept, IsThere, Kind, Level, LockOf, NONE, None}
 use Rattle.spec_laws.proofs.Common.{NotificationOf, Object, OfEnd, Option, OwnLock, RW, RootOf, Rpc, SlotUse, Some, Table, Tables, ThreadOf, Upper, ap, boot, confers, connection_label, device_end, domain_label, domain_no_connection, domain_no_device}
-use Rattle.spec_laws.proofs.Common.{edge, has_label, inl, inr, irq_at, is_at, is_kind, is_plain, kind_of_object, kind_there, label_of, members_of_leaf, object, object_at, object_there, one_connection, one_domain, option_confers, option_map}
-use Rattle.spec_laws.proofs.Common.{option_map_or, option_plain, place, place_of, plain_kind, policy_tables, refl, rights_at, slice_get, spec_of, subst, sym, tcb, thread, thread_place, threads_of, true, true≢false, use_cap, uses_at, ℕ, ◌+◌, ◌∙◌, ◌≡◌}
-use Rattle.spec_laws.proofs.Common.{◌≢◌, ◌⊎◌}
+use Rattle.spec_laws.proofs.Common.{edge, has_label, inl, inr, irq_at, is_at, is_kind, kind_of_object, kind_there, label_of, members_of_leaf, object, object_at, object_there, one_connection, one_domain, option_confers, option_map, option_map_or}
+use Rattle.spec_laws.proofs.Common.{option_plain, place, place_of, plain_kind, policy_tables, refl, rights_at, slice_get, spec_of, subst, sym, tcb, thread, thread_place, threads_of, true, true≢false, use_cap, uses_at, ℕ, ◌+◌, ◌∙◌, ◌≡◌, ◌≢◌, ◌⊎◌}
 use Rattle.arch_policy.specs.declared.owner.Owner.TheVariants as owners
 use Rattle.arch_policy.specs.Policies.{IsLockEdge}
 use Rattle.arch_policy.specs.Tables.{IsThere as HasLabel}
@@ -22,6 +21,7 @@ use Rattle.spec_laws.proofs.ThreadsHere.{threads}
 use Rattle.spec_laws.proofs.Used.{from_domain, from_end_uses, lock_used}
 use Rattle.spec_laws.proofs.Whose.{IsAt, class_of, label_there, labels, object_stands, of_calls, of_notices}
 use Rattle.spec_laws.proofs.WindowsHere.{windows}
+use Rattle.reach_laws.specs.Plain.{is_plain}
 
 no_pages : (level : Level) → same_kind (kinds.Pages level) kinds.Endpoint ≡ true → ⊥
 no_pages Global e = true≢false (sym e)

@@ -1,15 +1,13 @@
 -- What is laid out is written in numbers of 64 bits and in plain texts.
 use Rattle.spec_laws.proofs.Common.{Aarch64, Arch, Arm11, CNodeOf, Cap, Connector, Domain, EndpointOf, Fill, FlatEnd, FrameInfo, FrameOf, From, Handler, IrqOf, IsFillWritten, IsFit, IsFrameWritten, IsIn, IsThere, IsThreadWritten, IsWritten, Layer}
 use Rattle.spec_laws.proofs.Common.{List, LockOf, Mapping, None, NotificationOf, Object, OfEnd, Option, OwnLock, Part, RW, Role, Series, Shape, SlotUse, Some, TableOf, Tables, ThreadOf, ThreadPlace, To, What, [], and_from, and_parts, ap, arch}
-use Rattle.spec_laws.proofs.Common.{are_slots, arith, buffer_cap, cap, decimal, end_of, eqb-true, false, false_from_ne_true, frame_at, frame_object, from_gather, from_map, if_any, in_place, inl, inr, is_fill, is_laid, is_letter, is_name, is_number}
-use Rattle.spec_laws.proofs.Common.{is_tcb, is_word, is_word_byte, layers, leaf_entry, leaf_name, leb, length, length-append, length-decimal-le, list_all, lt-ltb, map, not, not_from_false, object, option_map_or, page_mapping, pages_at}
-use Rattle.spec_laws.proofs.Common.{part_name, place, prefix, refl, role_badge, same_Some, settled_badge, shape_of_layer, shapes, slice_get, slice_get_within, slot_of, slots_at, slots_below, slots_lead, subst, sym, table_of, tcb, threads_at, true}
-use Rattle.spec_laws.proofs.Common.{true≢false, use_cap, uses_at, ℕ, ◌&&◌, ◌++◌, ◌+◌, ◌<◌, ◌==◌, ◌^◌, ◌∙◌, ◌∷◌, ◌≡◌, ◌≤◌}
+use Rattle.spec_laws.proofs.Common.{are_slots, arith, buffer_cap, cap, decimal, end_of, eqb-true, false, false_from_ne_true, frame_at, frame_object, from_gather, from_map, if_any, in_place, inl, inr, is_fill, is_laid, is_letter, is_name}
+use Rattle.spec_laws.proofs.Common.{is_name-numbered, is_number, is_plain, is_tcb, is_word, is_word_byte, layers, leaf_entry, leaf_name, leb, length, length-append, length-decimal-le, list_all, lt-ltb, map, name_short, not, not_from_false, object}
+use Rattle.spec_laws.proofs.Common.{option_map_or, page_mapping, pages_at, part_name, place, prefix, refl, role_badge, same_Some, settled_badge, shape_of_layer, shapes, slice_get, slice_get_within, slot_of, slots_at, slots_below, slots_lead, subst}
+use Rattle.spec_laws.proofs.Common.{sym, table_of, tcb, threads_at, true, true≢false, use_cap, uses_at, ℕ, ◌&&◌, ◌++◌, ◌+◌, ◌<◌, ◌==◌, ◌^◌, ◌∙◌, ◌∷◌, ◌≡◌, ◌≤◌}
 use Rattle.std.specs.Option.{option_map}
 use Rattle.cap_model.specs.declared.object.Object.TheVariants as objects
-use Rattle.capdl_write.specs.Writable.{is_plain}
 use Rattle.capdl_text.specs.TokenFaults.{is_left_out_word}
-use Rattle.cam_base.proofs.Naming.{is_name-numbered, name_short}
 use Rattle.system_spec.specs.declared.series.Series.TheVariants as series
 use Rattle.spec_laws.proofs.CapsFit.{all_pass}
 use Rattle.spec_laws.proofs.Lengths.{AreShort}

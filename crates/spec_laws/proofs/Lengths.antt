@@ -1,8 +1,8 @@
 -- How long the lines of a canonical text are, where names are short.
 use Rattle.spec_laws.proofs.Common.{Aarch64, Arch, Arm11, Bool, CNode, Cap, Directory, Endpoint, Fill, Frame, Global, IsIn, Level, List, None, Object, Option, Pages, Rights, Some, Spec, Table, Tcb, Thread, Upper, [], and_parts, ap, arch_word}
 use Rattle.spec_laws.proofs.Common.{are_slots, arith, buffer_line, cap_end, caps_of, cond_both, decimal, elf_field, entry_line, entry_text, false, fill_field, flat_map, frame_line, has_slot, holder_text, if_any, inl, inr, irq_line, irq_text, is_laid}
-use Rattle.spec_laws.proofs.Common.{is_number, is_tcb, keeps, keeps_fill, leb, leb-true, length, length_append, level_word, ltb-true, name_at, named_line, nat_lt, not, object_line, paddr_field, params, refl, slots_text, some, suc}
-use Rattle.spec_laws.proofs.Common.{sym, tcb_line, tcb_text, true, zero, ℕ, ◌&&◌, ◌*◌, ◌++◌, ◌+◌, ◌<◌, ◌==◌, ◌^◌, ◌∷◌, ◌≡◌, ◌≤◌}
+use Rattle.spec_laws.proofs.Common.{is_number, is_tcb, keeps, keeps_fill, leb, leb-true, length, length_append, level_word, ltb-true, name_at, named_line, nat_lt, not, object_line, paddr_field, params, refl, slots_text, some, suc, sym, tcb_line}
+use Rattle.spec_laws.proofs.Common.{tcb_text, true, zero, ℕ, ◌&&◌, ◌*◌, ◌++◌, ◌+◌, ◌<◌, ◌==◌, ◌^◌, ◌∷◌, ◌≡◌, ◌≤◌}
 use Rattle.std.specs.Prelude.{◌/◌, ◌%◌, codes}
 use Rattle.cam_base.specs.Hex.{glyph, hex_digits, hex_text}
 use Rattle.cam_base.specs.Texts.{◌⊹◌, together}

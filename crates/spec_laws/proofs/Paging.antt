@@ -1,6 +1,6 @@
 -- What is mapped in the space of a domain is what the source and its images say
 use Rattle.spec_laws.proofs.Common.{AreSettled, Bool, Buffer, Connector, Content, Domain, EndAt, EndSetting, Fill, FlatConnection, FlatEnd, Image, IsIn, IsRegionPage, IsSectionPage, List, MappedPage, MapsPage, None, Option, Placed, Region, Section}
-use Rattle.spec_laws.proofs.Common.{SectionPage, Some, Stack, Tables, Window, [], ap, base, begins, below_count, by_address, cond, end_in, end_window, ends, ends_at, eq-eqb, false, fill_of, from_flat_map, from_gather, from_map, image_number}
+use Rattle.spec_laws.proofs.Common.{SectionPage, Some, Stack, Tables, Window, [], ap, base, begins, below_count, by_address, cond, end_in, end_window, ends, ends_at, eq-eqb, false, fill_of, from_flat_map, from_gather, from_map, image_number, in_any}
 use Rattle.spec_laws.proofs.Common.{in_append, in_flat_map, in_gather, in_left, in_map, in_place, in_right, inl, inr, is_run, is_window, leaf_windows, leaves_of, map, mapped_pages, may_read, may_write, nat_eq, option_and_then, option_map_or, page_at}
 use Rattle.spec_laws.proofs.Common.{page_count, page_of, pages_of, pages_of_region, place_of, placed, range_with_len, refl, region_page, region_part, regions, section_page, section_pages, section_part, sections_if, sections_of, sees_memory}
 use Rattle.spec_laws.proofs.Common.{setting_of, slice_get, subst, sym, system, thread_regions, threads_of, true, window_region, windows_of, ℕ, ◌*◌, ◌+◌, ◌∙◌, ◌∷◌, ◌≡◌}
@@ -8,7 +8,6 @@ use Rattle.std.specs.Prelude.{option_map}
 use Rattle.std.proofs.lemmas.List.Sorted.{IsPermutation-sym}
 use Rattle.source_images.specs.ByAddress.{name_of}
 use Rattle.source_images.specs.Images.{runs}
-use Rattle.cam_base.proofs.NumberedLists.{in_any}
 use Rattle.source_images.proofs.Apart.{run_by}
 use Rattle.source_images.proofs.InOrder.{name_is, order_moves}
 use Rattle.source_images.proofs.SectionsTold.{comes_from}

@@ -1,12 +1,11 @@
 -- Settled priorities, badges and interrupts are small numbers.
 use Rattle.spec_laws.proofs.Common.{EndSetting, EndSettings, FlatConnection, FlatEnd, Found, From, Interface, IsIn, Joint, Leaf, LeafFound, LeafSetting, List, None, Option, Role, Some, Source, To, [], and_parts, ap, arith, badge_in, badge_kind}
-use Rattle.spec_laws.proofs.Common.{badge_of, behind, cond_both, device_place, digits_value, end_setting, end_settings, flat_of, found_at, found_on, founds_in, from_filter_map, from_get_map, has_badge, hierarchy_of, in_get, inl, inr, interface_at}
-use Rattle.spec_laws.proofs.Common.{irq_in, irq_number, irq_of, is_badge_text, joint_at, joint_of, leaf_setting, leaves_found, leb-true, length, map_some, meaning, meant, nat_le, number_in, option_and_then, option_map_or, positioned}
+use Rattle.spec_laws.proofs.Common.{badge_of, behind, cond_both, device_place, digits_value, end_setting, end_settings, flat_of, found_at, found_of, found_on, founds_in, from_filter_map, from_get_map, has_badge, hierarchy_of, in_get, inl, inr}
+use Rattle.spec_laws.proofs.Common.{interface_at, irq_in, irq_number, irq_of, is_badge_text, joint_at, joint_of, leaf_setting, leaves_found, leb-true, length, map_some, meaning, meant, nat_le, number_in, option_and_then, option_map_or, positioned}
 use Rattle.spec_laws.proofs.Common.{positioned_after, priority_in, refl, setting_of, settled_badge, settled_of, slice_get, subst, suc, sym, unwrap_or, within, ℕ, ◌&&◌, ◌+◌, ◌<◌, ◌^◌, ◌∙◌, ◌∷◌, ◌≡◌, ◌≤◌}
 use Rattle.adl_ast.specs.declared.value.ValueKind.{ValueKind, Number, Text}
 use Rattle.adl_meaning.specs.Values.{Given}
 use Rattle.adl_settings.specs.EndMeaning.{badge_at}
-use Rattle.adl_settings.specs.Joints.{found_of}
 use Rattle.spec_laws.proofs.SettledEnds.{setting_from}
 
 within_most : (greatest n : ℕ) → unwrap_or (within 0 greatest n) 0 ≤ greatest

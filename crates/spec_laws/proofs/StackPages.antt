@@ -1,9 +1,8 @@
 -- Each thread's stack has a page, where no fault of settings stands.
-use Rattle.spec_laws.proofs.Common.{Bool, Domain, EndAt, Given, Images, IsIn, Leaf, LeafFound, None, Option, Some, Source, Value, [], and_parts, ap, arith, bad_in_leaf, bad_value, cond, domain_number, domain_of, ends}
-use Rattle.spec_laws.proofs.Common.{ends_at, false, first_setting_fault, flat_of, from_flat_map, from_get_map, get_map, given, hierarchy_of, in_get, inl, inr, is_hardware, is_some, is_there, leaf_found, leaf_of}
-use Rattle.spec_laws.proofs.Common.{leaf_owned, leaf_setting, leaf_threads, leaves, leaves_found, leaves_of, leb-true, meant, nat_le, none_in, none_right, number_in, option_and_then, option_map, option_map_or}
-use Rattle.spec_laws.proofs.Common.{priority_in, refl, server, serves, settings_sound, settled_of, slice_get, so, stack_in, stack_pages, subst, sym, thread, threads_of, true, unwrap_or, whole_pages, within, ℕ, ◌&&◌, ◌*◌, ◌+◌, ◌/◌}
-use Rattle.spec_laws.proofs.Common.{◌∙◌, ◌∷◌, ◌≡◌, ◌≤◌}
+use Rattle.spec_laws.proofs.Common.{Bool, Domain, EndAt, Given, Images, IsIn, Leaf, LeafFound, None, Option, Some, Source, Value, [], and_parts, ap, arith, bad_in_leaf, bad_value, cond, domain_number, domain_of, ends, ends_at, false}
+use Rattle.spec_laws.proofs.Common.{first_setting_fault, flat_of, from_flat_map, from_get_map, get_map, given, hierarchy_of, in_get, inl, inr, is_hardware, is_some, is_there, leaf_found, leaf_of, leaf_owned, leaf_setting, leaf_threads, leaves}
+use Rattle.spec_laws.proofs.Common.{leaves_found, leaves_of, leb-true, meant, nat_le, none_in, none_right, number_in, option_and_then, option_map, option_map_or, priority_in, refl, server, serves, settings_sound, settled_of, slice_get, so, stack_in}
+use Rattle.spec_laws.proofs.Common.{stack_pages, subst, sym, thread, threads_of, true, unwrap_or, whole_pages, within, ℕ, ◌&&◌, ◌*◌, ◌+◌, ◌/◌, ◌∙◌, ◌∷◌, ◌≡◌, ◌≤◌}
 use Rattle.adl_meaning.specs.Values.{Given as Value_given}
 use Rattle.vspace_layout.specs.declared.thread.ThreadOf.{ThreadOf}
 

@@ -3,12 +3,13 @@ use Rattle.spec_laws.proofs.Common.{CNodeOf, CanSlot, Connector, Direct, Directo
 use Rattle.spec_laws.proofs.Common.{Owned, Owner, PageTable, Part, Rpc, Series, SharedMemory, SlotUse, Some, StandInOrder, Table, Tables, Upper, [], all_tables, ap, arith, before, by_section, cnodes, domain_locks, endpoint, endpoint_by, endpoints}
 use Rattle.spec_laws.proofs.Common.{entry, entry_name, frame_parts, from_gather, from_place, gather_ones, get_map, get_or, in_place, inl, inr, irq, irq_by, irq_owner, irqs, length, length-map, level_series, lock, locks, map, notification}
 use Rattle.spec_laws.proofs.Common.{notification_by, notifications, numbered, owned, part, parts, place_of, rank, refl, sections, single, slice_get, slice_get-get_or, slice_get_within, spec_of, split_get, subst, suc, table_part, table_parts, tcbs}
-use Rattle.spec_laws.proofs.Common.{together, uses_at, ℕ, ◌++◌, ◌+◌, ◌<◌, ◌∷◌, ◌≡◌, ◌≤◌}
+use Rattle.spec_laws.proofs.Common.{uses_at, ℕ, ◌++◌, ◌+◌, ◌<◌, ◌∷◌, ◌≡◌, ◌≤◌}
 use Rattle.adl_meaning.specs.declared.connector.Connector.TheVariants.{Notification as Notifies}
 use Rattle.system_spec.specs.declared.series.Series.TheVariants as series
 use Rattle.spec_laws.proofs.Numbering.{irqs_before, lock_numbered}
 use Rattle.spec_laws.proofs.Sections.{in_section, told}
 use Rattle.spec_laws.proofs.Uses.{uses_are}
+use Rattle.system_spec.specs.Parts.{together}
 
 -- ---- order
 

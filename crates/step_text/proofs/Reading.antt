@@ -1,8 +1,7 @@
 -- One line more.
-use Rattle.step_text.proofs.Common.{Err, IsRead, IsRefusal, Line, List, None, Ok, Option, Result, Some, Spec, Step, Wrong, [], ap, append_assoc, arith, at_line, bytes_limit, false, fault_of, fields, filter_map, first_fault_of, length, lines}
-use Rattle.step_text.proofs.Common.{nat_tests, option_map, option_or, spelled, step_of, subst, sym, take, thread_named, wrong, ℕ, ◌++◌, ◌+◌, ◌∙◌, ◌∷◌, ◌≡◌, ◌≤◌}
+use Rattle.step_text.proofs.Common.{Err, IsRead, IsRefusal, Line, List, None, Option, Some, Spec, Step, Wrong, [], ap, append_assoc, arith, at_line, bytes_limit, false, fault_of, fields, filter_map, first_fault_of, length, lines}
+use Rattle.step_text.proofs.Common.{nat_tests, option_map, option_or, spelled, step_of, sym, take, thread_named, wrong, ℕ, ◌++◌, ◌+◌, ◌∙◌, ◌∷◌, ◌≡◌, ◌≤◌}
 use Rattle.std.proofs.Common.{nat_lt}
-use Rattle.std.specs.Result.{IsErrAnd}
 use Rattle.cam_base.specs.declared.error.Refused.{Refused}
 use Rattle.cam_base.specs.declared.error.Refused.TheVariants as refused
 use Rattle.cam_base.specs.declared.text_fault.TextFault.{TextFault}
@@ -60,9 +59,3 @@ text_refused spec bytes place before line left more (refused.Fault fault) short 
     rw within (ap (λ p. first_fault_of p 0 (lines bytes)) (sym threads) ∙ sym so_far ∙ fault_here place before line left more
     fault is here)
 text_refused spec bytes place before line left more refused.NoMemory short threads is so_far here = tt
-
--- a refusal that is passed on
-pub passed_on : (spec : Spec) (bytes : List ℕ) (answer : Result (List Step) (Refused TextFault)) (refusal : Refused TextFault)
-    → IsErrAnd answer (λ other. other ≡ refusal) → IsRead spec bytes (Err refusal) → IsRead spec bytes answer
-passed_on spec bytes (Ok steps) refusal is read = absurd is
-passed_on spec bytes (Err other) refusal is read = subst (λ (r : Refused TextFault). IsRead spec bytes (Err r)) (sym is) read

@@ -1,8 +1,7 @@
 -- What stands where in each domain, counted domain by domain
-use Rattle.system_spec.proofs.Common.{AreFew, Bool, Domain, FrameOf, List, LockOf, Object, Page, SlotUse, Some, TableOf, Tables, [], add-one, ap, arch, arith, as_many, at_place, counts_of_addresses, domain_locks}
-use Rattle.system_spec.proofs.Common.{domain_tables, false, first_of, flat_map, gather, gather_more, gather_ones, get_or, holds_lock, layers, length, length-gather, length_append, level_of, lock, map, map-append, one}
-use Rattle.system_spec.proofs.Common.{page_mapping, page_table, pages_at, place, refl, shapes, slice_get, space_tables, sym, table_count, tables_at, take, take_all, taken_le, true, uses_at, ℕ, ◌++◌, ◌+◌, ◌<◌, ◌^◌, ◌∙◌, ◌∷◌}
-use Rattle.system_spec.proofs.Common.{◌≡◌, ◌≤◌}
+use Rattle.system_spec.proofs.Common.{AreFew, Bool, Domain, FrameOf, List, LockOf, Object, Page, SlotUse, Some, TableOf, Tables, [], add-one, ap, arch, arith, as_many, at_place, counts_of_addresses, domain_locks, domain_tables, false, first_of}
+use Rattle.system_spec.proofs.Common.{flat_map, gather, gather_more, gather_ones, get_or, holds_lock, layers, length, length-gather, length_append, level_of, lock, map, map-append, one, page_mapping, page_table, pages_at, place, refl, shapes}
+use Rattle.system_spec.proofs.Common.{slice_get, space_tables, sym, table_count, tables_at, take, take_all, taken_le, true, uses_at, ℕ, ◌++◌, ◌+◌, ◌<◌, ◌^◌, ◌∙◌, ◌∷◌, ◌≡◌, ◌≤◌}
 use Rattle.page_tables.specs.Counts.{table_count as count_of}
 use Rattle.system_spec.proofs.Bounds.{ends}
 use Rattle.system_spec.proofs.Placing.{as_long, grown_length, length-lock}

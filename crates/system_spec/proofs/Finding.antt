@@ -1,6 +1,6 @@
 -- A page is found by its address, where addresses rise
-use Rattle.system_spec.proofs.Common.{Bool, IsIn, IsNonDecreasingBy, IsPartitionPoint, List, None, Page, Rises, Some, [], ap, arith, cond, false, find, frame_at, get_or, get_or_from_slice_get, inl, inr, length, ltb, ltb-false, ltb-true}
-use Rattle.system_spec.proofs.Common.{map, ne_eqb, option_map, refl, slice_get, slice_get_within, subst, suc, true, zero, ℕ, ◌<◌, ◌==◌, ◌∙◌, ◌∷◌, ◌≡◌, ◌≤◌}
+use Rattle.system_spec.proofs.Common.{Bool, IsIn, IsNonDecreasingBy, IsPartitionPoint, List, None, Page, Rises, Some, [], ap, arith, cond, false, find, frame_at, get_or, get_or_from_slice_get, inl, inr, length, ltb, ltb-false, ltb-true, map, ne_eqb}
+use Rattle.system_spec.proofs.Common.{option_map, refl, slice_get, slice_get_within, subst, suc, true, zero, ℕ, ◌<◌, ◌==◌, ◌∙◌, ◌∷◌, ◌≡◌, ◌≤◌}
 use Rattle.std.specs.Prelude.{Option}
 
 abbrev at_page : ℕ → Page → Bool

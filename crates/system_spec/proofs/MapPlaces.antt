@@ -1,9 +1,10 @@
 -- Places of the threads and the locks that lines of the map name
-use Rattle.system_spec.proofs.Common.{AreFew, Domain, List, LockOf, OfDomain, Owned, Part, SlotUse, Some, Tables, ThreadOf, ThreadPlace, [], add-one, all_tables, ap, arith, at_place, before, but_frames, cnodes, domain_locks, domain_tcbs, domain_threads}
-use Rattle.system_spec.proofs.Common.{endpoints, first_of, frame_parts, gather, gather_more, gather_ones, irqs, length, length_append, lock, locks, notifications, numbered, owned, part, place, refl, slice_get, subst, sym, table_parts, take}
-use Rattle.system_spec.proofs.Common.{take_all, taken_le, tcbs, thread_lines_from, threads_at, together, uses_at, ℕ, ◌++◌, ◌+◌, ◌<◌, ◌^◌, ◌∙◌, ◌∷◌, ◌≡◌, ◌≤◌}
+use Rattle.system_spec.proofs.Common.{AreFew, Domain, List, LockOf, OfDomain, Owned, Part, SlotUse, Some, Tables, ThreadOf, ThreadPlace, [], add-one, all_tables, ap, arith, at_place, before, cnodes, domain_locks, domain_tcbs, domain_threads}
+use Rattle.system_spec.proofs.Common.{endpoints, first_of, frame_parts, gather, gather_more, gather_ones, irqs, length, length_append, lock, locks, notifications, numbered, owned, part, place, refl, slice_get, subst, sym, table_parts, take, take_all}
+use Rattle.system_spec.proofs.Common.{taken_le, tcbs, thread_lines_from, threads_at, together, uses_at, ℕ, ◌++◌, ◌+◌, ◌<◌, ◌^◌, ◌∙◌, ◌∷◌, ◌≡◌, ◌≤◌}
 use Rattle.system_spec.specs.declared.series.Series.TheVariants as series
 use Rattle.system_spec.proofs.Bounds.{ends}
+use Rattle.system_spec.specs.Grouped.{but_frames}
 
 none_before : {X Y : Type 0} (f : ℕ → X → List Y) (xs : List X) → before f xs 0 ≡ 0
 none_before f [] = refl

@@ -1,6 +1,5 @@
 -- The search for the number of bits.
-use Rattle.system_spec.proofs.Common.{arith, bits_from, false, le-ltb, lt-ltb, refl, suc, sym, true, zero, ℕ, ◌+◌, ◌-◌, ◌<◌, ◌^◌, ◌≡◌, ◌≤◌}
-use Rattle.std.proofs.Common.{nat_lt}
+use Rattle.system_spec.proofs.Common.{arith, bits_from, false, le-ltb, lt-ltb, nat_lt, refl, suc, sym, true, zero, ℕ, ◌+◌, ◌-◌, ◌<◌, ◌^◌, ◌≡◌, ◌≤◌}
 use Rattle.system_spec.specs.Bits.{bits_for}
 
 stop : (n b m : ℕ) → n < 2 ^ b → bits_from n b m ≡ b

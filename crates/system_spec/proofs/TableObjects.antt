@@ -1,13 +1,11 @@
 -- The page tables of all domains are the objects of their parts
-use Rattle.system_spec.proofs.Common.{Domain, Endpoint, List, None, Object, Option, PageTable, Part, Some, TableOf, Tables, [], all_spaces, all_tables, ap, domain_tables, gather, gather_map, gather_same, get_map, get_or, length, level_of, map, map-append, object, page_table}
-use Rattle.system_spec.proofs.Common.{refl, slice_get, space_tables, suc, sym, table_part, table_parts, tables_at, ℕ, ◌++◌, ◌∙◌, ◌∷◌, ◌≡◌}
+use Rattle.system_spec.proofs.Common.{Domain, Endpoint, List, None, Object, Option, PageTable, Part, Some, TableOf, Tables, YieldsList-from_vec, [], all_spaces, all_tables, ap, domain_tables, gather, gather_map, gather_same, get_map, get_or}
+use Rattle.system_spec.proofs.Common.{into_iter_items, into_iter_len, into_iter_steps, length, level_of, map, map-append, object, page_table, refl, slice_get, space_tables, suc, sym, table_part, table_parts, tables_at, ℕ, ◌++◌, ◌∙◌, ◌∷◌, ◌≡◌}
 use Rattle.system_spec.proofs.Domains.{tables_counted}
 use Rattle.system_spec.proofs.Standing.{same}
 use Rattle.system_spec.proofs.Turning.{mapped_ones}
-use Rattle.std.proofs.lemmas.Iterator.Adapters.{YieldsList-from_vec}
 use Rattle.std.proofs.lemmas.Iterator.Consumers.{YieldsList-end}
 use Rattle.std.specs.Iterator.{Yields}
-use Rattle.std.specs.Vec.Iter.{into_iter_items, into_iter_len, into_iter_steps}
 
 mapped : {X Y Z : Type 0} (h : Y → Z) (f : ℕ → X → List Y) (xs : List X)
     → map h (gather f xs) ≡ gather (λ n x. map h (f n x)) xs

@@ -1,9 +1,9 @@
 -- The parts of a system are of what there is: domains, threads, connections, locks, page tables and frames, each by its number.
 use Rattle.system_spec.proofs.Common.{Bool, CNodeOf, Connector, Direct, Domain, EndpointOf, FlatConnection, FrameInfo, FrameOf, Handler, Interrupt, IrqOf, IsIn, List, LockOf, Mmio, Notification, NotificationOf, Object, OfConnection, OfDomain, OfEnd}
 use Rattle.system_spec.proofs.Common.{OwnLock, Owned, Owner, PageTable, Part, Rpc, Series, SharedMemory, SlotUse, Some, TableOf, Tables, ThreadOf, ThreadPlace, [], all_tables, ap, cnodes, domain_locks, domain_tables, domain_tcbs, endpoint}
-use Rattle.system_spec.proofs.Common.{endpoint_by, endpoints, false, frame_owner, frame_parts, from_gather, from_ones, gather, in_append, in_gather, in_place, inl, inr, irq, irq_by, irq_owner, irqs, level_of, lock, locks, notification, notification_by}
-use Rattle.system_spec.proofs.Common.{notifications, numbered, object, object_at, option_map, owned, page_table, part, parts, place, place_of, refl, sections, slice_get, slice_get_within, spec_of, subst, sym, table_part, table_parts, tables_at, take, tcbs}
-use Rattle.system_spec.proofs.Common.{threads_at, together, true, uses_at, ℕ, ◌++◌, ◌∷◌, ◌≡◌, ◌⊎◌}
+use Rattle.system_spec.proofs.Common.{endpoint_by, endpoints, false, frame_owner, frame_parts, from_gather, from_ones, gather, in_append, in_gather, in_place, inl, inr, irq, irq_by, irq_owner, irqs, level_of, lock, locks, notification}
+use Rattle.system_spec.proofs.Common.{notification_by, notifications, numbered, object, object_at, option_map, owned, page_table, part, parts, place, place_of, refl, sections, slice_get, slice_get_within, spec_of, subst, sym, table_part, table_parts}
+use Rattle.system_spec.proofs.Common.{tables_at, take, tcbs, threads_at, together, true, uses_at, ℕ, ◌++◌, ◌∷◌, ◌≡◌, ◌⊎◌}
 use Rattle.cap_model.specs.Kinds.{kind_at, kind_of_object}
 use Rattle.system_spec.proofs.Objects.{in_together, objects_stand}
 use Rattle.system_spec.specs.declared.part.What.{What}
@@ -176,7 +176,8 @@ of_thread t o i =
     let g = from_gather (domain_tcbs t) o t.flat.domains i in
     let f : ℕ → ThreadPlace → List Owned = λ n z. owned (OfDomain g.0) (ThreadOf g.0 n) ∷ [] in
     let h = from_gather f o (threads_at t g.0) g.3 in
-    subst (λ (z : Owned). IsAlone t z.what) (single (owned (OfDomain g.0) (ThreadOf g.0 h.0)) o h.3) (((g.1, g.2), (h.1, h.2)), refl)
+    subst (λ (z : Owned). IsAlone t z.what) (single (owned (OfDomain g.0) (ThreadOf g.0 h.0)) o h.3)
+    (((g.1, g.2), (h.1, h.2)), refl)
 
 of_endpoint : (t : Tables) (p : Part) → IsIn p (endpoints t) → IsAlone t p.what
 of_endpoint t p i =

@@ -1,6 +1,7 @@
 -- A thread of the parts that it is made of
-use Rattle.system_spec.proofs.Common.{CNodeOf, Cap, FrameOf, List, None, Option, RW, Some, TableOf, Tables, ThreadPlace, ap, arith, buffer_cap, cap, leaf_entry, leaf_name, option_map, place, priority, refl, tcb, ℕ, ◌+◌, ◌∙◌, ◌≡◌}
+use Rattle.system_spec.proofs.Common.{CNodeOf, FrameOf, List, None, Option, RW, Some, TableOf, Tables, ThreadPlace, ap, arith, buffer_cap, cap, leaf_entry, leaf_name, option_map, place, priority, refl, tcb, ℕ, ◌+◌, ◌∙◌, ◌≡◌}
 use Rattle.cap_model.specs.declared.object.Tcb.{Tcb}
+use Rattle.cap_model.specs.declared.cap.Cap.{Cap}
 
 pub cnode_place : (t : Tables) (d : ℕ) → d ≡ place t (CNodeOf d)
 cnode_place t d = omega arith

@@ -1,7 +1,7 @@
 -- Turns of loops over places
-use Rattle.system_spec.proofs.Common.{Frame, FrameInfo, FrameOf, List, Owned, Part, Some, Tables, [], add-one, all_tables, ap, append_assoc, at_place, frame_owner, frame_part, frame_parts, gather, gather_more, length, map, map-append, numbered, owned, part, parts, refl, sections, slice_get, suc, sym, table_parts, take, together, ℕ, ◌++◌, ◌+◌, ◌<◌, ◌∙◌, ◌∷◌, ◌≡◌}
+use Rattle.system_spec.proofs.Common.{Frame, FrameInfo, FrameOf, List, Owned, Part, Some, Tables, [], add-one, all_tables, ap, append-nil, append_assoc, at_place, frame_owner, frame_part, frame_parts, gather, gather_more, length, map, map-append}
+use Rattle.system_spec.proofs.Common.{numbered, owned, part, parts, refl, sections, slice_get, suc, sym, table_parts, take, together, ℕ, ◌++◌, ◌+◌, ◌<◌, ◌∙◌, ◌∷◌, ◌≡◌}
 use Rattle.std.proofs.lemmas.Grind.{flat_map-append}
-use Rattle.std.proofs.lemmas.List.{append-nil}
 
 -- where what comes from an element depends on its place alone
 pub place_turn : {X Y : Type 0} (f : ℕ → X → List Y) (xs : List X) (i : ℕ) (old mid new : List Y) → i < length xs

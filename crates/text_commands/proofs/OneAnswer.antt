@@ -1,7 +1,7 @@
 -- For the same contents each command has one answer.
-use Rattle.text_commands.proofs.Common.{AreOne, AreOneButChoice, Checked, Contents, Entry, Err, InputError, IsAudited, IsCertRead, IsCertified, IsChecked}
-use Rattle.text_commands.proofs.Common.{IsLabelling, IsPlanned, IsPolicy, IsPolicyRead, IsReplayed, IsRun, IsSystem, IsTabled, IsTold, Judged, Labels, List, None, Ok, Option, Outcome, Policy, Ran, Refused, Replayed, Result, Some, Spec}
-use Rattle.text_commands.proofs.Common.{Tabled, Verdict, [], answer_but_choice, ap, codes, find, inl, inr, is_none, map, object_label, option_map, refl, sym, tell_elf, tell_text, tell_untyped, unlabelled, ℕ, ◌∙◌, ◌∷◌, ◌≡◌, ◌⊎◌}
+use Rattle.text_commands.proofs.Common.{AreOne, AreOneButChoice, Checked, Contents, Entry, Err, InputError, IsAudited, IsCertRead, IsCertified, IsChecked, IsLabelling, IsPlanned, IsPolicy, IsPolicyRead, IsReplayed, IsRun, IsSystem, IsTabled, IsTold}
+use Rattle.text_commands.proofs.Common.{Judged, Labels, List, None, Ok, Option, Outcome, Policy, Ran, Refused, Replayed, Result, Some, Spec, Tabled, Verdict, [], answer_but_choice, ap, codes, find, inl, inr, is_none, map, object_label, option_map}
+use Rattle.text_commands.proofs.Common.{refl, sym, tell_elf, tell_text, tell_untyped, unlabelled, ℕ, ◌∙◌, ◌∷◌, ◌≡◌, ◌⊎◌}
 use Rattle.boot_plan.specs.UntypedTexts as untypeds
 use Rattle.cam_base.specs.declared.error.Refused.TheVariants as refused
 use Rattle.cam_base.specs.declared.text_fault.TextFault.{TextFault}

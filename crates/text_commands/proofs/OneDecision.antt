@@ -1,7 +1,6 @@
 -- Of a system one thing is decided.
 use Rattle.text_commands.proofs.Common.{AreOne, AreOneButChoice, AuditReport, Audited, Certified, CloseRefused, Edge, Err, HasMoreThan, HasReport, InputFault, IsAudit, IsAuditable, IsCertificate, IsCertificateOf, IsPlan, List, None, Ok, Option}
-use Rattle.text_commands.proofs.Common.{Planned, Some, Spec, Untyped, [], answer_but_choice, ap, arith, cases_lt, has, inl, inr, one_table, one_truth, refl, sym, tell_audit, tell_close, tell_plan, ℕ}
-use Rattle.text_commands.proofs.Common.{◌<◌, ◌∙◌, ◌≡◌, ◌≤◌, ◌⊎◌}
+use Rattle.text_commands.proofs.Common.{Planned, Some, Spec, [], answer_but_choice, ap, arith, cases_lt, has, inl, inr, one_table, one_truth, refl, sym, tell_audit, tell_close, tell_plan, ℕ, ◌<◌, ◌∙◌, ◌≡◌, ◌≤◌, ◌⊎◌}
 use Rattle.boot_plan.specs.Devices.{device_refusal}
 use Rattle.boot_plan.specs.Needs.{needs}
 use Rattle.boot_plan.specs.Overlaps.{first_overlap}
@@ -21,6 +20,7 @@ use Rattle.least_cert.specs.declared.closing.CloseError.{CloseError}
 use Rattle.least_cert.specs.declared.closing.CloseError.TheVariants as closing
 use Rattle.text_commands.proofs.OneTurn.{decided_alike}
 use Rattle.cap_model.proofs.EdgeLists.{no_more}
+use Rattle.boot_plan.specs.declared.untyped.Untyped.{Untyped}
 
 -- ---- audits
 

@@ -1,5 +1,5 @@
 -- The table that is printed of an ELF file is read back as its image, under any name.
-use Rattle.text_commands.proofs.Common.{Contents, Err, Holds, Image, IsTabled, List, Ok, Refused, Result, Some, Tabled, ap, codes, inl, inr, refl, subst, sym, ℕ, ◌≡◌, ◌⊎◌}
+use Rattle.text_commands.proofs.Common.{Contents, Err, Holds, IsTabled, List, Ok, Refused, Result, Some, Tabled, ap, codes, inl, inr, refl, subst, ℕ, ◌≡◌, ◌⊎◌}
 use Rattle.std.specs.FinMap as contents
 use Rattle.cam_base.specs.declared.error.Refused.TheVariants as refused
 use Rattle.cam_base.specs.declared.place.Fault.{Fault}
@@ -9,6 +9,7 @@ use Rattle.sect_table.specs.TablesBack.{AreBytes}
 use Rattle.sect_table.specs.Elf.{Elf}
 use Rattle.sect_table.specs.Texts.{table_text}
 use Rattle.sect_table.specs.Tables as tables
+use Rattle.sect_table.specs.declared.image.Image.{Image}
 
 abbrev renamed : List ℕ → Image → Image
 renamed name image = record image { name = name }

@@ -21,15 +21,15 @@ pub use Rattle.source_images.specs.Numbered.{AreApart, AreCounted, AreNumbered, 
 pub use Rattle.source_images.specs.SectionPages.{is_inside, page_count}
 pub use Rattle.source_images.specs.declared.images.Images.{Images}
 pub use Rattle.source_images.specs.declared.pages.SectionPage.{SectionPage}
-pub use Rattle.std.proofs.Common.{Bool, List, None, Option, Some, [], add-one, ap, append-nil, append_assoc, arith, cond, drop, false, get_or, inl, inr, length, map, refl, rules, subst, suc, sym, take, true, zero, ℕ, ⊎_elim, ◌&&◌, ◌*◌, ◌++◌, ◌+◌}
-pub use Rattle.std.proofs.Common.{◌-◌, ◌<◌, ◌==◌, ◌^◌, ◌∙◌, ◌∷◌, ◌≡◌, ◌≤◌}
+pub use Rattle.std.proofs.Common.{Bool, List, None, Ok, Option, Some, [], add-one, ap, append_assoc, arith, cond, drop, false, get_or, inl, inr, length, map, refl, rules, subst, suc, sym, take, true, zero, ℕ, ⊎_elim, ◌&&◌, ◌*◌, ◌++◌, ◌+◌, ◌-◌, ◌<◌}
+pub use Rattle.std.proofs.Common.{◌==◌, ◌^◌, ◌∙◌, ◌∷◌, ◌≡◌, ◌≤◌}
 pub use Rattle.std.proofs.lemmas.Bool.{and_parts, eq-eqb, eqb-true, ltb-false, ltb-true}
-pub use Rattle.std.proofs.lemmas.Iterator.Adapters.{position_from-zero}
+pub use Rattle.std.proofs.lemmas.Iterator.Adapters.{items_from_extend, position_from-zero}
 pub use Rattle.std.proofs.lemmas.List.{at_drop_more, get_or_default, length-map, map-append}
 pub use Rattle.std.proofs.lemmas.List.FromFn.{length-map-range_with_len, map-range_with_len_more}
 pub use Rattle.std.proofs.lemmas.List.Quantifiers.{position-Some}
 pub use Rattle.std.proofs.lemmas.List.Sums.{sum_by-cons}
-pub use Rattle.std.proofs.lemmas.Option.{get_or_from_slice_get, slice_get-get_or}
+pub use Rattle.std.proofs.lemmas.Option.{get_or_from_slice_get, same_Some, slice_get-get_or}
 pub use Rattle.std.proofs.lemmas.Simd.{map-map}
 pub use Rattle.std.specs.List.{All, AllPairs, count_by, flat_map, position, position_from, range_with_len, slice_get}
 pub use Rattle.std.specs.Option.{option_and_then, option_map_or, option_or}
@@ -55,7 +55,7 @@ pub use Rattle.vspace_layout.specs.declared.mapped.MappedPage.{MappedPage}
 pub use Rattle.vspace_layout.specs.declared.mapped.Shown.{Shown}
 pub use Rattle.vspace_layout.specs.declared.mapped.Shown.TheVariants.{Memory, Own}
 pub use Rattle.vspace_layout.specs.declared.outline.Outline.{Outline}
-pub use Rattle.vspace_layout.specs.declared.owner.Owner.TheVariants.{OfConnection, OfDomain, OfLeaf}
+pub use Rattle.vspace_layout.specs.declared.owner.Owner.TheVariants.{OfConnection, OfDomain}
 pub use Rattle.vspace_layout.specs.declared.ports.PortKey.{PortKey}
 pub use Rattle.vspace_layout.specs.declared.region.Content.TheVariants.{Buffer, Stack, Window}
 pub use Rattle.vspace_layout.specs.declared.region.Region.{Region}

@@ -1,8 +1,8 @@
 -- Where no limit on pages is passed, regions and frames are few
 use Rattle.vspace_layout.proofs.Common.{AreFew, Bool, CanLay, Domain, FlatConnection, FlatEnd, Given, List, MappedPage, Memory, None, OfConnection, Option, Own, Shown, Some, [], ap, arith, base, cond, device_frame, false, frame, frames, frames_at}
 use Rattle.vspace_layout.proofs.Common.{gather, is_first, is_shared, leaves_of, length, length-gather, length-map-range_with_len, length_append, map, mapped_pages, memory_paddr, memory_pages, memory_part, option_map_or, own_frame, own_frames}
-use Rattle.vspace_layout.proofs.Common.{own_part, page_counts, pages_in, range_with_len, refl, region_part, regions, register_frames, register_part, registers, section_part, shared_frames, shared_part, slice_get, suc, sum, sum_by-cons, threads_of}
-use Rattle.vspace_layout.proofs.Common.{true, windows_of, zero, ℕ, ◌*◌, ◌<◌, ◌^◌, ◌∷◌, ◌≡◌, ◌≤◌}
+use Rattle.vspace_layout.proofs.Common.{own_part, page_counts, pages_in, range_with_len, refl, region_part, regions, register_frames, register_part, registers, same_Some, section_part, shared_frames, shared_part, slice_get, suc, sum, sum_by-cons}
+use Rattle.vspace_layout.proofs.Common.{threads_of, true, windows_of, zero, ℕ, ◌*◌, ◌<◌, ◌^◌, ◌∷◌, ◌≡◌, ◌≤◌}
 use Rattle.vspace_layout.proofs.Counting.{length-region_part}
 use Rattle.vspace_layout.proofs.Fitting.{few_regions}
 
@@ -12,12 +12,9 @@ part_of_sum : {X : Type 0} (f : ℕ → X → ℕ) (xs : List X) (k : ℕ) (x : 
     → f k x ≤ sum (gather (λ n x. f n x ∷ []) xs)
 part_of_sum f [] k x e = cc
 part_of_sum {X} f (y ∷ xs) zero x e =
-    let same : f 0 y ≡ f 0 x = ap (f 0) (the_same y x e) in
+    let same : f 0 y ≡ f 0 x = ap (f 0) (same_Some y x e) in
     let s = sum_by-cons (λ (n : ℕ). n) (f 0 y) (gather (λ n z. f (suc n) z ∷ []) xs) in
     omega (arith, same, s)
-  where
-    the_same : (y x : X) → Some y ≡ Some x → y ≡ x
-    the_same y x e = cc
 part_of_sum f (y ∷ xs) (suc k) x e =
     let ih = part_of_sum (λ n z. f (suc n) z) xs k x e in
     let s = sum_by-cons (λ (n : ℕ). n) (f 0 y) (gather (λ n z. f (suc n) z ∷ []) xs) in

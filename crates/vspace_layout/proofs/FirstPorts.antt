@@ -1,6 +1,6 @@
 -- What tables of first connections find.
 use Rattle.vspace_layout.proofs.Common.{Bool, FlatConnection, FlatEnd, List, None, Option, PortKey, Some, [], add-one, and_parts, ap, at_drop_more, cond, drop, eq-eqb, eqb-true, false, first_number, get_or, key_of, leads_by, leads_to, length, map}
-use Rattle.vspace_layout.proofs.Common.{option_and_then, option_map_or, option_or, position, position_from, position_from-zero, refl, registers, same_key, slice_get, suc, sym, take, true, zero, ℕ, ◌&&◌, ◌++◌, ◌+◌, ◌<◌, ◌==◌, ◌∙◌, ◌∷◌, ◌≡◌}
+use Rattle.vspace_layout.proofs.Common.{option_and_then, option_map_or, option_or, position, position_from, position_from-zero, refl, registers, same_Some, same_key, slice_get, suc, sym, take, true, zero, ℕ, ◌&&◌, ◌++◌, ◌+◌, ◌<◌, ◌==◌, ◌∙◌, ◌∷◌, ◌≡◌}
 use Rattle.std.specs.Map.{lookup}
 use Rattle.cam_base.proofs.Options.{option_or-none, option_or-cond}
 
@@ -100,10 +100,7 @@ pub firsts_more : {X Y : Type 0} (f : X → Y) (xs : List X) (i : ℕ) (x : X) (
 firsts_more {X} {Y} f xs i x old new at before push = push ∙ ap (λ z. z ++ f x ∷ []) before ∙ sym (more xs i at)
     ∙ sym (ap (λ k. map f (take k xs)) (add-one i))
   where
-    the_same : (y : X) → Some y ≡ Some x → y ≡ x
-    the_same y e = cc
-
     more : (xs : List X) (i : ℕ) → slice_get xs i ≡ Some x → map f (take (suc i) xs) ≡ map f (take i xs) ++ f x ∷ []
     more [] i e = cc
-    more (z ∷ xs) zero e = ap (λ w. f w ∷ []) (the_same z e)
+    more (z ∷ xs) zero e = ap (λ w. f w ∷ []) (same_Some z x e)
     more (z ∷ xs) (suc i) e = ap (λ w. f z ∷ w) (more xs i e)

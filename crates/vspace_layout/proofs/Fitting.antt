@@ -1,6 +1,6 @@
 -- Regions are few where their pages are, and what stands before a region is a part of all
-use Rattle.vspace_layout.proofs.Common.{EndAt, Flat, IsIn, List, Region, Settled, Some, ThreadOf, [], ap, arith, flat_map, inl, inr, length, length_append, map, pages_in, refl, regions_in, slice_get, suc, take, thread_regions, window_pages}
-use Rattle.vspace_layout.proofs.Common.{window_region, zero, ℕ, ◌*◌, ◌++◌, ◌+◌, ◌<◌, ◌∷◌, ◌≡◌, ◌≤◌}
+use Rattle.vspace_layout.proofs.Common.{EndAt, Flat, IsIn, List, Region, Settled, Some, ThreadOf, [], ap, arith, flat_map, inl, inr, length, length_append, map, pages_in, refl, regions_in, same_Some, slice_get, suc, take, thread_regions}
+use Rattle.vspace_layout.proofs.Common.{window_pages, window_region, zero, ℕ, ◌*◌, ◌++◌, ◌+◌, ◌<◌, ◌∷◌, ◌≡◌, ◌≤◌}
 
 pub pages_append : (xs ys : List Region) → pages_in (xs ++ ys) ≡ pages_in xs + pages_in ys
 pages_append [] ys = omega arith
@@ -31,10 +31,8 @@ few_regions flat settled ts ws h =
 pub pages_next : (rs : List Region) (i : ℕ) (r : Region) → slice_get rs i ≡ Some r
     → pages_in (take (suc i) rs) ≡ pages_in (take i rs) + r.pages
 pages_next [] i r e = cc
-pages_next (q ∷ rs) zero r e = let same : q.pages ≡ r.pages = ap (λ (z : Region). z.pages) (the_same q r e) in omega (arith, same)
-  where
-    the_same : (q r : Region) → Some q ≡ Some r → q ≡ r
-    the_same q r e = cc
+pages_next (q ∷ rs) zero r e = let same : q.pages ≡ r.pages = ap (λ (z : Region). z.pages) (same_Some q r e) in
+    omega (arith, same)
 pages_next (q ∷ rs) (suc i) r e = let ih = pages_next rs i r e in omega (arith, ih)
 
 pub pages_upto : (rs : List Region) (i : ℕ) → pages_in (take i rs) ≤ pages_in rs

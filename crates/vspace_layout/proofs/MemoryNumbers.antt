@@ -1,8 +1,8 @@
 -- Where the frames of connections' memory stand.
-use Rattle.vspace_layout.proofs.Common.{AreFirsts, Bool, Flat, FlatConnection, FlatEnd, List, None, Option, Settled, Some, [], ap, append-nil, append_assoc, arith, at_place, before, cond, false, first_number, first_numbers, first_of, first_to}
-use Rattle.vspace_layout.proofs.Common.{firsts_from, frames_at, frames_by, frames_where, from_get_map, gather, gather_ones, gather_same, gather_turn, get_map, get_or, get_or_default, get_or_from_slice_get, is_that, key_of, leads_to, length}
-use Rattle.vspace_layout.proofs.Common.{length-map, length_append, memory_before, memory_first, memory_firsts, memory_part, option_and_then, option_map_or, places_of, position, position-Some, position_from, position_from-zero, refl, register_frames}
-use Rattle.vspace_layout.proofs.Common.{register_part, registers, registers_before, same_key, shared_frames, shared_part, slice_get, suc, sym, take, true, zero, ℕ, ◌++◌, ◌+◌, ◌<◌, ◌^◌, ◌∙◌, ◌∷◌, ◌≡◌, ◌≤◌}
+use Rattle.vspace_layout.proofs.Common.{AreFirsts, Bool, Flat, FlatConnection, FlatEnd, List, None, Option, Settled, Some, [], ap, arith, at_place, before, cond, false, first_number, first_numbers, first_of, first_to, firsts_from, frames_at}
+use Rattle.vspace_layout.proofs.Common.{frames_by, frames_where, from_get_map, gather, gather_ones, gather_same, gather_turn, get_map, get_or, get_or_default, get_or_from_slice_get, is_that, key_of, leads_to, length, length-map, length_append}
+use Rattle.vspace_layout.proofs.Common.{memory_before, memory_first, memory_firsts, memory_part, option_and_then, option_map_or, places_of, position, position-Some, position_from, position_from-zero, refl, register_frames, register_part, registers}
+use Rattle.vspace_layout.proofs.Common.{registers_before, same_Some, same_key, shared_frames, shared_part, slice_get, suc, sym, take, true, zero, ℕ, ◌++◌, ◌+◌, ◌<◌, ◌^◌, ◌∙◌, ◌∷◌, ◌≡◌, ◌≤◌}
 use Rattle.vspace_layout.proofs.FirstPorts.{same_key-refl}
 use Rattle.vspace_layout.proofs.Joining.{gather_mapped}
 use Rattle.vspace_layout.proofs.Laying.{ones_or}
@@ -40,10 +40,7 @@ found_from : {X : Type 0} (is : X → Bool) (a : ℕ) (xs : List X) (k : ℕ) (x
     → (n : ℕ) × (position_from is a xs ≡ Some n)
 found_from is a [] k x e t = cc
 found_from {X} is a (y ∷ xs) zero x e t =
-    (a, ap (λ b. cond b (Some a) (position_from is (a + 1) xs)) (ap is (the_same y x e) ∙ t))
-  where
-    the_same : (y x : X) → Some y ≡ Some x → y ≡ x
-    the_same y x e = cc
+    (a, ap (λ b. cond b (Some a) (position_from is (a + 1) xs)) (ap is (same_Some y x e) ∙ t))
 found_from is a (y ∷ xs) (suc k) x e t = by_test (is y) (found_from is (a + 1) xs k x e t)
   where
     by_test : (b : Bool) → (n : ℕ) × (position_from is (a + 1) xs ≡ Some n)

@@ -1,5 +1,5 @@
 -- The pages of spaces with the numbers of their frames, domain by domain
-use Rattle.vspace_layout.proofs.Common.{FrameInfo, List, MappedPage, Option, Some, [], ap, append_assoc, arith, before, gather, gather_push, length, length-gather, length_append, map, own_added, own_frame, refl, slice_get, suc, sum, sum_by-cons, sym}
+use Rattle.vspace_layout.proofs.Common.{FrameInfo, List, MappedPage, Some, [], ap, append_assoc, arith, before, gather, gather_push, length, length-gather, length_append, map, own_added, own_frame, same_Some, slice_get, suc, sum, sum_by-cons, sym}
 use Rattle.vspace_layout.proofs.Common.{take, zero, ℕ, ◌++◌, ◌+◌, ◌∙◌, ◌∷◌, ◌≡◌, ◌≤◌}
 use Rattle.vspace_layout.proofs.Few.{own_one}
 
@@ -30,12 +30,9 @@ sum_from : (f : ℕ → List MappedPage → List FrameInfo) (ms : List (List Map
     → length (gather f (take k ms)) + length ps ≤ sum (map (λ (qs : List MappedPage). length qs) ms)
 sum_from f [] k ps h e = cc
 sum_from f (m ∷ ms) zero ps h e =
-    let same : length m ≡ length ps = ap (λ (z : List MappedPage). length z) (the_same m ps e) in
+    let same : length m ≡ length ps = ap (λ (z : List MappedPage). length z) (same_Some m ps e) in
     let s = sum_by-cons (λ (n : ℕ). n) (length m) (map (λ (qs : List MappedPage). length qs) ms) in
     omega (arith, same, s)
-  where
-    the_same : (m ps : List MappedPage) → Some m ≡ Some ps → m ≡ ps
-    the_same m ps e = cc
 sum_from f (m ∷ ms) (suc k) ps h e =
     let ih = sum_from (λ n qs. f (suc n) qs) ms k ps (λ n qs. h (suc n) qs) e in
     let a = length_append (f 0 m) (gather (λ n (qs : List MappedPage). f (suc n) qs) (take k ms)) in

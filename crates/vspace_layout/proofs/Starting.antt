@@ -1,7 +1,7 @@
 -- Where regions begin, and that they have addresses of 64 bits
 use Rattle.vspace_layout.proofs.Common.{Aarch64, Arch, AreFew, Arm11, EndAt, Flat, List, Region, RegionsFit, Settled, Some, Stack, StacksFit, ThreadOf, [], add-one, ap, arith, below, flat_map, gather, gather_ones, gather_same, gather_turn, get_or}
-use Rattle.vspace_layout.proofs.Common.{get_or_default, length, map, pages_from, pages_in, pages_of_region, refl, region, region_part, region_start, regions_in, sections_end, slice_get, slice_get-get_or, stack_pages, starting, starts_in, suc, take}
-use Rattle.vspace_layout.proofs.Common.{thread_regions, window_region, zero, ℕ, ◌*◌, ◌++◌, ◌+◌, ◌<◌, ◌^◌, ◌∙◌, ◌∷◌, ◌≡◌, ◌≤◌}
+use Rattle.vspace_layout.proofs.Common.{get_or_default, length, map, pages_from, pages_in, pages_of_region, refl, region, region_part, region_start, regions_in, same_Some, sections_end, slice_get, slice_get-get_or, stack_pages, starting, starts_in}
+use Rattle.vspace_layout.proofs.Common.{suc, take, thread_regions, window_region, zero, ℕ, ◌*◌, ◌++◌, ◌+◌, ◌<◌, ◌^◌, ◌∙◌, ◌∷◌, ◌≡◌, ◌≤◌}
 use Rattle.vspace_layout.proofs.Fitting.{pages_next, pages_upto}
 use Rattle.vspace_layout.proofs.Laying.{length_regions, start_same}
 
@@ -55,10 +55,7 @@ stack_at : (settled : Settled) (ts : List ThreadOf) (more : List Region) (i m : 
     → slice_get (flat_map (thread_regions settled) ts ++ more) m ≡ Some (region Stack (stack_pages settled x.leaf))
 stack_at settled [] more i m x e same = cc
 stack_at settled (t ∷ ts) more zero zero x e same = ap (λ (z : ThreadOf). Some (region Stack (stack_pages settled z.leaf)))
-    (the_same t x e)
-  where
-    the_same : (t x : ThreadOf) → Some t ≡ Some x → t ≡ x
-    the_same t x e = cc
+    (same_Some t x e)
 stack_at settled (t ∷ ts) more zero (suc m) x e same = absurd (omega arith)
 stack_at settled (t ∷ ts) more (suc i) zero x e same = absurd (omega arith)
 stack_at settled (t ∷ ts) more (suc i) (suc zero) x e same = absurd (omega arith)

@@ -1,4 +1,4 @@
-use Rattle.std.proofs.Common.{◌≡◌, ◌+◌, length}
+use Rattle.adl_ast.proofs.Common.{length, ◌+◌, ◌≡◌}
 use Rattle.std.specs.List.{count_by}
 use Rattle.adl_ast.specs.Counts.{is_item}
 use Rattle.adl_ast.proofs.file.number.Given as goal

@@ -1,7 +1,4 @@
-use Rattle.std.proofs.Common.{true}
-use Rattle.cam_base.proofs.Completed.{begun_is_front}
-use Rattle.adl_ast.specs.Codes.{token_code}
-use Rattle.adl_ast.specs.Forms.{nested_line, file_line, value_line, composition_line, configuration_line, assembly_line}
+use Rattle.adl_ast.proofs.Common.{assembly_line, begun_is_front, composition_line, configuration_line, file_line, nested_line, token_code, true, value_line}
 use Rattle.adl_ast.proofs.Spellings.{samples, nested_spellable, file_parts, value_parts, composition_parts, configuration_parts, assembly_parts}
 use Rattle.adl_ast.proofs.laws.beginnings_are_fronts.Goals as goal
 

@@ -1,7 +1,4 @@
-use Rattle.cam_base.proofs.Theorems.{one_form}
-use Rattle.adl_ast.specs.Codes.{token_code}
-use Rattle.adl_ast.specs.Forms.{nested_line, composition_line}
-use Rattle.adl_ast.specs.Spelling.{opens}
+use Rattle.adl_ast.proofs.Common.{composition_line, nested_line, one_form, opens, token_code}
 use Rattle.adl_ast.proofs.Decides.{nested_is, composition_decides, composition_closed}
 use Rattle.adl_ast.proofs.laws.compositions_stand_alone.Goals as goal
 

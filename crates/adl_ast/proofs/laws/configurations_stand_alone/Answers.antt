@@ -1,7 +1,4 @@
-use Rattle.cam_base.proofs.Theorems.{one_form}
-use Rattle.adl_ast.specs.Codes.{token_code}
-use Rattle.adl_ast.specs.Forms.{nested_line, configuration_line}
-use Rattle.adl_ast.specs.Spelling.{opens}
+use Rattle.adl_ast.proofs.Common.{configuration_line, nested_line, one_form, opens, token_code}
 use Rattle.adl_ast.proofs.Decides.{nested_is, configuration_decides, configuration_closed}
 use Rattle.adl_ast.proofs.laws.configurations_stand_alone.Goals as goal
 

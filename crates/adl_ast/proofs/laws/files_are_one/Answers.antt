@@ -1,6 +1,4 @@
-use Rattle.adl_ast.specs.Codes.{token_code}
-use Rattle.adl_ast.specs.Forms.{nested_line, file_line}
-use Rattle.adl_ast.specs.Spelling.{opens}
+use Rattle.adl_ast.proofs.Common.{file_line, nested_line, opens, token_code}
 use Rattle.adl_ast.proofs.Decides.{nested_is, file_decides}
 use Rattle.adl_ast.proofs.Trees.{one_tree}
 use Rattle.adl_ast.proofs.laws.files_are_one.Goals as goal

@@ -1,6 +1,4 @@
-use Rattle.cam_base.proofs.GrammarFronts.{deep_front}
-use Rattle.adl_ast.specs.Codes.{token_code}
-use Rattle.adl_ast.specs.Forms.{nested_line, file_line, value_line, composition_line, configuration_line, assembly_line}
+use Rattle.adl_ast.proofs.Common.{assembly_line, composition_line, configuration_line, deep_front, file_line, nested_line, token_code, value_line}
 use Rattle.adl_ast.proofs.laws.fronts_begin_within.Goals as goal
 
 pub returns-clause-file : goal.returns-clause-file

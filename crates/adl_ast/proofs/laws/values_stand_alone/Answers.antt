@@ -1,7 +1,4 @@
-use Rattle.cam_base.proofs.Theorems.{one_form}
-use Rattle.adl_ast.specs.Codes.{token_code}
-use Rattle.adl_ast.specs.Forms.{nested_line, value_line}
-use Rattle.adl_ast.specs.Spelling.{opens}
+use Rattle.adl_ast.proofs.Common.{nested_line, one_form, opens, token_code, value_line}
 use Rattle.adl_ast.proofs.Decides.{nested_is, value_decides, value_closed}
 use Rattle.adl_ast.proofs.laws.values_stand_alone.Goals as goal
 

@@ -1,5 +1,4 @@
-use Rattle.adl_ast.specs.Forms.{interface_line}
-use Rattle.adl_ast.specs.Written.{interface_written}
+use Rattle.adl_ast.proofs.Common.{interface_line, interface_written}
 use Rattle.adl_ast.proofs.Agreement.{spelled_agree, depths_agree, begun_agree}
 use Rattle.adl_ast.proofs.Interfaces.{interface_to, interface_from}
 use Rattle.adl_ast.proofs.Spellings.{interface_parts, interface_written_parts}

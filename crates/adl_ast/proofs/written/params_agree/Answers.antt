@@ -1,5 +1,4 @@
-use Rattle.adl_ast.specs.Forms.{params_line}
-use Rattle.adl_ast.specs.Written.{params_written}
+use Rattle.adl_ast.proofs.Common.{params_line, params_written}
 use Rattle.adl_ast.proofs.Agreement.{spelled_agree, depths_agree, begun_agree}
 use Rattle.adl_ast.proofs.MethodParams.{params_to, params_from}
 use Rattle.adl_ast.proofs.Spellings.{params_parts, params_written_parts}

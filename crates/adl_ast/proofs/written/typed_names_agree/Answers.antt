@@ -1,5 +1,4 @@
-use Rattle.adl_ast.specs.Forms.{typed_line}
-use Rattle.adl_ast.specs.Written.{typed_written}
+use Rattle.adl_ast.proofs.Common.{typed_line, typed_written}
 use Rattle.adl_ast.proofs.Agreement.{spelled_agree, depths_agree, begun_agree}
 use Rattle.adl_ast.proofs.TypedNames.{typed_to, typed_from}
 use Rattle.adl_ast.proofs.Spellings.{typed_parts, typed_written_parts}

@@ -1,6 +1,4 @@
-use Rattle.std.proofs.Common.{◌≡◌, ◌∙◌, ap, sym, ℕ, false, List, Some, Bor}
-use Rattle.adl_import.specs.Folding.{is_in_folder}
-use Rattle.adl_import.specs.Parts.{inner_first}
+use Rattle.adl_import.proofs.Common.{Bor, List, Some, ap, false, inner_first, is_in_folder, sym, ℕ, ◌∙◌, ◌≡◌}
 use Rattle.adl_import.proofs.Parts.{one_up-push}
 use Rattle.adl_import.proofs.folding.go_up.Goals as goal
 

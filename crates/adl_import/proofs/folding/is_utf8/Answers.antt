@@ -1,4 +1,4 @@
-use Rattle.std.proofs.Common.{◌∙◌}
+use Rattle.adl_import.proofs.Common.{◌∙◌}
 use Rattle.adl_import.proofs.Parts.{is_utf8-tested}
 use Rattle.adl_import.proofs.folding.is_utf8.Goals as goal
 

@@ -1,5 +1,4 @@
-use Rattle.std.proofs.Common.{◌≡◌, ◌∷◌, ◌++◌, take}
-use Rattle.std.specs.List.{flat_map}
+use Rattle.adl_import.proofs.Common.{flat_map, take, ◌++◌, ◌∷◌, ◌≡◌}
 use Rattle.adl_import.proofs.folding.push_behind_slashes.Given as goal
 
 abbrev pub invariant-loop-part : goal.invariant-loop-part

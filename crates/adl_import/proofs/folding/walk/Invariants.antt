@@ -1,7 +1,4 @@
-use Rattle.std.proofs.Common.{◌≡◌, [], drop}
-use Rattle.adl_import.specs.Folding.{is_slash, with_parts}
-use Rattle.adl_import.specs.Parts.{parts_of, inner_first}
-use Rattle.std.specs.List.{slice_split}
+use Rattle.adl_import.proofs.Common.{[], drop, inner_first, is_slash, parts_of, slice_split, with_parts, ◌≡◌}
 use Rattle.adl_import.proofs.folding.walk.Given as goal
 
 abbrev pub invariant-loop-part : goal.invariant-loop-part

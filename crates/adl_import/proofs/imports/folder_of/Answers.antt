@@ -1,6 +1,4 @@
-use Rattle.std.proofs.Common.{◌∙◌, sym, ap}
-use Rattle.std.proofs.lemmas.Bool.{eq-eqb, ne_eqb}
-use Rattle.adl_import.specs.Imports.{folder_of}
+use Rattle.adl_import.proofs.Common.{ap, eq-eqb, folder_of, ne_eqb, sym, ◌∙◌}
 use Rattle.adl_import.proofs.Folders.{folder_of-past, folder_of-at}
 use Rattle.adl_import.proofs.imports.folder_of.Goals as goal
 

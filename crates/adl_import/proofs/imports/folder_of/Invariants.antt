@@ -1,5 +1,4 @@
-use Rattle.std.proofs.Common.{◌≡◌, length}
-use Rattle.adl_import.specs.Imports.{folder_of}
+use Rattle.adl_import.proofs.Common.{folder_of, length, ◌≡◌}
 use Rattle.adl_import.proofs.imports.folder_of.Given as goal
 
 abbrev pub invariant-loop-last : goal.invariant-loop-last

@@ -1,7 +1,4 @@
-use Rattle.std.proofs.Common.{◌≡◌, ◌<◌, ◌≤◌, ◌∙◌, sym, false, true, length, is_some, arith}
-use Rattle.std.specs.Map.{lookup}
-use Rattle.std.specs.Str.{bytes_eq}
-use Rattle.adl_import.specs.Sources.{files_limit}
+use Rattle.adl_import.proofs.Common.{arith, false, files_limit, length, sym, true, ◌<◌, ◌∙◌, ◌≤◌}
 use Rattle.adl_import.proofs.Known.{meet-known, meet-full, meet-new}
 use Rattle.adl_import.proofs.imports.meet.Goals as goal
 

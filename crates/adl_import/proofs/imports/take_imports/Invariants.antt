@@ -1,6 +1,4 @@
-use Rattle.std.proofs.Common.{◌≡◌, drop}
-use Rattle.adl_import.specs.Imports.{imports_in}
-use Rattle.adl_import.specs.Turns.{take_imports}
+use Rattle.adl_import.proofs.Common.{drop, imports_in, take_imports, ◌≡◌}
 use Rattle.adl_import.proofs.imports.take_imports.Given as goal
 
 abbrev pub invariant-loop-ended : goal.invariant-loop-ended

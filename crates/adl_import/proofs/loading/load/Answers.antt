@@ -1,5 +1,4 @@
-use Rattle.std.proofs.Common.{◌≡◌, Some, subst}
-use Rattle.adl_import.specs.Folding.{root_name}
+use Rattle.adl_import.proofs.Common.{Some, root_name, subst, ◌≡◌}
 use Rattle.adl_import.proofs.Utf8Names.{root_name_utf8}
 use Rattle.adl_import.proofs.loading.load.Goals as goal
 

@@ -1,7 +1,4 @@
-use Rattle.std.proofs.Common.{◌≡◌, ◌∙◌, refl, sym, subst, arith, ℕ, List, Ok, Err}
-use Rattle.std.specs.Str.{IsUtf8}
-use Rattle.adl_import.specs.Loaded.{IsLoadedFrom}
-use Rattle.cam_base.proofs.Errors.{err_is}
+use Rattle.adl_import.proofs.Common.{Err, IsLoadedFrom, IsUtf8, List, Ok, arith, err_is, subst, sym, ℕ}
 use Rattle.adl_import.proofs.Turning.{learns_next, loaded_err, loaded_none, turn_of, turns_first, turns_few, turns_utf8, turns_next, turns_smaller}
 use Rattle.adl_import.proofs.loading.load_from.Goals as goal
 use Rattle.cam_io.proofs.Kept.{keeps_twice}

@@ -1,8 +1,4 @@
-use Rattle.std.proofs.Common.{◌-◌, length}
-use Rattle.cam_io.specs.Reading.{InAll, KeepsFiles, LearnsOnly}
-use Rattle.adl_import.specs.Loaded.{AlikeInTurns}
-use Rattle.adl_import.specs.Sources.{files_limit}
-use Rattle.adl_import.specs.Turns.{Turns}
+use Rattle.adl_import.proofs.Common.{AlikeInTurns, InAll, KeepsFiles, LearnsOnly, Turns, files_limit, length, ◌-◌}
 use Rattle.adl_import.proofs.loading.load_from.Given as goal
 
 abbrev pub invariant-loop-room : goal.invariant-loop-room

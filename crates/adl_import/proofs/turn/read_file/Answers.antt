@@ -1,6 +1,4 @@
-use Rattle.std.proofs.Common.{◌≡◌, ◌∙◌, ap, ℕ, List, codes}
-use Rattle.cam_base.specs.declared.code.Code.TheVariants.{NoFile, Limit}
-use Rattle.adl_import.specs.Turns.{fault_at}
+use Rattle.adl_import.proofs.Common.{Limit, List, NoFile, ap, codes, fault_at, ℕ, ◌∙◌}
 use Rattle.cam_base.specs.declared.error.Unread.TheVariants as error
 use Rattle.adl_import.proofs.Turning.{read_ok, read_absent, read_too_long}
 use Rattle.adl_import.proofs.turn.read_file.Goals as goal

@@ -1,7 +1,5 @@
-use Rattle.std.proofs.Common.{◌∙◌, subst}
+use Rattle.adl_import.proofs.Common.{AlikeAsRead, LearnsOnly, subst, ◌∙◌}
 use Rattle.cam_io.specs.Causes.{Rose}
-use Rattle.cam_io.specs.Reading.{LearnsOnly}
-use Rattle.adl_import.specs.Sources.{AlikeAsRead}
 use Rattle.adl_import.proofs.turn.read_named.Goals as goal
 
 pub returns-clause-read_fault : goal.returns-clause-read_fault

@@ -1,6 +1,4 @@
-use Rattle.std.proofs.Common.{◌≡◌, ◌∙◌, sym, ap, Some, length}
-use Rattle.std.specs.List.{slice_get}
-use Rattle.cam_base.proofs.Errors.{err_is}
+use Rattle.adl_import.proofs.Common.{err_is, length, sym}
 use Rattle.adl_import.proofs.Turning.{each_at, turn_unread, turn_stopped, turn_done}
 use Rattle.adl_import.proofs.turn.take_turn.Goals as goal
 

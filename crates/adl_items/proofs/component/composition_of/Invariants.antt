@@ -1,5 +1,4 @@
-use Rattle.std.proofs.Common.{◌≡◌, drop}
-use Rattle.adl_meaning.specs.Prelude.{as_composition, filter_map, slice_get}
+use Rattle.adl_items.proofs.Common.{as_composition, drop, filter_map, slice_get, ◌≡◌}
 use Rattle.adl_items.proofs.component.composition_of.Given as goal
 
 abbrev pub invariant-loop-member : goal.invariant-loop-member

@@ -1,6 +1,4 @@
-use Rattle.std.proofs.Common.{◌≡◌, drop, map, ◌++◌}
-use Rattle.adl_meaning.specs.Prelude.{enumerate_from}
-use Rattle.adl_items.specs.Located.{located}
+use Rattle.adl_items.proofs.Common.{drop, enumerate_from, located, map, ◌++◌, ◌≡◌}
 use Rattle.adl_items.proofs.located.add_file.Given as goal
 
 abbrev pub invariant-loop-i : goal.invariant-loop-i

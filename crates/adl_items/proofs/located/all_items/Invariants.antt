@@ -1,6 +1,4 @@
-use Rattle.std.proofs.Common.{◌≡◌, drop, map, ◌++◌}
-use Rattle.adl_meaning.specs.Prelude.{enumerate_from, flat_map, items_in}
-use Rattle.adl_items.specs.Located.{located}
+use Rattle.adl_items.proofs.Common.{drop, enumerate_from, flat_map, items_in, located, map, ◌++◌, ◌≡◌}
 use Rattle.adl_items.proofs.located.all_items.Given as goal
 
 abbrev pub invariant-loop-i : goal.invariant-loop-i

@@ -1,6 +1,4 @@
-use Rattle.std.proofs.Common.{◌≡◌, drop, map, ◌++◌}
-use Rattle.adl_meaning.specs.Prelude.{as_procedure, filter_map}
-use Rattle.adl_items.specs.Located.{located}
+use Rattle.adl_items.proofs.Common.{as_procedure, drop, filter_map, located, map, ◌++◌, ◌≡◌}
 use Rattle.adl_items.proofs.located.procedures.Given as goal
 
 abbrev pub invariant-loop-x : goal.invariant-loop-x

@@ -1,10 +1,5 @@
-use Rattle.std.proofs.Common.{◌≡◌, ◌∙◌, [], ap, arith, drop, sym}
+use Rattle.adl_items.proofs.Common.{[], ap, arith, drop, found, number_from, option_or, option_or-none, sym, trees, ◌∙◌, ◌≡◌}
 use Rattle.std.proofs.Math.ListN.{drop_of_length-le}
-use Rattle.adl_meaning.specs.Prelude.{option_or}
-use Rattle.cam_base.proofs.Options.{option_or-none}
-use Rattle.adl_meaning.specs.Recursive.{number_from}
-use Rattle.name_tables.specs.ByName.{found}
-use Rattle.adl_items.specs.Located.{trees}
 use Rattle.adl_items.proofs.names.component_numbers.Goals as goal
 
 pub returns : goal.returns

@@ -1,5 +1,4 @@
-use Rattle.std.proofs.Common.{◌∙◌, ◌+◌, ◌-◌, sym, ap, length, drop, Some, arith}
-use Rattle.std.proofs.lemmas.List.{take_all, length-drop}
+use Rattle.adl_lexer.proofs.Common.{Some, ap, arith, drop, length, length-drop, sym, take_all, ◌+◌, ◌-◌, ◌∙◌}
 use Rattle.adl_lexer.proofs.Skips.{first_found}
 use Rattle.adl_lexer.proofs.gap.behind.Goals as goal
 

@@ -1,4 +1,4 @@
-use Rattle.std.proofs.Common.{◌∙◌, sym}
+use Rattle.adl_lexer.proofs.Common.{sym, ◌∙◌}
 use Rattle.adl_lexer.proofs.Skips.{closes}
 use Rattle.adl_lexer.proofs.gap.comment_end.Goals as goal
 

@@ -1,5 +1,4 @@
-use Rattle.std.proofs.Common.{◌≡◌, length}
-use Rattle.adl_lexer.specs.Gaps.{after_close}
+use Rattle.adl_lexer.proofs.Common.{after_close, length, ◌≡◌}
 use Rattle.adl_lexer.proofs.gap.comment_end.Given as goal
 
 abbrev pub invariant-comment : goal.invariant-comment

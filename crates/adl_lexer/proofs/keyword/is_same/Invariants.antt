@@ -1,5 +1,4 @@
-use Rattle.std.proofs.Common.{◌≡◌, length}
-use Rattle.std.specs.Str.{bytes_eq}
+use Rattle.adl_lexer.proofs.Common.{bytes_eq, length, ◌≡◌}
 use Rattle.adl_lexer.proofs.keyword.is_same.Given as goal
 
 abbrev pub invariant-same : goal.invariant-same

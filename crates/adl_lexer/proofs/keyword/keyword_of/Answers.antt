@@ -1,5 +1,4 @@
-use Rattle.std.proofs.Common.{ℕ, List, sym, ap, ◌∙◌}
-use Rattle.std.specs.Str.{bytes_eq}
+use Rattle.adl_lexer.proofs.Common.{List, ap, bytes_eq, sym, ℕ, ◌∙◌}
 use Rattle.adl_lexer.proofs.KeywordWords.{is_found, is_other_word}
 use Rattle.adl_lexer.proofs.keyword.keyword_of.Goals as goal
 

@@ -1,4 +1,4 @@
-use Rattle.std.proofs.Common.{length, arith}
+use Rattle.adl_lexer.proofs.Common.{arith, length}
 use Rattle.adl_lexer.proofs.Places.{rise_from}
 use Rattle.adl_lexer.proofs.laws.places_rise.Goals as goal
 

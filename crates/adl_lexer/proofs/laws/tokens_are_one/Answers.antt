@@ -1,4 +1,4 @@
-use Rattle.std.proofs.Common.{length}
+use Rattle.adl_lexer.proofs.Common.{length}
 use Rattle.adl_lexer.proofs.Unique.{one_list}
 use Rattle.adl_lexer.proofs.laws.tokens_are_one.Goals as goal
 

@@ -1,4 +1,4 @@
-use Rattle.std.proofs.Common.{length}
+use Rattle.adl_lexer.proofs.Common.{length}
 use Rattle.adl_lexer.proofs.Unique.{no_fault_reached}
 use Rattle.adl_lexer.proofs.laws.tokens_have_no_fault.Goals as goal
 

@@ -1,4 +1,4 @@
-use Rattle.std.proofs.Common.{[], refl}
+use Rattle.adl_lexer.proofs.Common.{[], refl}
 use Rattle.adl_lexer.proofs.Suffixes.{texts_of_kinds}
 use Rattle.adl_lexer.proofs.laws.tokens_have_their_texts.Goals as goal
 

@@ -1,11 +1,4 @@
-use Rattle.std.proofs.Common.{rules, ◌≡◌, ℕ, List, [], ◌∷◌, ◌++◌, length, sym, ap, subst, ◌∙◌, refl, append_assoc, arith}
-use Rattle.std.proofs.lemmas.List.{append-nil}
-use Rattle.cam_base.specs.declared.token.Token.{Token}
-use Rattle.adl_lexer.specs.Classes.{after_run, blanks}
-use Rattle.adl_lexer.specs.Gaps.{none}
-use Rattle.adl_lexer.specs.Lexes.{LexesFrom, here, place_of}
-use Rattle.adl_lexer.specs.Pieces.{IsPiece}
-use Rattle.adl_lexer.specs.declared.piece.Piece.{Piece}
+use Rattle.adl_lexer.proofs.Common.{IsPiece, LexesFrom, List, Piece, Token, [], after_run, ap, append-nil, append_assoc, arith, blanks, here, length, none, place_of, refl, rules, subst, sym, ℕ, ◌++◌, ◌∙◌, ◌∷◌, ◌≡◌}
 use Rattle.adl_lexer.proofs.Gaps.{gap_eats}
 use Rattle.adl_lexer.proofs.Runs.{after_run_le}
 use Rattle.adl_lexer.proofs.Steps.{blanks_gap, gap_and_blanks, lexes_gap, lexes_token, reached_gap, reached_token, token_at, token_eats}

@@ -1,6 +1,4 @@
-use Rattle.std.proofs.Common.{ℕ, List, ◌++◌, ◌≤◌, length}
-use Rattle.cam_base.specs.declared.token.Token.{Token}
-use Rattle.adl_lexer.specs.Lexes.{LexesFrom, Reached}
+use Rattle.adl_lexer.proofs.Common.{LexesFrom, List, Reached, Token, length, ℕ, ◌++◌, ◌≤◌}
 use Rattle.adl_lexer.proofs.lexer.lex_within.Given as goal
 
 -- The tokens so far and those of the rest are those of all bytes, and what is reached from the rest is reached.

@@ -1,6 +1,4 @@
-use Rattle.std.proofs.Common.{sym, ap, ◌∙◌}
-use Rattle.cam_base.specs.Form.{among}
-use Rattle.adl_lexer.specs.Classes.{blanks, digits, letters}
+use Rattle.adl_lexer.proofs.Common.{among, ap, blanks, digits, letters, sym, ◌∙◌}
 use Rattle.adl_lexer.proofs.Pieces.{word_piece, number_piece, blank_piece, less_piece, minus_piece, text_piece, sign_piece}
 use Rattle.adl_lexer.proofs.piece.piece_at.Goals as goal
 

@@ -1,5 +1,4 @@
-use Rattle.std.proofs.Common.{◌≡◌, length}
-use Rattle.adl_lexer.specs.Classes.{after_run, angle_bytes}
+use Rattle.adl_lexer.proofs.Common.{after_run, angle_bytes, length, ◌≡◌}
 use Rattle.adl_lexer.proofs.run.angle_end.Given as goal
 
 abbrev pub invariant-run : goal.invariant-run

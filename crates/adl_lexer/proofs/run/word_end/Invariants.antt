@@ -1,5 +1,4 @@
-use Rattle.std.proofs.Common.{◌≡◌, length}
-use Rattle.adl_lexer.specs.Classes.{after_run, word_bytes}
+use Rattle.adl_lexer.proofs.Common.{after_run, length, word_bytes, ◌≡◌}
 use Rattle.adl_lexer.proofs.run.word_end.Given as goal
 
 abbrev pub invariant-run : goal.invariant-run

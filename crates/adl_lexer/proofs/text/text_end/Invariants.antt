@@ -1,5 +1,4 @@
-use Rattle.std.proofs.Common.{◌≡◌, length}
-use Rattle.adl_lexer.specs.LexFaults.{after_text}
+use Rattle.adl_lexer.proofs.Common.{after_text, length, ◌≡◌}
 use Rattle.adl_lexer.proofs.text.text_end.Given as goal
 
 abbrev pub invariant-text : goal.invariant-text

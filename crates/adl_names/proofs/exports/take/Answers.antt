@@ -18,7 +18,7 @@ returns-clause-taken c = λ p.
     let had = is_port_among c.args.inners.now.keys p in
     let declared : is_some (interface_at types (as_port port)) ≡ true = grind (arith, common_steps) in
     c.in_ok-is_new.ensures.updates.0 (p.0.id.place.first, record { ref_ptr = (0, 0); now = p.1 })
-    ∙ ap (λ (q : Place). cond (nat_eq q.first p.0.id.place.first && bytes_eq c.as_bytes.result.now p.1) true had) c.get.ensures
+    ∙ ap (λ (q : Place). cond (nat_eq q.first p.0.id.place.first && bytes_eq c.as_bytes.result.now p.1) true had) c.place.ensures
     ∙ ap (λ n. cond (nat_eq first p.0.id.place.first && bytes_eq n p.1) true had) c.as_bytes.ensures.bytes
     ∙ or_from_keys first p.0.id.place.first port.interface.now p.1 had
     ∙ sym (ap (λ o. had || is_port (inner_of types (option_map as_port o)) p) c.in-Some.is

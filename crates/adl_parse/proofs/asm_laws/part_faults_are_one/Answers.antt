@@ -1,4 +1,4 @@
-use Rattle.adl_ast.specs.Forms.{value_line, composition_line, configuration_line, assembly_line}
+use Rattle.adl_parse.proofs.Common.{assembly_line, composition_line, configuration_line, value_line}
 use Rattle.adl_parse.proofs.Parts.{one_fault}
 use Rattle.adl_parse.proofs.asm_laws.part_faults_are_one.Goals as goal
 

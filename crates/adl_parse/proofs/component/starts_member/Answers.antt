@@ -1,9 +1,4 @@
-use Rattle.std.proofs.Common.{sym, ◌∙◌, ap}
-use Rattle.std.specs.Prelude.{◌||◌}
-use Rattle.cam_base.specs.Reading.{starts}
-use Rattle.adl_ast.specs.Codes.{token_code}
-use Rattle.adl_ast.specs.Forms.{interface_codes}
-use Rattle.adl_ast.specs.Seeing.{see}
+use Rattle.adl_parse.proofs.Common.{ap, interface_codes, see, starts, sym, token_code, ◌||◌, ◌∙◌}
 use Rattle.adl_parse.specs.Members.{flag_codes, body_codes}
 use Rattle.adl_parse.proofs.Starts.{starts_three}
 use Rattle.adl_parse.proofs.component.starts_member.Goals as goal

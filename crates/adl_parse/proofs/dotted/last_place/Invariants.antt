@@ -1,5 +1,4 @@
-use Rattle.std.proofs.Common.{◌≡◌, length}
-use Rattle.adl_ast.specs.Forms.{last_place}
+use Rattle.adl_parse.proofs.Common.{last_place, length, ◌≡◌}
 use Rattle.adl_parse.proofs.dotted.last_place.Given as goal
 
 abbrev pub invariant-loop-rest : goal.invariant-loop-rest

@@ -1,5 +1,4 @@
-use Rattle.adl_ast.specs.Forms.{assembly_line}
-use Rattle.adl_ast.proofs.Decides.{assembly_decides, assembly_closed}
+use Rattle.adl_parse.proofs.Common.{assembly_closed, assembly_decides, assembly_line}
 use Rattle.adl_parse.proofs.Parts.{part_within, part_ok, part_refused}
 use Rattle.adl_parse.proofs.part.parse_assembly.Goals as goal
 

@@ -1,5 +1,4 @@
-use Rattle.adl_ast.specs.Forms.{composition_line}
-use Rattle.adl_ast.proofs.Decides.{composition_decides, composition_closed}
+use Rattle.adl_parse.proofs.Common.{composition_closed, composition_decides, composition_line}
 use Rattle.adl_parse.proofs.Parts.{part_within, part_ok, part_refused}
 use Rattle.adl_parse.proofs.part.parse_composition.Goals as goal
 

@@ -1,5 +1,4 @@
-use Rattle.adl_ast.specs.Forms.{configuration_line}
-use Rattle.adl_ast.proofs.Decides.{configuration_decides, configuration_closed}
+use Rattle.adl_parse.proofs.Common.{configuration_closed, configuration_decides, configuration_line}
 use Rattle.adl_parse.proofs.Parts.{part_within, part_ok, part_refused}
 use Rattle.adl_parse.proofs.part.parse_configuration.Goals as goal
 

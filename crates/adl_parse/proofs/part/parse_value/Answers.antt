@@ -1,5 +1,4 @@
-use Rattle.adl_ast.specs.Forms.{value_line}
-use Rattle.adl_ast.proofs.Decides.{value_decides, value_closed}
+use Rattle.adl_parse.proofs.Common.{value_closed, value_decides, value_line}
 use Rattle.adl_parse.proofs.Parts.{part_within, part_ok, part_refused}
 use Rattle.adl_parse.proofs.part.parse_value.Goals as goal
 

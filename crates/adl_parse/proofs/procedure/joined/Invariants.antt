@@ -1,4 +1,4 @@
-use Rattle.std.proofs.Common.{◌≡◌, ◌∷◌}
+use Rattle.adl_parse.proofs.Common.{◌∷◌, ◌≡◌}
 use Rattle.adl_parse.proofs.procedure.joined.Given as goal
 
 abbrev pub invariant-loop-param : goal.invariant-loop-param

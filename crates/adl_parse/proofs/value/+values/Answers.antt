@@ -1,12 +1,6 @@
-use Rattle.std.proofs.Common.{sym, ◌∙◌, ◌∷◌, []}
+use Rattle.adl_parse.proofs.Common.{[], behind, entries_line, entry_form, fails, goes_on, is_done, mark_code, nests, see, sym, token_code, value_form, values_line, ◌∙◌, ◌∷◌}
 use Rattle.std.proofs.lemmas.Result.{err_from_is_err_and}
 use Rattle.cam_base.specs.declared.token.Mark.TheVariants as marks
-use Rattle.cam_base.specs.Form.{behind}
-use Rattle.cam_base.proofs.Loops.{goes_on, fails, is_done}
-use Rattle.adl_ast.specs.Codes.{token_code, mark_code}
-use Rattle.adl_ast.specs.Forms.{value_form, values_line, entry_form, entries_line}
-use Rattle.adl_ast.specs.Seeing.{see}
-use Rattle.adl_ast.specs.Spelling.{nests}
 use Rattle.adl_ast.proofs.Eats.{next_value_eats, next_entry_eats}
 use Rattle.adl_parse.proofs.value.+values.Goals as goal
 

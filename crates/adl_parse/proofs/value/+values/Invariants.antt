@@ -1,11 +1,5 @@
-use Rattle.std.proofs.Common.{◌≡◌, ◌+◌, ◌*◌, length}
+use Rattle.adl_parse.proofs.Common.{Many, behind, entries_line, entry_form, length, mark_code, nests, see, value_form, values_line, with_front, ◌*◌, ◌+◌, ◌≡◌}
 use Rattle.cam_base.specs.declared.token.Mark.TheVariants as marks
-use Rattle.cam_base.specs.Form.{Many, behind}
-use Rattle.cam_base.proofs.Loops.{with_front}
-use Rattle.adl_ast.specs.Codes.{mark_code}
-use Rattle.adl_ast.specs.Forms.{value_form, values_line, entry_form, entries_line}
-use Rattle.adl_ast.specs.Seeing.{see}
-use Rattle.adl_ast.specs.Spelling.{nests}
 use Rattle.adl_parse.proofs.value.+values.Given as goal
 
 abbrev pub decreases-value_within : goal.decreases-value_within

@@ -1,4 +1,4 @@
-use Rattle.adl_settings.proofs.Common.{Found, List, [], ap, append_assoc, drop_first, end_settings, flat_map, map, noted, subst, sym, ◌++◌, ◌<◌, ◌∙◌, ◌∷◌, ◌≡◌, length, get_or}
+use Rattle.adl_settings.proofs.Common.{List, [], ap, append_assoc, drop_first, end_settings, flat_map, map, noted, subst, sym, ◌++◌, ◌<◌, ◌∙◌, ◌∷◌, ◌≡◌, length, get_or}
 use Rattle.adl_meaning.proofs.Noting.{noted_mapped}
 use Rattle.adl_settings.proofs.SettleCommon.{drop, found_on, ◌+◌}
 use Rattle.adl_settings.specs.DeviceOverlap.{regions_in}
@@ -8,7 +8,8 @@ use Rattle.adl_settings.proofs.settling.settle_ends.Goals as goal
 
 -- one connection more
 module _ {X : Type 0} (x : X) (left rest : List X) (e : left ≡ x ∷ rest) where
-  all_added : {Y : Type 0} (g : X → List Y) (old new : List Y) → new ≡ old ++ g x → new ++ flat_map g rest ≡ old ++ flat_map g left
+  all_added : {Y : Type 0} (g : X → List Y) (old new : List Y) → new ≡ old ++ g x
+      → new ++ flat_map g rest ≡ old ++ flat_map g left
   all_added g old new n =
       ap (λ z. z ++ flat_map g rest) n ∙ append_assoc old (g x) (flat_map g rest) ∙ ap (λ z. old ++ flat_map g z) (sym e)
 

@@ -1,8 +1,5 @@
-use Rattle.arch_policy.proofs.Common.{Adds, Edge, Some, arith, length, refl, rules, slice_get_read, subst, sym, ℕ, ◌≡◌}
+use Rattle.arch_policy.proofs.Common.{Adds, Edge, Some, YieldsList-end, YieldsList-from_first, YieldsList-turn, arith, edges_left, length, length_push, refl, rules, slice_get_read, subst, sym, ℕ, ◌≡◌}
 use Rattle.arch_policy.proofs.Bounding.{Among, among_all, among_more, among_none}
-use Rattle.cap_model.specs.EdgesLeft.{edges_left}
-use Rattle.std.proofs.lemmas.Iterator.Consumers.{YieldsList-end, YieldsList-from_first, YieldsList-turn}
-use Rattle.std.proofs.lemmas.List.{length_push}
 use Rattle.arch_policy.proofs.bound.push_bound.Goals as goal
 
 pub loop-handle-init : goal.loop-handle-init

@@ -1,5 +1,4 @@
-use Rattle.arch_policy.proofs.Common.{◌++◌, ◌≡◌}
-use Rattle.cap_model.specs.EdgesLeft.{edges_left}
+use Rattle.arch_policy.proofs.Common.{edges_left, ◌++◌, ◌≡◌}
 use Rattle.arch_policy.proofs.cert.edges_of.Given as goal
 
 abbrev pub invariant-loop-edge : goal.invariant-loop-edge

@@ -1,8 +1,6 @@
 -- in_order
-use Rattle.arch_policy.proofs.Common.{IsPermutation-map, ap, firsts, in_order, map, rules, subst, sym, ◌∙◌, ◌≡◌}
-use Rattle.std.proofs.Common.{map-id}
+use Rattle.arch_policy.proofs.Common.{IsPermutation-map, YieldsList-end, ap, firsts, in_order, map, map-id, rules, subst, sym, ◌∙◌, ◌≡◌}
 use Rattle.std.proofs.lemmas.Iterator.Adapters.{YieldsList-from_vec}
-use Rattle.std.proofs.lemmas.Iterator.Consumers.{YieldsList-end}
 use Rattle.arch_policy.proofs.Ordering.{firsts_sorted, sorted_once}
 use Rattle.arch_policy.proofs.labels.in_order.Goals as goal
 

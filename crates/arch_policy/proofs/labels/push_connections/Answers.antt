@@ -1,4 +1,4 @@
-use Rattle.arch_policy.proofs.Common.{firsts, FlatConnection, gather_turn, has_label, joined, refl, where_true}
+use Rattle.arch_policy.proofs.Common.{FlatConnection, firsts, gather_turn, has_label, joined, refl, where_true}
 use Rattle.arch_policy.proofs.labels.push_connections.Goals as goal
 
 pub loop-connection-preserved : goal.loop-connection-preserved

@@ -1,4 +1,4 @@
-use Rattle.arch_policy.proofs.Common.{firsts, gather_turn, is_device, joined, Leaf, refl, where_true}
+use Rattle.arch_policy.proofs.Common.{Leaf, firsts, gather_turn, is_device, joined, refl, where_true}
 use Rattle.arch_policy.proofs.labels.push_devices.Goals as goal
 
 pub loop-leaf-preserved : goal.loop-leaf-preserved

@@ -1,5 +1,6 @@
-use Rattle.boot_plan.proofs.Common.{Says, flat_map, length, place_line, take, zip}
+use Rattle.boot_plan.proofs.Common.{flat_map, length, place_line, take, zip}
 use Rattle.boot_plan.proofs.write.write_places.Given as goal
+use Rattle.cam_io.specs.Saying.{Says}
 
 abbrev pub invariant-loop-entry : goal.invariant-loop-entry
 invariant-loop-entry g l =

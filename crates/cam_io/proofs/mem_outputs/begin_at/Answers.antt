@@ -1,6 +1,4 @@
-use Rattle.std.proofs.Common.{◌≡◌, refl, get_or, rules}
-use Rattle.std.proofs.lemmas.Option.{slice_get-get_or}
-use Rattle.cam_io.specs.Channels.{named_channel}
+use Rattle.cam_io.proofs.Common.{get_or, named_channel, refl, rules, slice_get-get_or, ◌≡◌}
 use Rattle.cam_io.proofs.Channels.{chosen, room_kept, sink_begun}
 use Rattle.cam_io.proofs.mem_outputs.begin_at.Goals as goal
 

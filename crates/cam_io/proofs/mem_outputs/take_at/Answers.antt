@@ -1,5 +1,4 @@
-use Rattle.std.proofs.Common.{◌∙◌, ap, sym, min, length, get_or}
-use Rattle.std.proofs.lemmas.Option.{slice_get-get_or}
+use Rattle.cam_io.proofs.Common.{ap, get_or, length, min, slice_get-get_or, sym, ◌∙◌}
 use Rattle.cam_io.proofs.Channels.{channel_at, room_taken, sink_taken}
 use Rattle.cam_io.proofs.mem_outputs.take_at.Goals as goal
 

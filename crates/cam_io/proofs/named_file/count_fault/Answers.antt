@@ -1,7 +1,4 @@
-use Rattle.std.proofs.Common.{◌≡◌, ◌∙◌, ap, sym, subst, slice_set, arith, None, ◌≤◌, List}
-use Rattle.cam_io.specs.Causes.{one_more}
-use Rattle.cam_io.specs.NamedFiles.{lookup, contents_of, count_of, count_at}
-use Rattle.cam_io.specs.declared.named_file.NamedFile.{NamedFile}
+use Rattle.cam_io.proofs.Common.{List, NamedFile, None, ap, arith, contents_of, count_at, count_of, lookup, one_more, slice_set, subst, sym, ◌∙◌, ◌≡◌, ◌≤◌}
 use Rattle.cam_io.proofs.Lookups.{with_faults, contents_replaced, count_later, count_new, fault_here, fault_elsewhere}
 use Rattle.cam_io.proofs.Counts.{rose_more}
 use Rattle.cam_io.proofs.Puts.{at_place, set_place}

@@ -1,5 +1,4 @@
-use Rattle.std.proofs.Common.{◌≡◌, ◌∙◌, ap, refl, Some, slice_get, length}
-use Rattle.std.proofs.lemmas.Option.{slice_get_read}
+use Rattle.cam_io.proofs.Common.{Some, ap, length, refl, slice_get, slice_get_read, ◌∙◌, ◌≡◌}
 use Rattle.cam_io.proofs.Lookups.{bytes_of, get_contents}
 use Rattle.cam_io.proofs.named_file.found.Goals as goal
 

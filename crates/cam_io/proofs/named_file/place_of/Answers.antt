@@ -1,6 +1,4 @@
-use Rattle.std.proofs.Common.{◌≡◌, ◌∙◌, sym, refl, true, false, Some, slice_get, length, arith}
-use Rattle.std.proofs.lemmas.Option.{slice_get_read}
-use Rattle.std.specs.Str.{bytes_eq}
+use Rattle.cam_io.proofs.Common.{Some, arith, bytes_eq, false, length, refl, slice_get, slice_get_read, sym, true, ◌∙◌, ◌≡◌}
 use Rattle.cam_io.proofs.Lookups.{first_at, first_set, none_more}
 use Rattle.cam_io.proofs.named_file.place_of.Goals as goal
 

@@ -1,5 +1,4 @@
-use Rattle.std.proofs.Common.{◌≡◌, take, None}
-use Rattle.cam_io.specs.NamedFiles.{lookup}
+use Rattle.cam_io.proofs.Common.{None, lookup, take, ◌≡◌}
 use Rattle.cam_io.proofs.named_file.place_of.Given as goal
 
 abbrev pub invariant-loop-i : goal.invariant-loop-i

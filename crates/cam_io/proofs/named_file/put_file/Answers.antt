@@ -1,7 +1,4 @@
-use Rattle.std.proofs.Common.{◌≡◌, ◌∙◌, ap, sym, refl, List, None}
-use Rattle.std.specs.FinMap.{insert}
-use Rattle.cam_io.specs.NamedFiles.{lookup, contents_of, count_of}
-use Rattle.cam_io.specs.declared.named_file.NamedFile.{NamedFile}
+use Rattle.cam_io.proofs.Common.{List, NamedFile, None, ap, contents_of, count_of, insert, lookup, refl, sym, ◌∙◌, ◌≡◌}
 use Rattle.cam_io.proofs.Puts.{with_bytes, contents_given, contents_pushed, count_given, count_pushed, at_place, set_place}
 use Rattle.cam_io.proofs.named_file.put_file.Goals as goal
 

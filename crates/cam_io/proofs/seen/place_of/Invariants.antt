@@ -1,5 +1,4 @@
-use Rattle.std.proofs.Common.{◌≡◌, take, None}
-use Rattle.cam_io.specs.Seen.{seen_of}
+use Rattle.cam_io.proofs.Common.{None, seen_of, take, ◌≡◌}
 use Rattle.cam_io.proofs.seen.place_of.Given as goal
 
 abbrev pub invariant-loop-i : goal.invariant-loop-i

@@ -1,8 +1,4 @@
-use Rattle.std.proofs.Common.{◌+◌, subst, sym, arith}
-use Rattle.std.proofs.lemmas.List.{length-append, length-take}
-use Rattle.std.specs.FinMap.{get}
-use Rattle.cam_io.specs.Reading.{IsGot}
-use Rattle.cam_io.specs.declared.files.Got.TheVariants.{Bytes}
+use Rattle.cam_io.proofs.Common.{Bytes, IsGot, arith, get, length-append, length-take, subst, sym, ◌+◌}
 use Rattle.cam_io.proofs.Fronts.{IsFront, front_more}
 use Rattle.cam_io.proofs.Kept.{keeps_twice}
 use Rattle.cam_io.proofs.Learning.{learned_more}

@@ -1,6 +1,5 @@
-use Rattle.std.proofs.Common.{length, ◌-◌, ◌+◌, ◌≤◌}
+use Rattle.cam_io.proofs.Common.{HaveSameFront, InAll, KeepsFiles, LearnsOnly, length, ◌+◌, ◌-◌, ◌≤◌}
 use Rattle.std.specs.FinMap as map
-use Rattle.cam_io.specs.Reading.{InAll, KeepsFiles, HaveSameFront, LearnsOnly}
 use Rattle.cam_io.proofs.Fronts.{IsFront}
 use Rattle.cam_io.proofs.whole.read_by_chunks.Given as goal
 

@@ -1,4 +1,4 @@
-use Rattle.std.proofs.Common.{◌+◌, arith}
+use Rattle.cam_io.proofs.Common.{arith, ◌+◌}
 use Rattle.cam_io.proofs.Counts.{rose_after}
 use Rattle.cam_io.proofs.Kept.{keeps_twice}
 use Rattle.cam_io.proofs.Learning.{learned_more}

@@ -1,19 +1,29 @@
-use Rattle.std.proofs.Common.{arith}
-use Rattle.cam_io.proofs.Appends.{open_appended}
-use Rattle.cam_io.proofs.Sequence.{writes_behind, writes_exit, writes_failed, wrote_none}
+use Rattle.cam_io.proofs.Common.{ap, arith, length, refl, sym, ◌≡◌}
+use Rattle.cam_io.proofs.Appends.{appended_nil, appended_slice, open_appended}
 use Rattle.cam_io.proofs.write.write_all.Goals as goal
 
-pub returns-then-is_empty-clause-writes : goal.returns-then-is_empty-clause-writes
-returns-then-is_empty-clause-writes g c = wrote_none c.args.bytes.now (grind arith)
+pub loop-done-init : goal.loop-done-init
+loop-done-init g c = record {
+  within = omega arith;
+  so_far = sym (appended_nil (g.O.Outputs.sink c.args.out.now) c.args.channel);
+  open_still = c.requires;
+  later = omega arith;
+  quiet = λ e. refl;
+}
 
-pub returns-in_err-done-clause-writes : goal.returns-in_err-done-clause-writes
-returns-in_err-done-clause-writes g c =
-    let it = c.in_err-done.ensures in
-    writes_exit c.from_residual.ensures.0 (writes_failed c.args.bytes.now it.err it.later it.failed)
+pub loop-done-preserved : goal.loop-done-preserved
+loop-done-preserved g c = record {
+  within = omega (arith, c.in_ok-done.ensures.at_most);
+  so_far = appended_slice _ _ _ _ _ _ _ c.loop-done.invariant.so_far c.in_ok-done.ensures.ok;
+  open_still = record { may = open_appended _ _ _ c.args.channel _ c.in_ok-done.ensures.ok c.loop-done.invariant.open_still.may };
+  later = omega (arith, c.in_ok-done.ensures.later);
+  quiet = λ e. absurd (let none : length c.args.bytes.now ≡ 0 = ap length e in omega (arith, none, c.loop-done-test.true));
+}
 
-pub write_rest-requires : goal.write_rest-requires
-write_rest-requires g c = record { may = open_appended _ _ _ c.args.channel _ c.in_ok-done.ensures.ok c.requires.may }
+pub returns-in_err-done-clause-empty : goal.returns-in_err-done-clause-empty
+returns-in_err-done-clause-empty g c = λ e. absurd (let none : length c.args.bytes.now ≡ 0 = ap length e in
+    omega (arith, none, c.loop-done-test.true))
 
-pub returns-else-done-bytes-clause-writes : goal.returns-else-done-bytes-clause-writes
-returns-else-done-bytes-clause-writes g c =
-    writes_behind c.args.bytes.now c.in_ok-done.done c.in_ok-done.ensures.ok c.in_ok-done.ensures.later c.write_rest.ensures
+pub returns-in_err-done-clause-quiet : goal.returns-in_err-done-clause-quiet
+returns-in_err-done-clause-quiet g c = λ e. absurd (let none : length c.args.bytes.now ≡ 0 = ap length e in
+    omega (arith, none, c.loop-done-test.true))

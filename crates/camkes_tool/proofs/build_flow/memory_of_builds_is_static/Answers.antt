@@ -1,8 +1,7 @@
-use Rattle.camkes_tool.proofs.Common.{Spec, subst, sym, system_tables}
+use Rattle.camkes_tool.proofs.Common.{HoldsPlain, Spec, subst, sym, system_tables}
 use Rattle.arch_compile.specs.LayoutFaults.{images_beside}
 use Rattle.arch_compile.proofs.Facts.{build_facts}
 use Rattle.arch_compile.proofs.MadeTables.{made_connected}
-use Rattle.reach_laws.specs.Plain.{HoldsPlain}
 use Rattle.spec_laws.proofs.Connections.{holds_plain}
 use Rattle.camkes_tool.proofs.Staying.{run_static}
 use Rattle.camkes_tool.proofs.build_flow.memory_of_builds_is_static.Goals as goal

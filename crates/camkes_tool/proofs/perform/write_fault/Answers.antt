@@ -1,6 +1,4 @@
-use Rattle.cam_io.proofs.Saying.{said_all, says_then}
-use Rattle.camkes_tool.proofs.Common.{◌∙◌}
-use Rattle.std.proofs.Common.{rules}
+use Rattle.camkes_tool.proofs.Common.{rules, said_all, says_then, ◌∙◌}
 use Rattle.camkes_tool.proofs.perform.write_fault.Goals as goal
 
 pub returns : goal.returns

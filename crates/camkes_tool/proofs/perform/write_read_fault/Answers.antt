@@ -1,5 +1,4 @@
-use Rattle.std.proofs.Common.{rules}
-use Rattle.cam_io.proofs.Saying.{said_all}
+use Rattle.camkes_tool.proofs.Common.{rules, said_all}
 use Rattle.camkes_tool.proofs.perform.write_read_fault.Goals as goal
 
 pub returns : goal.returns

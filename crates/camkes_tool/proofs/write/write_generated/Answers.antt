@@ -1,5 +1,4 @@
-use Rattle.std.proofs.Common.{rules}
-use Rattle.cam_io.proofs.Saying.{said_all, says_then}
+use Rattle.camkes_tool.proofs.Common.{rules, said_all, says_then}
 use Rattle.camkes_tool.proofs.write.write_generated.Goals as goal
 
 pub returns : goal.returns

@@ -1,5 +1,5 @@
-use Rattle.capdl_read.proofs.Common.{IsParsed, IsTreeRead, Lexeme, List, subst, tokens_of}
-use Rattle.capdl_read.proofs.PartsRead.{not_lexed, parsed, passed_on}
+use Rattle.capdl_read.proofs.Common.{IsParsed, IsTreeRead, Lexeme, List, passed_on, subst, tokens_of}
+use Rattle.capdl_read.proofs.PartsRead.{not_lexed, parsed}
 use Rattle.capdl_read.proofs.parse.read_tree.Goals as goal
 
 pub returns-in_err-lexemes : goal.returns-in_err-lexemes

@@ -1,5 +1,5 @@
+use Rattle.capdl_write.proofs.Common.{says_nothing}
 use Rattle.capdl_write.proofs.CapEnds.{buffer_word}
-use Rattle.cam_io.proofs.Saying.{says_nothing}
 use Rattle.capdl_write.proofs.holder.write_buffer.Goals as goal
 
 pub returns-in-None : goal.returns-in-None

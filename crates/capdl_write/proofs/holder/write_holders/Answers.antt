@@ -1,5 +1,4 @@
-use Rattle.capdl_write.proofs.Common.{arith, entry_text}
-use Rattle.cam_io.proofs.Saying.{says_line, says_lines, says_nothing}
+use Rattle.capdl_write.proofs.Common.{arith, entry_text, says_line, says_lines, says_nothing}
 use Rattle.capdl_write.proofs.holder.write_holders.Goals as goal
 
 pub loop-entry-init : goal.loop-entry-init

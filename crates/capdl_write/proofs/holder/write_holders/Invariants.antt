@@ -1,5 +1,4 @@
-use Rattle.cam_io.specs.Saying.{Says}
-use Rattle.capdl_write.proofs.Common.{entry_text, flat_map, take}
+use Rattle.capdl_write.proofs.Common.{Says, entry_text, flat_map, take}
 use Rattle.capdl_write.proofs.holder.write_holders.Given as goal
 
 abbrev pub invariant-loop-entry : goal.invariant-loop-entry

@@ -1,6 +1,5 @@
-use Rattle.capdl_write.proofs.Common.{arith, get_or, get_or_default, slot_line}
+use Rattle.capdl_write.proofs.Common.{arith, get_or, get_or_default, says_line, says_lines, says_nothing, slot_line}
 use Rattle.capdl_write.proofs.Items.{no_slot}
-use Rattle.cam_io.proofs.Saying.{says_line, says_lines, says_nothing}
 use Rattle.capdl_write.proofs.holder.write_slot_lines.Goals as goal
 
 pub loop-slot-init : goal.loop-slot-init

@@ -1,5 +1,4 @@
-use Rattle.cam_io.specs.Saying.{Says}
-use Rattle.capdl_write.proofs.Common.{flat_map, slot_line, take}
+use Rattle.capdl_write.proofs.Common.{Says, flat_map, slot_line, take}
 use Rattle.capdl_write.proofs.holder.write_slot_lines.Given as goal
 
 abbrev pub invariant-loop-slot : goal.invariant-loop-slot

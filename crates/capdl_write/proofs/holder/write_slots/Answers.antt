@@ -1,7 +1,6 @@
-use Rattle.capdl_write.proofs.Common.{Cap, List, Spec, [], arith, flat_map, length, refl, slot_line, slots_text, ℕ, ◌<◌, ◌∷◌, ◌≡◌}
+use Rattle.capdl_write.proofs.Common.{Cap, List, Spec, [], arith, flat_map, length, refl, says_nothing, slot_line, slots_text, ℕ, ◌<◌, ◌∷◌, ◌≡◌}
 use Rattle.std.proofs.Common.{codes}
 use Rattle.cam_base.specs.Texts.{◌⊹◌, together}
-use Rattle.cam_io.proofs.Saying.{says_nothing}
 use Rattle.capdl_write.proofs.holder.write_slots.Goals as goal
 
 empty : (spec : Spec) (name : List ℕ) (slots : List (ℕ × Cap)) → length slots ≡ 0 → slots_text spec name slots ≡ []

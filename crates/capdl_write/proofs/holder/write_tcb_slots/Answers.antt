@@ -1,5 +1,4 @@
-use Rattle.capdl_write.proofs.Common.{false, rules, sym, ◌≡◌}
-use Rattle.cam_io.proofs.Saying.{says_nothing}
+use Rattle.capdl_write.proofs.Common.{false, rules, says_nothing, sym, ◌≡◌}
 use Rattle.capdl_write.proofs.holder.write_tcb_slots.Goals as goal
 
 pub returns-else-has_slot : goal.returns-else-has_slot

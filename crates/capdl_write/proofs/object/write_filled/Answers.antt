@@ -1,4 +1,4 @@
-use Rattle.cam_io.proofs.Saying.{says_then}
+use Rattle.capdl_write.proofs.Common.{says_then}
 use Rattle.capdl_write.proofs.object.write_filled.Goals as goal
 
 pub returns : goal.returns

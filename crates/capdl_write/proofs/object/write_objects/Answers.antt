@@ -1,5 +1,4 @@
-use Rattle.capdl_write.proofs.Common.{arith, entry_line}
-use Rattle.cam_io.proofs.Saying.{says_line, says_lines, says_nothing}
+use Rattle.capdl_write.proofs.Common.{arith, entry_line, says_line, says_lines, says_nothing}
 use Rattle.capdl_write.proofs.object.write_objects.Goals as goal
 
 pub loop-entry-init : goal.loop-entry-init

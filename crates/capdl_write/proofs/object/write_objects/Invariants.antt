@@ -1,5 +1,4 @@
-use Rattle.cam_io.specs.Saying.{Says}
-use Rattle.capdl_write.proofs.Common.{entry_line, flat_map, take}
+use Rattle.capdl_write.proofs.Common.{Says, entry_line, flat_map, take}
 use Rattle.capdl_write.proofs.object.write_objects.Given as goal
 
 abbrev pub invariant-loop-entry : goal.invariant-loop-entry

@@ -1,4 +1,4 @@
-use Rattle.cam_io.proofs.Saying.{says_nothing}
+use Rattle.capdl_write.proofs.Common.{says_nothing}
 use Rattle.capdl_write.proofs.object.write_paddr.Goals as goal
 
 pub returns-in-None : goal.returns-in-None

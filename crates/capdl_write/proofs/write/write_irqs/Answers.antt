@@ -1,5 +1,4 @@
-use Rattle.capdl_write.proofs.Common.{arith, get_or, get_or_default, irq_line}
-use Rattle.cam_io.proofs.Saying.{says_line, says_lines, says_nothing}
+use Rattle.capdl_write.proofs.Common.{arith, get_or, get_or_default, irq_line, says_line, says_lines, says_nothing}
 use Rattle.capdl_write.proofs.write.write_irqs.Goals as goal
 
 pub loop-line-init : goal.loop-line-init

@@ -1,5 +1,4 @@
-use Rattle.cam_io.specs.Saying.{Says}
-use Rattle.capdl_write.proofs.Common.{flat_map, irq_line, take}
+use Rattle.capdl_write.proofs.Common.{Says, flat_map, irq_line, take}
 use Rattle.capdl_write.proofs.write.write_irqs.Given as goal
 
 abbrev pub invariant-loop-line : goal.invariant-loop-line

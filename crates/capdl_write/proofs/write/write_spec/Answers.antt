@@ -1,6 +1,5 @@
-use Rattle.std.proofs.Common.{rules}
+use Rattle.capdl_write.proofs.Common.{rules, said_all, says_then}
 use Rattle.cap_model.specs.Canonical.{canonical}
-use Rattle.cam_io.proofs.Saying.{said_all, says_then}
 use Rattle.capdl_write.proofs.write.write_spec.Goals as goal
 
 pub returns : goal.returns

@@ -1,11 +1,9 @@
+use Rattle.cert_check.proofs.Common.{BreaksPolicy, Edge, Some, arith, length, refl, rules, slice_get, slice_get_read, subst, sym, ℕ, ◌≡◌}
 use Rattle.cap_model.specs.EdgesLeft.{edges_left}
-use Rattle.cert_check.proofs.Common.{BreaksPolicy, Edge, Some, arith, length, refl, slice_get, subst, sym, ℕ, ◌≡◌}
 use Rattle.cert_check.proofs.FirstFound.{itself, outside_found, outside_none}
 use Rattle.cert_check.proofs.Search.{NoneUpTo, none_more}
-use Rattle.std.proofs.Common.{rules}
 use Rattle.std.proofs.lemmas.Iterator.Consumers.{YieldsList-end, YieldsList-from_first, YieldsList-turn}
 use Rattle.std.proofs.lemmas.List.{length_push}
-use Rattle.std.proofs.lemmas.Option.{slice_get_read}
 use Rattle.cert_check.proofs.in_policy.find_outside.Goals as goal
 use Rattle.cert_check.proofs.in_policy.find_outside.Goals.{else-edge-via-then-edge+else-not-has, else-edge-via-else-edge}
 

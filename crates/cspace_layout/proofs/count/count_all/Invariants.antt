@@ -1,6 +1,4 @@
-use Rattle.std.proofs.Common.{◌≡◌, ◌≤◌, ◌+◌, ◌-◌, ◌^◌, drop}
-use Rattle.std.specs.Prelude.{sum}
-use Rattle.cspace_layout.specs.Counted.{capped}
+use Rattle.cspace_layout.proofs.Common.{capped, drop, sum, ◌+◌, ◌-◌, ◌^◌, ◌≡◌, ◌≤◌}
 use Rattle.cspace_layout.proofs.count.count_all.Given as goal
 
 abbrev pub invariant-loop-count : goal.invariant-loop-count

@@ -1,6 +1,4 @@
-use Rattle.std.proofs.Common.{◌≡◌, ◌≤◌, ◌+◌, ◌-◌, ◌^◌, drop, length}
-use Rattle.cspace_layout.specs.Counted.{capped}
-use Rattle.cspace_layout.specs.Uses.{domain_uses}
+use Rattle.cspace_layout.proofs.Common.{capped, domain_uses, drop, length, ◌+◌, ◌-◌, ◌^◌, ◌≡◌, ◌≤◌}
 use Rattle.cspace_layout.proofs.count.count_domain.Given as goal
 
 abbrev pub invariant-loop-leaf : goal.invariant-loop-leaf

@@ -1,7 +1,4 @@
-use Rattle.std.proofs.Common.{◌≡◌, ◌≤◌, ◌+◌, ◌-◌, ◌^◌, drop, length}
-use Rattle.std.specs.List.{flat_map}
-use Rattle.cspace_layout.specs.Counted.{capped}
-use Rattle.cspace_layout.specs.Laid.{uses_at}
+use Rattle.cspace_layout.proofs.Common.{capped, drop, flat_map, length, uses_at, ◌+◌, ◌-◌, ◌^◌, ◌≡◌, ◌≤◌}
 use Rattle.cspace_layout.proofs.count.count_ends.Given as goal
 
 abbrev pub invariant-loop-at : goal.invariant-loop-at

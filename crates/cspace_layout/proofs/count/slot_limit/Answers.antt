@@ -1,7 +1,4 @@
-use Rattle.std.proofs.Common.{◌≡◌, ◌∙◌, ap, sym, subst}
-use Rattle.std.specs.Prelude.{IfOk}
-use Rattle.cspace_layout.specs.Counted.{first_limit, name_of}
-use Rattle.cspace_layout.specs.Limit.{limit_fault}
+use Rattle.cspace_layout.proofs.Common.{IfOk, ap, first_limit, limit_fault, name_of, subst, sym, ◌∙◌, ◌≡◌}
 use Rattle.cspace_layout.proofs.Limits.{limit_told}
 use Rattle.cspace_layout.proofs.count.slot_limit.Goals as goal
 

@@ -1,6 +1,4 @@
-use Rattle.std.proofs.Common.{◌≡◌, ◌++◌, drop}
-use Rattle.std.specs.List.{flat_map}
-use Rattle.cspace_layout.specs.Laid.{uses_at}
+use Rattle.cspace_layout.proofs.Common.{drop, flat_map, uses_at, ◌++◌, ◌≡◌}
 use Rattle.cspace_layout.proofs.lay.add_ends.Given as goal
 
 abbrev pub invariant-loop-at : goal.invariant-loop-at

@@ -1,14 +1,4 @@
-use Rattle.std.proofs.Common.{◌≡◌, ◌∙◌, ◌++◌, List, ap, append_assoc, subst}
-use Rattle.std.specs.List.{flat_map}
-use Rattle.std.specs.Prelude.{OnOk}
-use Rattle.adl_meaning.specs.Prelude.{Member}
-use Rattle.cam_base.specs.Gather.{gather}
-use Rattle.cspace_layout.specs.declared.end_at.EndAt.{EndAt}
-use Rattle.cspace_layout.specs.declared.plan.SlotUse.{SlotUse}
-use Rattle.cspace_layout.specs.Laid.{uses_at}
-use Rattle.cspace_layout.specs.LeafEnds.{ends_at}
-use Rattle.cspace_layout.specs.System.{all_ends}
-use Rattle.cspace_layout.specs.Uses.{lock_uses}
+use Rattle.cspace_layout.proofs.Common.{EndAt, List, Member, OnOk, SlotUse, all_ends, ap, append_assoc, ends_at, flat_map, gather, lock_uses, subst, uses_at, ◌++◌, ◌∙◌, ◌≡◌}
 use Rattle.cspace_layout.proofs.Using.{leaf_laid}
 use Rattle.cspace_layout.proofs.lay.add_leaf.Goals as goal
 

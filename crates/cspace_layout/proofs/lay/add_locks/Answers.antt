@@ -1,6 +1,4 @@
-use Rattle.std.proofs.Common.{refl}
-use Rattle.cam_base.proofs.Gathered.{gather_turn}
-use Rattle.cspace_layout.specs.Uses.{lock_uses}
+use Rattle.cspace_layout.proofs.Common.{gather_turn, lock_uses, refl}
 use Rattle.cspace_layout.proofs.lay.add_locks.Goals as goal
 
 pub loop-place-preserved : goal.loop-place-preserved

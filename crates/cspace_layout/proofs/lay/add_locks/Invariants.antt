@@ -1,6 +1,4 @@
-use Rattle.std.proofs.Common.{◌≡◌, ◌++◌, take}
-use Rattle.cam_base.specs.Gather.{gather}
-use Rattle.cspace_layout.specs.Uses.{lock_uses}
+use Rattle.cspace_layout.proofs.Common.{gather, lock_uses, take, ◌++◌, ◌≡◌}
 use Rattle.cspace_layout.proofs.lay.add_locks.Given as goal
 
 abbrev pub invariant-loop-place : goal.invariant-loop-place

@@ -1,5 +1,4 @@
-use Rattle.std.proofs.Common.{◌≡◌, ◌++◌, drop}
-use Rattle.cspace_layout.specs.Uses.{domain_uses}
+use Rattle.cspace_layout.proofs.Common.{domain_uses, drop, ◌++◌, ◌≡◌}
 use Rattle.cspace_layout.proofs.lay.lay_domain.Given as goal
 
 abbrev pub invariant-loop-leaf : goal.invariant-loop-leaf

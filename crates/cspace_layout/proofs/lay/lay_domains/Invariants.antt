@@ -1,5 +1,4 @@
-use Rattle.std.proofs.Common.{◌≡◌, ◌++◌, drop, map}
-use Rattle.cspace_layout.specs.Uses.{domain_uses, plan_of}
+use Rattle.cspace_layout.proofs.Common.{domain_uses, drop, map, plan_of, ◌++◌, ◌≡◌}
 use Rattle.cspace_layout.proofs.lay.lay_domains.Given as goal
 
 abbrev pub invariant-loop-domain : goal.invariant-loop-domain

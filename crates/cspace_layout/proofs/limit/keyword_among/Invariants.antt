@@ -1,5 +1,4 @@
-use Rattle.std.proofs.Common.{◌≡◌, drop}
-use Rattle.cspace_layout.specs.Limit.{keyword_among}
+use Rattle.cspace_layout.proofs.Common.{drop, keyword_among, ◌≡◌}
 use Rattle.cspace_layout.proofs.limit.keyword_among.Given as goal
 
 abbrev pub invariant-loop-file : goal.invariant-loop-file

@@ -1,5 +1,4 @@
-use Rattle.std.proofs.Common.{◌≡◌, drop}
-use Rattle.cspace_layout.specs.Limit.{keyword_in}
+use Rattle.cspace_layout.proofs.Common.{drop, keyword_in, ◌≡◌}
 use Rattle.cspace_layout.proofs.limit.keyword_in.Given as goal
 
 abbrev pub invariant-loop-ended : goal.invariant-loop-ended

@@ -14,7 +14,7 @@ returns-in_err-flat-clause-fault c =
     let exit = c.from_residual-in_err-flat in
     third_told Flat exit.result c.in_err-flat.field-0.0 (first_name_fault s) (first_type_fault s) (first_flat_fault s)
     (first_setting_fault s)
-    exit.ensures.0 exit.ensures.1 c.in_ok-check_names.ensures c.in_ok-program.ensures.fault c.in_err-flat.ensures.fault
+    exit.ensures.1 c.in_ok-check_names.ensures c.in_ok-program.ensures.fault c.in_err-flat.ensures.fault
 
 pub returns-in_err-settled-clause-fault : goal.returns-in_err-settled-clause-fault
 returns-in_err-settled-clause-fault c =
@@ -22,5 +22,5 @@ returns-in_err-settled-clause-fault c =
     let exit = c.from_residual-in_err-settled in
     fourth_told Settled exit.result c.in_err-settled.field-0.0 (first_name_fault s) (first_type_fault s) (first_flat_fault s)
     (first_setting_fault s)
-    exit.ensures.0 exit.ensures.1 c.in_ok-check_names.ensures c.in_ok-program.ensures.fault c.in_ok-flat.ensures.fault
+    exit.ensures.1 c.in_ok-check_names.ensures c.in_ok-program.ensures.fault c.in_ok-flat.ensures.fault
     c.in_err-settled.ensures.fault

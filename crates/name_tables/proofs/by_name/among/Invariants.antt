@@ -1,5 +1,4 @@
-use Rattle.std.proofs.Common.{◌≡◌, drop}
-use Rattle.name_tables.specs.ByName.{found}
+use Rattle.name_tables.proofs.Common.{drop, found, ◌≡◌}
 use Rattle.name_tables.proofs.by_name.among.Given as goal
 
 abbrev pub invariant-loop-entry : goal.invariant-loop-entry

@@ -1,7 +1,4 @@
-use Rattle.std.proofs.Common.{◌∙◌, [], sym, ap}
-use Rattle.std.specs.Option.{option_map_or}
-use Rattle.cam_base.proofs.Options.{is_none}
-use Rattle.name_tables.specs.ByName.{found}
+use Rattle.name_tables.proofs.Common.{[], ap, found, is_none, option_map_or, sym, ◌∙◌}
 use Rattle.name_tables.proofs.NameLookups.{found-entries}
 use Rattle.name_tables.proofs.by_name.hashed.Goals as goal
 

@@ -1,5 +1,4 @@
-use Rattle.std.proofs.Common.{◌∙◌, sym, ap, is_some}
-use Rattle.name_tables.specs.ByName.{found}
+use Rattle.name_tables.proofs.Common.{ap, found, is_some, sym, ◌∙◌}
 use Rattle.name_tables.proofs.NameLookups.{found-entries, found_put, found_again, entries_put}
 use Rattle.name_tables.proofs.by_name.put_hashed.Goals as goal
 

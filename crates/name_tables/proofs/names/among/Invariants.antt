@@ -1,6 +1,4 @@
-use Rattle.std.proofs.Common.{◌≡◌, drop, map}
-use Rattle.name_tables.specs.ByName.{found}
-use Rattle.name_tables.specs.Naming.{shown}
+use Rattle.name_tables.proofs.Common.{drop, found, map, shown, ◌≡◌}
 use Rattle.name_tables.proofs.names.among.Given as goal
 
 abbrev pub invariant-loop-entry : goal.invariant-loop-entry

@@ -1,5 +1,4 @@
-use Rattle.std.proofs.Common.{rules}
-use Rattle.std.proofs.lemmas.List.Sorted.{IsNonDecreasingBy-from_sort_by_key}
+use Rattle.name_tables.proofs.Common.{IsNonDecreasingBy-from_sort_by_key, rules}
 use Rattle.name_tables.proofs.page_index.in_order.Goals as goal
 
 pub returns-clause-order : goal.returns-clause-order

@@ -1,5 +1,5 @@
+use Rattle.name_tables.proofs.Common.{Region}
 use Rattle.name_tables.proofs.PageSearch.{reaches_to_more}
-use Rattle.name_tables.specs.declared.region.Region.{Region}
 use Rattle.name_tables.proofs.page_index.reaches.Goals as goal
 
 pub loop-region-preserved : goal.loop-region-preserved

@@ -1,6 +1,4 @@
-use Rattle.cam_io.specs.Saying.{Says}
-use Rattle.cap_model.specs.EdgesLeft.{edges_left}
-use Rattle.policy_text.proofs.Common.{apart_line, flat_map, ◌++◌, ◌≡◌}
+use Rattle.policy_text.proofs.Common.{Says, apart_line, edges_left, flat_map, ◌++◌, ◌≡◌}
 use Rattle.policy_text.proofs.edges.write_edges.Given as goal
 
 abbrev pub invariant-loop-edge : goal.invariant-loop-edge

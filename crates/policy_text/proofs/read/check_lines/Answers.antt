@@ -1,5 +1,5 @@
-use Rattle.policy_text.proofs.Common.{IsSeen, [], arith, first_wrong, knows, subst, sym, take, told_lines, ◌∙◌}
-use Rattle.policy_text.proofs.Judging.{passed, told_more, check_step, check_fails, few_front}
+use Rattle.policy_text.proofs.Common.{FindsFault, IsSeen, [], arith, first_wrong, knows, passed_on, subst, sym, take, told_lines, ◌∙◌}
+use Rattle.policy_text.proofs.Judging.{told_more, check_step, check_fails, few_front}
 use Rattle.policy_text.proofs.read.check_lines.Goals as goal
 
 pub returns-in_err-read_line : goal.returns-in_err-read_line
@@ -9,7 +9,8 @@ returns-in_err-read_line c =
     c.loop-line.invariant.seen
     (λ none. few_front c.args.lines.now c.loop-line.line-index c.line-item.result (omega arith) c.line-item.is
     (c.loop-line.invariant.few none)) in
-    passed all c.from_residual-in_err-read_line.result c.in_err-read_line.field-0.0 c.from_residual-in_err-read_line.ensures.1
+    passed_on (FindsFault all) c.from_residual-in_err-read_line.result c.in_err-read_line.field-0.0
+    c.from_residual-in_err-read_line.ensures.1
     (check_fails (knows c.args.known.now) c.args.lines.now c.loop-line.line-index c.line-item.result (omega arith) c.line-item.is
     all c.in_err-read_line.field-0.0 c.loop-line.invariant.wrong judged)
 

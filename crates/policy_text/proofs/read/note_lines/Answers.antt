@@ -1,5 +1,5 @@
-use Rattle.policy_text.proofs.Common.{ap, body, count_by, form_fault, has_label, is_edge, line_of, lines_left, told, told_lines, ◌++◌, ◌∙◌}
-use Rattle.policy_text.proofs.Judging.{edges_step, form_some, forms_step, forms_fail, noted_edges, noted_numbers, numbers_step, notes_refused, told_on}
+use Rattle.policy_text.proofs.Common.{AreNoted, ap, body, count_by, form_fault, has_label, is_edge, line_of, lines_left, passed_on, told, told_lines, ◌++◌, ◌∙◌}
+use Rattle.policy_text.proofs.Judging.{edges_step, form_some, forms_step, forms_fail, noted_edges, noted_numbers, numbers_step, told_on}
 use Rattle.policy_text.proofs.read.note_lines.Goals as goal
 
 pub loop-line-preserved : goal.loop-line-preserved
@@ -31,8 +31,8 @@ loop-line-preserved c =
 
 pub returns-in_err-note_line : goal.returns-in_err-note_line
 returns-in_err-note_line c =
-    notes_refused c.args.kind (body c.args.bytes.now) c.from_residual-in_err-note_line.result c.in_err-note_line.field-0.0
-    c.from_residual-in_err-note_line.ensures.1
+    passed_on (AreNoted c.args.kind (body c.args.bytes.now)) c.from_residual-in_err-note_line.result
+    c.in_err-note_line.field-0.0 c.from_residual-in_err-note_line.ensures.1
     (forms_fail c.args.kind (line_of c.in-Some.line) (lines_left c.loop-line.line-iterator) (lines_left c.next.new.self)
     (form_fault c.args.kind (body c.args.bytes.now)) c.in_err-note_line.field-0.0
     c.in-Some.ensures.steps c.loop-line.invariant.forms c.in_err-note_line.ensures)

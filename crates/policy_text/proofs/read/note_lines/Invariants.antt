@@ -1,5 +1,6 @@
-use Rattle.policy_text.proofs.Common.{IsNear, List, body, count_by, edges_limit, form_fault, has, has_label, is_edge, lines_left, told, told_lines, ℕ, ◌++◌, ◌+◌, ◌||◌, ◌≡◌, ◌≤◌}
+use Rattle.policy_text.proofs.Common.{IsNear, List, body, count_by, edges_limit, form_fault, has_label, is_edge, lines_left, told, told_lines, ℕ, ◌++◌, ◌+◌, ◌||◌, ◌≡◌, ◌≤◌}
 use Rattle.policy_text.proofs.read.note_lines.Given as goal
+use Rattle.policy_text.specs.WordSets.{has}
 
 abbrev pub invariant-loop-line : goal.invariant-loop-line
 invariant-loop-line l = record {

@@ -1,6 +1,6 @@
 -- write_edge
+use Rattle.policy_text.proofs.Common.{says_more}
 use Rattle.cam_base.specs.Texts.{together}
-use Rattle.cam_io.proofs.Saying.{says_more}
 use Rattle.policy_text.proofs.write.write_edge.Goals as goal
 
 pub returns : goal.returns

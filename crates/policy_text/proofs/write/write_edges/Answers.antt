@@ -1,7 +1,4 @@
-use Rattle.cam_io.proofs.Saying.{says_nothing}
-use Rattle.cap_model.specs.EdgesLeft.{edges_left}
-use Rattle.policy_text.proofs.Common.{[], edge_line, ap, append_assoc, sym, ◌++◌, ◌∙◌, ◌∷◌}
-use Rattle.std.proofs.Common.{rules}
+use Rattle.policy_text.proofs.Common.{[], ap, append_assoc, edge_line, edges_left, rules, says_nothing, sym, ◌++◌, ◌∙◌, ◌∷◌}
 use Rattle.policy_text.proofs.Saying.{says_end, says_next}
 use Rattle.policy_text.proofs.write.write_edges.Goals.{else-edge-label, then-edge-label}
 use Rattle.policy_text.proofs.write.write_edges.Goals as goal

@@ -1,6 +1,4 @@
-use Rattle.cam_io.specs.Saying.{Says}
-use Rattle.cap_model.specs.EdgesLeft.{edges_left}
-use Rattle.policy_text.proofs.Common.{decimal, edge_line, flat_map, take, ◌++◌, ◌≡◌, ◌≤◌}
+use Rattle.policy_text.proofs.Common.{Says, decimal, edge_line, edges_left, flat_map, take, ◌++◌, ◌≡◌, ◌≤◌}
 use Rattle.policy_text.proofs.write.write_edges.Given as goal
 
 abbrev pub invariant-loop-edge : goal.invariant-loop-edge

@@ -1,5 +1,4 @@
-use Rattle.policy_text.proofs.Common.{arith, label_line}
-use Rattle.cam_io.proofs.Saying.{says_line, says_lines, says_nothing}
+use Rattle.policy_text.proofs.Common.{arith, label_line, says_line, says_lines, says_nothing}
 use Rattle.policy_text.proofs.write.write_labels.Goals as goal
 
 pub loop-label-init : goal.loop-label-init

@@ -1,5 +1,4 @@
-use Rattle.cam_io.specs.Saying.{Says}
-use Rattle.policy_text.proofs.Common.{label_line, flat_map, take}
+use Rattle.policy_text.proofs.Common.{Says, flat_map, label_line, take}
 use Rattle.policy_text.proofs.write.write_labels.Given as goal
 
 abbrev pub invariant-loop-label : goal.invariant-loop-label

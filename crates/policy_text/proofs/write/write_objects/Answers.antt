@@ -1,5 +1,4 @@
-use Rattle.policy_text.proofs.Common.{arith, object_line}
-use Rattle.cam_io.proofs.Saying.{says_line, says_lines, says_nothing}
+use Rattle.policy_text.proofs.Common.{arith, object_line, says_line, says_lines, says_nothing}
 use Rattle.policy_text.proofs.write.write_objects.Goals as goal
 
 pub loop-object-init : goal.loop-object-init

@@ -1,5 +1,4 @@
-use Rattle.cam_io.specs.Saying.{Says}
-use Rattle.policy_text.proofs.Common.{object_line, flat_map, take}
+use Rattle.policy_text.proofs.Common.{Says, flat_map, object_line, take}
 use Rattle.policy_text.proofs.write.write_objects.Given as goal
 
 abbrev pub invariant-loop-object : goal.invariant-loop-object

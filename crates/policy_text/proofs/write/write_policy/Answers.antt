@@ -1,5 +1,4 @@
-use Rattle.std.proofs.Common.{rules}
-use Rattle.cam_io.proofs.Saying.{said_all, says_then}
+use Rattle.policy_text.proofs.Common.{rules, said_all, says_then}
 use Rattle.policy_text.specs.PolicyLines.{policy_text}
 use Rattle.policy_text.proofs.write.write_policy.Goals as goal
 

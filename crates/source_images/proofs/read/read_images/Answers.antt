@@ -1,6 +1,5 @@
-use Rattle.source_images.proofs.Common.{AlikeInTables, AreTablesRead, Err, IsAnswer, LearnsOnly, Ok, ap, arith, length, subst, sym, tables_told, ◌∙◌}
+use Rattle.source_images.proofs.Common.{AlikeInTables, AreTablesRead, Err, IsAnswer, LearnsOnly, Ok, ap, arith, err_is, length, subst, sym, tables_told, ◌∙◌}
 use Rattle.source_images.proofs.Answering.{answered, err_answered, files_named, tables_are}
-use Rattle.cam_base.proofs.Errors.{err_is}
 use Rattle.source_images.proofs.TableReads.{same_length}
 use Rattle.source_images.proofs.read.read_images.Goals as goal
 

@@ -1,7 +1,6 @@
-use Rattle.std.proofs.Common.{◌∙◌, ap, string_bytes}
+use Rattle.source_images.proofs.Common.{ap, reading_of, table, table_told, ◌∙◌}
+use Rattle.std.proofs.Common.{string_bytes}
 use Rattle.cam_io.specs.FileBytes.{bytes_in}
-use Rattle.source_images.specs.Found.{table}
-use Rattle.source_images.specs.Told.{reading_of, table_told}
 use Rattle.source_images.proofs.TableReads.{found_table}
 use Rattle.source_images.proofs.reading.read_table.Goals as goal
 

@@ -1,5 +1,4 @@
-use Rattle.source_images.proofs.Common.{arith, subst, sym, tables_told}
-use Rattle.cam_base.proofs.Errors.{err_is}
+use Rattle.source_images.proofs.Common.{arith, err_is, subst, sym, tables_told}
 use Rattle.source_images.proofs.TableReads.{AreRead, learns_more, none_read, tables_failed, tables_more}
 use Rattle.source_images.proofs.reading.read_tables.Goals as goal
 use Rattle.cam_io.proofs.Kept.{keeps_twice}

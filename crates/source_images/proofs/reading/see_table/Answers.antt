@@ -1,7 +1,5 @@
-use Rattle.std.proofs.Common.{subst}
+use Rattle.source_images.proofs.Common.{AlikeAsRead, LearnsOnly, subst}
 use Rattle.cam_io.specs.Causes.{Rose}
-use Rattle.cam_io.specs.Reading.{LearnsOnly}
-use Rattle.source_images.specs.Found.{AlikeAsRead}
 use Rattle.source_images.proofs.reading.see_table.Goals as goal
 
 pub returns-clause-read_fault : goal.returns-clause-read_fault

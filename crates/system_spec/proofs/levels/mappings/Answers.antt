@@ -1,6 +1,5 @@
+use Rattle.system_spec.proofs.Common.{read_in, rules, serves_from_places}
 use Rattle.std.proofs.lemmas.Iterator.{YieldsList-from_slice}
-use Rattle.std.proofs.lemmas.Iterator.Adapters.{serves_from_places}
-use Rattle.system_spec.proofs.Common.{read_in, rules}
 use Rattle.system_spec.proofs.levels.mappings.Goals as goal
 
 pub collect-requires-clause-can : goal.collect-requires-clause-can

@@ -1,4 +1,4 @@
-use Rattle.system_spec.proofs.Common.{FrameInfo, entry, frame_part, gather, part_label, take, told, ◌++◌, ◌∷◌, ◌≡◌, []}
+use Rattle.system_spec.proofs.Common.{FrameInfo, [], entry, frame_part, gather, part_label, take, told, ◌++◌, ◌∷◌, ◌≡◌}
 use Rattle.system_spec.proofs.made.push_frames.Given as goal
 
 abbrev pub invariant-loop-number : goal.invariant-loop-number

@@ -1,5 +1,4 @@
-use Rattle.system_spec.proofs.Common.{CNodeOf, OfDomain, Part, get_or, read_in}
-use Rattle.system_spec.specs.declared.series.Series.TheVariants.{CNode}
+use Rattle.system_spec.proofs.Common.{CNode, CNodeOf, OfDomain, Part, get_or, read_in}
 use Rattle.system_spec.proofs.made.push_objects.Goals as goal
 
 pub push_object-requires-clause-there : goal.push_object-requires-clause-there

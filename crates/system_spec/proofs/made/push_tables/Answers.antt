@@ -1,7 +1,6 @@
-use Rattle.system_spec.proofs.Common.{CNodeOf, List, Object, OfDomain, Part, [], ap, arith, entry, entry_with, gather, gather_map, gather_turn, get_or, get_or_default, length, length-map, length_append, object, part_label, read_place, refl, slice_get_within, take_all, told, ◌++◌, ◌<◌, ◌∙◌, ◌∷◌, ◌≡◌, ◌≤◌}
+use Rattle.system_spec.proofs.Common.{CNode, CNodeOf, List, Object, OfDomain, Part, [], ap, arith, entry, entry_with, gather, gather_map, gather_turn, get_or, get_or_default, into_iter_len, length, length-map, length_append, object, part_label}
+use Rattle.system_spec.proofs.Common.{read_place, refl, slice_get_within, take_all, told, ◌++◌, ◌<◌, ◌∙◌, ◌∷◌, ◌≡◌, ◌≤◌}
 use Rattle.cspace_layout.proofs.Taking.{Turned, turned}
-use Rattle.std.specs.Vec.Iter.{into_iter_len}
-use Rattle.system_spec.specs.declared.series.Series.TheVariants.{CNode}
 use Rattle.system_spec.proofs.TableObjects.{object_is, taken_all}
 use Rattle.system_spec.proofs.made.push_tables.Goals as goal
 
@@ -27,7 +26,10 @@ loop-object-preserved c =
     let at = read_place ps ps d x refl l read in
     let is = object_is t os ps _ d c.in-Some.object x c.requires c.loop-object.invariant.count u.here at in
     record {
-      count = let a = length_append c.loop-object.yielded (c.in-Some.object ∷ []) in let b = c.loop-object.invariant.count in omega (arith, a, b);
+      count =
+          let a = length_append c.loop-object.yielded (c.in-Some.object ∷ []) in
+          let b = c.loop-object.invariant.count in
+          omega (arith, a, b);
       entries = gather_turn (λ n (p : Part). entry t p ∷ []) ps ps d x _ _ _ refl l read
           c.loop-object.invariant.entries
           (c.in_ok-push_entry.ensures.entries ∙ ap (λ o. c.loop-object.entries ++ entry_with x o ∷ []) is);
@@ -52,8 +54,10 @@ returns c =
     omega (arith, whole, c.loop-object.invariant.count, long, length-map ps (λ p. object t p.what)) in
     let all = take_all c.loop-object.place ps past in
     record {
-      entries = c.loop-object.invariant.entries ∙ ap (λ (z : List Part). c.args.entries.now ++ gather (λ n (p : Part). entry t p ∷ []) z) all
+      entries = c.loop-object.invariant.entries
+          ∙ ap (λ (z : List Part). c.args.entries.now ++ gather (λ n (p : Part). entry t p ∷ []) z) all
           ∙ ap (λ z. c.args.entries.now ++ z) (gather_map (entry t) ps);
-      labels = c.loop-object.invariant.labels ∙ ap (λ (z : List Part). c.args.labels.now ++ gather (λ n (p : Part). part_label t p ∷ []) z) all
+      labels = c.loop-object.invariant.labels
+          ∙ ap (λ (z : List Part). c.args.labels.now ++ gather (λ n (p : Part). part_label t p ∷ []) z) all
           ∙ ap (λ z. c.args.labels.now ++ z) (gather_map (part_label t) ps);
     }

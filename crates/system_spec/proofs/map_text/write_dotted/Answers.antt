@@ -1,5 +1,4 @@
-use Rattle.cam_io.proofs.Saying.{says_line, says_lines, says_more, says_nothing}
-use Rattle.system_spec.proofs.Common.{List, arith, ℕ, ◌∷◌}
+use Rattle.system_spec.proofs.Common.{List, arith, says_line, says_lines, says_more, says_nothing, ℕ, ◌∷◌}
 use Rattle.system_spec.proofs.map_text.write_dotted.Goals as goal
 
 pub loop-name-init : goal.loop-name-init

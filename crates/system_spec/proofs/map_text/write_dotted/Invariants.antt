@@ -1,5 +1,4 @@
-use Rattle.cam_io.specs.Saying.{Says}
-use Rattle.system_spec.proofs.Common.{List, flat_map, take, ℕ, ◌∷◌}
+use Rattle.system_spec.proofs.Common.{List, Says, flat_map, take, ℕ, ◌∷◌}
 use Rattle.system_spec.proofs.map_text.write_dotted.Given as goal
 
 abbrev pub invariant-loop-name : goal.invariant-loop-name

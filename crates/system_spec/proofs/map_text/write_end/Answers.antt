@@ -1,5 +1,4 @@
-use Rattle.cam_io.proofs.Saying.{says_then}
-use Rattle.system_spec.proofs.Common.{sym, ◌∙◌}
+use Rattle.system_spec.proofs.Common.{says_then, sym, ◌∙◌}
 use Rattle.system_spec.proofs.map_text.write_end.Goals as goal
 
 pub returns-in-Some : goal.returns-in-Some

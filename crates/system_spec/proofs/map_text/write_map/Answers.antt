@@ -1,5 +1,4 @@
-use Rattle.cam_io.proofs.Saying.{says_line, says_lines, says_nothing}
-use Rattle.system_spec.proofs.Common.{DomainLine, arith, get_or, get_or_default, line_text, named}
+use Rattle.system_spec.proofs.Common.{DomainLine, arith, get_or, get_or_default, line_text, named, says_line, says_lines, says_nothing}
 use Rattle.system_spec.proofs.map_text.write_map.Goals as goal
 
 pub loop-line-init : goal.loop-line-init

@@ -1,5 +1,4 @@
-use Rattle.cam_io.specs.Saying.{Says}
-use Rattle.system_spec.proofs.Common.{flat_map, line_text, named, take}
+use Rattle.system_spec.proofs.Common.{Says, flat_map, line_text, named, take}
 use Rattle.system_spec.proofs.map_text.write_map.Given as goal
 
 abbrev pub invariant-loop-line : goal.invariant-loop-line

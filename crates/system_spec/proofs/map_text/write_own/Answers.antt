@@ -1,5 +1,5 @@
 -- write_own
-use Rattle.cam_io.proofs.Saying.{says_then}
+use Rattle.system_spec.proofs.Common.{says_then}
 use Rattle.system_spec.proofs.map_text.write_own.Goals as goal
 
 pub returns : goal.returns

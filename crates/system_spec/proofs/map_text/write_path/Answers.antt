@@ -1,4 +1,4 @@
-use Rattle.cam_io.proofs.Saying.{says_more}
+use Rattle.system_spec.proofs.Common.{says_more}
 use Rattle.system_spec.proofs.map_text.write_path.Goals as goal
 
 pub returns-in-Some : goal.returns-in-Some

@@ -1,5 +1,5 @@
 -- write_window
-use Rattle.cam_io.proofs.Saying.{says_then}
+use Rattle.system_spec.proofs.Common.{says_then}
 use Rattle.system_spec.proofs.map_text.write_window.Goals as goal
 
 pub returns : goal.returns

@@ -1,6 +1,5 @@
-use Rattle.text_commands.proofs.Common.{Err, IsAudit, IsPolicyRead, Ok, inl, inr, refl, subst, tell_text}
+use Rattle.text_commands.proofs.Common.{Err, IsAudit, IsPolicyRead, Ok, err_is, inl, inr, refl, subst, tell_text}
 use Rattle.capdl_text.specs.Texts as capdl
-use Rattle.cam_base.proofs.Errors.{err_is}
 use Rattle.text_commands.proofs.Turning.{turn_after, turn_until}
 use Rattle.text_commands.proofs.commands.audit_texts.Goals as goal
 

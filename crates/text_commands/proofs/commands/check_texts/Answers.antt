@@ -1,6 +1,5 @@
-use Rattle.text_commands.proofs.Common.{Checked, Err, IsCertRead, IsPolicyRead, Ok, ap, inl, inr, keeps_twice, refl, tell_text}
+use Rattle.text_commands.proofs.Common.{Checked, Err, IsCertRead, IsPolicyRead, Ok, ap, err_is, inl, inr, keeps_twice, refl, tell_text}
 use Rattle.capdl_text.specs.Texts as capdl
-use Rattle.cam_base.proofs.Errors.{err_is}
 use Rattle.text_commands.proofs.Turning.{turn_after, turn_until}
 use Rattle.text_commands.proofs.commands.check_texts.Goals as goal
 

@@ -1,7 +1,6 @@
-use Rattle.text_commands.proofs.Common.{Err, Ok, inl, inr, refl, tell_text, tell_untyped}
+use Rattle.text_commands.proofs.Common.{Err, Ok, err_is, inl, inr, refl, tell_text, tell_untyped}
 use Rattle.boot_plan.specs.UntypedTexts as untypeds
 use Rattle.capdl_text.specs.Texts as capdl
-use Rattle.cam_base.proofs.Errors.{err_is}
 use Rattle.text_commands.proofs.Turning.{turn_after, turn_until}
 use Rattle.text_commands.proofs.commands.plan_texts.Goals as goal
 

@@ -1,7 +1,6 @@
-use Rattle.text_commands.proofs.Common.{Err, IsPolicyRead, IsReplayed, NoMemory, Ok, Ran, ap, inl, inr, keeps_twice, refl, subst, tell_text}
+use Rattle.text_commands.proofs.Common.{Err, IsPolicyRead, IsReplayed, NoMemory, Ok, Ran, ap, err_is, inl, inr, keeps_twice, refl, subst, tell_text}
 use Rattle.capdl_text.specs.Texts as capdl
 use Rattle.step_text.specs.StepTexts as steps
-use Rattle.cam_base.proofs.Errors.{err_is}
 use Rattle.text_commands.proofs.Turning.{turn_after, turn_until}
 use Rattle.text_commands.proofs.commands.replay_texts.Goals as goal
 

@@ -1,5 +1,4 @@
-use Rattle.text_commands.proofs.Common.{inr, refl}
-use Rattle.cam_base.proofs.Errors.{err_is}
+use Rattle.text_commands.proofs.Common.{err_is, inr, refl}
 use Rattle.text_commands.proofs.commands.table_of_elf.Goals as goal
 
 pub returns-in_err-image-clause-tabled : goal.returns-in_err-image-clause-tabled

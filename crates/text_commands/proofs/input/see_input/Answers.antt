@@ -1,4 +1,4 @@
-use Rattle.text_commands.specs.Inputs.{IsTooLong}
+use Rattle.text_commands.proofs.Common.{IsTooLong}
 use Rattle.text_commands.proofs.Turning.{too_long}
 use Rattle.text_commands.proofs.input.see_input.Goals as goal
 

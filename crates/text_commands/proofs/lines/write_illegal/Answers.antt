@@ -1,5 +1,4 @@
-use Rattle.text_commands.proofs.Common.{said_all}
-use Rattle.std.proofs.Common.{rules}
+use Rattle.text_commands.proofs.Common.{rules, said_all}
 use Rattle.text_commands.proofs.lines.write_illegal.Goals as goal
 
 pub returns : goal.returns

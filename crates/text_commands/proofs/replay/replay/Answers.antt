@@ -1,7 +1,8 @@
-use Rattle.text_commands.proofs.Common.{Run, Some, [], ap, arith, boot, refl, slice_get-get_or, subst, sym, take, take_all, take_more, ◌∙◌, ◌∷◌}
+use Rattle.text_commands.proofs.Common.{Run, Some, [], ap, arith, boot, refl, subst, sym, take, take_all, take_more, ◌∙◌, ◌∷◌}
 use Rattle.cap_audit.proofs.Quiet.{run_append}
 use Rattle.text_commands.proofs.Running.{refused_is}
 use Rattle.text_commands.proofs.replay.replay.Goals as goal
+use Rattle.std.proofs.lemmas.Option.{slice_get-get_or}
 
 pub loop-place-init : goal.loop-place-init
 loop-place-init c = record {

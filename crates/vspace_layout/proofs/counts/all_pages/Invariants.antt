@@ -5,7 +5,8 @@ abbrev pub invariant-loop-domain : goal.invariant-loop-domain
 invariant-loop-domain l = record {
   fits : l.count ≤ 2 ^ 64 - 1;
   rest : capped (l.count + sum (map (λ (d : Domain). section_page_count l.images d.leaves)
-      (drop l.domain-index l.wiring.flat.domains))) ≡ capped (sum (map (λ (d : Domain). section_page_count l.images d.leaves) l.wiring.flat.domains));
+      (drop l.domain-index l.wiring.flat.domains)))
+      ≡ capped (sum (map (λ (d : Domain). section_page_count l.images d.leaves) l.wiring.flat.domains));
 }
 
 abbrev pub invariant-loop-outline : goal.invariant-loop-outline

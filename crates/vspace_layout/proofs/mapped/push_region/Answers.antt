@@ -1,7 +1,5 @@
-use Rattle.std.proofs.Common.{Ok, arith, rules, ℕ}
+use Rattle.vspace_layout.proofs.Common.{Ok, arith, items_from_extend, page_of, rules, ℕ}
 use Rattle.std.proofs.lemmas.Iterator.{YieldsList-from_map, YieldsList-from_range}
-use Rattle.std.proofs.lemmas.Iterator.Adapters.{items_from_extend}
-use Rattle.vspace_layout.proofs.Common.{page_of}
 use Rattle.vspace_layout.proofs.mapped.push_region.Goals as goal
 
 pub returns : goal.returns

@@ -14,6 +14,7 @@ loop-number-preserved c =
           c.loop-number-test.true c.connection-item.is c.loop-number.invariant.frames c.in_ok-push_shared.ensures;
       places = gather_turn (λ k (y : FlatConnection). (length c.args.frames.now + before f cs k) ∷ []) cs read i x []
           c.loop-number.places.items _ c.connections-connection-items.ensures c.loop-number-test.true c.connection-item.is
-          c.loop-number.invariant.places (c.in_ok-push.ensures.items ∙ ap (λ n. c.loop-number.places.items ++ n ∷ []) (c.len.ensures
+          c.loop-number.invariant.places
+          (c.in_ok-push.ensures.items ∙ ap (λ n. c.loop-number.places.items ++ n ∷ []) (c.len.ensures
           ∙ places_more f cs i c.args.frames.now c.loop-number.frames c.loop-number.invariant.frames));
     }

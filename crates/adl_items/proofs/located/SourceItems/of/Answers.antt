@@ -1,8 +1,6 @@
-use Rattle.std.proofs.Common.{◌≡◌, ◌∙◌, length, map, ap, arith}
-use Rattle.adl_meaning.specs.Prelude.{Component, as_assembly, as_component, as_procedure, components, filter_map}
+use Rattle.adl_items.proofs.Common.{Component, ap, arith, as_assembly, as_component, as_procedure, components, filter_map, length, located, map, ◌∙◌, ◌≡◌}
 use Rattle.std.proofs.lemmas.List.{length-map}
 use Rattle.adl_meaning.proofs.FewComponents.{few_components}
-use Rattle.adl_items.specs.Located.{located}
 use Rattle.adl_items.proofs.located.SourceItems.of.Goals as goal
 
 pub invariant_of-result : goal.invariant_of-result

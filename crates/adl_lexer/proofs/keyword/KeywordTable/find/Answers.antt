@@ -1,4 +1,4 @@
-use Rattle.std.proofs.Common.{sym, ◌∙◌}
+use Rattle.adl_lexer.proofs.Common.{sym, ◌∙◌}
 use Rattle.adl_lexer.proofs.KeywordRows.{is_row}
 use Rattle.adl_lexer.proofs.keyword.KeywordTable.find.Goals as goal
 

@@ -1,8 +1,5 @@
-use Rattle.std.proofs.Common.{◌≡◌, ◌∙◌, sym, ap, subst, true, ◌∷◌, ◌++◌, [], List, length, slice_get, slice_set}
-use Rattle.std.proofs.lemmas.Slice.Eq.{bytes_eq-Decides}
-use Rattle.std.specs.Str.{bytes_eq}
-use Rattle.cam_io.specs.Seen.{Agrees, replaced, seen_of}
-use Rattle.cam_io.specs.declared.seen.Seen.{Seen}
+use Rattle.cam_io.proofs.Common.{Agrees, List, Seen, [], ap, bytes_eq, bytes_eq-Decides, length, seen_of, slice_get, slice_set, subst, sym, true, ◌++◌, ◌∙◌, ◌∷◌, ◌≡◌}
+use Rattle.cam_io.specs.Seen.{replaced}
 use Rattle.cam_io.proofs.Seeing.{none_there, pushed_found, pushed_learned, pushed_replaced, pushed_told}
 use Rattle.cam_io.proofs.host_files.HostFiles.place.Goals as goal
 

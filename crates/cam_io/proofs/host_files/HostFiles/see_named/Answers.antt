@@ -1,7 +1,4 @@
-use Rattle.std.proofs.Common.{◌≡◌, ◌∙◌, ◌+◌, refl, sym, subst, List, length, Some}
-use Rattle.std.proofs.lemmas.Option.{slice_get_read}
-use Rattle.cam_io.specs.Seen.{Agrees, seen_of}
-use Rattle.cam_io.specs.declared.seen.Seen.{Seen}
+use Rattle.cam_io.proofs.Common.{Agrees, List, Seen, Some, length, refl, seen_of, slice_get_read, subst, sym, ◌+◌, ◌∙◌, ◌≡◌}
 use Rattle.cam_io.proofs.Seeing.{replaced_learned, replaced_told}
 use Rattle.cam_io.proofs.host_files.HostFiles.see_named.Goals as goal
 

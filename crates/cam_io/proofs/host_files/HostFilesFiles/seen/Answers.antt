@@ -1,8 +1,4 @@
-use Rattle.std.proofs.Common.{◌≡◌, ◌<◌, ◌∙◌, refl, sym, ap, subst, List, length, Some}
-use Rattle.std.proofs.lemmas.Option.{slice_get_read}
-use Rattle.std.specs.FinMap.{get}
-use Rattle.cam_io.specs.Seen.{HasAny, seen_of, whole_of_any}
-use Rattle.cam_io.specs.declared.seen.Seen.{Seen}
+use Rattle.cam_io.proofs.Common.{HasAny, List, Seen, Some, ap, get, length, refl, seen_of, slice_get_read, subst, sym, whole_of_any, ◌<◌, ◌∙◌, ◌≡◌}
 use Rattle.cam_io.proofs.Seeing.{found_there}
 use Rattle.cam_io.proofs.host_files.HostFilesFiles.seen.Goals as goal
 

@@ -1,4 +1,4 @@
-use Rattle.std.proofs.Common.{take}
+use Rattle.cam_io.proofs.Common.{take}
 use Rattle.cam_io.proofs.Taken.{host_appended}
 use Rattle.cam_io.proofs.host_outputs.HostOutputsOutputs.write.Goals as goal
 

@@ -1,6 +1,4 @@
-use Rattle.std.proofs.Common.{◌∙◌, refl, sym, length, None}
-use Rattle.std.proofs.lemmas.Option.{slice_get_read}
-use Rattle.cam_io.specs.Channels.{begun_name}
+use Rattle.cam_io.proofs.Common.{None, begun_name, length, refl, slice_get_read, sym, ◌∙◌}
 use Rattle.cam_io.proofs.Channels.{channel_at, no_channel}
 use Rattle.cam_io.proofs.mem_outputs.MemOutputs.begun.Goals as goal
 

@@ -1,5 +1,4 @@
-use Rattle.std.proofs.Common.{◌∙◌, refl, sym, length, []}
-use Rattle.std.proofs.lemmas.Option.{slice_get_read}
+use Rattle.cam_io.proofs.Common.{[], length, refl, slice_get_read, sym, ◌∙◌}
 use Rattle.cam_io.proofs.Channels.{channel_at, no_channel}
 use Rattle.cam_io.proofs.mem_outputs.MemOutputs.bytes.Goals as goal
 

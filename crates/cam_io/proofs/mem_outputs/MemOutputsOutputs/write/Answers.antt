@@ -1,6 +1,4 @@
-use Rattle.std.proofs.Common.{◌≡◌, ◌∙◌, ap, take, rules}
-use Rattle.cam_io.specs.Sinks.{appended}
-use Rattle.cam_io.specs.MemOutputs.{sink_of}
+use Rattle.cam_io.proofs.Common.{ap, appended, rules, sink_of, take, ◌∙◌, ◌≡◌}
 use Rattle.cam_io.proofs.Appends.{appended_nil}
 use Rattle.cam_io.proofs.Channels.{open_within}
 use Rattle.cam_io.proofs.mem_outputs.MemOutputsOutputs.write.Goals as goal

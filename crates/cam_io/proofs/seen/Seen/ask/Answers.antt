@@ -1,4 +1,4 @@
-use Rattle.std.proofs.Common.{◌≤◌, length, inl, inr}
+use Rattle.cam_io.proofs.Common.{inl, inr, length, ◌≤◌}
 use Rattle.cam_io.proofs.seen.Seen.ask.Goals as goal
 
 pub returns-in_default : goal.returns-in_default

@@ -1,5 +1,4 @@
-use Rattle.std.proofs.Common.{sym, ap, ◌∙◌, arith}
-use Rattle.std.specs.Option.{option_map}
+use Rattle.cam_io.proofs.Common.{ap, arith, option_map, sym, ◌∙◌}
 use Rattle.std.specs.Prelude.{take}
 use Rattle.cam_io.proofs.Seeing.{begun_same}
 use Rattle.cam_io.proofs.seen.Seen.open.Goals as goal

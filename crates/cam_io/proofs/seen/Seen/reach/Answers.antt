@@ -1,5 +1,4 @@
-use Rattle.std.proofs.Common.{◌∙◌, ◌+◌, subst, length}
-use Rattle.cam_io.specs.Seen.{Learns}
+use Rattle.cam_io.proofs.Common.{Learns, length, subst, ◌+◌, ◌∙◌}
 use Rattle.cam_io.proofs.Seeing.{learns_on}
 use Rattle.cam_io.proofs.seen.Seen.reach.Goals as goal
 

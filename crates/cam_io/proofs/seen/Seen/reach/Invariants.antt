@@ -1,5 +1,4 @@
-use Rattle.std.proofs.Common.{◌≡◌, ◌+◌, length}
-use Rattle.cam_io.specs.Seen.{Grows, Learns, wanted}
+use Rattle.cam_io.proofs.Common.{Grows, Learns, length, wanted, ◌+◌, ◌≡◌}
 use Rattle.cam_io.proofs.seen.Seen.reach.Given as goal
 
 abbrev pub invariant-loop-self : goal.invariant-loop-self

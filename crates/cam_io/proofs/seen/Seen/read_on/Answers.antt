@@ -1,6 +1,4 @@
-use Rattle.std.proofs.Common.{◌≤◌, ◌+◌, length, arith}
-use Rattle.std.proofs.lemmas.Grind.{common_steps}
-use Rattle.std.proofs.lemmas.List.{length-append, length-take}
+use Rattle.cam_io.proofs.Common.{arith, common_steps, length, length-append, length-take, ◌+◌, ◌≤◌}
 use Rattle.cam_io.proofs.Seeing.{begun_learns}
 use Rattle.cam_io.proofs.seen.Seen.read_on.Goals as goal
 

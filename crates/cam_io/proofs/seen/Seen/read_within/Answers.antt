@@ -1,6 +1,4 @@
-use Rattle.std.proofs.Common.{◌+◌, ◌≤◌, length, take, arith}
-use Rattle.std.proofs.lemmas.Grind.{common_steps}
-use Rattle.std.proofs.lemmas.List.{length-take}
+use Rattle.cam_io.proofs.Common.{arith, common_steps, length, length-take, take, ◌+◌, ◌≤◌}
 use Rattle.cam_io.proofs.Seeing.{learns_from, learns_wider}
 use Rattle.cam_io.proofs.seen.Seen.read_within.Goals as goal
 

@@ -1,4 +1,4 @@
-use Rattle.std.proofs.Common.{◌∙◌, ◌+◌}
+use Rattle.cam_io.proofs.Common.{◌+◌, ◌∙◌}
 use Rattle.cam_io.proofs.Seeing.{learns_on}
 use Rattle.cam_io.proofs.seen.Seen.see.Goals as goal
 

@@ -1,4 +1,4 @@
-use Rattle.std.proofs.Common.{refl, append-nil, sym, ◌∙◌}
+use Rattle.cam_io.proofs.Common.{append-nil, refl, sym, ◌∙◌}
 use Rattle.cam_io.proofs.Saying.{flushes_failed, flushes_sent, open_written, says_sent}
 use Rattle.cam_io.proofs.writer.Writer.flush.Goals as goal
 

@@ -1,4 +1,4 @@
-use Rattle.std.proofs.Common.{[], refl}
+use Rattle.cam_io.proofs.Common.{[], refl}
 use Rattle.cam_io.proofs.Sequence.{wrote_none}
 use Rattle.cam_io.proofs.writer.Writer.new.Goals as goal
 

@@ -1,4 +1,4 @@
-use Rattle.std.proofs.Common.{refl}
+use Rattle.cam_io.proofs.Common.{refl}
 use Rattle.cam_io.proofs.Saying.{says_waiting}
 use Rattle.cam_io.proofs.writer.Writer.text.Goals as goal
 

@@ -1,4 +1,4 @@
-use Rattle.std.proofs.Common.{refl, ap, ◌++◌}
+use Rattle.cam_io.proofs.Common.{ap, refl, ◌++◌}
 use Rattle.cam_io.proofs.Saying.{open_written, says_sent, says_waiting}
 use Rattle.cam_io.proofs.writer.Writer.text_alone.Goals as goal
 

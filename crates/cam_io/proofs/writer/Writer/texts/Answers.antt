@@ -1,5 +1,4 @@
-use Rattle.std.proofs.Common.{◌≤◌, ℕ, List, [], ap, sym, length, get_or, arith, Bor, take_all}
-use Rattle.std.specs.List.{flat_map}
+use Rattle.cam_io.proofs.Common.{Bor, List, [], ap, arith, flat_map, get_or, length, sym, take_all, ℕ, ◌≤◌}
 use Rattle.cam_base.proofs.Joined.{together_map}
 use Rattle.cam_io.proofs.Saying.{read_is, says_line}
 use Rattle.cam_io.proofs.writer.Writer.texts.Goals as goal

@@ -1,6 +1,4 @@
-use Rattle.std.proofs.Common.{take}
-use Rattle.std.specs.List.{flat_map}
-use Rattle.cam_io.specs.Saying.{Says}
+use Rattle.cam_io.proofs.Common.{Says, flat_map, take}
 use Rattle.cam_io.proofs.writer.Writer.texts.Given as goal
 
 abbrev pub invariant-loop-text : goal.invariant-loop-text

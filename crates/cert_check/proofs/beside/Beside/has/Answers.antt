@@ -1,5 +1,4 @@
-use Rattle.cert_check.proofs.Common.{Edge, has, has_at, subst, sym, true, ◌∙◌, ◌≡◌}
-use Rattle.cap_model.proofs.EdgeCompare.{eq-same}
+use Rattle.cert_check.proofs.Common.{Edge, eq-same, has, has_at, subst, sym, true, ◌∙◌, ◌≡◌}
 use Rattle.cert_check.proofs.beside.Beside.has.Goals as goal
 
 pub returns-in-Some : goal.returns-in-Some

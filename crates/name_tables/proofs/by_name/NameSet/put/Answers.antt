@@ -1,7 +1,4 @@
-use Rattle.std.proofs.Common.{◌∙◌, ◌||◌, sym, ap, is_some}
-use Rattle.std.specs.Str.{bytes_eq}
-use Rattle.cam_base.proofs.Options.{is_some-option_or}
-use Rattle.name_tables.specs.ByName.{is_among}
+use Rattle.name_tables.proofs.Common.{ap, bytes_eq, is_among, is_some, is_some-option_or, sym, ◌||◌, ◌∙◌}
 use Rattle.name_tables.proofs.NameLookups.{among_found}
 use Rattle.name_tables.proofs.by_name.NameSet.put.Goals as goal
 

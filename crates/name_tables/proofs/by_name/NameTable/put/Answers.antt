@@ -1,8 +1,4 @@
-use Rattle.std.proofs.Common.{arith, ◌≡◌, ◌∙◌, ◌∷◌, ◌++◌, [], List, Some, None, true, false, length, nat_lt, slice_index_or, refl, sym, ap, is_some}
-use Rattle.std.proofs.lemmas.Bool.Decides.{nat_tests}
-use Rattle.std.specs.List.{slice_get, slice_set}
-use Rattle.std.specs.Option.{option_or, option_map_or}
-use Rattle.name_tables.specs.ByName.{found}
+use Rattle.name_tables.proofs.Common.{List, None, Some, [], ap, arith, false, found, is_some, length, nat_lt, nat_tests, option_map_or, option_or, refl, slice_get, slice_index_or, slice_set, sym, true, ◌++◌, ◌∙◌, ◌∷◌, ◌≡◌}
 use Rattle.name_tables.proofs.NameLookups.{found_kept, met_few, met_many, put_few, put_many}
 use Rattle.name_tables.proofs.by_name.NameTable.put.Goals as goal
 

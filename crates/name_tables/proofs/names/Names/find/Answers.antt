@@ -1,5 +1,4 @@
-use Rattle.std.proofs.Common.{◌∙◌, ap}
-use Rattle.name_tables.specs.ByName.{found}
+use Rattle.name_tables.proofs.Common.{ap, found, ◌∙◌}
 use Rattle.name_tables.proofs.Ordered.{fits, found_entry}
 use Rattle.name_tables.proofs.names.Names.find.Goals as goal
 

@@ -1,5 +1,4 @@
-use Rattle.std.proofs.Common.{◌∙◌, ap, sym, is_some}
-use Rattle.name_tables.specs.Naming.{are_digested}
+use Rattle.name_tables.proofs.Common.{ap, are_digested, is_some, sym, ◌∙◌}
 use Rattle.name_tables.proofs.Ordered.{digested_put, entry_put, fits, is_some-option_copied}
 use Rattle.name_tables.proofs.names.Names.put.Goals as goal
 

@@ -1,8 +1,4 @@
-use Rattle.std.proofs.Common.{◌∙◌, ◌%◌, ◌<◌, ap, ap₂, subst, sym, [], ◌∷◌}
-use Rattle.std.proofs.lemmas.List.{get_or_read_under}
-use Rattle.std.specs.Option.{option_or}
-use Rattle.name_tables.specs.ByName.{found}
-use Rattle.name_tables.specs.Naming.{has_room, spread_found}
+use Rattle.name_tables.proofs.Common.{[], ap, ap₂, found, get_or_read_under, has_room, option_or, spread_found, subst, sym, ◌%◌, ◌<◌, ◌∙◌, ◌∷◌}
 use Rattle.name_tables.proofs.Spread.{spread_put}
 use Rattle.name_tables.proofs.names.SpreadNames.add.Goals as goal
 

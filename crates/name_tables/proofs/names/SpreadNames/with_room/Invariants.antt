@@ -1,4 +1,4 @@
-use Rattle.std.proofs.Common.{◌≡◌, replicate, []}
+use Rattle.name_tables.proofs.Common.{[], replicate, ◌≡◌}
 use Rattle.name_tables.proofs.names.SpreadNames.with_room.Given as goal
 
 abbrev pub invariant-loop : goal.invariant-loop

@@ -1,9 +1,4 @@
-use Rattle.std.proofs.Common.{◌≡◌, ◌∙◌, ◌≤◌, sym, ap, nat_lt, take, rules, length, true, false}
-use Rattle.std.specs.List.{list_any}
-use Rattle.std.specs.List.Sorted.{IsPartitionPoint}
-use Rattle.std.proofs.lemmas.List.Sorted.{IsPartitionPoint-from_clause, IsPartitionedBy-ltb}
-use Rattle.name_tables.specs.Reaching.{IsReach}
-use Rattle.name_tables.specs.Sharing.{shares}
+use Rattle.name_tables.proofs.Common.{IsPartitionPoint, IsPartitionPoint-from_clause, IsPartitionedBy-ltb, IsReach, ap, false, length, list_any, nat_lt, rules, shares, sym, take, true, ◌∙◌, ◌≡◌, ◌≤◌}
 use Rattle.name_tables.proofs.PageSearch.{any-shares}
 use Rattle.name_tables.proofs.page_index.PageIndex.shares_any.Goals as goal
 

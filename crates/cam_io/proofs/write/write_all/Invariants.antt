@@ -1,6 +1,5 @@
-use Rattle.std.proofs.Common.{length, take, ◌-◌, ◌≡◌, ◌≤◌}
-use Rattle.cam_io.specs.Sinks.{appended, IsOpen}
-use Rattle.cam_io.proofs.write.write_rest.Given as goal
+use Rattle.cam_io.proofs.Common.{IsOpen, [], appended, length, take, ◌-◌, ◌≡◌, ◌≤◌}
+use Rattle.cam_io.proofs.write.write_all.Given as goal
 
 abbrev pub invariant-loop-done : goal.invariant-loop-done
 invariant-loop-done g l =
@@ -11,6 +10,7 @@ invariant-loop-done g l =
       so_far : sink l.out ≡ appended (sink l.fn.out) l.channel (take l.done l.bytes);
       open_still : IsOpen (sink l.out) l.channel;
       later : faults l.fn.out ≤ faults l.out;
+      quiet : l.bytes ≡ [] → l.out ≡ l.fn.out;
     }
 
 abbrev pub decreases-loop-done : goal.decreases-loop-done
