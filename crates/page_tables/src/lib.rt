@@ -7,7 +7,6 @@
 
 mod counts;
 mod laws;
-mod layer;
 mod mapping;
 mod runs;
 mod shape;
@@ -18,6 +17,6 @@ pub use laws::{
     counts_are_of_addresses, levels_are_of_addresses, pages_are_found, root_is_one,
     runs_are_tables, shapes_are_levels, slots_rise, tables_are_kept, tables_hold_what_is_mapped,
 };
-pub use mapping::Mapping;
+pub use mapping::{Addressed, Mapping};
 pub use shape::{Shape, shapes};
-pub use tables::tables_of;
+pub use tables::push_tables_of;

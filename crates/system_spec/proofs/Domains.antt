@@ -136,18 +136,6 @@ pub tables_turn : (t : Tables) (first frames d next : ℕ) (objects : List Objec
 tables_turn t first frames d next objects l e h =
     omega (arith, tables_grown t frames d next l h, ap (λ (z : List Object). length z) e, length-tables_at t first frames d)
 
-pub few_objects : (t : Tables) (first frames d : ℕ) (objects : List Object) → AreFew t → objects ≡ tables_at t first frames d
-    → length objects < 2 ^ 32
-few_objects t first frames d objects few e =
-    omega (
-      arith,
-      ap (λ (z : List Object). length z) e,
-      length-tables_at t first frames d,
-      counted t frames d,
-      counted t 0 d,
-      few.tables d,
-    )
-
 pub space_is : (t : Tables) (d next frames : ℕ) (objects : List Object) → next ≡ place t (TableOf d 0)
     → frames ≡ place t (FrameOf 0) → objects ≡ tables_at t next frames d → objects ≡ space_tables t d
 space_is t d next frames objects n f e =

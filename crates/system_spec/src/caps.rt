@@ -117,7 +117,7 @@ pub fn caps_of(
     requires few { first_lock + length (gather (lock domain) uses.now) < 2 ^ 32 }
     ensures { IfOk result (λ caps. caps ≡ slots_at (told tables.now) domain) }
 {
-    let mut caps = List::new(alloc);
+    let mut caps = List::from_vec(Vec::with_capacity(alloc, uses.len())?);
     let mut lock = first_lock;
     for (n, used) in uses.iter().enumerate() {
         caps.push((n as u64 + 1, use_cap(tables, places, lock, *used)))?;

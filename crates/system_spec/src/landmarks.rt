@@ -10,7 +10,7 @@ ghost use Rattle.system_spec.specs.Told.{told};
 
 use crate::Part;
 use crate::caps::lock_number;
-use crate::levels::tables_at;
+use crate::levels::push_tables_at;
 use crate::listing::{first_of, sections};
 use crate::places::{Firsts, Places, places_of};
 use crate::tables::{Tables, uses_at};
@@ -84,19 +84,15 @@ fn all_spaces(
     ensures objects { IfOk result (λ spaces. spaces.objects ≡ all_spaces (told tables.now)) }
 {
     let mut roots = List::from_vec(Vec::with_capacity(alloc, tables.flat.domains.len())?);
-    let mut all = Vec::with_capacity(alloc, frames.saturating_sub(first) as usize)?;
-    let mut next = first;
+    let room = frames.saturating_sub(first) as usize;
+    let mut objects = List::from_vec(Vec::with_capacity(alloc, room)?);
     for number in 0..tables.flat.domains.len() as u32 {
-        let objects = tables_at(alloc, tables, next, frames, number)?;
         let count = objects.len() as u32;
+        let next = first + count;
         roots.push(next)?;
-        next += count;
-        all.append(&mut objects.into_vec())?;
+        push_tables_at(alloc, tables, next, frames, number, &mut objects)?;
     }
-    Ok(SpaceTables {
-        roots,
-        objects: List::from_vec(all),
-    })
+    Ok(SpaceTables { roots, objects })
 }
 
 /// Where the sections of the objects of connections begin.

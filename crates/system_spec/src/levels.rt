@@ -14,7 +14,7 @@ use crate::{PageTable, Part, Series, What};
 use arch_policy::Owner;
 use cam_base::{List, NoMemory};
 use cap_model::{Cap, Level, Object, Rights};
-use page_tables::{Mapping, levels_of, tables_of};
+use page_tables::{Mapping, levels_of, push_tables_of};
 use std::alloc::Global;
 use vspace_layout::Page;
 
@@ -57,35 +57,28 @@ fn mappings(alloc: Global, frames: u32, pages: &[Page]) -> Result<Vec<Mapping>, 
     )
 }
 
-/// The page tables of a domain, where the first of them and frame 0 stand at these places.
-pub fn tables_at(
+/// Puts the page tables of a domain behind the others, where the first of them and frame 0 stand at these places.
+pub fn push_tables_at(
     alloc: Global,
     tables: &Tables<'_>,
     first: u32,
     frames: u32,
     domain: u32,
-) -> Result<List<Object>, NoMemory>
+    objects: &mut List<Object>,
+) -> Result<(), NoMemory>
     requires shown { AreShown frames (pages_at (told tables.now) domain) }
     requires few { first + table_count (told tables.now) frames domain < 2 ^ 32 }
-    ensures { IfOk result (λ objects. objects ≡ tables_at (told tables.now) first frames domain) }
+    ensures { OnOk result (objects.new ≡ objects.old ++ tables_at (told tables.now) first frames domain) }
 {
     let mappings = mappings(alloc, frames, pages_at(tables, domain))?;
-    tables_of(alloc, tables.images.arch(), first, &mappings)
-}
-
-/// The addresses of pages.
-fn addresses(alloc: Global, pages: &[Page]) -> Result<Vec<u64>, NoMemory>
-    ensures { IfOk result (λ addresses. addresses.items ≡ map (λ p. p.vaddr) pages.now) }
-{
-    Ok(pages.iter().map(|page| page.vaddr).collect(alloc)?)
+    push_tables_of(alloc, tables.images.arch(), first, &mappings, objects)
 }
 
 /// The levels of the page tables of a domain.
 fn levels_at(alloc: Global, tables: &Tables<'_>, domain: u32) -> Result<List<Level>, NoMemory>
     ensures { IfOk result (λ levels. levels ≡ map level_of (tables_at (told tables.now) 0 0 domain)) }
 {
-    let addresses = addresses(alloc, pages_at(tables, domain))?;
-    levels_of(alloc, tables.images.arch(), &addresses)
+    levels_of(alloc, tables.images.arch(), pages_at(tables, domain))
 }
 
 /// Puts the page tables of a domain, which have these levels, behind the others.

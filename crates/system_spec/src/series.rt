@@ -1,5 +1,5 @@
 ghost use Rattle.cam_base.specs.Names.{is_name};
-ghost use Rattle.std.specs.Prelude.{◌≡◌, ◌≤◌, ◌+◌, ◌++◌, true, length, take, IfOk};
+ghost use Rattle.std.specs.Prelude.{◌≡◌, ◌≤◌, true, length, IfOk};
 ghost use Rattle.system_spec.specs.Names.{level_series, name_of, prefix};
 
 use cam_base::{Name, NoMemory};
@@ -62,21 +62,7 @@ impl Series {
     pub fn name(self, alloc: Global, number: u64) -> Result<Name, NoMemory>
         ensures { IfOk result (λ name. name ≡ name_of self number) }
     {
-        let (mut digits, mut bytes) = (Buffer::new(), [0; 26]);
-        let front = put_behind(&mut bytes, 0, self.prefix());
-        let end = put_behind(&mut bytes, front, digits.format(number).as_bytes());
-        Name::of_identifier(alloc, &bytes[..end])
+        let mut digits = Buffer::new();
+        Name::of_parts(alloc, self.prefix(), digits.format(number).as_bytes())
     }
-}
-
-/// Puts a piece behind so many bytes, and answers where it ends.
-fn put_behind(bytes: &mut [u8], end: usize, piece: &[u8]) -> usize
-    requires { end + length piece.now ≤ length bytes.old }
-    ensures same { length bytes.new ≡ length bytes.old }
-    ensures past { result ≡ end + length piece.now }
-    ensures put { take result bytes.new ≡ take end bytes.old ++ piece.now }
-{
-    let past = end + piece.len();
-    bytes[end..past].copy_from_slice(piece);
-    past
 }

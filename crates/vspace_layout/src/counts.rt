@@ -49,24 +49,15 @@ pub fn all_pages(
     Ok(count)
 }
 
-/// The page tables of a space with these pages.
-fn tables_of(alloc: Global, arch: Arch, pages: &[MappedPage]) -> Result<u64, NoMemory>
-    ensures { IfOk result (λ n. n ≡ tables_of arch pages.now) }
-{
-    let addresses: Vec<u64> = pages.iter().map(|page| page.at).collect(alloc)?;
-    Ok(table_count(arch, &addresses))
-}
-
 /// The page tables of spaces with these pages.
-pub fn all_tables(alloc: Global, arch: Arch, spaces: &[List<MappedPage>]) -> Result<u64, NoMemory>
-    ensures { IfOk result (λ n. n ≡ capped (sum (map (tables_of arch) spaces.now))) }
+pub fn all_tables(arch: Arch, spaces: &[List<MappedPage>]) -> u64
+    ensures { result ≡ capped (sum (map (tables_of arch) spaces.now)) }
 {
     let mut count: u64 = 0;
     for pages in spaces {
-        let tables = tables_of(alloc, arch, pages.as_slice())?;
-        count = count.saturating_add(tables);
+        count = count.saturating_add(table_count(arch, pages.as_slice()));
     }
-    Ok(count)
+    count
 }
 
 fn is_own(page: &MappedPage) -> bool

@@ -186,7 +186,7 @@ fn lay_few(
 {
     let source = wiring.source();
     let mapped = all_mapped(alloc, wiring, images, outlines)?;
-    let tables = all_tables(alloc, images.arch(), &mapped)?;
+    let tables = all_tables(images.arch(), &mapped);
     if let Some(fault) = limit_over(alloc, source, tables, b"tables")? {
         return Err(Refused::Fault(fault));
     }

@@ -11,6 +11,7 @@ use adl_meaning::EndSetting;
 use cam_base::{Boxed, List, NoMemory};
 use cap_model::Fill;
 use cspace_layout::Wiring;
+use page_tables::Addressed;
 use source_images::SectionPage;
 use std::alloc::Global;
 
@@ -28,6 +29,14 @@ pub struct MappedPage {
     pub read: bool,
     pub write: bool,
     pub shown: Shown,
+}
+
+impl Addressed for MappedPage {
+    ghost address = { λ x. x.at };
+
+    fn address(&self) -> u64 {
+        self.at
+    }
 }
 
 fn section_page(page: SectionPage) -> MappedPage

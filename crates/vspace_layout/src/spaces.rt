@@ -2,6 +2,7 @@ use crate::owner::Owner;
 use cam_base::{Boxed, List};
 use cap_model::Fill;
 use cspace_layout::EndAt;
+use page_tables::Addressed;
 
 /// A page that is mapped in a space.
 #[derive(Clone, Copy)]
@@ -11,6 +12,14 @@ pub struct Page {
     pub frame: u32,
     pub write: bool,
     pub read: bool,
+}
+
+impl Addressed for Page {
+    ghost address = { λ x. x.vaddr };
+
+    fn address(&self) -> u64 {
+        self.vaddr
+    }
 }
 
 /// A thread of a leaf: its control thread, or the one of an end that serves calls.

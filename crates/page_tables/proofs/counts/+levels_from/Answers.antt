@@ -1,12 +1,14 @@
-use Rattle.page_tables.proofs.Common.{IsIn, arith, inl, inr, refl, subst, sym}
+use Rattle.page_tables.proofs.Common.{AreShapes, arith, length, ◌<◌}
+use Rattle.std.proofs.Common.{rules}
+use Rattle.page_tables.proofs.Fitting.{above_fit, first_fits}
 use Rattle.page_tables.proofs.counts.+levels_from.Goals as goal
 
 pub levels_from-requires : goal.levels_from-requires
-levels_from-requires t c = (
-  omega (arith, c.in-Some.ensures.cases.1),
-  λ l i. c.requires l (subst (λ z. IsIn l z) (sym c.in-Some.ensures.cases.0) (inr i)),
-)
+levels_from-requires g t c =
+    let less : length c.in-Some.above.now < length c.args.shapes.now = omega (arith, c.in-Some.ensures.cases.1) in
+    let fit : AreShapes c.in-Some.above.now =
+    above_fit c.args.shapes.now c.in-Some.shape.now c.in-Some.above.now c.in-Some.ensures.cases.0 c.requires in
+    search rules
 
 pub span-requires : goal.span-requires
-span-requires t c =
-    c.requires c.in-Some.shape.now (subst (λ z. IsIn c.in-Some.shape.now z) (sym c.in-Some.ensures.cases.0) (inl refl))
+span-requires g t c = first_fits c.args.shapes.now c.in-Some.shape.now c.in-Some.above.now c.in-Some.ensures.cases.0 c.requires

@@ -12,7 +12,7 @@ overflow_add-lock c =
     let uses = c.args.uses.now in
     let below = c.loop-n-test.true in
     let more = lock_turn t c.args.domain uses c.loop-n.n c.loop-n.lock _ (get_or uses c.loop-n.n (OfEnd 0 0)) c.requires.uses
-    below (get_or_default _ _ _ _ below) c.lock_number-lock.ensures c.loop-n.invariant.lock in
+    below (get_or_default _ _ _ _ below) c.lock_number.ensures c.loop-n.invariant.lock in
     omega (
       arith,
       c.requires.few,
@@ -33,5 +33,5 @@ loop-n-preserved c =
           (c.in_ok-push.ensures.ok ∙ ap (λ z. c.loop-n.caps ++ (n + 1, z) ∷ []) (c.use_cap.ensures ∙ ap (λ z. use_cap_at t z u)
           c.loop-n.invariant.lock));
       lock = lock_turn t c.args.domain uses n c.loop-n.lock _ u c.requires.uses below (get_or_default _ _ _ _ below)
-          c.lock_number-lock.ensures c.loop-n.invariant.lock;
+          c.lock_number.ensures c.loop-n.invariant.lock;
     }

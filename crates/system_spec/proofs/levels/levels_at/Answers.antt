@@ -11,6 +11,6 @@ returns c =
     let same : map level_of (tables_at t 0 0 d) ≡ levels_of (shapes (arch t)) (map (λ (p : Page). p.vaddr) (pages_at t d)) =
     levels_of_addresses (arch t) 0 (map (page_mapping 0) (pages_at t d)) ∙ ap (levels_of (shapes (arch t)))
     (addresses_same 0 (pages_at t d)) in
-    IfOk-weaker c.levels_of.result _ _ (λ levels is. is ∙ ap (λ a. levels_of (shapes a) c.deref.result.now) c.arch.ensures
-    ∙ ap (levels_of (shapes (arch t))) (c.deref.ensures.value ∙ c.in_ok-addresses.ensures ∙ ap (map (λ (p : Page). p.vaddr))
-    c.pages_at.ensures) ∙ sym same) c.levels_of.ensures
+    IfOk-weaker c.levels_of.result _ _ (λ levels is. is
+    ∙ ap (λ a. levels_of (shapes a) (map (λ (p : Page). p.vaddr) c.pages_at.result.now)) c.arch.ensures
+    ∙ ap (λ ps. levels_of (shapes (arch t)) (map (λ (p : Page). p.vaddr) ps)) c.pages_at.ensures ∙ sym same) c.levels_of.ensures

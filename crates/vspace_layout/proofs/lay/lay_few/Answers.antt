@@ -29,13 +29,13 @@ returns-in-Some-clause-faults c =
     let mapped = c.deref.ensures.value ∙ c.in_ok-mapped.ensures ∙ ap (mapped_by t.flat t.settled t.images) c.requires.outlines
     ∙ mapped_same t in
     let tables =
-    c.in_ok-tables.ensures
+    c.all_tables-tables.ensures
     ∙ ap (λ a. capped (sum (map (tables_of a) c.deref.result.now))) c.arch.ensures
     ∙ ap (λ (z : List (List MappedPage)). capped (sum (map (tables_of (arch t)) z))) mapped
     ∙ ap capped (sym (tables_counted t)) in
     tables_over t.source (sum (page_counts t)) (sum (table_counts t)) c.in-Some.fault c.source-source.ensures.within.assembly
     c.requires.few (sym (ap (λ n. limit_over t.source n (codes "tables")) tables)
-    ∙ sym (c.in_ok-fault.ensures ∙ ap (λ s. limit_over s c.in_ok-tables.tables (codes "tables")) c.source-source.ensures.source)
+    ∙ sym (c.in_ok-fault.ensures ∙ ap (λ s. limit_over s c.all_tables-tables.result (codes "tables")) c.source-source.ensures.source)
     ∙ c.in-Some.is)
 
 pub returns-clause-faults : goal.returns-clause-faults
@@ -44,13 +44,13 @@ returns-clause-faults c =
     let mapped = c.deref.ensures.value ∙ c.in_ok-mapped.ensures ∙ ap (mapped_by t.flat t.settled t.images) c.requires.outlines
     ∙ mapped_same t in
     let tables =
-    c.in_ok-tables.ensures
+    c.all_tables-tables.ensures
     ∙ ap (λ a. capped (sum (map (tables_of a) c.deref.result.now))) c.arch.ensures
     ∙ ap (λ (z : List (List MappedPage)). capped (sum (map (tables_of (arch t)) z))) mapped
     ∙ ap capped (sym (tables_counted t)) in
     none_over t.source (sum (page_counts t)) (sum (table_counts t)) c.source-source.ensures.within.assembly c.requires.few
     (sym (ap (λ n. limit_over t.source n (codes "tables")) tables)
-    ∙ sym (c.in_ok-fault.ensures ∙ ap (λ s. limit_over s c.in_ok-tables.tables (codes "tables")) c.source-source.ensures.source)
+    ∙ sym (c.in_ok-fault.ensures ∙ ap (λ s. limit_over s c.all_tables-tables.result (codes "tables")) c.source-source.ensures.source)
     ∙ c.in_default.is)
 
 pub returns-clause-spaces : goal.returns-clause-spaces
