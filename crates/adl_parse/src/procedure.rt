@@ -10,13 +10,13 @@ ghost use Rattle.cam_base.specs.declared.token.Mark.TheVariants as marks;
 ghost use Rattle.cam_base.specs.Form.{maybe, behind};
 ghost use Rattle.cam_base.specs.Gives.{Gives};
 ghost use Rattle.cam_base.specs.Reading.{starts};
-ghost use Rattle.std.specs.Prelude.{◌≡◌, ◌∷◌, ◌++◌, [], IfOk};
+ghost use Rattle.std.specs.Prelude.{◌≡◌, ◌∷◌, ◌++◌, []};
 
 use crate::import::read_import;
 use crate::typed::{More, brackets, more_words, typed_name, typed_of};
 use crate::{Adl, WordKind, id_of, next_has, next_is, next_is_word, take, take_of, word};
 use adl_ast::{Direction, Id, Method, Param, ProcMember, Procedure, Words};
-use cam_base::{Keyword, Kind, List, Mark, NoMemory, ReadError, Repeated, Token, read_all};
+use cam_base::{Keyword, Kind, List, Mark, ReadError, Repeated, Token, read_all, read_from};
 use std::alloc::Global;
 
 fn starts_direction(bytes: &[u8], tokens: &[Token]) -> bool
@@ -114,18 +114,6 @@ impl Repeated<Adl> for MoreParams {
 /// What stands between the parentheses: whether it is `void` alone, and the parameters.
 type Params = (bool, List<Param>);
 
-/// A parameter with those behind it.
-fn joined(alloc: Global, first: Param, more: List<Param>) -> Result<List<Param>, NoMemory>
-    ensures { IfOk result (λ params. params ≡ first ∷ more) }
-{
-    let mut params = List::from_vec(Vec::with_capacity(alloc, more.len() + 1)?);
-    params.push(first)?;
-    for param in more.into_vec() {
-        params.push(param)?;
-    }
-    Ok(params)
-}
-
 #[tactic(auto, unfolding(adl_ast::specs::Forms::void_params_line))]
 fn void_params<'a>(
     alloc: Global,
@@ -140,10 +128,10 @@ fn void_params<'a>(
     }
     let (more, rest) = more_words(alloc, bytes, rest)?;
     let (array, rest) = brackets(bytes, rest)?;
-    let (others, rest) = read_all::<Adl, MoreParams>(alloc, bytes, rest)?;
-    let first = id_of(alloc, bytes, void)?;
-    let typed = typed_of(alloc, first, more)?;
-    let params = joined(alloc, param_of(None, typed, array), others)?;
+    let word = id_of(alloc, bytes, void)?;
+    let typed = typed_of(alloc, word, more)?;
+    let first = param_of(None, typed, array);
+    let (params, rest) = read_from::<Adl, MoreParams>(alloc, bytes, rest, first)?;
     Ok(((false, params), rest))
 }
 
@@ -200,8 +188,7 @@ fn other_params<'a>(
     ensures { Gives (λ x. (x.0, see bytes.now x.1.now)) result (reads other_params_line (see bytes.now tokens.now)) }
 {
     let (first, rest) = first_param(alloc, bytes, tokens)?;
-    let (more, rest) = read_all::<Adl, MoreParams>(alloc, bytes, rest)?;
-    let params = joined(alloc, first, more)?;
+    let (params, rest) = read_from::<Adl, MoreParams>(alloc, bytes, rest, first)?;
     Ok(((false, params), rest))
 }
 

@@ -10,7 +10,8 @@ ghost use Rattle.std.specs.Prelude.{◌≡◌, true};
 
 use crate::need::Need;
 use crate::plan_refusal::BootPlan;
-use cam_io::{Failed, Outputs, Writer, hexadecimal};
+use cam_base::hexadecimal;
+use cam_io::{Failed, Outputs, Writer};
 use cap_model::{Arch, Entry, Spec};
 use itoa::Buffer;
 

@@ -10,6 +10,11 @@ use Rattle.cam_base.proofs.Depth.{IsLine, deep_exact}
 abbrev pub with_front : {T A : Type 0} → List A → Result (List A × List T) Stop → Result (List A × List T) Stop
 with_front front given = given >>= λ x. Ok (front ++ x.0, x.1)
 
+-- nothing was read before
+pub behind_none : {T A : Type 0} (given : Result (List A × List T) Stop) → with_front [] given ≡ given
+behind_none (Ok x) = refl
+behind_none (Err e) = refl
+
 -- the reader takes a token at least
 abbrev pub Eats : {T A : Type 0} → Reader T A → Type 0
 Eats {T = T} {A = A} r = (ts : List T) (x : A × List T) → r ts ≡ Ok x → length x.1 < length ts

@@ -32,6 +32,9 @@ name_short (b ∷ bs) h =
     let l = leb-true (length bs) 126 (and_parts (leb (length bs) 126) (is_letter b && list_all is_word_byte bs) h).0 in
     omega (arith, l)
 
+pub parts_short : (front back : List ℕ) → is_name (front ++ back) ≡ true → length front + length back ≤ 127
+parts_short front back h = omega (arith, name_short (front ++ back) h, length-append front back)
+
 pub is_name-append : (word more : List ℕ) → is_name word ≡ true → list_all is_word_byte more ≡ true
     → length word + length more ≤ 127 → is_name (word ++ more) ≡ true
 is_name-append [] more w m l = absurd cc

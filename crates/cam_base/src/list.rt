@@ -70,11 +70,16 @@ impl<T> List<T> {
 
 impl<T: Drop> List<T> {
     /// Puts an item at the end. Refused, it leaves the list as it was.
+    #[inline(always)]
     pub fn push(&mut self, item: T) -> Result<(), NoMemory>
         ensures ok { OnOk result (self.new ≡ self.old ++ item ∷ []) }
         ensures err { OnErr result (self.new ≡ self.old) }
     {
-        self.items.push(item)?;
+        if self.items.len() < self.items.capacity() {
+            self.items.push_reserved(item);
+        } else {
+            self.items.push(item)?;
+        }
         Ok(())
     }
 }

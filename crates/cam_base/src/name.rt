@@ -7,7 +7,7 @@ ghost use Rattle.std.specs.Cmp.Rules.{comparing, hashing};
 ghost use Rattle.std.specs.Hash as fed;
 ghost use Rattle.std.specs.List.{list_all};
 ghost use Rattle.std.specs.Ordering.{nat_cmp, as_partial_cmp};
-ghost use Rattle.std.specs.Prelude.{◌≡◌, false, IfOk, IsErrOf, ◌↔◌, IsTrue};
+ghost use Rattle.std.specs.Prelude.{◌≡◌, ◌++◌, false, IfOk, IsErrOf, ◌↔◌, IsTrue};
 ghost use Rattle.std.specs.Str.{bytes_eq};
 
 use crate::name_bytes::{NameBytes, Packed};
@@ -132,6 +132,17 @@ impl Name {
         })
     }
 
+    /// A copy of these bytes and of those behind them, which together are known to be an identifier of 1 to 127 bytes.
+    #[tactic(auto, using(crate::proofs::Naming::parts_short))]
+    pub fn of_parts(alloc: Global, front: &[u8], back: &[u8]) -> Result<Name, NoMemory>
+        requires { IsTrue (is_name (front.now ++ back.now)) }
+        ensures { IfOk result (λ name. name ≡ front.now ++ back.now) }
+    {
+        Ok(Name {
+            bytes: NameBytes::joined(alloc, front, back)?,
+        })
+    }
+
     /// The bytes, which are an identifier.
     pub fn as_bytes(&self) -> &[u8]
         ensures bytes { result.now ≡ self.now }
@@ -144,7 +155,9 @@ impl Name {
     pub fn copy(&self, alloc: Global) -> Result<Name, NoMemory>
         ensures { IfOk result (λ name. name ≡ self.now) }
     {
-        Name::of_identifier(alloc, self.as_bytes())
+        Ok(Name {
+            bytes: self.bytes.copy(alloc)?,
+        })
     }
 }
 

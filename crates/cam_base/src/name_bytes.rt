@@ -1,7 +1,7 @@
 //! Where a name keeps its bytes.
 
 ghost use Rattle.cam_base.specs.NameBytes.{bytes_of};
-ghost use Rattle.std.specs.Prelude.{◌≡◌, ◌≤◌, ◌<◌, length, IfOk};
+ghost use Rattle.std.specs.Prelude.{◌≡◌, ◌≤◌, ◌<◌, ◌+◌, ◌++◌, length, IfOk};
 
 use crate::NoMemory;
 use std::alloc::Global;
@@ -39,11 +39,38 @@ impl<const N: usize> Packed<N> {
         }
     }
 
+    /// A copy of these bytes and of those behind them.
+    fn joined(front: &[u8], back: &[u8]) -> Packed<N>
+        requires place { length front.now + length back.now ≤ N }
+        requires few { length front.now + length back.now < 256 }
+        ensures { result ≡ front.now ++ back.now }
+    {
+        let count = front.len() + back.len();
+        let mut kept = [0; N];
+        let places = &mut kept[..];
+        places[..front.len()].copy_from_slice(front);
+        places[front.len()..count].copy_from_slice(back);
+        Packed {
+            count: count as u8,
+            bytes: kept,
+        }
+    }
+
     /// The bytes.
     pub(crate) fn as_slice(&self) -> &[u8]
         ensures { result.now ≡ self.now }
     {
         &self.bytes[..self.count as usize]
+    }
+
+    /// Equal bytes, copied with the places behind them.
+    fn copy(&self) -> Packed<N>
+        ensures { result ≡ self.now }
+    {
+        Packed {
+            count: self.count,
+            bytes: self.bytes,
+        }
     }
 }
 
@@ -67,6 +94,29 @@ impl NameBytes {
             Ok(NameBytes::Middle(Box::new(alloc, Packed::of(bytes))?))
         } else {
             Ok(NameBytes::Long(Box::new(alloc, Packed::of(bytes))?))
+        }
+    }
+
+    /// A copy of these bytes and of those behind them.
+    pub(crate) fn joined(alloc: Global, front: &[u8], back: &[u8]) -> Result<NameBytes, NoMemory>
+        requires { length front.now + length back.now ≤ 127 }
+        ensures { IfOk result (λ b. bytes_of b ≡ front.now ++ back.now) }
+    {
+        if front.len() + back.len() <= 14 {
+            Ok(NameBytes::Short(Packed::joined(front, back)))
+        } else {
+            NameBytes::of(alloc, Packed::<127>::joined(front, back).as_slice())
+        }
+    }
+
+    /// Equal bytes.
+    pub(crate) fn copy(&self, alloc: Global) -> Result<NameBytes, NoMemory>
+        ensures { IfOk result (λ b. bytes_of b ≡ bytes_of self.now) }
+    {
+        match self {
+            NameBytes::Short(bytes) => Ok(NameBytes::Short(bytes.copy())),
+            NameBytes::Middle(bytes) => Ok(NameBytes::Middle(Box::new(alloc, bytes.copy())?)),
+            NameBytes::Long(bytes) => Ok(NameBytes::Long(Box::new(alloc, bytes.copy())?)),
         }
     }
 

@@ -2,7 +2,7 @@ ghost use Rattle.cam_base.specs.Hex.{glyph, hex_digits, hex_text};
 ghost use Rattle.cam_base.specs.Numbers.{is_digit, is_hex_digit, is_decimal, is_hexadecimal, fits, number_value};
 ghost use Rattle.std.specs.Char.{digit_value};
 ghost use Rattle.std.specs.List.{list_all};
-ghost use Rattle.std.specs.Prelude.{◌≡◌, ◌<◌, ◌≤◌, ◌+◌, ◌*◌, ◌++◌, decimal, length, take, true};
+ghost use Rattle.std.specs.Prelude.{◌≡◌, ◌<◌, ◌≤◌, ◌+◌, ◌*◌, ◌++◌, decimal, drop, length, take, true};
 ghost use Rattle.std.specs.Str.Parse.{digits_value};
 
 use itoa::Buffer;
@@ -19,15 +19,27 @@ pub fn decimal(n: u64, buf: &mut [u8; 20]) -> usize
     text.len()
 }
 
-/// Puts `0x` and the lower-case hexadecimal digits of a number at the front of the buffer, without leading zeros, and
-/// answers how many bytes they are. Takes no memory.
+/// The text of a number in hexadecimal, `0x` and lower-case digits without leading zeros, which stands at the end of the buffer.
+/// Takes no memory.
+pub fn hexadecimal(n: u64, buf: &mut [u8; 18]) -> &[u8]
+    ensures len { length result.now ≤ 18 }
+    ensures text { result.now ≡ hex_text n }
+{
+    let first = put_hex(n, 16, buf, 18);
+    buf[first - 1] = b'x';
+    buf[first - 2] = b'0';
+    &buf[first - 2..]
+}
+
+/// Puts the text of a number in hexadecimal at the front of the buffer, and answers how many bytes it has. Takes no memory.
 pub fn hex(n: u64, buf: &mut [u8; 18]) -> usize
     ensures len { result ≤ 18 }
     ensures text { take result buf.new ≡ hex_text n }
 {
-    buf[0] = b'0';
-    buf[1] = b'x';
-    put_hex(n, 16, buf, 2)
+    let mut digits = [0; 18];
+    let text = hexadecimal(n, &mut digits);
+    buf[..text.len()].copy_from_slice(text);
+    text.len()
 }
 
 fn glyph(digit: u8) -> u8
@@ -41,24 +53,24 @@ fn glyph(digit: u8) -> u8
     }
 }
 
-/// Puts the digits at a place, and answers the place behind them.
+/// Puts the digits, so many at most, before a place, and answers where they begin.
 #[tactic(auto, using(crate::proofs::Digits::hex_cases))]
-fn put_hex(n: u64, room: usize, buf: &mut [u8], at: usize) -> usize
-    requires { at + room ≤ length buf.old }
-    ensures low { at ≤ result }
-    ensures high { result ≤ at + room }
-    ensures text { take result buf.new ≡ take at buf.old ++ hex_digits room n }
+fn put_hex(n: u64, room: usize, buf: &mut [u8], end: usize) -> usize
+    requires room { room ≤ end }
+    requires within { end ≤ length buf.old }
+    ensures low { end ≤ result + room }
+    ensures high { result ≤ end }
+    ensures same { length buf.new ≡ length buf.old }
+    ensures text { drop result buf.new ≡ hex_digits room n ++ drop end buf.old }
 {
     if room == 0 {
-        return at;
+        return end;
     }
+    buf[end - 1] = glyph((n % 16) as u8);
     if n < 16 {
-        buf[at] = glyph(n as u8);
-        return at + 1;
+        return end - 1;
     }
-    let end = put_hex(n / 16, room - 1, buf, at);
-    buf[end] = glyph((n % 16) as u8);
-    end + 1
+    put_hex(n / 16, room - 1, buf, end - 1)
 }
 
 /// The value of a decimal or hexadecimal number; none exactly where the bytes aren't one, or pass 2^64 - 1.

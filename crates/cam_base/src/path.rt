@@ -54,27 +54,19 @@ impl Path {
         join_names(alloc, self.names())
     }
 
-    /// Puts copies of names at the end.
-    fn extend(&mut self, alloc: Global, names: &[Name]) -> Result<(), NoMemory>
-        ensures { OnOk result (self.new ≡ self.old ++ names.now) }
-    {
-        for name in names {
-            self.push(name.copy(alloc)?)?;
-        }
-        Ok(())
-    }
-
     /// The path of some names and more behind them. Room for all of them is taken at once.
     pub fn of(alloc: Global, names: &[Name], more: &[Name]) -> Result<Path, NoMemory>
         ensures { IfOk result (λ path. path ≡ names.now ++ more.now) }
     {
         let count = names.len().saturating_add(more.len());
-        let mut path = Path {
-            names: SmallVec::with_capacity(alloc, count)?,
-        };
-        path.extend(alloc, names)?;
-        path.extend(alloc, more)?;
-        Ok(path)
+        let mut all = SmallVec::with_capacity(alloc, count)?;
+        for name in names {
+            all.push_reserved(name.copy(alloc)?);
+        }
+        for behind in more {
+            all.push_reserved(behind.copy(alloc)?);
+        }
+        Ok(Path { names: all })
     }
 
     /// An equal path.

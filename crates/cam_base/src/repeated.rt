@@ -1,9 +1,9 @@
 ghost use Rattle.cam_base.specs.declared.grammar_error.Stop.{Stop as Halt};
 ghost use Rattle.cam_base.specs.Gives.{Gives};
-ghost use Rattle.cam_base.specs.Reading.{starts as starts_with, many as many_of, list_of, behind_one, after_one};
-ghost use Rattle.std.specs.Prelude.{◌≡◌, ◌<◌, ◌∷◌, [], ℕ, List as Seq, length, Result as Res, Ok as Good};
+ghost use Rattle.cam_base.specs.Reading.{starts as starts_with, many as many_of, list_of, behind_one, after_one, mapped as mapped_by};
+ghost use Rattle.std.specs.Prelude.{◌≡◌, ◌<◌, ◌∷◌, ◌++◌, [], IfOk, ℕ, List as Seq, length, Result as Res, Ok as Good};
 
-use crate::{List, ReadError};
+use crate::{List, NoMemory, ReadError};
 use std::alloc::Global;
 
 /// A language: its tokens, and what the forms of its grammar see of them, the tokens themselves or each token with its
@@ -66,7 +66,63 @@ pub fn fitted<T: Drop>(items: List<T>) -> List<T>
     List::from_vec(items)
 }
 
-/// Any number of them, none too: what the reader of `Many` gives. Stops at the first token that begins none.
+/// Any number of them, none too, behind those that were read before. Stops at the first token that begins none.
+fn read_behind<'a, L: Language, R: Repeated<L>>(
+    alloc: Global,
+    bytes: &[u8],
+    tokens: &'a [L::Token],
+    before: List<R::Item>,
+) -> Result<(List<R::Item>, &'a [L::Token]), ReadError>
+    ensures { Gives (λ x. (x.0, L.see bytes.now x.1.now)) result (mapped_by L.code (λ more. before ++ more)
+        (many_of L.code R.codes (R.gives bytes.now)) (L.see bytes.now tokens.now)) }
+{
+    let mut items = before;
+    let mut rest = tokens;
+    'more: while R::starts(bytes, rest) {
+        let (item, after) = R::read(alloc, bytes, rest)?;
+        items.push(item)?;
+        rest = after;
+    }
+    Ok((fitted(items), rest))
+}
+
+/// The list of one, with room for so many.
+fn with_room<T: Drop>(alloc: Global, room: usize, first: T) -> Result<List<T>, NoMemory>
+    ensures { IfOk result (λ items. items ≡ first ∷ []) }
+{
+    let mut items = List::from_vec(Vec::with_capacity(alloc, room)?);
+    items.push(first)?;
+    Ok(items)
+}
+
+/// One that was read before, and any number of them behind it. The list of up to four takes memory once.
+pub fn read_from<'a, L: Language, R: Repeated<L>>(
+    alloc: Global,
+    bytes: &[u8],
+    tokens: &'a [L::Token],
+    first: R::Item,
+) -> Result<(List<R::Item>, &'a [L::Token]), ReadError>
+    ensures { Gives (λ x. (x.0, L.see bytes.now x.1.now)) result (mapped_by L.code (λ more. first ∷ more)
+        (many_of L.code R.codes (R.gives bytes.now)) (L.see bytes.now tokens.now)) }
+{
+    if !R::starts(bytes, tokens) {
+        return Ok((with_room(alloc, 1, first)?, tokens));
+    }
+    let (second, rest) = R::read(alloc, bytes, tokens)?;
+    if !R::starts(bytes, rest) {
+        let mut both = with_room(alloc, 2, first)?;
+        both.push(second)?;
+        return Ok((both, rest));
+    }
+    let (third, rest) = R::read(alloc, bytes, rest)?;
+    let room = if R::starts(bytes, rest) { 4 } else { 3 };
+    let mut items = with_room(alloc, room, first)?;
+    items.push(second)?;
+    items.push(third)?;
+    read_behind::<L, R>(alloc, bytes, rest, items)
+}
+
+/// Any number of them, none too: what the reader of `Many` gives.
 pub fn read_all<'a, L: Language, R: Repeated<L>>(
     alloc: Global,
     bytes: &[u8],
@@ -75,14 +131,11 @@ pub fn read_all<'a, L: Language, R: Repeated<L>>(
     ensures { Gives (λ x. (x.0, L.see bytes.now x.1.now)) result (many_of L.code R.codes (R.gives bytes.now)
         (L.see bytes.now tokens.now)) }
 {
-    let mut items = List::new(alloc);
-    let mut rest = tokens;
-    'more: while R::starts(bytes, rest) {
-        let (item, after) = R::read(alloc, bytes, rest)?;
-        items.push(item)?;
-        rest = after;
+    if !R::starts(bytes, tokens) {
+        return Ok((List::new(alloc), tokens));
     }
-    Ok((fitted(items), rest))
+    let (first, rest) = R::read(alloc, bytes, tokens)?;
+    read_from::<L, R>(alloc, bytes, rest, first)
 }
 
 /// A comma, and then one.

@@ -5,7 +5,8 @@ ghost use Rattle.cap_model.specs.RightsWord.{has_rights, rights_word};
 ghost use Rattle.std.specs.List.{flat_map};
 ghost use Rattle.std.specs.Prelude.{◌≡◌, [], ◌∷◌, codes, true, false};
 
-use cam_io::{Outputs, Writer, hexadecimal};
+use cam_base::hexadecimal;
+use cam_io::{Outputs, Writer};
 use cap_model::{Cap, Entry, Object, Rights, Spec, Tcb};
 use itoa::Buffer;
 

@@ -5,8 +5,8 @@ ghost use Rattle.cap_model.specs.Canonical.{level_word, elf_field, tcb_line, pad
 ghost use Rattle.std.specs.List.{flat_map};
 ghost use Rattle.std.specs.Prelude.{◌≡◌, [], ◌∷◌, None, Some, codes};
 
-use cam_base::{Boxed, Text};
-use cam_io::{Outputs, Writer, hexadecimal};
+use cam_base::{Boxed, Text, hexadecimal};
+use cam_io::{Outputs, Writer};
 use cap_model::{Entry, Fill, Level, Object, Tcb};
 use itoa::Buffer;
 

@@ -1,13 +1,12 @@
 //! The pages of a space.
 
-ghost use Rattle.cam_base.specs.Hex.{hex_text};
 ghost use Rattle.cap_model.specs.RightsWord.{rights_word};
 ghost use Rattle.domain_table.specs.Pages.{address, fill_text, frame_text, object_called, paddr_text, page_row, page_rows, rows_of_space, space_rows, steps, table_slots};
 ghost use Rattle.std.specs.Option.{option_map};
 ghost use Rattle.std.specs.Prelude.{◌≡◌, ◌++◌, ◌∷◌, [], IfOk, OnOk};
 
 use crate::row::push_row;
-use cam_base::{Boxed, List, NoMemory, Text, hex};
+use cam_base::{Boxed, List, NoMemory, Text, hexadecimal};
 use cap_model::{Arch, Cap, Fill, Object, Rights, Spec};
 use itoa::Buffer;
 use std::alloc::Global;
@@ -36,14 +35,6 @@ fn table_slots(object: Option<&Object>) -> &[(u64, Cap)]
         Some(Object::Pages { slots, .. }) => slots.as_slice(),
         _ => &[],
     }
-}
-
-/// The hexadecimal text of a number, which stands in the buffer.
-pub(crate) fn hexadecimal(n: u64, buf: &mut [u8; 18]) -> &[u8]
-    ensures { result.now ≡ hex_text n }
-{
-    let end = hex(n, buf);
-    &buf[..end]
 }
 
 fn paddr_text(alloc: Global, paddr: Option<u64>) -> Result<List<u8>, NoMemory>

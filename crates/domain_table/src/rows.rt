@@ -8,10 +8,9 @@ ghost use Rattle.std.specs.Prelude.{◌≡◌, ◌∷◌, ◌++◌, [], decimal,
 ghost use Rattle.system_spec.specs.MapText.{named};
 
 use crate::domain::{has_end, has_leaf};
-use crate::page::hexadecimal;
 use crate::row::push_row;
 use crate::words::{end_text, lock_text, thread_text};
-use cam_base::{List, NoMemory, Text};
+use cam_base::{List, NoMemory, Text, hexadecimal};
 use cap_model::{Cap, Object, Spec, Tcb};
 use itoa::Buffer;
 use std::alloc::Global;

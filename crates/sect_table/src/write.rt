@@ -7,7 +7,8 @@ ghost use Rattle.std.specs.List.{flat_map};
 ghost use Rattle.std.specs.Prelude.{◌≡◌};
 
 use crate::{Image, Section};
-use cam_io::{Failed, Outputs, Writer, hexadecimal};
+use cam_base::hexadecimal;
+use cam_io::{Failed, Outputs, Writer};
 use cap_model::Arch;
 
 /// Writes the section table of an image to an open channel. `specs/Texts.antt` has its text. After a failure, which

@@ -9,7 +9,7 @@ ghost use Rattle.cam_base.specs.declared.error.Unread.TheVariants.{NoMemory as I
 use crate::input::in_file;
 use crate::{Hindrance, InputCode, InputError, InputFault};
 use boot_plan::PlanRefusal;
-use cam_base::{NoMemory, Text, Unread, hex};
+use cam_base::{NoMemory, Text, Unread, hexadecimal};
 use cap_audit::AuditRefusal;
 use cap_model::Spec;
 use itoa::Buffer;
@@ -52,8 +52,7 @@ fn name_and_number(alloc: Global, name: &[u8], number: u64) -> Result<Text, NoMe
     ensures { IfOk result (λ text. text ≡ words name.now (hex_text number)) }
 {
     let mut digits = [0; 18];
-    let end = hex(number, &mut digits);
-    words(alloc, name, &digits[..end])
+    words(alloc, name, hexadecimal(number, &mut digits))
 }
 
 /// What hinders, told of a whole file.

@@ -6,7 +6,7 @@ ghost use Rattle.std.specs.Prelude.{◌≡◌, ◌++◌, slice_get, IfOk, OnOk};
 ghost use Rattle.system_spec.specs.MapText.{named};
 
 use adl_meaning::{Connector, EndSetting, Flat, FlatConnection, FlatEnd, Settled};
-use cam_base::{List, NoMemory, Text, hex};
+use cam_base::{List, NoMemory, Text, hexadecimal};
 use domain_table::{leaf_text, member_name, push_row};
 use itoa::Buffer;
 use std::alloc::Global;
@@ -52,9 +52,9 @@ fn push_device(
     let mut number = Buffer::new();
     match connector {
         Connector::Mmio => {
-            let end = hex(setting.paddr, &mut digits);
+            let paddr = hexadecimal(setting.paddr, &mut digits);
             let bytes = number.format(setting.bytes).as_bytes();
-            push_row(alloc, rows, &[text, &digits[..end], bytes, b""])
+            push_row(alloc, rows, &[text, paddr, bytes, b""])
         }
         Connector::Interrupt => {
             let irq = number.format(setting.irq).as_bytes();

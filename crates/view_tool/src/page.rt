@@ -72,7 +72,7 @@ fn add_theorem(text: &mut List<u8>) -> Result<(), NoMemory>
             b"source; and for any texts <code>check</code> says yes only if everything reachable between labels lies in the\n",
             b"policy.</blockquote>\n<p>This page is of what <code>camkes compile</code> makes of the source. What stands in\n",
             b"each of its tables is a definition, and proved. Proved with ",
-            b"<code>rattle-kit-13f logic dac8208d650f15bf</code>.</p>\n",
+            b"<code>rattle-kit-13b logic dac8208d650f15bf</code>.</p>\n",
         ],
     )
 }

@@ -1,4 +1,4 @@
 use Rattle.capdl_write.proofs.holder.write_slot.Goals as goal
 
 pub returns : goal.returns
-returns g c = rw c.hexadecimal-number.ensures at c.write_cap.ensures
+returns g c = rw c.hexadecimal-number.ensures.text at c.write_cap.ensures

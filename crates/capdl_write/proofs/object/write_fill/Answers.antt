@@ -8,5 +8,5 @@ returns g c =
       c.as_bytes-2.ensures.value,
       c.format-2.ensures.text,
       c.as_bytes-3.ensures,
-      c.hexadecimal.ensures,
+      c.hexadecimal.ensures.text,
     ) at c.texts.ensures

@@ -8,5 +8,5 @@ returns-in-None g c =
 
 pub returns-in-Some : goal.returns-in-Some
 returns-in-Some g c =
-    let h = rw (c.hexadecimal.ensures, device_frame) at c.texts-in-Some.ensures in
+    let h = rw (c.hexadecimal.ensures.text, device_frame) at c.texts-in-Some.ensures in
     rw c.in-Some.is h
