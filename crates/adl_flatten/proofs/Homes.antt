@@ -1,5 +1,6 @@
 -- Domains of leaves: paths that were met, and the leaves and domains of a flat system.
-use Rattle.adl_flatten.proofs.Common.{Bool, Bor, Domain, Hierarchy, Homed, IsIn, Leaf, List, None, Path, Placed, Some, [], ap, append-nil, append_assoc, arith, common_steps, cond, domain_of, domains, enumerate_from, false, false_from_ne_true, filled, filter, filter_map, firsts, firsts_after, flattened, grown, home, homed, inl, inr, is_hardware, is_inside, leaf_in, leaf_of, leaves, length, length-append, list_any, list_any-append, list_any-map, map, map-append, map-map, not, place_by, pointed, position, put_into, refl, same_path, set, subst, suc, sym, template_leaves, top_number, true, unwrap_or, zero, ℕ, ◌&&◌, ◌++◌, ◌+◌, ◌||◌, ◌∙◌, ◌∷◌, ◌≡◌, ◌≤◌}
+use Rattle.adl_flatten.proofs.Common.{Bool, Bor, Domain, Hierarchy, Homed, IsIn, Leaf, List, None, Path, Placed, Some, [], ap, append-nil, append_assoc, arith, common_steps, cond, domain_of, domains, drop, drop_first, enumerate_from, false, false_from_ne_true, filled, filter, filter_map, firsts, firsts_after, flattened, get_or, grown, home, homed, inl, inr, is_hardware, is_inside, leaf_in, leaf_of, leaves, length, length-append, list_any, list_any-append, list_any-map, map, map-append, map-map, not, place_by, pointed, put_into, refl, same_path, set, subst, suc, sym, template_leaves, top_number, true, zero, ℕ, ◌&&◌, ◌++◌, ◌+◌, ◌<◌, ◌||◌, ◌∙◌, ◌∷◌, ◌≡◌, ◌≤◌}
+use Rattle.std.specs.List.{position_or_len}
 use Rattle.indexmap.specs.IndexSet.{insert_key}
 use Rattle.adl_hierarchy.proofs.DomainNames.{domains_once, same_path-Decides}
 use Rattle.adl_hierarchy.specs.Once.{IsOnce}
@@ -40,11 +41,22 @@ paths_are h ls e = ap (λ ls. firsts same_path (filter_map (home h) ls)) e ∙ a
     homes [] = refl
     homes (x ∷ xs) = grind (arith, common_steps, homes xs)
 
--- the place of a path that a set finds
-pub place_found : (p : Path) (ks : List (Bor Path)) → unwrap_or (position (λ k. same_path p k.now) ks) (length ks) ≡ place_by
-    (same_path p) (pointed ks)
-place_found p [] = refl
-place_found p (k ∷ ks) = grind (arith, common_steps, place_found p ks)
+-- the place at which a path is met, where more come behind it
+pub place_met : (met : Path → Bool) (old : List (Bor Path)) (p : Path) (more : List Path) → met p ≡ is_met (pointed old) p
+    → position_or_len (λ k. same_path p k.now) old ≡ place_by (same_path p)
+    (pointed old ++ firsts_after same_path met (p ∷ more))
+place_met met [] p more e = let same = (same_path-Decides p p).1 refl in grind (arith, common_steps, e, same)
+place_met met (k ∷ ks) p more e = by (same_path p k.now) refl (place_met met ks p more)
+  where
+    by : (b : Bool) → same_path p k.now ≡ b
+        → (met p ≡ is_met (pointed ks) p → position_or_len (λ k. same_path p k.now) ks ≡ place_by (same_path p)
+        (pointed ks ++ firsts_after same_path met (p ∷ more)))
+        → position_or_len (λ k. same_path p k.now) (k ∷ ks) ≡ place_by (same_path p)
+        (pointed (k ∷ ks) ++ firsts_after same_path met (p ∷ more))
+    by true t further = grind (arith, common_steps, t)
+    by false t further =
+        let rest : met p ≡ is_met (pointed ks) p = grind (arith, common_steps, e, t) in
+        grind (arith, common_steps, t, further rest)
 
 -- ---- leaves
 
@@ -56,6 +68,12 @@ leaves_are h ps ls p e =
   where
     same : (x : Placed) → leaf_in h (domains h) (homed h (top_number h) x) ≡ leaf_of h x
     same x = grind (arith, common_steps)
+
+-- one leaf more
+pub leaf_more : {A B : Type 0} (f : A → B) (xs : List A) (i : ℕ) (x : A) (old new : List B) (y : B) → i < length xs
+    → x ≡ get_or xs i x → new ≡ old ++ y ∷ [] → y ≡ f x → old ++ map f (drop i xs) ≡ map f xs
+    → new ++ map f (drop (i + 1) xs) ≡ map f xs
+leaf_more f xs i x old new y l e pushed same before = grind (arith, common_steps, drop_first xs i x l e, pushed, same, before)
 
 -- ---- domains
 

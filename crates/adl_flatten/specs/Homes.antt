@@ -9,15 +9,19 @@ use Rattle.adl_flatten.specs.Templates.{Homed}
 abbrev pub home : Hierarchy → Homed → Option Path
 home h l = if is_hardware h l.leaf.part then None else Some (unwrap_or l.home l.leaf.path)
 
--- a leaf, where the domains have these paths
-abbrev pub leaf_in : Hierarchy → List Path → Homed → Leaf
-leaf_in h paths l = record {
+-- a leaf in the domain of the number
+abbrev pub leaf_with : Hierarchy → Option ℕ → Homed → Leaf
+leaf_with h domain l = record {
   path = l.leaf.path;
   component = item_of h l.leaf.part;
   place = l.leaf.part.instance.component.place;
   hardware = is_hardware h l.leaf.part;
-  domain = option_map (λ p. place_by (same_path p) paths) (home h l);
+  domain = domain;
 }
+
+-- a leaf, where the domains have these paths
+abbrev pub leaf_in : Hierarchy → List Path → Homed → Leaf
+leaf_in h paths l = leaf_with h (option_map (λ p. place_by (same_path p) paths) (home h l)) l
 
 -- a domain with one leaf more
 abbrev pub grown : ℕ → Domain → Domain

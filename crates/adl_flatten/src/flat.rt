@@ -5,7 +5,7 @@ ghost use Rattle.adl_flatten.specs.TemplateJoins.{flat_connection_of};
 ghost use Rattle.std.specs.Prelude.{IfOk, map, ◌≡◌};
 
 use crate::faults::check_joins;
-use crate::leaves::{domain_paths, flat_domains, flat_leaves};
+use crate::leaves::{flat_domains, flat_leaves};
 use crate::limits::check_limits;
 use crate::{PlacedConnection, assembly_template};
 use adl_ast::Source;
@@ -75,9 +75,7 @@ pub fn flatten_program(
 {
     check_limits(alloc, source, program)?;
     let template = assembly_template(alloc, program)?;
-    let placed = template.leaves.as_slice();
-    let paths = domain_paths(alloc, program, placed)?;
-    let leaves = flat_leaves(alloc, program, placed, &paths)?;
+    let (leaves, paths) = flat_leaves(alloc, program, template.leaves.as_slice())?;
     check_joins(alloc, program, &template, leaves.as_slice())?;
     Ok(Flat {
         domains: flat_domains(alloc, paths.as_slice(), leaves.as_slice())?,

@@ -1,10 +1,10 @@
 //! The leaves and the domains of a flat system.
 
-ghost use Rattle.adl_meaning.specs.Prelude.{domains, place_by, same_path, top_number};
-ghost use Rattle.adl_flatten.specs.Homes.{filled, home, leaf_in, put_into};
+ghost use Rattle.adl_meaning.specs.Prelude.{domains, top_number};
+ghost use Rattle.adl_flatten.specs.Homes.{filled, home, leaf_in, leaf_with, put_into};
 ghost use Rattle.adl_items.specs.Pointed.{pointed};
 ghost use Rattle.adl_flatten.specs.Templates.{template_leaves};
-ghost use Rattle.std.specs.Prelude.{IfOk, OnOk, [], length, map, option_map, ◌<◌, ◌^◌, ◌≡◌, ◌≤◌};
+ghost use Rattle.std.specs.Prelude.{IfOk, OnOk, [], length, map, option_map, ◌<◌, ◌^◌, ◌≡◌};
 
 use crate::PlacedLeaf;
 use adl_meaning::{Domain, ItemAt, Leaf};
@@ -23,47 +23,14 @@ fn home<'a>(program: &Program<'_>, leaf: &'a PlacedLeaf<'_>) -> Option<&'a [Name
     Some(leaf.home.as_ref().unwrap_or(&leaf.path).as_slice())
 }
 
-/// The paths of domains, in the order of their first leaves.
-pub fn domain_paths<'a>(
-    alloc: Global,
-    program: &Program<'_>,
-    leaves: &'a [PlacedLeaf<'_>],
-) -> Result<IndexSet<&'a [Name]>, NoMemory>
-    requires { leaves.now ≡ template_leaves program.now (top_number program.now) }
-    ensures paths { IfOk result (λ s. pointed s.keys ≡ domains program.now) }
-    ensures few { IfOk result (λ s. length s.keys ≤ length leaves.entry.now) }
-{
-    let mut paths = IndexSet::with_capacity(alloc, leaves.len())?;
-    for leaf in leaves {
-        if let Some(path) = home(program, leaf) {
-            paths.insert(path)?;
-        }
-    }
-    Ok(paths)
-}
-
-/// The number of a leaf's domain among these paths; a device has none.
-fn domain_number(
-    program: &Program<'_>,
-    leaf: &PlacedLeaf<'_>,
-    paths: &IndexSet<&[Name]>,
-) -> Option<u32>
-    requires { length paths.now.keys < 2 ^ 32 }
-    ensures { result ≡ option_map (λ p. place_by (same_path p) (pointed paths.now.keys)) (home program.now leaf.now) }
-{
-    let path = home(program, leaf)?;
-    let number = paths.get_index_of(path).unwrap_or(paths.len());
-    Some(number as u32)
-}
-
+/// A leaf in the domain of the number; a device has none.
 fn flat_leaf(
     alloc: Global,
     program: &Program<'_>,
     leaf: &PlacedLeaf<'_>,
-    paths: &IndexSet<&[Name]>,
+    domain: Option<u32>,
 ) -> Result<Leaf, NoMemory>
-    requires { length paths.now.keys < 2 ^ 32 }
-    ensures { IfOk result (λ l. l ≡ leaf_in program.now (pointed paths.now.keys) leaf.now) }
+    ensures { IfOk result (λ l. l ≡ leaf_with program.now domain leaf.now) }
 {
     let body = program.body(leaf.kind);
     let nowhere = ItemAt { file: 0, item: 0 };
@@ -72,25 +39,34 @@ fn flat_leaf(
         component: body.item().unwrap_or(nowhere),
         place: leaf.instance.component.place(),
         hardware: body.is_hardware(),
-        domain: domain_number(program, leaf, paths),
+        domain,
     })
 }
 
-/// The leaves of a flat system, whose domains have these paths.
-pub fn flat_leaves(
+/// The leaves of a flat system, and the paths of its domains in the order of their first leaves.
+pub fn flat_leaves<'a>(
     alloc: Global,
     program: &Program<'_>,
-    leaves: &[PlacedLeaf<'_>],
-    paths: &IndexSet<&[Name]>,
-) -> Result<List<Leaf>, NoMemory>
-    requires { length paths.now.keys < 2 ^ 32 }
-    ensures { IfOk result (λ ls. ls ≡ map (leaf_in program.now (pointed paths.now.keys)) leaves.now) }
+    leaves: &'a [PlacedLeaf<'_>],
+) -> Result<(List<Leaf>, IndexSet<&'a [Name]>), NoMemory>
+    requires are { leaves.now ≡ template_leaves program.now (top_number program.now) }
+    requires few { length leaves.now < 2 ^ 32 }
+    ensures leaves { IfOk result (λ x. x.0 ≡ map (leaf_in program.now (domains program.now)) leaves.entry.now) }
+    ensures paths { IfOk result (λ x. pointed x.1.keys ≡ domains program.now) }
 {
-    let mut flat = Vec::with_capacity(alloc, leaves.len())?;
+    let mut flat = List::from_vec(Vec::with_capacity(alloc, leaves.len())?);
+    let mut paths = IndexSet::with_capacity(alloc, leaves.len())?;
     for leaf in leaves {
-        flat.push(flat_leaf(alloc, program, leaf, paths)?)?;
+        let domain = match home(program, leaf) {
+            None => None,
+            Some(path) => {
+                let (number, _is_new) = paths.insert_full(path)?;
+                Some(number as u32)
+            }
+        };
+        flat.push(flat_leaf(alloc, program, leaf, domain)?)?;
     }
-    Ok(List::from_vec(flat))
+    Ok((flat, paths))
 }
 
 /// Puts a leaf into the domain of the number, if there is one.

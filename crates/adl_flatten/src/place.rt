@@ -14,9 +14,9 @@ pub fn behind(alloc: Global, name: &Name, path: &[Name]) -> Result<List<Name>, N
     ensures { IfOk result (λ p. p ≡ name.now ∷ path.now) }
 {
     let mut names = Vec::with_capacity(alloc, path.len().saturating_add(1))?;
-    names.push(name.copy(alloc)?)?;
+    names.push_reserved(name.copy(alloc)?);
     for inner in path {
-        names.push(inner.copy(alloc)?)?;
+        names.push_reserved(inner.copy(alloc)?);
     }
     Ok(List::from_vec(names))
 }

@@ -226,17 +226,15 @@ pub fn assembly_template<'a>(alloc: Global, program: &Program<'a>) -> Result<Tem
     ensures { IfOk result (λ t. IsTemplate program.now (top_number program.now) t) }
 {
     let held = held_bodies(alloc, program)?;
-    let mut all = Vec::new(alloc);
+    let mut all = Vec::with_capacity(alloc, held.len())?;
     for _count in 0..program.top_number() + 1 {
-        all.push(Template::empty(alloc))?;
+        all.push_reserved(Template::empty(alloc));
     }
     for number in program.order() {
-        let template = if held[*number as usize] {
-            template_of(alloc, program, all.as_slice(), *number)?
-        } else {
-            Template::empty(alloc)
-        };
-        let _empty = std::mem::replace(&mut all[*number as usize], template);
+        if held[*number as usize] {
+            let template = template_of(alloc, program, all.as_slice(), *number)?;
+            let _empty = std::mem::replace(&mut all[*number as usize], template);
+        }
     }
     let top = program.top_number() as usize;
     Ok(std::mem::replace(&mut all[top], Template::empty(alloc)))

@@ -84,9 +84,10 @@ fn bodies<'a>(
     ensures noted { OnOk result (first.new ≡ noted first.old (flat_map (λ x. duplicates_in_item x.1) (items_of items.now))) }
     ensures bodies { IfOk result (λ v. map item_of v.items ≡ map (λ x. x.1) (items_of items.now)) }
 {
-    let mut bodies = Vec::with_capacity(alloc, items.items().len())?;
-    for x in items.items() {
-        bodies.push(body_of(alloc, x.item, first)?)?;
+    let all = items.items();
+    let mut bodies = Vec::with_capacity(alloc, all.len())?;
+    for x in all {
+        bodies.push_reserved(body_of(alloc, x.item, first)?);
     }
     Ok(bodies)
 }

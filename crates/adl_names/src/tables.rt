@@ -188,6 +188,7 @@ fn declaring<'a>(
 }
 
 /// What a component declares by name, where its members are many; else none. Notes the names that stand twice.
+#[tactic(auto, using(crate::proofs::FewRepeated::declared_words))]
 fn declared_of<'a>(
     alloc: Global,
     component: &'a Component,

@@ -195,7 +195,7 @@ pub fn setting_tables<'a>(
     let room = bodies.top_number() as usize;
     let mut tables = Vec::with_capacity(alloc, room)?;
     for number in 0..bodies.top_number() {
-        tables.push(table_of(alloc, bodies, number, first)?)?;
+        tables.push_reserved(table_of(alloc, bodies, number, first)?);
     }
     let top = table_of(alloc, bodies, bodies.top_number(), first)?;
     Ok(SettingTables {

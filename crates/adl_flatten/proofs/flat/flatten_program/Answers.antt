@@ -1,4 +1,4 @@
-use Rattle.adl_flatten.proofs.Common.{Fault, Option, Refuses, ap, flat_connection_of, flattened, map, pointed, rules, subst, sym, ◌∙◌}
+use Rattle.adl_flatten.proofs.Common.{Fault, Option, Refuses, ap, flat_connection_of, flattened, map, pointed, refl, rules, subst, sym, ◌∙◌}
 use Rattle.adl_flatten.proofs.Homes.{domains_are, leaves_are}
 use Rattle.adl_flatten.proofs.PassedLimits.{fault_is}
 use Rattle.adl_flatten.proofs.SoundReady.{sound_is_ready}
@@ -13,8 +13,8 @@ assembly_template-requires-clause-ready c = sound_is_ready _ _ c.requires.sound 
 
 pub check_joins-requires-clause-leaves : goal.check_joins-requires-clause-leaves
 check_joins-requires-clause-leaves c =
-    c.as_slice.ensures ∙ c.in_ok-leaves.ensures ∙ leaves_are c.args.program.now _ _ c.in_ok-paths.ensures.paths
-    (c.as_slice-placed.ensures.value ∙ c.in_ok-template.ensures.leaves)
+    c.as_slice-2.ensures ∙ c.in_ok-leaves.ensures.leaves ∙ leaves_are c.args.program.now _ _ refl
+    (c.as_slice.ensures.value ∙ c.in_ok-template.ensures.leaves)
 
 pub returns-in_err-check_joins-clause-fault : goal.returns-in_err-check_joins-clause-fault
 returns-in_err-check_joins-clause-fault c =
@@ -28,12 +28,12 @@ returns-clause-fault c = fault_is c.args.source.now c.args.program.now c.require
 pub returns-clause-flat : goal.returns-clause-flat
 returns-clause-flat c =
     let h = c.args.program.now in
-    let paths = c.in_ok-paths.ensures.paths in
-    let leaves = c.in_ok-leaves.ensures ∙ leaves_are h _ _ paths (c.as_slice-placed.ensures.value
+    let paths = c.in_ok-leaves.ensures.paths in
+    let leaves = c.in_ok-leaves.ensures.leaves ∙ leaves_are h _ _ refl (c.as_slice.ensures.value
     ∙ c.in_ok-template.ensures.leaves) in
-    let domains = c.in_ok-flat_domains.ensures ∙ domains_are h _ _ (c.as_slice-3.ensures ∙ leaves)
-    (ap pointed c.as_slice-2.ensures.keys ∙ paths) in
-    let connections = c.in_ok-flat_connections.ensures ∙ ap (map flat_connection_of) (c.as_slice-4.ensures.value
+    let domains = c.in_ok-flat_domains.ensures ∙ domains_are h _ _ (c.as_slice-4.ensures ∙ leaves)
+    (ap pointed c.as_slice-3.ensures.keys ∙ paths) in
+    let connections = c.in_ok-flat_connections.ensures ∙ ap (map flat_connection_of) (c.as_slice-5.ensures.value
     ∙ c.in_ok-template.ensures.connections) ∙ connections_are h in
     (λ i. record { leaves = (c.leaves.view_is ∙ leaves) i; domains = domains i; connections = connections i })
     ∙ ap flattened c.requires.program

@@ -1,4 +1,4 @@
-use Rattle.adl_flatten.proofs.TemplateCommon.{all_filled, arith, body, false, filled_more, get_or, get_or_read, inner_filled, length, order_below, read_in, refl, sym, true≢false, ◌∙◌}
+use Rattle.adl_flatten.proofs.TemplateCommon.{all_filled, arith, body, false, filled_more, filled_same, get_or, get_or_read, inner_filled, length, order_below, read_in, refl, sym, true≢false, ◌∙◌}
 use Rattle.adl_flatten.proofs.Filling.{IsHeldTemplate, kinds_in}
 use Rattle.adl_flatten.proofs.template.assembly_template.Goals.{else-index, then-index+in_ok-template}
 use Rattle.adl_flatten.proofs.template.assembly_template.Goals as goal
@@ -41,18 +41,22 @@ loop-number-preserved c =
     let held = c.in_ok-held.held.items in
     let order = c.order-number-items.result.now in
     let i = c.loop-number.number-index in
+    let all = c.loop-number.all.items in
     let l = order_below h order i c.order-number-items.ensures c.loop-number-test.true in
-    filled_more (IsHeldTemplate h held) h order c.loop-number.all.items i c.replace-empty.new.dest c.order-number-items.ensures
-    c.loop-number-test.true c.loop-number.invariant
-    (rw c.replace-empty.ensures.after (elim c.if-index.branch [
-      | then-index+in_ok-template w ↦ λ m. rw w.template-is w.in_ok-template.ensures
-      | else-index w ↦ λ m.
+    elim c.if-index.branch [
+      | then-index+in_ok-template w ↦
+          rw w.all-is (filled_more (IsHeldTemplate h held) h order all i w.replace-empty.new.dest c.order-number-items.ensures
+          c.loop-number-test.true c.loop-number.invariant
+          (rw w.replace-empty.ensures.after (λ m. w.in_ok-template.ensures)))
+      | else-index w ↦
+          rw w.all-is (filled_same (IsHeldTemplate h held) h order all i c.loop-number-test.true c.loop-number.invariant
+          (λ t m.
           absurd
           (true≢false
           (sym m
           ∙ sym (get_or_read held (get_or order i 0) c.index.result.now (omega (arith, l, c.in_ok-held.ensures.length_is))
-          c.index.ensures false) ∙ w.if-index.false))
-    ]))
+          c.index.ensures false) ∙ w.if-index.false))))
+    ]
 
 pub returns : goal.returns
 returns c =
