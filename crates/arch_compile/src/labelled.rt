@@ -17,11 +17,11 @@ fn labelled_objects(
     requires { length entries.now < 2 ^ 32 }
     ensures { IfOk result (λ objects. objects ≡ labelled entries.now labels.now.by_object) }
 {
-    let mut objects = List::from_vec(Vec::with_capacity(alloc, entries.len())?);
+    let mut objects = Vec::with_capacity(alloc, entries.len())?;
     for (number, entry) in entries.iter().enumerate() {
-        objects.push((entry.name.copy(alloc)?, labels.of(number as u32)))?;
+        objects.push_reserved((entry.name.copy(alloc)?, labels.of(number as u32)));
     }
-    Ok(objects)
+    Ok(List::from_vec(objects))
 }
 
 /// The same policy, in which the objects of the spec have these labels.

@@ -221,16 +221,16 @@ module _ (edges run : List Edge) (old mid new : Made) (r : Row) (pairs : List (A
       let n = made.table.numbered r.class c found.1 in
       let low = up n.0 n.1 n.2 in
       let label = n.4 in
-      finish c (subst (λ (m : Made). slice_get m.classes.items r.class ≡ Some c) (sym h.same) found.1) pairs_are (omega arith)
-      (omega arith)
-      (λ k d p. subst (λ (m : Made). slice_get m.classes.items k ≡ Some d) (sym h.same) p)
-      (λ k d p. inl (subst (λ (m : Made). slice_get m.classes.items k ≡ Some d) h.same p))
-      (λ k d p. made.table.lists k d (subst (λ (m : Made). slice_get m.classes.items k ≡ Some d) h.same p))
-      (subst (λ (m : Made). (k : ℕ) (d : Class) → slice_get m.classes.items k ≡ Some d → place_in m d.pairs.items ≡ Some k)
-      (sym h.same) made.known)
-      (subst (λ (m : Made). (q : Class) (k : ℕ) → place_in m q.pairs.items ≡ Some k
-      → (d : Class) × (slice_get m.classes.items k ≡ Some d) × (d.pairs.items ≡ q.pairs.items)) (sym h.same) made.only)
-      (ap (λ (m : Made). m.rows.items) h.same)
+      let back : (k : ℕ) (d : Class) → slice_get mid.classes.items k ≡ Some d → slice_get old.classes.items k ≡ Some d =
+      λ k d p. subst (λ (cs : List Class). slice_get cs k ≡ Some d) h.classes p in
+      finish c (ap (λ (cs : List Class). slice_get cs r.class) h.classes ∙ found.1) pairs_are (omega arith) (omega arith)
+      (λ k d p. ap (λ (cs : List Class). slice_get cs k) h.classes ∙ p)
+      (λ k d p. inl (back k d p))
+      (λ k d p. made.table.lists k d (back k d p))
+      (λ k d p. h.places d ∙ made.known k d (back k d p))
+      (λ q k e. (let d = made.only q k (sym (h.places q) ∙ e) in
+      (d.0, ap (λ (cs : List Class). slice_get cs k) h.classes ∙ d.1, d.2)))
+      h.rows
   row_made q listed (inr h) =
       let label = h.label_is in
       finish h.class (ap (λ (cs : List Class). slice_get cs r.class) h.classes

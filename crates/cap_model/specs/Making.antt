@@ -36,7 +36,9 @@ pub record IsMade (edges : List Edge) (m : Made) : Type 0 where
 -- a class with this list is among the classes, and its place is k
 pub record HasOld (old : Made) (pairs : List (Authority × ℕ)) (new : Made) (k : ℕ) : Type 0 where
   pub there : place_in old pairs ≡ Some k
-  pub same : new ≡ old
+  pub classes : new.classes.items ≡ old.classes.items
+  pub rows : new.rows.items ≡ old.rows.items
+  pub places : (q : Class) → place_in new q.pairs.items ≡ place_in old q.pairs.items
 
 -- one has been put behind the others
 pub record HasNew (old : Made) (label : ℕ) (pairs : List (Authority × ℕ)) (before : ℕ) (new : Made) (k : ℕ) : Type 0 where

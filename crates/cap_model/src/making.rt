@@ -9,6 +9,7 @@ use crate::{Authority, Edge};
 use cam_base::NoMemory;
 use std::alloc::Global;
 use std::collections::BTreeMap;
+use std::collections::btree_map::Entry;
 
 /// The rows and classes of edges, and the place of each class by its list.
 #[derive(Drop)]
@@ -76,18 +77,19 @@ fn with_class(
     ensures { IfOk result (λ new. HasClass made label pairs.items before new.0 new.1) }
 {
     let mut made = made;
-    if let Some(place) = made.places.get(pairs.as_slice()) {
-        let place = *place;
-        return Ok((made, place));
-    }
-    let place = made.classes.len();
-    let key = pairs.as_slice().to_vec(alloc)?;
-    made.places.insert(key, place)?;
-    made.classes.push(Class {
-        label,
-        pairs,
-        before,
-    })?;
+    let place = match made.places.entry(pairs)? {
+        Entry::Occupied(known) => *known.get(),
+        Entry::Vacant(new) => {
+            let place = made.classes.len();
+            made.classes.push(Class {
+                label,
+                pairs: new.key().to_vec(alloc)?,
+                before,
+            })?;
+            new.insert(place);
+            place
+        }
+    };
     Ok((made, place))
 }
 
@@ -98,8 +100,8 @@ fn pairs_of(
 ) -> Result<Vec<(Authority, u32)>, NoMemory>
     ensures { IfOk result (λ pairs. pairs.items ≡ map pair_of before.now ++ map pair_of behind.now) }
 {
-    let pairs = with_pairs(Vec::with_capacity(alloc, before.len())?, before)?;
-    with_pairs(pairs, behind)
+    let pairs = Vec::with_capacity(alloc, before.len() + behind.len())?;
+    with_pairs(with_pairs(pairs, before)?, behind)
 }
 
 fn with_pairs(pairs: Vec<(Authority, u32)>, run: &[Edge]) -> Result<Vec<(Authority, u32)>, NoMemory>
