@@ -12,7 +12,6 @@
 //! `proofs/Saying.antt`, `proofs/Sequence.antt` and `proofs/Scripted.antt`.
 #![tactic(auto)]
 
-mod digits;
 mod file_bytes;
 mod files;
 mod fixed_files;
@@ -28,7 +27,6 @@ mod whole;
 mod write;
 mod writer;
 
-pub use digits::hexadecimal;
 pub use file_bytes::FileBytes;
 pub use files::{Failed, Files, Got};
 pub use fixed_files::FixedFiles;

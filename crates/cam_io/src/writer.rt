@@ -1,6 +1,8 @@
+ghost use Rattle.arrayvec.specs.ArrayVec.{array_vec_len};
 ghost use Rattle.cam_base.specs.Texts.{together};
 ghost use Rattle.cam_io.specs.Sinks.{IsOpen, is_open};
-ghost use Rattle.std.specs.Prelude.{◌≡◌, IsTrue, [], false, map};
+ghost use Rattle.std.specs.List.{flat_map};
+ghost use Rattle.std.specs.Prelude.{◌≡◌, ◌+◌, ◌-◌, ◌^◌, ◌≤◌, IsTrue, [], false, length, map, min};
 
 use crate::{Failed, Outputs, write_all};
 use arrayvec::ArrayVec;
@@ -14,6 +16,18 @@ pub struct Writer<'a, O: Outputs> {
     waiting: ArrayVec<u8, 16384>,
     failed: bool,
     ghost is_open: { IsTrue (is_open (O.sink out.now) channel) },
+}
+
+/// How many bytes pieces have, up to 2^64 - 1.
+#[inline(always)]
+fn bytes_of(texts: &[&[u8]]) -> usize
+    ensures { result ≡ min (length (flat_map (λ t. t.now) texts.now)) (2 ^ 64 - 1) }
+{
+    let mut count: usize = 0;
+    for text in texts {
+        count = count.saturating_add(text.len());
+    }
+    count
 }
 
 impl<'a, O: Outputs> Writer<'a, O> {
@@ -46,9 +60,36 @@ impl<'a, O: Outputs> Writer<'a, O> {
         }
     }
 
-    /// Writes several pieces, one behind another.
+    /// Writes several pieces, one behind another. Room is looked for once.
     #[inline(always)]
     pub fn texts(&mut self, texts: &[&[u8]])
+        ensures { Says self.old (together (map (λ t. t.now) texts.now)) self.new }
+    {
+        if bytes_of(texts) <= self.waiting.remaining_capacity() {
+            self.wait(texts)
+        } else {
+            self.texts_behind(texts)
+        }
+    }
+
+    /// Puts pieces for which there is room behind what waits.
+    #[inline(always)]
+    fn wait(&mut self, texts: &[&[u8]])
+        requires { array_vec_len self.old.waiting + length (flat_map (λ t. t.now) texts.now) ≤ 16384 }
+        ensures { Says self.old (together (map (λ t. t.now) texts.now)) self.new }
+    {
+        for text in texts {
+            match self.waiting.try_extend_from_slice(text) {
+                Ok(()) => {}
+                Err(_) => unreachable!(),
+            }
+        }
+    }
+
+    /// Writes several pieces for which there may be no room.
+    #[cold]
+    #[inline(never)]
+    fn texts_behind(&mut self, texts: &[&[u8]])
         ensures { Says self.old (together (map (λ t. t.now) texts.now)) self.new }
     {
         for text in texts {
@@ -58,6 +99,7 @@ impl<'a, O: Outputs> Writer<'a, O> {
 
     /// Sends what waits, so that there is room for a piece, which is written through where it is longer than that.
     #[cold]
+    #[inline(never)]
     fn text_behind(&mut self, text: &[u8])
         ensures { Says self.old text.now self.new }
     {

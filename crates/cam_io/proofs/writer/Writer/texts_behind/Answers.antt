@@ -1,7 +1,7 @@
 use Rattle.cam_io.proofs.Common.{Bor, List, [], ap, arith, flat_map, get_or, length, sym, take_all, ℕ, ◌≤◌}
 use Rattle.cam_base.proofs.Joined.{together_map}
 use Rattle.cam_io.proofs.Saying.{read_is, says_line}
-use Rattle.cam_io.proofs.writer.Writer.texts.Goals as goal
+use Rattle.cam_io.proofs.writer.Writer.texts_behind.Goals as goal
 
 pub loop-text-preserved : goal.loop-text-preserved
 loop-text-preserved g c =
