@@ -11,6 +11,7 @@ use std::process::ExitCode;
 use std::{env, io};
 
 fn main(rt: HostRuntime) -> io::Result<ExitCode> {
+    keep_memory(&rt);
     let mut files = HostFiles::new(rt.clone()?);
     let mut out = HostOutputs::new(rt.clone()?);
     let status = match words(&rt) {
@@ -19,6 +20,12 @@ fn main(rt: HostRuntime) -> io::Result<ExitCode> {
         Err(_) => run(rt.alloc(), &[], &mut files, &mut out),
     };
     Ok(ExitCode::from(status))
+}
+
+/// Takes 16 MiB and gives them back untouched. From then on the C library keeps what is given back of pieces up to that size, and
+/// hands it out again, where it would else ask the system for each large piece anew, page by page.
+fn keep_memory(rt: &HostRuntime) {
+    let _much: Result<Vec<u8>, _> = Vec::with_capacity(rt.alloc(), 16 << 20);
 }
 
 /// The words behind the program's name.

@@ -17,6 +17,7 @@ use crate::decide::decide;
 use crate::perform::perform;
 use cam_io::{Failed, Files, Outputs};
 use std::alloc::Global;
+use std::mem;
 
 /// The status of what is found, by whether it is what was hoped for.
 fn well_or_not(well: bool) -> u8
@@ -42,7 +43,7 @@ fn status_of(answer: &Answer) -> u8
 }
 
 /// Does what the words behind the program's name say, and answers the program's status. None of the channels 2 to 5 may
-/// be begun. Takes no memory from the first begin on.
+/// be begun. Takes no memory from the first begin on, and doesn't give back what the answer holds: the program ends behind it.
 ///
 /// There is one answer that fits the words and all contents that the files tell, and there are such contents; and either the
 /// answer was told whole, or the status is 5 and it was cut short: `specs/Answers.antt`. What is compiled is what the source
@@ -78,7 +79,9 @@ pub fn run<F: Files, O: Outputs>(alloc: Global, words: &[String], files: &mut F,
         → IsReportWritten (F.told files.new) cdl policy (O.sink out.old) (O.sink out.new) }
 {
     let answer = decide(alloc, words, files);
-    tell(&answer, out)
+    let status = tell(&answer, out);
+    mem::forget(answer);
+    status
 }
 
 /// Does what the answer says, and answers the status.
