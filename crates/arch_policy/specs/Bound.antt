@@ -1,9 +1,6 @@
 -- What a bound interrupt gives: the device may signal what the handler of its interrupt may signal.
 use Rattle.std.specs.Prelude.{◌≡◌, List, [], ◌∷◌, Option, Some, None}
-use Rattle.cap_model.specs.Edges.{edge}
-use Rattle.authorities.specs.declared.authority.Authority.TheVariants.{AsyncSend}
-use Rattle.cap_model.specs.declared.edge.Edge.{Edge}
-use Rattle.cam_base.specs.Gather.{IsIn}
+use Rattle.arch_policy.specs.Below.{AsyncSend, Edge, IsIn, edge}
 
 -- by the edge of a handler, and one of the edges by which labels signal
 pub record IsBoundBy (handle : Edge) (signals : List Edge) (e : Edge) : Type 0 where

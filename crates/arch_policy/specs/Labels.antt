@@ -1,20 +1,14 @@
 -- Labels are numbered from 0 in the byte order of their texts. So the number of a label is how many labels come before it,
 -- and whatever keeps the texts apart keeps the numbers apart.
 use Rattle.std.specs.Prelude.{◌≡◌, ℕ, Bool, List, [], ◌∷◌, Option, map, position}
+use Rattle.arch_policy.specs.Below.{Domain, Flat, FlatConnection, Leaf, count_by, gather, joined}
 use Rattle.std.specs.Cmp.Lexicographic.{slice_cmp}
-use Rattle.std.specs.List.{count_by}
 use Rattle.std.specs.Ordering.{is_lt, nat_cmp}
 use Rattle.std.specs.declared.cmp.Ordering.{Ordering}
 use Rattle.std.specs.declared.cmp.Ordering.TheVariants.{Less, Equal, Greater}
 use Rattle.std.specs.Str.{bytes_eq}
-use Rattle.adl_meaning.specs.declared.flat.Domain.{Domain}
-use Rattle.adl_meaning.specs.declared.flat.Flat.{Flat}
-use Rattle.adl_meaning.specs.declared.flat.FlatConnection.{FlatConnection}
-use Rattle.adl_meaning.specs.declared.flat.Leaf.{Leaf}
 use Rattle.arch_policy.specs.declared.numbers.LabelNumbers.{LabelNumbers}
 use Rattle.arch_policy.specs.Owners.{texts}
-use Rattle.cam_base.specs.Paths.{joined}
-use Rattle.cam_base.specs.Gather.{gather}
 
 abbrev pub put_before : Ordering → List ℕ → List ℕ → List (List ℕ) → List (List ℕ) → List (List ℕ)
 put_before Less t s ss more = t ∷ s ∷ ss

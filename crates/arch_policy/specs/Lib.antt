@@ -1,3 +1,4 @@
+pub mod Below
 pub mod Bound
 pub mod Ends
 pub mod Gives

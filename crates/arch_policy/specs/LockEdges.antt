@@ -1,13 +1,8 @@
 -- What a domain may do with a lock of its own, within its label: leaf by leaf, where the leaf has a lock.
 use Rattle.std.specs.Prelude.{◌≡◌, ℕ, true, Some}
-use Rattle.std.specs.List.{list_any}
-use Rattle.adl_meaning.specs.declared.flat.Leaf.{Leaf}
+use Rattle.arch_policy.specs.Below.{Edge, Leaf, RW, is_lock, kind_confers, list_any, members_at}
 use Rattle.arch_policy.specs.Tables.{Tables, domain_label}
-use Rattle.cap_model.specs.declared.edge.Edge.{Edge}
-use Rattle.cap_model.specs.Confers.{kind_confers}
 use Rattle.cap_model.specs.declared.kind.Kind.TheVariants.{Notification}
-use Rattle.conn_rules.specs.Row.{RW}
-use Rattle.cspace_layout.specs.Members.{is_lock, members_at}
 
 -- what rights to read and write a notification confer, within a label
 pub record IsWithLock (label : ℕ) (e : Edge) : Type 0 where

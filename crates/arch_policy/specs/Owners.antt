@@ -1,18 +1,10 @@
 -- Who has a label: each domain; each device, by its leaf; and each connection that has an endpoint, a notification or frames
 -- of its own. A label is written as the names of its path, joined by dots.
 use Rattle.std.specs.Prelude.{ℕ, Bool, true, false, List, [], ◌∷◌, ◌++◌, Option, Some, None, slice_get}
-use Rattle.std.specs.Option.{option_map_or}
-use Rattle.adl_meaning.specs.declared.connector.Connector.{Connector}
-use Rattle.adl_meaning.specs.declared.connector.Connector.TheVariants.{Rpc, Notification, SharedMemory, Mmio, Interrupt, Direct}
-use Rattle.adl_meaning.specs.declared.flat.Domain.{Domain}
-use Rattle.adl_meaning.specs.declared.flat.Flat.{Flat}
-use Rattle.adl_meaning.specs.declared.flat.FlatConnection.{FlatConnection}
-use Rattle.adl_meaning.specs.declared.flat.Leaf.{Leaf}
+use Rattle.arch_policy.specs.Below.{Connector, Direct, Domain, Flat, FlatConnection, Interrupt, Leaf, Mmio, Notification, Rpc, SharedMemory, gather, joined, option_map_or}
 use Rattle.arch_policy.specs.declared.owner.Owner.{Owner}
 use Rattle.arch_policy.specs.declared.owner.Owner.TheVariants.{OfDomain, OfLeaf}
 use Rattle.arch_policy.specs.Where.{where_true}
-use Rattle.cam_base.specs.Paths.{joined}
-use Rattle.cam_base.specs.Gather.{gather}
 
 abbrev pub has_label : Connector → Bool
 has_label Rpc = true

@@ -2,14 +2,11 @@
 -- most 200,000; the fault of this limit stands at the keyword of the assembly. The certificate has besides, within the label
 -- of a domain with a lock, what the domain may do with the lock.
 use Rattle.std.specs.Prelude.{◌≡◌, ◌↔◌, ◌⊎◌, ℕ, true, nat_lt, if◌then◌else◌, List, codes, Option, None}
+use Rattle.arch_policy.specs.Below.{Edge, RW, kind_confers, same_edge}
 use Rattle.std.specs.Set.{distinct_count}
-use Rattle.cap_model.specs.Edges.{same_edge}
 use Rattle.cap_model.specs.Tables.{has}
-use Rattle.cap_model.specs.declared.edge.Edge.{Edge}
 use Rattle.cam_base.specs.declared.place.Fault.{Fault}
-use Rattle.cap_model.specs.Confers.{kind_confers}
 use Rattle.cap_model.specs.declared.kind.Kind.TheVariants.{Notification}
-use Rattle.conn_rules.specs.Row.{RW}
 use Rattle.cspace_layout.specs.Limit.{limit_fault}
 use Rattle.arch_policy.specs.Ends.{LockAt}
 use Rattle.arch_policy.specs.Reasons.{IsReasoned}

@@ -8,14 +8,8 @@
 -- An end is its leaf's domain's, and at a device the device's own. An object has its connection's label. Frames of a
 -- device and its interrupt have that of the device at the connection's other end. Read and Write go by the end's access.
 use Rattle.std.specs.Prelude.{◌≡◌, ◌≢◌, ℕ, true}
-use Rattle.adl_ast.specs.declared.composition.Role.TheVariants.{From, To}
-use Rattle.adl_meaning.specs.declared.connector.Connector.TheVariants.{Rpc, Notification, Interrupt}
-use Rattle.authorities.specs.declared.authority.Authority.TheVariants.{AsyncSend, Reply}
-use Rattle.cap_model.specs.declared.edge.Edge.{Edge}
-use Rattle.conn_rules.specs.declared.rule.ObjectKind.{ObjectKind}
-use Rattle.conn_rules.specs.declared.rule.ObjectKind.TheVariants.{NoObject, OfEndpoint, OfNotification, OfFrames, OfDevice, OfIrq}
+use Rattle.arch_policy.specs.Below.{AsyncSend, Edge, From, Interrupt, NoObject, Notification, ObjectKind, OfDevice, OfEndpoint, OfFrames, OfIrq, OfNotification, Reply, Rpc, To, setting_of}
 use Rattle.arch_policy.specs.Tables.{Tables, connection_label, domain_label, leaf_label}
-use Rattle.cspace_layout.specs.Lookups.{setting_of}
 use Rattle.arch_policy.specs.Ends.{EndAt, IsEnd, LockAt}
 use Rattle.arch_policy.specs.Gives.{gives, leaves, opposite}
 

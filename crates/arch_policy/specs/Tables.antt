@@ -1,11 +1,7 @@
 -- What the policy of a system is made from: the source, its flat, settled system, and the numbers of labels. What is looked up
 -- by a number that nothing has is 0.
 use Rattle.std.specs.Prelude.{◌≡◌, ℕ, true, Some, None, slice_get, slice_index}
-use Rattle.adl_ast.specs.declared.source.Source.{Source}
-use Rattle.adl_meaning.specs.declared.flat.Domain.{Domain}
-use Rattle.adl_meaning.specs.declared.flat.Flat.{Flat}
-use Rattle.adl_meaning.specs.declared.flat.FlatConnection.{FlatConnection}
-use Rattle.adl_meaning.specs.declared.flat.Leaf.{Leaf}
+use Rattle.arch_policy.specs.Below.{Domain, Flat, FlatConnection, Leaf, Source}
 use Rattle.adl_meaning.specs.declared.settled.Settled.{Settled}
 use Rattle.arch_policy.specs.declared.numbers.LabelNumbers.{LabelNumbers}
 use Rattle.arch_policy.specs.declared.owner.Owner.{Owner}

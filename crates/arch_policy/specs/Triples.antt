@@ -2,26 +2,10 @@
 -- each two ends of an interrupt, with each end by which its handler signals, and with the handler's lock. An edge may stand
 -- twice; one within a label is left out.
 use Rattle.std.specs.Prelude.{ℕ, Bool, ◌&&◌, ◌==◌, not, if◌then◌else◌, List, [], ◌∷◌, ◌++◌, Option, Some, None}
-use Rattle.std.specs.List.{filter, list_any}
-use Rattle.adl_ast.specs.declared.composition.Role.{Role}
-use Rattle.adl_ast.specs.declared.composition.Role.TheVariants.{From, To}
-use Rattle.adl_meaning.specs.declared.connector.Connector.{Connector}
-use Rattle.adl_meaning.specs.declared.connector.Connector.TheVariants.{Rpc, Notification, Interrupt}
-use Rattle.adl_meaning.specs.declared.flat.FlatConnection.{FlatConnection}
-use Rattle.adl_meaning.specs.declared.flat.FlatEnd.{FlatEnd}
+use Rattle.arch_policy.specs.Below.{AsyncSend, Authority, Connector, Edge, FlatConnection, FlatEnd, From, Handle, Interrupt, NoObject, Notification, ObjectKind, OfDevice, OfEndpoint, OfFrames, OfIrq, OfNotification, Reply, Role, Rpc, To, edge}
+use Rattle.arch_policy.specs.Below.{filter, gather, is_lock, list_any, members_at, rows_of, same_connector, same_role, set_has, setting_of}
 use Rattle.authorities.specs.Authorities.{authorities}
-use Rattle.authorities.specs.AuthoritySets.{set_has}
-use Rattle.cap_model.specs.Edges.{edge}
-use Rattle.authorities.specs.declared.authority.Authority.{Authority}
-use Rattle.authorities.specs.declared.authority.Authority.TheVariants.{AsyncSend, Reply, Handle}
-use Rattle.cap_model.specs.declared.edge.Edge.{Edge}
-use Rattle.conn_rules.specs.Row.{rows_of, same_connector, same_role}
-use Rattle.conn_rules.specs.declared.rule.ObjectKind.{ObjectKind}
-use Rattle.conn_rules.specs.declared.rule.ObjectKind.TheVariants.{NoObject, OfEndpoint, OfNotification, OfFrames, OfDevice, OfIrq}
 use Rattle.conn_rules.specs.declared.rule.RuleRow.{RuleRow}
-use Rattle.cspace_layout.specs.Lookups.{setting_of}
-use Rattle.cspace_layout.specs.Members.{is_lock, members_at}
-use Rattle.cam_base.specs.Gather.{gather}
 use Rattle.arch_policy.specs.Gives.{leaves, opposite}
 use Rattle.arch_policy.specs.Tables.{Tables, connection_label, domain_label, leaf_label}
 use Rattle.arch_policy.specs.Where.{where_true}

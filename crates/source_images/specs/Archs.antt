@@ -1,16 +1,11 @@
 -- The architecture of section tables: that of the first table whose first line is of its form, also where a later line of
 -- it is at fault. Tables that are absent or too long say nothing of it.
 use Rattle.std.specs.Prelude.{ℕ, Bool, true, false, if◌then◌else◌, List, [], ◌∷◌, Option, Some, None}
-use Rattle.std.specs.Option.{option_map, option_map_or, option_or}
-use Rattle.cam_base.specs.declared.place.Fault.{Fault}
-use Rattle.cap_model.specs.declared.level.Arch.{Arch}
-use Rattle.cap_model.specs.declared.level.Arch.TheVariants.{Arm11, Aarch64}
+use Rattle.source_images.specs.Below.{Aarch64, Arch, Arm11, Fault, Line, bad_line, lines, option_map, option_map_or, option_or}
 use Rattle.sect_table.specs.Headers.{header_of}
-use Rattle.sect_table.specs.Tables.{bad_line}
 use Rattle.sect_table.specs.declared.image.Header.{Header}
 use Rattle.source_images.specs.Found.{Found, absent, too_long, table}
 use Rattle.cam_base.specs.Fields.{spaced_fields}
-use Rattle.cam_base.specs.Lines.{Line, lines}
 
 abbrev pub header_in : List Line → Option Header
 header_in [] = None

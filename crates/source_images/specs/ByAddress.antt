@@ -1,12 +1,10 @@
 -- The pages of the programs of leaves, by address. What is said holds where no two sections have a page in common.
 use Rattle.std.specs.Prelude.{ℕ, ◌+◌, ◌*◌, leb, if◌then◌else◌, List, [], ◌∷◌, map, slice_get, sum}
-use Rattle.std.specs.List.{flat_map, range_with_len}
-use Rattle.std.specs.Option.{option_map_or}
+use Rattle.source_images.specs.Below.{Section, flat_map, option_map_or, range_with_len}
 use Rattle.source_images.specs.Images.{Placed, sections_of}
 use Rattle.source_images.specs.SectionPages.{fill_of, page_count}
 use Rattle.source_images.specs.declared.images.Images.{Images}
 use Rattle.source_images.specs.declared.pages.SectionPage.{SectionPage}
-use Rattle.sect_table.specs.declared.image.Section.{Section}
 
 -- in front of the first section that begins no earlier
 abbrev pub put_section : Placed → List Placed → List Placed

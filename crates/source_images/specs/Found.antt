@@ -1,13 +1,8 @@
 -- The section tables of a source: one for each type of its software, beside the root. What is found under their names is what
 -- the contents have.
 use Rattle.std.specs.Prelude.{◌≡◌, ◌+◌, ◌++◌, ◌==◌, ℕ, Bool, nat_lt, if◌then◌else◌, List, [], ◌∷◌, map, length, codes, Option, Some, None}
-use Rattle.std.specs.FinMap.{get}
-use Rattle.std.specs.List.{list_any}
-use Rattle.adl_ast.specs.declared.source.Source.{Source}
-use Rattle.adl_meaning.specs.declared.flat.Flat.{Flat}
-use Rattle.cam_io.specs.Contents.{Contents}
+use Rattle.source_images.specs.Below.{Contents, Flat, IsIn, Source, get, list_any}
 use Rattle.cam_io.specs.Reading.{HaveSameFront}
-use Rattle.cam_base.specs.Gather.{IsIn}
 use Rattle.source_images.specs.Types.{Name, types}
 
 -- the greatest length of a table, in bytes

@@ -1,13 +1,7 @@
 -- The images of a system's programs, and which one each leaf runs. A device runs none.
 use Rattle.std.specs.Prelude.{ℕ, ◌==◌, Bool, true, false, List, [], ◌∷◌, Option, slice_get}
-use Rattle.std.specs.List.{list_any}
-use Rattle.std.specs.Option.{option_and_then, option_map_or}
-use Rattle.cap_model.specs.declared.level.Arch.{Arch}
-use Rattle.cap_model.specs.declared.level.Arch.TheVariants.{Arm11, Aarch64}
-use Rattle.cam_base.specs.Gather.{gather}
+use Rattle.source_images.specs.Below.{Aarch64, Arch, Arm11, Image, Section, gather, list_any, option_and_then, option_map_or}
 use Rattle.source_images.specs.declared.images.Images.{Images}
-use Rattle.sect_table.specs.declared.image.Image.{Image}
-use Rattle.sect_table.specs.declared.image.Section.{Section}
 
 -- the number of the image that a leaf runs
 abbrev pub image_number : Images → ℕ → Option ℕ

@@ -1,16 +1,11 @@
 -- What reading the images of a source answers. In given contents there is one answer, aside from failed reads and want of
 -- memory (`answers_are_one` in src/laws.rt), so each comes exactly where it says.
 use Rattle.std.specs.Prelude.{◌≡◌, ℕ, Bool, true, false, List, None, Some, Result, Ok, Err}
-use Rattle.adl_ast.specs.declared.source.Source.{Source}
-use Rattle.adl_meaning.specs.declared.flat.Flat.{Flat}
-use Rattle.cam_base.specs.declared.place.Fault.{Fault}
-use Rattle.cam_io.specs.Contents.{Contents}
-use Rattle.cam_base.specs.Gather.{IsIn}
+use Rattle.source_images.specs.Below.{Contents, Fault, Flat, IsIn, Source, SourceError}
 use Rattle.source_images.specs.declared.images.Images.{Images}
 use Rattle.source_images.specs.Found.{found_of, table_names}
 use Rattle.source_images.specs.TableFaults.{first_table_fault, name_of_file}
 use Rattle.source_images.specs.TableImages.{images_of}
-use Rattle.cam_base.specs.Unread.{SourceError}
 use Rattle.cam_base.specs.declared.error.Unread.TheVariants as error
 
 -- in what the contents have under the names of the tables no fault stands: these are the images

@@ -1,3 +1,4 @@
+pub mod Below
 pub mod Types
 pub mod Found
 pub mod Archs

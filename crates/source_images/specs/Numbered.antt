@@ -2,15 +2,12 @@
 -- and domains name are those of images and leaves. The sections of programs can be placed where each is sound and none has
 -- a page of another one.
 use Rattle.std.specs.Prelude.{◌≡◌, ◌<◌, ◌^◌, ℕ, false, List, length, Some, slice_get, IsTrue}
+use Rattle.source_images.specs.Below.{Flat, Image, IsIn, Section}
 use Rattle.adl_meaning.specs.declared.flat.Domain.{Domain}
-use Rattle.adl_meaning.specs.declared.flat.Flat.{Flat}
-use Rattle.cam_base.specs.Gather.{IsIn}
 use Rattle.source_images.specs.Images.{Placed, image_number, sections_of}
 use Rattle.source_images.specs.SpaceFaults.{clashes}
 use Rattle.source_images.specs.declared.images.Images.{Images}
 use Rattle.sect_table.specs.Sections.{is_sound}
-use Rattle.sect_table.specs.declared.image.Image.{Image}
-use Rattle.sect_table.specs.declared.image.Section.{Section}
 
 -- fewer than 2^32 images, each with fewer than 2^32 sections
 pub record AreCounted (images : Images) : Type 0 where

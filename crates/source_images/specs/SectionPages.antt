@@ -1,7 +1,7 @@
 -- The pages of sections. A section begins a page and ends in the last page that it has a byte of.
 use Rattle.std.specs.Prelude.{ℕ, ◌+◌, ◌-◌, ◌*◌, ◌/◌, nat_lt, leb, min, Bool, ◌&&◌, List, Option, option_map}
+use Rattle.source_images.specs.Below.{Section}
 use Rattle.cap_model.specs.declared.object.Fill.{Fill}
-use Rattle.sect_table.specs.declared.image.Section.{Section}
 
 -- the numbers of its first page and of the page behind its last
 abbrev pub first_page : Section → ℕ

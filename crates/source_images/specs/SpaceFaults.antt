@@ -2,18 +2,12 @@
 -- or of another program of its domain. Window stands where a page of it lies outside the part of a space that is for
 -- sections. Both stand at the word of the leaf's component, whose name they give.
 use Rattle.std.specs.Prelude.{ℕ, ◌==◌, not, Bool, ◌&&◌, List, [], ◌++◌, Option, Some, None, slice_get}
-use Rattle.std.specs.List.{flat_map, list_any}
-use Rattle.std.specs.Option.{option_map_or}
-use Rattle.adl_meaning.specs.Faults.{least, where_true}
-use Rattle.adl_meaning.specs.declared.flat.Flat.{Flat}
+use Rattle.source_images.specs.Below.{Fault, Flat, Image, Place, flat_map, least, list_any, option_map_or, where_true}
 use Rattle.cam_base.specs.declared.code.Code.{Code}
 use Rattle.cam_base.specs.declared.code.Code.TheVariants as code
-use Rattle.cam_base.specs.declared.place.Fault.{Fault}
-use Rattle.cam_base.specs.declared.place.Place.{Place}
 use Rattle.source_images.specs.Images.{Placed, arch_of, image_number, sections_end, sections_of}
 use Rattle.source_images.specs.SectionPages.{is_inside, share_page}
 use Rattle.source_images.specs.declared.images.Images.{Images}
-use Rattle.sect_table.specs.declared.image.Image.{Image}
 
 -- another section has a page of this one
 abbrev pub clashes_with : Placed → Placed → Bool

@@ -7,17 +7,7 @@
 --
 -- The tables have the file numbers behind those of the source.
 use Rattle.std.specs.Prelude.{ℕ, ◌+◌, List, [], ◌∷◌, ◌++◌, map, length, codes, Option, Some, None, slice_get, unwrap_or}
-use Rattle.std.specs.List.{flat_map, zip}
-use Rattle.std.specs.Option.{option_and_then, option_map_or, option_or}
-use Rattle.adl_ast.specs.declared.source.Source.{Source}
-use Rattle.adl_meaning.specs.Faults.{least}
-use Rattle.adl_meaning.specs.declared.flat.Flat.{Flat}
-use Rattle.adl_meaning.specs.declared.flat.Leaf.{Leaf}
-use Rattle.cam_base.specs.declared.code.Code.TheVariants.{Limit, NoSections}
-use Rattle.cam_base.specs.declared.place.Fault.{Fault}
-use Rattle.cam_base.specs.declared.place.Place.{Place}
-use Rattle.cap_model.specs.declared.level.Arch.{Arch}
-use Rattle.sect_table.specs.Tables.{first_fault}
+use Rattle.source_images.specs.Below.{Arch, Fault, Flat, Leaf, Limit, NoSections, Place, Source, first_fault, flat_map, least, option_and_then, option_map_or, option_or, zip}
 use Rattle.source_images.specs.Archs.{first_arch, other_arch}
 use Rattle.source_images.specs.Found.{Found, absent, too_long, table, table_names}
 use Rattle.source_images.specs.Types.{type_number}

@@ -1,11 +1,7 @@
 -- The images of a source's software: those that its section tables say, and the number of its type for each leaf.
 use Rattle.std.specs.Prelude.{List, map, Option, None}
-use Rattle.std.specs.List.{filter_map, zip}
-use Rattle.adl_ast.specs.declared.source.Source.{Source}
-use Rattle.adl_meaning.specs.declared.flat.Flat.{Flat}
+use Rattle.source_images.specs.Below.{Flat, Image, Source, filter_map, image_of, zip}
 use Rattle.source_images.specs.declared.images.Images.{Images}
-use Rattle.sect_table.specs.Tables.{image_of}
-use Rattle.sect_table.specs.declared.image.Image.{Image}
 use Rattle.source_images.specs.Found.{Found, absent, too_long, table}
 use Rattle.source_images.specs.Types.{Name, types, type_number}
 

@@ -1,32 +1,17 @@
 -- What the reading of section tables goes through: what is read of each table, and what comes of all that is read.
 use Rattle.std.specs.Prelude.{◌≡◌, ℕ, ◌+◌, ◌++◌, if◌then◌else◌, List, [], ◌∷◌, map, codes, fold, Option, None, Some, Result, Ok, Err, position, is_some, slice_get, string_bytes, unwrap_or}
+use Rattle.source_images.specs.Below.{Contents, Fault, Flat, Image, IsIn, Limit, Line, NoSections, Place, Source, SourceError, bad_between, bytes_eq, end_of, first_fault, flat_map, get, image_of, lines, noted, option_and_then, option_map_or}
 use Rattle.std.specs.Borrow.{Bor}
-use Rattle.std.specs.FinMap.{get}
-use Rattle.std.specs.List.{flat_map}
-use Rattle.std.specs.Option.{option_and_then, option_map_or}
-use Rattle.std.specs.Str.{bytes_eq}
-use Rattle.adl_ast.specs.declared.source.Source.{Source}
-use Rattle.adl_meaning.specs.Faults.{noted}
-use Rattle.adl_meaning.specs.declared.flat.Flat.{Flat}
-use Rattle.cam_base.specs.declared.code.Code.TheVariants.{Limit, NoSections}
-use Rattle.cam_base.specs.declared.place.Fault.{Fault}
-use Rattle.cam_base.specs.declared.place.Place.{Place}
-use Rattle.cam_io.specs.Contents.{Contents}
-use Rattle.cam_base.specs.Gather.{IsIn}
 use Rattle.source_images.specs.declared.images.Images.{Images}
-use Rattle.sect_table.specs.Tables.{bad_between, first_fault, image_of}
-use Rattle.sect_table.specs.declared.image.Image.{Image}
 use Rattle.source_images.specs.Archs.{is_other}
 use Rattle.source_images.specs.Found.{Found, AreFound, absent, too_long, table, found_bytes, table_name}
 use Rattle.source_images.specs.TableFaults.{listed}
 use Rattle.source_images.specs.Types.{Name, type_number}
-use Rattle.cam_base.specs.Unread.{SourceError}
 use Rattle.cam_base.specs.declared.error.Unread.TheVariants as error
 use Rattle.source_images.specs.declared.merge.Merged.{Merged}
 use Rattle.source_images.specs.declared.reading.Reading.{Reading}
 use Rattle.source_images.specs.declared.reading.Reading.TheVariants.{Absent, TooLong, Faulty, Sound}
 use Rattle.source_images.specs.declared.tables.Table.{Table}
-use Rattle.cam_base.specs.Lines.{Line, lines, end_of}
 
 -- names that are borrowed
 abbrev pub names_told : List (Bor Name) → List Name

@@ -1,27 +1,10 @@
 -- What the images of a system ask of it. All of this holds of the system of a source without faults.
 use Rattle.std.specs.Prelude.{◌≡◌, ◌<◌, ◌≤◌, ◌⊎◌, ℕ, ◌%◌, false, length, None, Some, slice_get, sum}
-use Rattle.adl_meaning.specs.declared.connector.Connector.TheVariants.{Mmio, SharedMemory}
-use Rattle.adl_meaning.specs.declared.flat.Domain.{Domain}
-use Rattle.adl_meaning.specs.declared.flat.Flat.{Flat}
-use Rattle.adl_meaning.specs.declared.flat.FlatConnection.{FlatConnection}
-use Rattle.adl_meaning.specs.declared.flat.FlatEnd.{FlatEnd}
-use Rattle.adl_meaning.specs.declared.flat.Leaf.{Leaf}
-use Rattle.adl_meaning.specs.declared.settled.EndSetting.{EndSetting}
-use Rattle.adl_meaning.specs.declared.settled.LeafSetting.{LeafSetting}
+use Rattle.spec_laws.specs.Below.{Domain, EndAt, EndSetting, Flat, FlatConnection, FlatEnd, IsIn, Leaf, LeafSetting, Mmio, SharedMemory, Tables, image_number, leaf_members, memory_paddr, memory_pages, page_counts, setting_of, spaces_of, windows_of}
 use Rattle.conn_rules.specs.Ends.{end_rule}
-use Rattle.cspace_layout.specs.declared.end_at.EndAt.{EndAt}
-use Rattle.cspace_layout.specs.Lookups.{setting_of}
-use Rattle.cspace_layout.specs.Members.{leaf_members}
-use Rattle.cam_base.specs.Gather.{IsIn}
-use Rattle.source_images.specs.Images.{image_number}
 use Rattle.source_images.specs.Numbered.{AreNumbered, AreSound}
 use Rattle.source_images.specs.SpaceFaults.{first_space_fault}
-use Rattle.system_spec.specs.Tables.{Tables}
 use Rattle.vspace_layout.specs.CanLay.{CanLay}
-use Rattle.vspace_layout.specs.Laid.{spaces_of}
-use Rattle.vspace_layout.specs.Memory.{memory_pages, memory_paddr}
-use Rattle.vspace_layout.specs.PageLimits.{page_counts}
-use Rattle.vspace_layout.specs.Regions.{windows_of}
 use Rattle.spec_laws.specs.Framed.{OneDevice}
 use Rattle.spec_laws.specs.Spaced.{system}
 

@@ -2,15 +2,9 @@
 -- space pages rise; each end that sees memory sees some; and connections to the same registers see as many pages. Tables of a
 -- source without faults keep it.
 use Rattle.std.specs.Prelude.{◌≡◌, ◌<◌, ℕ, true, Some, slice_get}
-use Rattle.adl_meaning.specs.declared.flat.FlatConnection.{FlatConnection}
-use Rattle.adl_meaning.specs.declared.flat.FlatEnd.{FlatEnd}
+use Rattle.spec_laws.specs.Below.{FlatConnection, FlatEnd, Tables, is_window, memory_pages, registers, same_port, slots_of, spaces_of}
 use Rattle.arch_policy.specs.Ends.{EndAt}
-use Rattle.cspace_layout.specs.Uses.{slots_of}
 use Rattle.reach_laws.specs.Flat.{IsFlat}
-use Rattle.system_spec.specs.Tables.{Tables}
-use Rattle.vspace_layout.specs.Laid.{spaces_of}
-use Rattle.vspace_layout.specs.Memory.{memory_pages, registers, same_port}
-use Rattle.vspace_layout.specs.Regions.{is_window}
 use Rattle.vspace_layout.specs.SpaceLaws.{PagesRise}
 use Rattle.spec_laws.specs.Policy.{given_tables}
 

@@ -3,20 +3,10 @@
 -- there is a page. Frames and priorities are within what objects hold, and no two interrupts have one number. Tables of a
 -- source without faults keep it.
 use Rattle.std.specs.Prelude.{◌≡◌, ◌≤◌, ◌<◌, ◌^◌, ◌%◌, ℕ, true, map, length, slice_get, Some}
-use Rattle.adl_meaning.specs.declared.connector.Connector.TheVariants.{Interrupt}
-use Rattle.adl_meaning.specs.declared.flat.Domain.{Domain}
-use Rattle.adl_meaning.specs.declared.flat.FlatConnection.{FlatConnection}
+use Rattle.spec_laws.specs.Below.{Domain, FlatConnection, FrameInfo, Interrupt, IsIn, Tables, ThreadPlace, arch, irq_number, pages_at, parts, priority, root_span, shapes, slots_of, threads_at, uses_at}
 use Rattle.cap_model.specs.Kept.{keeps_frame}
-use Rattle.cspace_layout.specs.Uses.{slots_of}
-use Rattle.cam_base.specs.Gather.{IsIn}
 use Rattle.page_tables.specs.Runs.{Rises}
-use Rattle.page_tables.specs.Shapes.{shapes}
-use Rattle.page_tables.specs.Walks.{root_span}
-use Rattle.system_spec.specs.Parts.{parts}
-use Rattle.system_spec.specs.Tables.{Tables, arch, irq_number, pages_at, priority, threads_at, uses_at}
-use Rattle.vspace_layout.specs.declared.spaces.FrameInfo.{FrameInfo}
 use Rattle.vspace_layout.specs.declared.spaces.Page.{Page}
-use Rattle.vspace_layout.specs.declared.spaces.ThreadPlace.{ThreadPlace}
 
 -- the page begins at a whole page, below what the root spans, and its frame is one of the frames
 pub record IsPageFit (t : Tables) (p : Page) : Type 0 where

@@ -2,22 +2,7 @@
 -- registers of a device is one frame, at its address. Every other frame is mapped once, in one space, has no address, and is
 -- filled as its page of a section says, or not at all.
 use Rattle.std.specs.Prelude.{◌≡◌, ◌↔◌, ◌⊎◌, ◌<◌, ℕ, ◌+◌, ◌*◌, ◌/◌, Bool, Option, Some, None, slice_get}
-use Rattle.adl_meaning.specs.declared.connector.Connector.TheVariants.{Mmio, SharedMemory}
-use Rattle.adl_meaning.specs.declared.flat.Domain.{Domain}
-use Rattle.adl_meaning.specs.declared.flat.FlatConnection.{FlatConnection}
-use Rattle.adl_meaning.specs.declared.flat.FlatEnd.{FlatEnd}
-use Rattle.cap_model.specs.declared.cap.Cap.{Cap}
-use Rattle.cap_model.specs.declared.object.Fill.{Fill}
-use Rattle.cap_model.specs.declared.object.Object.TheVariants.{Frame}
-use Rattle.cap_model.specs.declared.spec.Spec.{Spec}
-use Rattle.cap_model.specs.Lookup.{object_at}
-use Rattle.cspace_layout.specs.declared.end_at.EndAt.{EndAt}
-use Rattle.page_tables.specs.Shapes.{shapes}
-use Rattle.page_tables.specs.Walks.{root_span}
-use Rattle.system_spec.specs.Tables.{Tables}
-use Rattle.vspace_layout.specs.declared.region.Content.TheVariants.{Window}
-use Rattle.vspace_layout.specs.declared.region.Region.{Region}
-use Rattle.vspace_layout.specs.Memory.{memory_paddr, registers}
+use Rattle.spec_laws.specs.Below.{Cap, Domain, EndAt, Fill, FlatConnection, FlatEnd, Frame, Mmio, Region, SharedMemory, Spec, Tables, Window, memory_paddr, object_at, registers, root_span, shapes}
 use Rattle.spec_laws.specs.Spaced.{IsAt, IsRegionPage, IsSectionPage}
 
 -- page j of a window of connection k, in the space of domain d, is the frame at the place

@@ -1,8 +1,6 @@
 -- Each leaf of software has an image, as the images have that are read for a source.
 use Rattle.std.specs.Prelude.{◌≡◌, ℕ, Some, slice_get}
-use Rattle.adl_meaning.specs.declared.flat.Flat.{Flat}
-use Rattle.adl_meaning.specs.declared.flat.Leaf.{Leaf}
-use Rattle.source_images.specs.Images.{image_number}
+use Rattle.spec_laws.specs.Below.{Flat, Leaf, image_number}
 use Rattle.source_images.specs.declared.images.Images.{Images}
 
 abbrev pub HaveImages : Flat → Images → Type 0

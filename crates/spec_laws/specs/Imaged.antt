@@ -2,13 +2,7 @@
 -- the kinds that their names say, the roots of its spaces, threads, regions, the pages that are mapped, page tables, frames, and
 -- labels. Addresses are sums, what is mapped is a set, and what stands before what is an order.
 use Rattle.std.specs.Prelude.{◌≡◌, ◌↔◌, ℕ, List, Some, slice_get}
-use Rattle.adl_meaning.specs.declared.flat.Domain.{Domain}
-use Rattle.cap_model.specs.declared.object_labels.Labels.{Labels}
-use Rattle.cap_model.specs.declared.spec.Spec.{Spec}
-use Rattle.cam_base.specs.Gather.{IsIn}
-use Rattle.system_spec.specs.declared.map_line.MapLine.{MapLine}
-use Rattle.system_spec.specs.declared.map_line.MapLine.TheVariants.{DomainLine}
-use Rattle.system_spec.specs.Tables.{Tables}
+use Rattle.spec_laws.specs.Below.{Domain, DomainLine, IsIn, Labels, MapLine, Spec, Tables}
 use Rattle.spec_laws.specs.Framed.{AreFrames}
 use Rattle.spec_laws.specs.Kinded.{SayKinds}
 use Rattle.spec_laws.specs.Labelled.{AreLabels, AreTableLabels}

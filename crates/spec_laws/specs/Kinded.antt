@@ -1,13 +1,10 @@
 -- The kinds of a system's objects: each is of the kind that its name says.
 use Rattle.std.specs.Prelude.{◌≡◌, ℕ, Some}
+use Rattle.spec_laws.specs.Below.{Object, Series, Spec, object_at}
 use Rattle.cap_model.specs.declared.kind.Kind.{Kind}
 use Rattle.cap_model.specs.declared.kind.Kind.TheVariants as kinds
 use Rattle.cap_model.specs.declared.level.Level.TheVariants.{Global, Upper, Directory, Table}
-use Rattle.cap_model.specs.declared.object.Object.{Object}
-use Rattle.cap_model.specs.declared.spec.Spec.{Spec}
 use Rattle.cap_model.specs.Kinds.{kind_of_object}
-use Rattle.cap_model.specs.Lookup.{object_at}
-use Rattle.system_spec.specs.declared.series.Series.{Series}
 use Rattle.system_spec.specs.declared.series.Series.TheVariants as series
 use Rattle.spec_laws.specs.Slotted.{IsNamed}
 

@@ -2,29 +2,11 @@
 -- threads, its locks, its page tables and its own frames. Endpoints, notifications and shared frames have the connection's,
 -- registers and interrupts the device's.
 use Rattle.std.specs.Prelude.{◌≡◌, ◌⊎◌, ◌<◌, ℕ, ◌+◌, List, ◌∷◌, length, drop, Option, Some, slice_get}
-use Rattle.adl_meaning.specs.declared.connector.Connector.TheVariants.{Rpc, Notification, SharedMemory, Interrupt}
-use Rattle.adl_meaning.specs.declared.flat.Domain.{Domain}
-use Rattle.adl_meaning.specs.declared.flat.FlatConnection.{FlatConnection}
-use Rattle.adl_meaning.specs.declared.flat.FlatEnd.{FlatEnd}
-use Rattle.adl_meaning.specs.declared.flat.Leaf.{Leaf}
+use Rattle.spec_laws.specs.Below.{CNode, Cap, Domain, EndAt, FlatConnection, FlatEnd, Interrupt, IsIn, Labels, Leaf, MapLine, Notification, Rpc, Shape, SharedMemory, Spec, Tables, ThreadLine, irq_owner, object_at, registers, root_span, shapes}
 use Rattle.arch_policy.specs.declared.owner.Owner.{Owner}
 use Rattle.arch_policy.specs.declared.owner.Owner.TheVariants.{OfConnection, OfDomain, OfLeaf}
 use Rattle.arch_policy.specs.Tables.{number_of}
-use Rattle.cap_model.specs.declared.object_labels.Labels.{Labels}
-use Rattle.cap_model.specs.declared.cap.Cap.{Cap}
-use Rattle.cap_model.specs.declared.object.Object.TheVariants.{CNode}
-use Rattle.cap_model.specs.declared.spec.Spec.{Spec}
-use Rattle.cap_model.specs.Lookup.{object_at}
-use Rattle.cspace_layout.specs.declared.end_at.EndAt.{EndAt}
-use Rattle.cam_base.specs.Gather.{IsIn}
-use Rattle.page_tables.specs.declared.shape.Shape.{Shape}
-use Rattle.page_tables.specs.Shapes.{shapes}
-use Rattle.page_tables.specs.Walks.{root_span}
-use Rattle.system_spec.specs.declared.map_line.MapLine.{MapLine}
-use Rattle.system_spec.specs.declared.map_line.MapLine.TheVariants.{ThreadLine}
 use Rattle.system_spec.specs.declared.series.Series.TheVariants as series
-use Rattle.system_spec.specs.Tables.{Tables, irq_owner}
-use Rattle.vspace_layout.specs.Memory.{registers}
 use Rattle.spec_laws.specs.Framed.{IsOwn, ShowsMemory}
 use Rattle.spec_laws.specs.Slotted.{IsIrqOf, IsNamed}
 use Rattle.spec_laws.specs.Spaced.{IsAt, IsTableFor}

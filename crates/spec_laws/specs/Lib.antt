@@ -1,3 +1,4 @@
+pub mod Below
 pub mod CanMap
 pub mod Framed
 pub mod Imaged

@@ -1,18 +1,8 @@
 -- What layouts keep whose tables are sized: no limit is passed, each stack has a page, and memory is seen in some domain.
 -- Layouts of a source without faults keep it.
 use Rattle.std.specs.Prelude.{◌≡◌, ◌≤◌, ◌⊎◌, ℕ, length, slice_get, Some, sum}
-use Rattle.adl_meaning.specs.declared.connector.Connector.{Connector}
-use Rattle.adl_meaning.specs.declared.connector.Connector.TheVariants.{SharedMemory, Mmio}
-use Rattle.adl_meaning.specs.declared.flat.Domain.{Domain}
-use Rattle.adl_meaning.specs.declared.flat.FlatConnection.{FlatConnection}
+use Rattle.spec_laws.specs.Below.{Connector, Domain, EndAt, FlatConnection, Given, IsIn, Mmio, SharedMemory, ThreadOf, page_counts, slots_of, stack_pages, table_counts, threads_of, windows_of}
 use Rattle.cspace_layout.specs.SlotFaults.{counts}
-use Rattle.cspace_layout.specs.Uses.{slots_of}
-use Rattle.cspace_layout.specs.declared.end_at.EndAt.{EndAt}
-use Rattle.cam_base.specs.Gather.{IsIn}
-use Rattle.vspace_layout.specs.declared.thread.ThreadOf.{ThreadOf}
-use Rattle.vspace_layout.specs.Given.{Given}
-use Rattle.vspace_layout.specs.PageLimits.{page_counts, table_counts}
-use Rattle.vspace_layout.specs.Regions.{stack_pages, threads_of, windows_of}
 
 abbrev pub HasMemory : Connector → Type 0
 HasMemory c = (c ≡ SharedMemory) ⊎ (c ≡ Mmio)

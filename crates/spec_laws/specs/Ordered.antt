@@ -3,21 +3,8 @@
 -- registers of devices, by the first connection to each and page. No page table stands that no page needs. Page tables of each
 -- level, and frames, have numbers that rise as they stand.
 use Rattle.std.specs.Prelude.{◌≡◌, ◌⊎◌, ◌<◌, ◌≤◌, ℕ, ◌+◌, ◌/◌, List, ◌∷◌, drop, Option, Some, slice_get}
-use Rattle.adl_meaning.specs.declared.connector.Connector.TheVariants.{Mmio, SharedMemory}
-use Rattle.adl_meaning.specs.declared.flat.Domain.{Domain}
-use Rattle.adl_meaning.specs.declared.flat.FlatConnection.{FlatConnection}
-use Rattle.cap_model.specs.declared.cap.Cap.{Cap}
-use Rattle.cap_model.specs.declared.level.Level.{Level}
-use Rattle.cap_model.specs.declared.object.Fill.{Fill}
-use Rattle.cap_model.specs.declared.object.Object.TheVariants.{Frame, Pages}
-use Rattle.cap_model.specs.declared.spec.Spec.{Spec}
-use Rattle.cap_model.specs.Lookup.{object_at}
-use Rattle.page_tables.specs.declared.shape.Shape.{Shape}
-use Rattle.page_tables.specs.Shapes.{shapes, span}
-use Rattle.page_tables.specs.Walks.{root_span}
+use Rattle.spec_laws.specs.Below.{Cap, Domain, Fill, FlatConnection, Frame, Level, Mmio, Pages, Shape, SharedMemory, Spec, Tables, level_series, object_at, root_span, shapes, span}
 use Rattle.system_spec.specs.declared.series.Series.TheVariants as series
-use Rattle.system_spec.specs.Names.{level_series}
-use Rattle.system_spec.specs.Tables.{Tables}
 use Rattle.spec_laws.specs.Framed.{IsOwn, OneDevice, ShowsMemory}
 use Rattle.spec_laws.specs.Slotted.{IsNamed}
 use Rattle.spec_laws.specs.Spaced.{IsAt, IsTableFor}

@@ -1,18 +1,8 @@
 -- What is laid out from whose tables can be written: settings are numbers of 64 bits, threads run programs that have names, and
 -- images have names and sound sections. Sources without faults keep it.
 use Rattle.std.specs.Prelude.{◌≡◌, ◌<◌, ◌^◌, ℕ, true, slice_get, Some, IsTrue}
-use Rattle.adl_meaning.specs.declared.flat.FlatConnection.{FlatConnection}
-use Rattle.adl_meaning.specs.declared.flat.Leaf.{Leaf}
-use Rattle.cam_base.specs.Names.{is_name}
-use Rattle.cam_base.specs.Gather.{IsIn}
+use Rattle.spec_laws.specs.Below.{FlatConnection, Given, Image, IsIn, Leaf, Section, ThreadOf, component_name, irq_number, is_name, settled_badge, threads_of}
 use Rattle.sect_table.specs.Sections.{is_sound}
-use Rattle.sect_table.specs.declared.image.Image.{Image}
-use Rattle.sect_table.specs.declared.image.Section.{Section}
-use Rattle.system_spec.specs.Objects.{settled_badge}
-use Rattle.system_spec.specs.Tables.{component_name, irq_number}
-use Rattle.vspace_layout.specs.declared.thread.ThreadOf.{ThreadOf}
-use Rattle.vspace_layout.specs.Given.{Given}
-use Rattle.vspace_layout.specs.Regions.{threads_of}
 
 pub record IsImagePlain (image : Image) : Type 0 where
   pub entry : image.entry < 2 ^ 64

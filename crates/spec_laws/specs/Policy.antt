@@ -1,7 +1,6 @@
 -- What the policy of a system is made from, out of what its objects are made from.
+use Rattle.spec_laws.specs.Below.{Given, Tables, given}
 use Rattle.arch_policy.specs.Tables.{Tables as Policy}
-use Rattle.system_spec.specs.Tables.{Tables}
-use Rattle.vspace_layout.specs.Given.{Given, given}
 
 abbrev pub policy_tables : Tables → Policy
 policy_tables t = record { source = t.source; flat = t.flat; settled = t.settled; numbers = t.numbers }

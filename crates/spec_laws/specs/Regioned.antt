@@ -1,22 +1,7 @@
 -- The regions of a system's spaces, told of its spec and its map. Thread i of a domain has the regions 2 i and 2 i + 1, its stack
 -- and its IPC buffer; window j has the region of its number behind those of all threads. Where a region begins is a sum.
 use Rattle.std.specs.Prelude.{◌≡◌, ℕ, ◌+◌, ◌*◌, List, length, Some, slice_get}
-use Rattle.adl_meaning.specs.declared.flat.FlatConnection.{FlatConnection}
-use Rattle.adl_meaning.specs.declared.settled.LeafSetting.{LeafSetting}
-use Rattle.cap_model.specs.declared.cap.Cap.{Cap}
-use Rattle.cap_model.specs.declared.object.Object.TheVariants.{Thread}
-use Rattle.cap_model.specs.declared.object.Tcb.{Tcb}
-use Rattle.cap_model.specs.declared.spec.Spec.{Spec}
-use Rattle.cap_model.specs.Lookup.{object_at}
-use Rattle.conn_rules.specs.Row.{RW}
-use Rattle.cspace_layout.specs.declared.end_at.EndAt.{EndAt}
-use Rattle.cam_base.specs.Gather.{IsIn}
-use Rattle.system_spec.specs.declared.map_line.MapLine.{MapLine}
-use Rattle.system_spec.specs.declared.map_line.MapLine.TheVariants.{ThreadLine, WindowLine}
-use Rattle.system_spec.specs.Tables.{Tables}
-use Rattle.vspace_layout.specs.declared.thread.ThreadOf.{ThreadOf}
-use Rattle.vspace_layout.specs.Memory.{memory_pages}
-use Rattle.vspace_layout.specs.Regions.{threads_of, windows_of}
+use Rattle.spec_laws.specs.Below.{Cap, EndAt, FlatConnection, IsIn, LeafSetting, MapLine, RW, Spec, Tables, Tcb, Thread, ThreadLine, ThreadOf, WindowLine, memory_pages, object_at, threads_of, windows_of}
 use Rattle.spec_laws.specs.Spaced.{IsAt, begins, system}
 
 -- the stack and the buffer of thread i of domain d, in the space of this root

@@ -1,11 +1,8 @@
 -- How many objects and capabilities laid-out tables come to, and the limits that they keep: of slots, threads, pages, page
 -- tables and frames over all domains together. A thread has two pages at least, so threads are half as many as pages may be.
 use Rattle.std.specs.Prelude.{◌≤◌, ℕ, ◌+◌, ◌*◌, [], ◌∷◌, length, map, sum}
-use Rattle.cap_model.specs.declared.spec.Spec.{Spec}
+use Rattle.spec_laws.specs.Below.{Spec, Tables, all_tables, gather, pages_at, threads_at, uses_at}
 use Rattle.capdl_write.specs.Writable.{caps_of}
-use Rattle.cam_base.specs.Gather.{gather}
-use Rattle.system_spec.specs.Parts.{all_tables}
-use Rattle.system_spec.specs.Tables.{Tables, pages_at, threads_at, uses_at}
 
 -- over all domains
 abbrev pub use_count : Tables → ℕ

@@ -6,34 +6,17 @@
 --
 -- Locks are numbered by domain, leaf and member, and interrupts by connection: each by how many of its kind stand before it.
 use Rattle.std.specs.Prelude.{◌≡◌, ◌<◌, ◌^◌, ℕ, ◌+◌, if◌then◌else◌, List, [], ◌∷◌, length, Some, slice_get}
+use Rattle.spec_laws.specs.Below.{CNode, Cap, Connector, Direct, Domain, EndSetting, FlatConnection, FlatEnd, From, Interrupt, Irq, IsIn, MapLine, Mmio, NONE, OwnLine, RW, Rpc, Series, SharedMemory, SlotLine, Spec, Tables, To, before, device_place}
+use Rattle.spec_laws.specs.Below.{domain_uses, gather, is_lock, leaf_members, name_at, name_of, object_at, rows_of, setting_of, slots_of}
 use Rattle.adl_ast.specs.declared.composition.Role.{Role}
-use Rattle.adl_ast.specs.declared.composition.Role.TheVariants.{From, To}
-use Rattle.adl_meaning.specs.declared.connector.Connector.{Connector}
-use Rattle.adl_meaning.specs.declared.connector.Connector.TheVariants.{Rpc, Notification as Notifies, SharedMemory, Mmio, Interrupt, Direct}
-use Rattle.adl_meaning.specs.declared.flat.Domain.{Domain}
-use Rattle.adl_meaning.specs.declared.flat.FlatConnection.{FlatConnection}
-use Rattle.adl_meaning.specs.declared.flat.FlatEnd.{FlatEnd}
-use Rattle.adl_meaning.specs.declared.settled.EndSetting.{EndSetting}
-use Rattle.cap_model.specs.declared.cap.Cap.{Cap}
-use Rattle.cap_model.specs.declared.object.Object.TheVariants.{Notification, CNode, Irq}
-use Rattle.cap_model.specs.declared.spec.Spec.{Spec}
-use Rattle.cap_model.specs.Lookup.{name_at, object_at}
+use Rattle.adl_meaning.specs.declared.connector.Connector.TheVariants.{Notification as Notifies}
+use Rattle.cap_model.specs.declared.object.Object.TheVariants.{Notification}
 use Rattle.conn_rules.specs.declared.rule.RuleRow.{RuleRow}
-use Rattle.conn_rules.specs.Row.{NONE, RW, rows_of}
 use Rattle.cspace_layout.specs.declared.plan.SlotUse.{SlotUse}
 use Rattle.cspace_layout.specs.declared.plan.SlotUse.TheVariants.{OfEnd, Handler, OwnLock}
-use Rattle.cspace_layout.specs.Uses.{domain_uses, slots_of}
-use Rattle.cspace_layout.specs.Lookups.{setting_of}
-use Rattle.cspace_layout.specs.Members.{is_lock, leaf_members}
-use Rattle.cam_base.specs.Gather.{IsIn, before, gather}
-use Rattle.system_spec.specs.declared.map_line.MapLine.{MapLine}
-use Rattle.system_spec.specs.declared.map_line.MapLine.TheVariants.{SlotLine, OwnLine}
-use Rattle.system_spec.specs.declared.series.Series.{Series}
 use Rattle.system_spec.specs.declared.series.Series.TheVariants as series
 use Rattle.system_spec.specs.Bits.{IsLeastBits}
-use Rattle.system_spec.specs.Names.{name_of}
 use Rattle.system_spec.specs.Places.{has_irq}
-use Rattle.system_spec.specs.Tables.{Tables, device_place}
 
 -- the object at the place has the name of its series and this number
 abbrev pub IsNamed : Spec → ℕ → Series → ℕ → Type 0

@@ -1,33 +1,11 @@
 -- The spaces of a system as its spec has them: where the space of a domain has its root, and what stands at an address.
 use Rattle.std.specs.Prelude.{◌≡◌, ◌<◌, ◌↔◌, ℕ, ◌+◌, ◌*◌, ◌/◌, Bool, true, false, List, ◌∷◌, map, drop, Option, Some, slice_get}
-use Rattle.adl_meaning.specs.declared.settled.EndSetting.{EndSetting}
-use Rattle.cap_model.specs.declared.cap.Cap.{Cap}
-use Rattle.cap_model.specs.declared.level.Level.{Level}
-use Rattle.cap_model.specs.declared.object.Fill.{Fill}
-use Rattle.cap_model.specs.declared.object.Object.{Object}
-use Rattle.cap_model.specs.declared.object.Object.TheVariants.{Frame, Pages}
+use Rattle.spec_laws.specs.Below.{Arrives, Buffer, Cap, EndAt, EndSetting, Fill, Frame, Given, Image, IsIn, Level, Object, Pages, Region, Section, Shape, Spec, Stack, Tables, Walk, Window, base, given, image_number, leaves_of, name_at, name_of}
+use Rattle.spec_laws.specs.Below.{object_at, place, region_start, regions, root_series, root_span, setting_of, shapes, span}
 use Rattle.cap_model.specs.declared.rights.Rights.{Rights}
-use Rattle.cap_model.specs.declared.spec.Spec.{Spec}
 use Rattle.cap_model.specs.Levels.{is_root_level}
-use Rattle.cap_model.specs.Lookup.{name_at, object_at}
-use Rattle.cspace_layout.specs.declared.end_at.EndAt.{EndAt}
-use Rattle.cspace_layout.specs.Lookups.{setting_of}
-use Rattle.cam_base.specs.Gather.{IsIn}
-use Rattle.page_tables.specs.declared.shape.Shape.{Shape}
-use Rattle.page_tables.specs.Shapes.{shapes, span}
-use Rattle.page_tables.specs.Walks.{Arrives, Walk, root_span}
-use Rattle.source_images.specs.Images.{image_number}
 use Rattle.source_images.specs.SectionPages.{fill_of, page_count}
-use Rattle.sect_table.specs.declared.image.Image.{Image}
-use Rattle.sect_table.specs.declared.image.Section.{Section}
 use Rattle.system_spec.specs.declared.part.What.TheVariants.{TableOf}
-use Rattle.system_spec.specs.Names.{name_of, root_series}
-use Rattle.system_spec.specs.Parts.{place}
-use Rattle.system_spec.specs.Tables.{Tables}
-use Rattle.vspace_layout.specs.declared.region.Content.TheVariants.{Stack, Buffer, Window}
-use Rattle.vspace_layout.specs.declared.region.Region.{Region}
-use Rattle.vspace_layout.specs.Given.{Given, base, given, leaves_of}
-use Rattle.vspace_layout.specs.Regions.{region_start, regions}
 
 -- what the spaces of a system are laid out from
 abbrev pub system : Tables → Given

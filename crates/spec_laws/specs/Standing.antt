@@ -3,13 +3,9 @@
 -- connection of calls, a notification that of a connection of notifications or of an interrupt; locks and interrupts have their
 -- numbers among all. Which threads, page tables and frames there are is said where these are.
 use Rattle.std.specs.Prelude.{◌≡◌, ◌⊎◌, ◌<◌, ◌≤◌, ℕ, length, Some, slice_get}
-use Rattle.adl_meaning.specs.declared.connector.Connector.TheVariants.{Rpc, Notification as Notifies, Interrupt}
-use Rattle.adl_meaning.specs.declared.flat.FlatConnection.{FlatConnection}
-use Rattle.cap_model.specs.declared.spec.Spec.{Spec}
-use Rattle.cam_base.specs.Gather.{before}
-use Rattle.system_spec.specs.declared.series.Series.{Series}
+use Rattle.spec_laws.specs.Below.{FlatConnection, Interrupt, Rpc, Series, Spec, Tables, before}
+use Rattle.adl_meaning.specs.declared.connector.Connector.TheVariants.{Notification as Notifies}
 use Rattle.system_spec.specs.declared.series.Series.TheVariants as series
-use Rattle.system_spec.specs.Tables.{Tables}
 use Rattle.spec_laws.specs.Slotted.{IsLockNumber, IsNamed, interrupt}
 
 -- the order of kinds

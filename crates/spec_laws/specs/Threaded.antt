@@ -2,25 +2,8 @@
 -- each of its ends that serves calls; lines and threads are one to one. A thread runs its leaf's program, has its leaf's
 -- priority, and its domain's CNode and space. Threads are numbered by domain, and in a domain in its order of threads.
 use Rattle.std.specs.Prelude.{◌≡◌, ℕ, ◌+◌, List, Option, Some, None, slice_get}
-use Rattle.adl_ast.specs.declared.composition.Role.TheVariants.{To}
-use Rattle.adl_meaning.specs.declared.connector.Connector.TheVariants.{Rpc}
-use Rattle.adl_meaning.specs.declared.flat.FlatConnection.{FlatConnection}
-use Rattle.adl_meaning.specs.declared.flat.FlatEnd.{FlatEnd}
-use Rattle.adl_meaning.specs.declared.flat.Leaf.{Leaf}
-use Rattle.adl_meaning.specs.declared.settled.LeafSetting.{LeafSetting}
-use Rattle.cap_model.specs.declared.object.Object.TheVariants.{Thread}
-use Rattle.cap_model.specs.declared.object.Tcb.{Tcb}
-use Rattle.cap_model.specs.declared.spec.Spec.{Spec}
-use Rattle.cap_model.specs.Lookup.{object_at}
-use Rattle.cspace_layout.specs.declared.end_at.EndAt.{EndAt}
-use Rattle.cam_base.specs.Gather.{IsIn, before}
-use Rattle.sect_table.specs.declared.image.Image.{Image}
-use Rattle.system_spec.specs.declared.map_line.MapLine.{MapLine}
-use Rattle.system_spec.specs.declared.map_line.MapLine.TheVariants.{ThreadLine}
+use Rattle.spec_laws.specs.Below.{EndAt, FlatConnection, FlatEnd, Image, IsIn, Leaf, LeafSetting, MapLine, Rpc, Spec, Tables, Tcb, Thread, ThreadLine, ThreadOf, To, before, component_name, object_at, threads_of}
 use Rattle.system_spec.specs.declared.series.Series.TheVariants as series
-use Rattle.system_spec.specs.Tables.{Tables, component_name}
-use Rattle.vspace_layout.specs.declared.thread.ThreadOf.{ThreadOf}
-use Rattle.vspace_layout.specs.Regions.{threads_of}
 use Rattle.spec_laws.specs.Slotted.{IsNamed}
 use Rattle.spec_laws.specs.Spaced.{Runs, system}
 

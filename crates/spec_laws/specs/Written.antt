@@ -1,14 +1,7 @@
 -- What laid-out tables keep whose spec can be written and read back, besides being fit and within the limits: numbers of 64
 -- bits, and names of programs. Tables of a source without faults keep it.
 use Rattle.std.specs.Prelude.{◌≡◌, ◌<◌, ◌^◌, ℕ, true, Some, slice_get}
-use Rattle.adl_meaning.specs.declared.flat.FlatConnection.{FlatConnection}
-use Rattle.cam_base.specs.Names.{is_name}
-use Rattle.cap_model.specs.declared.object.Fill.{Fill}
-use Rattle.cam_base.specs.Gather.{IsIn}
-use Rattle.system_spec.specs.Objects.{settled_badge}
-use Rattle.system_spec.specs.Tables.{Tables, irq_number, leaf_entry, leaf_name, threads_at}
-use Rattle.vspace_layout.specs.declared.spaces.FrameInfo.{FrameInfo}
-use Rattle.vspace_layout.specs.declared.spaces.ThreadPlace.{ThreadPlace}
+use Rattle.spec_laws.specs.Below.{Fill, FlatConnection, FrameInfo, IsIn, Tables, ThreadPlace, irq_number, is_name, leaf_entry, leaf_name, settled_badge, threads_at}
 
 pub record IsThreadWritten (t : Tables) (x : ThreadPlace) : Type 0 where
   pub buffer : x.buffer < 2 ^ 64
