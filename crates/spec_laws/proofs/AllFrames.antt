@@ -1,29 +1,24 @@
 -- Each frame is mapped
-use Rattle.spec_laws.proofs.Common.{AreAllMapped, Bool, CanMap, Cap, Connector, Direct, Domain, FlatConnection, FlatEnd, FrameInfo, FrameOf, Interrupt, IsAt, IsRegionPage, List, MappedPage, Memory, Mmio, None, Notification, Option, Own, Rpc}
+use Rattle.spec_laws.proofs.Common.{AreAllMapped, Bool, CanMap, Cap, Connector, Domain, FlatConnection, FlatEnd, FrameInfo, FrameOf, IsAt, IsRegionPage, List, MappedPage, Memory, Mmio, None, Option, Own}
 use Rattle.spec_laws.proofs.Common.{SharedMemory, Shown, Some, Spaces, Tables, Window, [], ap, arith, before, begins, below, cond, connection_frames, eqb-true, false, first_to, frame, frames, frames_at, from_place, in_map, in_right, inl, inr}
-use Rattle.spec_laws.proofs.Common.{is_first, is_shared, length, map, mapped_pages, memory_number, memory_pages, memory_part, number_shown, option_map_or, own_frame, own_frames, own_number, own_part, place, place_is, place_of, range_with_len, refl}
+use Rattle.spec_laws.proofs.Common.{is_first, is_shared, length, map, mapped_pages, memory_number, memory_pages, memory_part, number_shown, option_map_or, own_frame, own_frames, own_number, own_part, place, place_of, range_with_len, refl}
 use Rattle.spec_laws.proofs.Common.{region_page, regions, register_frame, register_frames, register_part, registers, registers_in, registers_mmio, root_of, shared_frames, shared_part, slice_get, spec_of, split_get, subst, sym, system, true}
-use Rattle.spec_laws.proofs.Common.{window_region, windows_of, ℕ, ◌*◌, ◌+◌, ◌<◌, ◌==◌, ◌∙◌, ◌≡◌, ◌⊎◌}
+use Rattle.spec_laws.proofs.Common.{window_region, windows_of, ℕ, ◌*◌, ◌+◌, ◌<◌, ◌==◌, ◌∙◌, ◌≡◌, ◌⊎◌, IsThere}
 use Rattle.cap_model.specs.declared.object.Object.TheVariants as objects
 use Rattle.vspace_layout.specs.declared.owner.Owner.TheVariants.{OfConnection}
 use Rattle.spec_laws.proofs.Blocks.{as_long}
 use Rattle.spec_laws.proofs.Finding.{page_cap}
-use Rattle.spec_laws.proofs.Locks.{part_there}
 use Rattle.spec_laws.proofs.Owning.{own_of}
 use Rattle.spec_laws.proofs.Paging.{region_in}
 use Rattle.spec_laws.proofs.Rooted.{frames_from}
 use Rattle.spec_laws.proofs.Showing.{MemoryPlace, in_domain, memory_at}
 use Rattle.spec_laws.proofs.SlotLists.{some}
 use Rattle.spec_laws.proofs.Spaces.{is_at}
-use Rattle.spec_laws.proofs.Whats.{frame_what}
+use Rattle.spec_laws.proofs.Whose.{object_stands, of_frame}
 
 shared_is : (c : Connector) → is_shared c ≡ true → c ≡ SharedMemory
 shared_is SharedMemory h = refl
-shared_is Rpc h = cc
-shared_is Notification h = cc
-shared_is Mmio h = cc
-shared_is Interrupt h = cc
-shared_is Direct h = cc
+shared_is _ h = cc
 
 -- what is given if a test passes
 given_if : {X : Type 0} (b : Bool) (xs : List X) (j : ℕ) (x : X) → slice_get (cond b xs []) j ≡ Some x
@@ -197,9 +192,10 @@ module _ (t : Tables) (can : CanMap t) where
 
   pub all_frames : AreAllMapped t (spec_of t) (root_of t)
   all_frames at paddr fill o =
-      let p = part_there t at (objects.Frame paddr fill) o in
-      let w = frame_what t p.0.what paddr fill p.2 in
-      let m = of_number w.number w.info (ap (λ (z : Spaces). slice_get z.frames w.number) (sym can.spaces) ∙ w.there) in
-      let stand : place t (FrameOf w.number) ≡ at = ap (λ z. place t z) (sym w.what) ∙ place_is t at p.0 p.1 in
-      let there : frames_from t + w.number ≡ place t (FrameOf w.number) = omega arith in
+      let x = object_stands t at (objects.Frame paddr fill) o in
+      let w = of_frame x.what x.sort in
+      let is : IsThere t (FrameOf w.0) = subst (λ z. IsThere t z) w.1 x.there in
+      let m = of_number w.0 is.0 (ap (λ (z : Spaces). slice_get z.frames w.0) (sym can.spaces) ∙ is.1) in
+      let stand : place t (FrameOf w.0) ≡ at = subst (λ z. place t z ≡ at) w.1 x.stands in
+      let there : frames_from t + w.0 ≡ place t (FrameOf w.0) = omega arith in
       (m.domain, m.v, m.leaves, m.cap, m.here, m.at, m.is ∙ there ∙ stand)

@@ -25,11 +25,10 @@ bits_few n = high_bits n 1 15
 
 slots_rise : {A : Type 0} (g : ℕ → ℕ) (f : ℕ → SlotUse → A) (us : List SlotUse) → ((n : ℕ) → g n < g (suc n))
     → rise (gather (λ n u. (g n, f n u) ∷ []) us) ≡ true
-slots_rise g f [] h = refl
-slots_rise g f (u ∷ []) h = refl
 slots_rise g f (u ∷ v ∷ us) h =
     and_from (nat_lt (g 0) (g 1)) _ (lt-ltb (g 0) (g 1) (h 0)) (slots_rise (λ n. g (suc n)) (λ n x. f (suc n) x) (v ∷ us)
     (λ n. h (suc n)))
+slots_rise g f _ h = refl
 
 pub all_pass : {A : Type 0} (test : A → Bool) (xs : List A) → ((x : A) → IsIn x xs → test x ≡ true) → list_all test xs ≡ true
 all_pass test [] h = refl
@@ -97,10 +96,7 @@ module _ (t : Tables) where
           (i.connection, i.here, inl q) refl (refl, refl)
       by_kind Interrupt To q s = fits_of t (NotificationOf k) kinds.Notification (end_rights Interrupt To) (badge_at t k n)
           (i.connection, i.here, inr q) refl (refl, refl)
-      by_kind Interrupt From q s = absurd s
-      by_kind SharedMemory r q s = absurd s
-      by_kind Mmio r q s = absurd s
-      by_kind Direct r q s = absurd s
+      by_kind _ _ q s = absurd s
 
   module _ (fit : IsFit t) (d : ℕ) (x : Domain) (here : slice_get t.flat.domains d ≡ Some x) where
     use_fits : (n : ℕ) (u : SlotUse) → slice_get (uses_at t d) n ≡ Some u → fits (spec_of t) (use_cap t d n u) ≡ true

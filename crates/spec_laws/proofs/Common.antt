@@ -132,7 +132,7 @@ pub use Rattle.page_tables.specs.Levels.{IsChild, layer, layers, sizes, slot_of,
 pub use Rattle.page_tables.specs.Runs.{Ascends, Rises, head_of, heads, put_front, runs, under}
 pub use Rattle.page_tables.specs.Shapes.{AreStacked, shape, shapes, span}
 pub use Rattle.page_tables.specs.Walks.{Arrives, Walk, root_span}
-pub use Rattle.page_tables.specs.declared.layer.Layer.{Layer}
+pub use Rattle.page_tables.specs.Levels.{Layer}
 pub use Rattle.page_tables.specs.declared.mapping.Mapping.{Mapping}
 pub use Rattle.page_tables.specs.declared.shape.Shape.{Shape}
 pub use Rattle.reach_laws.proofs.EndLabels.{IsDomains, device_end, domain_no_connection, domain_no_device, label_of_leaf, one_connection, one_domain, own_label}

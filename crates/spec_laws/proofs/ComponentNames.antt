@@ -36,13 +36,11 @@ name_there s c i =
   where
     by_item : (y : ItemAt × Item) → as_component y ≡ Some c → component_name s y.0 ≡ name_of_item y.1
         → component_name s c.0 ≡ c.1.id.name
-    by_item (at, items.Import i) t m = cc
-    by_item (at, items.Procedure p) t m = cc
     by_item (at, items.Component d) t m =
         let same : (at, d) ≡ c = cc in
         let P : ItemAt × Component → Type 0 = λ z. component_name s z.0 ≡ z.1.id.name in
         subst P same m
-    by_item (at, items.Assembly a) t m = cc
+    by_item (at, _) t m = cc
 
 pub leaves_named : (s : Source) → AreFilesShort s → AreNamesSound s → (l : ℕ) (leaf : Leaf)
     → slice_get (flat_of s).leaves l ≡ Some leaf → is_name (component_name s leaf.component) ≡ true

@@ -24,16 +24,12 @@ use Rattle.spec_laws.proofs.WindowsHere.{windows}
 use Rattle.reach_laws.specs.Plain.{is_plain}
 
 no_pages : (level : Level) → same_kind (kinds.Pages level) kinds.Endpoint ≡ true → ⊥
-no_pages Global e = true≢false (sym e)
-no_pages Upper e = true≢false (sym e)
 no_pages Directory e = true≢false (sym e)
-no_pages Table e = true≢false (sym e)
+no_pages _ e = true≢false (sym e)
 
 no_notice : (level : Level) → same_kind (kinds.Pages level) kinds.Notification ≡ true → ⊥
-no_notice Global e = true≢false (sym e)
-no_notice Upper e = true≢false (sym e)
 no_notice Directory e = true≢false (sym e)
-no_notice Table e = true≢false (sym e)
+no_notice _ e = true≢false (sym e)
 
 module _ (t : Tables) (h : IsConnected t) where
   pub pieces : HasPieces (policy_tables t) (spec_of t) (labels t)
@@ -96,21 +92,13 @@ module _ (t : Tables) (h : IsConnected t) where
 
   calls_sort : (x : Object) → same_kind (kind_of_object x) kinds.Endpoint ≡ true → class_of x ≡ 0
   calls_sort objects.Endpoint e = refl
-  calls_sort objects.Notification e = absurd (true≢false (sym e))
-  calls_sort (objects.CNode bits slots) e = absurd (true≢false (sym e))
-  calls_sort (objects.Thread x) e = absurd (true≢false (sym e))
-  calls_sort (objects.Frame paddr fill) e = absurd (true≢false (sym e))
-  calls_sort (objects.Irq n) e = absurd (true≢false (sym e))
   calls_sort (objects.Pages level slots) e = absurd (no_pages level e)
+  calls_sort _ e = absurd (true≢false (sym e))
 
   notices_sort : (x : Object) → same_kind (kind_of_object x) kinds.Notification ≡ true → class_of x ≡ 1
   notices_sort objects.Notification e = refl
-  notices_sort objects.Endpoint e = absurd (true≢false (sym e))
-  notices_sort (objects.CNode bits slots) e = absurd (true≢false (sym e))
-  notices_sort (objects.Thread x) e = absurd (true≢false (sym e))
-  notices_sort (objects.Frame paddr fill) e = absurd (true≢false (sym e))
-  notices_sort (objects.Irq n) e = absurd (true≢false (sym e))
   notices_sort (objects.Pages level slots) e = absurd (no_notice level e)
+  notices_sort _ e = absurd (true≢false (sym e))
 
   -- where calls come in, and where signals do
   pub endpoint_here : (o : ℕ) → is_at (spec_of t) kinds.Endpoint o ≡ true → (k : ℕ) × IsThere t (EndpointOf k)

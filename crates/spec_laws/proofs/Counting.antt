@@ -158,9 +158,7 @@ module _ (t : Tables) (w : What → ℕ) where
         by_kind Rpc k = let l = most.endpoints k in omega (arith, l)
         by_kind Notification k = let l = most.notifications k in omega (arith, l)
         by_kind Interrupt k = let l = most.notifications k in omega (arith, l)
-        by_kind SharedMemory k = omega arith
-        by_kind Mmio k = omega arith
-        by_kind Direct k = omega arith
+        by_kind _ k = omega arith
 
     locks_most : of_locks ≤ lock * use_count t
     locks_most =
@@ -173,9 +171,8 @@ module _ (t : Tables) (w : What → ℕ) where
         omega (arith, a, b)
       where
         by_use : (u : SlotUse) (d n : ℕ) → total of_owned (lock_of d n u) ≤ lock
-        by_use (OfEnd k m) d n = omega arith
-        by_use (Handler k m) d n = omega arith
         by_use (OwnLock leaf m) d n = let l = most.locks d n in omega (arith, l)
+        by_use _ d n = omega arith
 
     irqs_most : of_irqs ≤ irq * length t.flat.connections
     irqs_most = totals_each (λ k (c : FlatConnection). total of_owned (irq_of k c)) irq t.flat.connections
@@ -183,11 +180,7 @@ module _ (t : Tables) (w : What → ℕ) where
       where
         by_kind : (c : Connector) (k : ℕ) (o : Owner) → total of_owned (irq_by k o c) ≤ irq
         by_kind Interrupt k o = let l = most.irqs k in omega (arith, l)
-        by_kind Rpc k o = omega arith
-        by_kind Notification k o = omega arith
-        by_kind SharedMemory k o = omega arith
-        by_kind Mmio k o = omega arith
-        by_kind Direct k o = omega arith
+        by_kind _ k o = omega arith
 
     pub parts_most : total of_part (parts t)
         ≤ totals (λ d (x : Domain). cnode d)

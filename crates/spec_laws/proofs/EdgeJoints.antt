@@ -1,6 +1,6 @@
 -- What CNodes hold, and what interrupts may signal.
-use Rattle.spec_laws.proofs.Common.{AsyncSend, AtOtherEnd, Authority, CNodeOf, Cap, Connector, Contains, Direct, DirectReason, Domain, EndpointOf, FlatConnection, FlatEnd, From, Handle, Handler, Held, Holds, Interrupt, IrqOf, IsAccess, IsConnected}
-use Rattle.spec_laws.proofs.Common.{IsIn, IsThere, LeadsTo, LockOf, Mmio, NONE, Node, None, Notification, NotificationOf, Object, ObjectKind, OfEnd, OfIrq, OfJoints, OfNotification, OwnLock, Role, Rpc, SharedMemory, SlotUse, Some, Spec, Tables, To}
+use Rattle.spec_laws.proofs.Common.{AsyncSend, AtOtherEnd, Authority, CNodeOf, Cap, Connector, Contains, DirectReason, Domain, EndpointOf, FlatConnection, FlatEnd, From, Handle, Handler, Held, Holds, Interrupt, IrqOf, IsAccess, IsConnected}
+use Rattle.spec_laws.proofs.Common.{IsIn, IsThere, LeadsTo, LockOf, NONE, Node, None, Notification, NotificationOf, Object, ObjectKind, OfEnd, OfIrq, OfJoints, OfNotification, OwnLock, Role, Rpc, SlotUse, Some, Spec, Tables, To}
 use Rattle.spec_laws.proofs.Common.{ap, arith, at_contains, at_entry, boot, boot_irq, boot_node, boot_slot, confers, connection_label, contains_at, domain_label, domain_uses, edge, end_rule, end_uses, false, from_ones, get_ones, gives, in_place, inl}
 use Rattle.spec_laws.proofs.Common.{inr, irq_at, is_at_device, joint, joint_by, kind_at, kind_confers, kind_of_object, kind_there, label_of, label_of_leaf, leaf_label, map, no_node, node_at, number_of, object, object_there, opposite, option_confers}
 use Rattle.spec_laws.proofs.Common.{option_map, owner_in, place, place_of, policy_tables, refl, rights_at, setting_of, slice_get, slice_get-map, slots_at, spec_of, subst, sym, true, use_cap, uses_at, ℕ, ◌+◌, ◌∙◌, ◌≡◌, ◌≢◌, ◌⊎◌}
@@ -11,6 +11,7 @@ use Rattle.cap_model.specs.declared.kind.Kind.TheVariants as kinds
 use Rattle.cap_model.specs.declared.object.Object.TheVariants as objects
 use Rattle.cap_model.specs.declared.state.Content.TheVariants.{Capability}
 use Rattle.cap_model.proofs.BootPlaces.{slot_of}
+use Rattle.reach_laws.proofs.EndLabels.{same_connection}
 use Rattle.spec_laws.proofs.Uses.{uses_are}
 use Rattle.spec_laws.proofs.Devices.{DeviceOf, device_found, device_label}
 use Rattle.spec_laws.proofs.Rows.{OfSlot, IsHandling, IsSignalling, device_role, given_by, joint_kind, joint_leaves, joint_no_frames, joint_object, only_handle, row_law, slot_soft}
@@ -60,12 +61,7 @@ module _ (t : Tables) where
         at = u.1;
         is = own ∙ slot;
       }
-  of_object c i held objects.Endpoint at there = absurd (let w = there.1 in omega arith)
-  of_object c i held objects.Notification at there = absurd (let w = there.1 in omega arith)
-  of_object c i held (objects.Thread tcb) at there = absurd (let w = there.1 in omega arith)
-  of_object c i held (objects.Frame paddr fill) at there = absurd (let w = there.1 in omega arith)
-  of_object c i held (objects.Pages level slots) at there = absurd (let w = there.1 in omega arith)
-  of_object c i held (objects.Irq n) at there = absurd (let w = there.1 in omega arith)
+  of_object c i held _ at there = absurd (let w = there.1 in omega arith)
 
   pub holder : (c i : ℕ) (held : Cap) → Holds spec c i held → HeldBy c held
   holder c i held there = elim (at_entry boot_node spec.entries c no_node) [
@@ -99,26 +95,16 @@ module _ (t : Tables) where
     go Rpc r e s = (c, h, e)
     go Notification r e s = (c, h, inl e)
     go Interrupt r e s = (c, h, inr e)
-    go SharedMemory r e s = absurd cc
-    go Mmio r e s = absurd cc
-    go Direct r e s = absurd cc
+    go _ r e s = absurd cc
 
   joint_kinds : (k : ℕ) (y : Connector) → kind_of_object (object t (joint_by k y)) ≡ joint_kind y
-  joint_kinds k Rpc = refl
   joint_kinds k Notification = refl
-  joint_kinds k SharedMemory = refl
-  joint_kinds k Mmio = refl
-  joint_kinds k Interrupt = refl
-  joint_kinds k Direct = refl
+  joint_kinds k _ = refl
 
   joint_label_by : (k : ℕ) (y : Connector) → IsThere t (joint_by k y)
       → label_of (labels t) (place t (joint_by k y)) ≡ connection_label (policy_tables t) k
   joint_label_by k Rpc h = label_there t (EndpointOf k) h
-  joint_label_by k Notification h = label_there t (NotificationOf k) h
-  joint_label_by k SharedMemory h = label_there t (NotificationOf k) h
-  joint_label_by k Mmio h = label_there t (NotificationOf k) h
-  joint_label_by k Interrupt h = label_there t (NotificationOf k) h
-  joint_label_by k Direct h = label_there t (NotificationOf k) h
+  joint_label_by k _ h = label_there t (NotificationOf k) h
 
   pub joint_kind_at : (k : ℕ) (c : FlatConnection) (r : Role) → slice_get t.flat.connections k ≡ Some c
       → has_slot c.connector r ≡ true → kind_at spec (place t (joint t k)) ≡ Some (joint_kind c.connector)
@@ -143,21 +129,13 @@ module _ (t : Tables) where
 
   leads_joint : (x : EndAt t.flat) (y : Connector) (label : ℕ) → label ≡ connection_label (policy_tables t) x.place
       → LeadsTo (policy_tables t) x (joint_object y) label
-  leads_joint x Rpc label h = h
   leads_joint x Notification label h = h
-  leads_joint x SharedMemory label h = h
-  leads_joint x Mmio label h = h
-  leads_joint x Interrupt label h = h
-  leads_joint x Direct label h = h
+  leads_joint x _ label h = h
 
   from_joint : (x : EndAt t.flat) (y : Connector) (label : ℕ) → LeadsTo (policy_tables t) x (joint_object y) label
       → label ≡ connection_label (policy_tables t) x.place
-  from_joint x Rpc label h = h
   from_joint x Notification label h = h
-  from_joint x SharedMemory label h = h
-  from_joint x Mmio label h = h
-  from_joint x Interrupt label h = h
-  from_joint x Direct label h = h
+  from_joint x _ label h = h
 
   module _ (h : IsConnected t) where
     abbrev pub policy : Policy
@@ -306,12 +284,7 @@ module _ (t : Tables) where
           irq = subst (λ z. place t z ≡ o) w.1 at.stands;
           notification = cc;
         }
-    of_irq_object o n objects.Endpoint at there = absurd cc
-    of_irq_object o n objects.Notification at there = absurd cc
-    of_irq_object o n (objects.CNode bits slots) at there = absurd cc
-    of_irq_object o n (objects.Thread tcb) at there = absurd cc
-    of_irq_object o n (objects.Frame paddr fill) at there = absurd cc
-    of_irq_object o n (objects.Pages level slots) at there = absurd cc
+    of_irq_object o n _ at there = absurd cc
 
     pub bound : (o n : ℕ) → irq_at (boot spec) o ≡ Some n → Bound o n
     bound o n there = elim (at_entry boot_irq spec.entries o None) [
@@ -422,11 +395,6 @@ module _ (t : Tables) where
     handler_use c r k n e f = subst (λ z. IsIn (Handler k n) (end_uses z r k n)) (sym e)
         (subst (λ z. IsIn (Handler k n) (end_uses Interrupt z k n)) (sym f) (inr (inl refl)))
 
-    same_at : (x y : EndAt t.flat) → y.place ≡ x.place → y.connection ≡ x.connection
-    same_at x y e =
-        let both : Some y.connection ≡ Some x.connection = sym y.here ∙ ap (λ z. slice_get t.flat.connections z) e ∙ x.here in
-        cc
-
     handling_given : (l : ℕ) (a : Authority) (m : ℕ) (d : DirectReason policy (edge l a m))
         → IsHandling d.at.connection.connector d.at.end.role d.object a → Held spec (labels t) (boot spec) l a m
     handling_given l a m d s =
@@ -438,7 +406,7 @@ module _ (t : Tables) where
         let u = use_held x (Handler k x.number) i (handler_use c r k x.number s.connector s.role) in
         let other : AtOtherEnd policy x m = subst (λ z. LeadsTo policy x z m) s.object d.to in
         let v = device_here k x.connection x.here s.connector in
-        let same = same_at x other.at other.same in
+        let same = same_connection policy x other.at other.same in
         let hard : is_at_device other.at ≡ true = from_device other.at.connection.connector other.at.end.role
         (ap (λ (z : FlatConnection). z.connector) same ∙ s.connector) (other.role ∙ ap opposite s.role) in
         let leaf : other.at.end.leaf ≡ v.at.end.leaf = one_end v.at other.at (other.same ∙ sym v.place) v.device hard in (

@@ -19,9 +19,8 @@ pages_before (x ∷ rs) zero r e =
 pages_before (x ∷ rs) (suc n) r e = let l = pages_before rs n r e in omega (arith, l)
 
 at_is : (s : _) (c : Content) (at j : ℕ) → (region_page s c at j).at ≡ at
-at_is s Stack at j = refl
-at_is s Buffer at j = refl
 at_is s (Window e) at j = refl
+at_is s _ at j = refl
 
 some_thread : (t : Tables) (ls : List ℕ) → 0 < length ls → (y : ThreadOf) × (ys : List ThreadOf)
     × (domain_threads t.flat (ends (system t)) ls ≡ y ∷ ys)

@@ -34,9 +34,8 @@ abbrev PageFilled : MappedPage → Type 0
 PageFilled p = IsFilled p.shown
 
 region_filled : (settled : Settled) (c : Content) (at j : ℕ) → PageFilled (region_page settled c at j)
-region_filled settled Stack at j = refl
-region_filled settled Buffer at j = refl
 region_filled settled (Window e) at j = tt
+region_filled settled _ at j = refl
 
 module _ (g : Given) where
   section_filled : (leaves : List ℕ) (x : SectionPage) → IsIn x (section_pages g.images leaves) → keeps_frame None x.fill ≡ true

@@ -2,12 +2,11 @@
 use Rattle.spec_laws.proofs.Common.{AreFramesInOrder, CanMap, Cap, Domain, Fill, FlatConnection, FlatEnd, FrameInfo, FrameOf, IsBefore, IsNamed, IsOwn, IsOwnAt, IsRegisterAt, IsSharedAt, List, MappedPage, Mmio, None, OneDevice, Option, Own, Owned}
 use Rattle.spec_laws.proofs.Common.{Part, SharedMemory, Some, Tables, [], ap, arith, at_place, before, below, cases_lt, cond, connection_frames, false, frame_owner, frame_parts, get_ones, get_or_from_slice_get, in_gather, in_together, inl, inr}
 use Rattle.spec_laws.proofs.Common.{is_shared, leads_to, length, mapped_pages, memory_number, memory_pages, name_at, number_shown, numbered, object_at, objects_stand, option_map_or, own_frames, own_number, own_part, own_port, owned, part, place}
-use Rattle.spec_laws.proofs.Common.{place_is, position-Some, refl, register_frames, registers, registers_in, root_of, same_port, sections, shared_frames, shared_part, slice_get, spec_of, subst, sym, system, true, true≢false, ℕ, ◌+◌, ◌/◌, ◌<◌, ◌∙◌}
-use Rattle.spec_laws.proofs.Common.{◌∷◌, ◌≡◌, ◌≤◌, ◌⊎◌}
+use Rattle.spec_laws.proofs.Common.{position-Some, refl, register_frames, registers, registers_in, root_of, same_port, sections, shared_frames, shared_part, slice_get, spec_of, subst, sym, system, true, true≢false, ℕ, ◌+◌, ◌/◌, ◌<◌, ◌∙◌}
+use Rattle.spec_laws.proofs.Common.{◌∷◌, ◌≡◌, ◌≤◌, ◌⊎◌, IsThere}
 use Rattle.cap_model.specs.declared.object.Object.TheVariants as objects
 use Rattle.system_spec.specs.declared.series.Series.TheVariants as series
-use Rattle.spec_laws.proofs.Locks.{part_there}
-use Rattle.spec_laws.proofs.Whats.{frame_what}
+use Rattle.spec_laws.proofs.Whose.{object_stands, of_frame}
 use Rattle.spec_laws.proofs.Blocks.{behind, inside}
 use Rattle.spec_laws.proofs.Finding.{found, rise}
 use Rattle.spec_laws.proofs.Framing.{FirstTo}
@@ -248,10 +247,11 @@ module _ (t : Tables) (can : CanMap t) where
   all_numbered : (at : ℕ) (paddr : Option ℕ) (fill : Option Fill) → object_at (spec_of t) at ≡ Some (objects.Frame paddr fill)
       → (n : ℕ) × (n < length t.spaces.frames) × (at ≡ place t (FrameOf 0) + n)
   all_numbered at paddr fill o =
-      let p = part_there t at (objects.Frame paddr fill) o in
-      let w = frame_what t p.0.what paddr fill p.2 in
-      let stands : place t (FrameOf w.number) ≡ place t (FrameOf 0) + w.number = omega arith in
-      (w.number, below t.spaces.frames w.number w.info w.there, sym (place_is t at p.0 p.1) ∙ ap (λ z. place t z) w.what ∙ stands)
+      let x = object_stands t at (objects.Frame paddr fill) o in
+      let w = of_frame x.what x.sort in
+      let is : IsThere t (FrameOf w.0) = subst (λ z. IsThere t z) w.1 x.there in
+      let stands : place t (FrameOf w.0) ≡ place t (FrameOf 0) + w.0 = omega arith in
+      (w.0, below t.spaces.frames w.0 is.0 is.1, sym x.stands ∙ ap (λ z. place t z) w.1 ∙ stands)
 
   pub frames_in_order : AreFramesInOrder t (spec_of t) (root_of t)
   frames_in_order = record {

@@ -65,10 +65,7 @@ first_is t k c e h r =
 pub has_memory : (c : Connector) (r : Role) → is_window c r ≡ true → (c ≡ SharedMemory) ⊎ (c ≡ Mmio)
 has_memory SharedMemory r h = inl refl
 has_memory Mmio r h = inr refl
-has_memory Rpc r h = cc
-has_memory Notification r h = cc
-has_memory Interrupt r h = cc
-has_memory Direct r h = cc
+has_memory _ r h = cc
 
 place_get : {X : Type 0} (p : X → Bool) (xs : List X) (n : ℕ) → position p xs ≡ Some n → (x : X) × (slice_get xs n ≡ Some x)
 place_get p [] n e = cc
@@ -175,8 +172,6 @@ shows_at t d k j p e i =
   where
     by_content : (n : ℕ) (r : Region) (i : ℕ) (c : Content) → r.content ≡ c → slice_get (regions (system t) d) n ≡ Some r
         → i < r.pages → region_page t.settled c (begins t d n + 4096 * i) i ≡ p → ShowsAt t d p.at k j
-    by_content n r i Stack c h l q = let f : Own None ≡ Memory k j = ap (λ (z : MappedPage). z.shown) q ∙ e in cc
-    by_content n r i Buffer c h l q = let f : Own None ≡ Memory k j = ap (λ (z : MappedPage). z.shown) q ∙ e in cc
     by_content n r i (Window w) c h l q =
         let f : Memory w.connection i ≡ Memory k j = ap (λ (z : MappedPage). z.shown) q ∙ e in
         let number : w.connection ≡ k = cc in
@@ -195,6 +190,7 @@ shows_at t d k j p e i =
                 ∙ ap (λ z. begins t d n + 4096 * z) page;
           };
         }
+    by_content n r i _ c h l q = let f : Own None ≡ Memory k j = ap (λ (z : MappedPage). z.shown) q ∙ e in cc
 
 -- ---- the frame of a page
 

@@ -14,9 +14,8 @@ gather_most f (x ∷ xs) h =
 -- one thing for each element, by its place
 pub ones_at : {X Y : Type 0} (f : ℕ → X → Y) (xs : List X) (k : ℕ) → slice_get (gather (λ n x. f n x ∷ []) xs) k ≡ option_map
     (f k) (slice_get xs k)
-ones_at f [] k = refl
-ones_at f (x ∷ xs) zero = refl
 ones_at f (x ∷ xs) (suc k) = ones_at (λ n z. f (suc n) z) xs k
+ones_at f _ _ = refl
 
 pub part_of_sum : {X : Type 0} (f : ℕ → X → ℕ) (xs : List X) (k : ℕ) (x : X) → slice_get xs k ≡ Some x
     → f k x ≤ sum (gather (λ n z. f n z ∷ []) xs)

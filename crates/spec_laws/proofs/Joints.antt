@@ -1,8 +1,8 @@
 -- The labels of endpoints and notifications
-use Rattle.spec_laws.proofs.Common.{CanMap, Connector, Direct, Directory, EndpointOf, Entry, FlatConnection, Global, Interrupt, IsIn, IsNamed, IsOf, Level, List, Mmio, None, Notification, NotificationOf, OfConnection, Option, Owned, Owner, PageTable}
-use Rattle.spec_laws.proofs.Common.{Part, Rpc, Series, SharedMemory, Some, Table, Tables, Upper, [], all_tables, ap, arith, below, decimal, decimal_injective, drop, endpoint, endpoint_by, endpoints, entry, entry_name, from_flat_map, from_gather}
-use Rattle.spec_laws.proofs.Common.{from_get_map, in_place, inl, inr, labels_of, length, level_series, map, name_of, notification, notification_by, notifications, numbered, part, part_name, parts, place_is, refl, sections, single, slice_get, spec_of}
-use Rattle.spec_laws.proofs.Common.{subst, sym, table_part, table_parts, ℕ, ◌<◌, ◌^◌, ◌∙◌, ◌∷◌, ◌≡◌, ◌⊎◌}
+use Rattle.spec_laws.proofs.Common.{CanMap, Connector, Directory, EndpointOf, Entry, FlatConnection, Interrupt, IsIn, IsNamed, IsOf, Level, List, None, Notification, NotificationOf, OfConnection, Option, Owned, Owner, PageTable}
+use Rattle.spec_laws.proofs.Common.{Part, Rpc, Series, Some, Tables, [], all_tables, ap, arith, below, decimal, decimal_injective, drop, endpoint, endpoint_by, endpoints, entry, entry_name, from_gather}
+use Rattle.spec_laws.proofs.Common.{from_get_map, in_place, labels_of, length, level_series, map, name_of, notification, notification_by, notifications, numbered, part, part_name, parts, place_is, refl, single, slice_get, spec_of}
+use Rattle.spec_laws.proofs.Common.{subst, sym, table_part, table_parts, ℕ, ◌<◌, ◌^◌, ◌∙◌, ◌∷◌, ◌≡◌, ◌⊎◌, by_section}
 use Rattle.system_spec.specs.declared.series.Series.TheVariants as series
 use Rattle.spec_laws.proofs.Labels.{label_is}
 
@@ -19,11 +19,8 @@ ep_series series.Tcb n k e = let h : 116 ≡ 101 = ap first e in absurd (omega (
 ep_series series.Ntfn n k e = let h : 110 ≡ 101 = ap first e in absurd (omega (arith, h))
 ep_series series.Lock n k e = let h : 108 ≡ 101 = ap first e in absurd (omega (arith, h))
 ep_series series.Irq n k e = let h : 105 ≡ 101 = ap first e in absurd (omega (arith, h))
-ep_series series.Pgd n k e = let h : 112 ≡ 101 = ap first e in absurd (omega (arith, h))
-ep_series series.Pud n k e = let h : 112 ≡ 101 = ap first e in absurd (omega (arith, h))
-ep_series series.Pd n k e = let h : 112 ≡ 101 = ap first e in absurd (omega (arith, h))
-ep_series series.Pt n k e = let h : 112 ≡ 101 = ap first e in absurd (omega (arith, h))
 ep_series series.Frame n k e = let h : 102 ≡ 101 = ap first e in absurd (omega (arith, h))
+ep_series _ n k e = let h : 112 ≡ 101 = ap first e in absurd (omega (arith, h))
 
 ntfn_series : (s : Series) (n k : ℕ) → name_of s n ≡ name_of series.Ntfn k → s ≡ series.Ntfn
 ntfn_series series.Ntfn n k e = refl
@@ -32,11 +29,8 @@ ntfn_series series.Tcb n k e = let h : 116 ≡ 110 = ap first e in absurd (omega
 ntfn_series series.Ep n k e = let h : 101 ≡ 110 = ap first e in absurd (omega (arith, h))
 ntfn_series series.Lock n k e = let h : 108 ≡ 110 = ap first e in absurd (omega (arith, h))
 ntfn_series series.Irq n k e = let h : 105 ≡ 110 = ap first e in absurd (omega (arith, h))
-ntfn_series series.Pgd n k e = let h : 112 ≡ 110 = ap first e in absurd (omega (arith, h))
-ntfn_series series.Pud n k e = let h : 112 ≡ 110 = ap first e in absurd (omega (arith, h))
-ntfn_series series.Pd n k e = let h : 112 ≡ 110 = ap first e in absurd (omega (arith, h))
-ntfn_series series.Pt n k e = let h : 112 ≡ 110 = ap first e in absurd (omega (arith, h))
 ntfn_series series.Frame n k e = let h : 102 ≡ 110 = ap first e in absurd (omega (arith, h))
+ntfn_series _ n k e = let h : 112 ≡ 110 = ap first e in absurd (omega (arith, h))
 
 ep_number : (n k : ℕ) → n < 2 ^ 64 → k < 2 ^ 64 → name_of series.Ep n ≡ name_of series.Ep k → n ≡ k
 ep_number n k a b e = let h : decimal n ≡ decimal k = ap (λ z. drop 3 z) e in decimal_injective n k a b h
@@ -65,10 +59,8 @@ module _ (t : Tables) where
       other p s (ap (λ (z : Part). z.series) (sym (single (part s g.0 g.1.owner g.1.what) p g.3))) a b
 
   no_level : (l : Level) → (level_series l ≡ series.Ep → ⊥) × (level_series l ≡ series.Ntfn → ⊥)
-  no_level Global = (λ e. cc, λ e. cc)
-  no_level Upper = (λ e. cc, λ e. cc)
   no_level Directory = (λ e. cc, λ e. cc)
-  no_level Table = (λ e. cc, λ e. cc)
+  no_level _ = (λ e. cc, λ e. cc)
 
   in_tables : (p : Part) → IsIn p (table_parts (all_tables t)) → Fits p
   in_tables p i =
@@ -86,11 +78,7 @@ module _ (t : Tables) where
       by_kind : (k : ℕ) → k < length t.flat.connections → (c : Connector) → IsIn p (endpoint_by k c) → Fits p
       by_kind k l Rpc i = subst Fits (single (part series.Ep k (OfConnection k) (EndpointOf k)) p i)
           (record { ep = λ e. record { is = refl; low = l }; ntfn = λ e. record { is = refl; low = l } })
-      by_kind k l Notification i = absurd i
-      by_kind k l SharedMemory i = absurd i
-      by_kind k l Mmio i = absurd i
-      by_kind k l Interrupt i = absurd i
-      by_kind k l Direct i = absurd i
+      by_kind k l _ i = absurd i
 
   in_notifications : (p : Part) → IsIn p (notifications t) → Fits p
   in_notifications p i =
@@ -103,40 +91,19 @@ module _ (t : Tables) where
       by_kind : (k : ℕ) → k < length t.flat.connections → (c : Connector) → IsIn p (notification_by k c) → Fits p
       by_kind k l Notification i = subst Fits (single (part series.Ntfn k (OfConnection k) (NotificationOf k)) p i) (made k l)
       by_kind k l Interrupt i = subst Fits (single (part series.Ntfn k (OfConnection k) (NotificationOf k)) p i) (made k l)
-      by_kind k l Rpc i = absurd i
-      by_kind k l SharedMemory i = absurd i
-      by_kind k l Mmio i = absurd i
-      by_kind k l Direct i = absurd i
+      by_kind k l _ i = absurd i
 
   fits : (p : Part) → IsIn p (parts t) → Fits p
-  fits p i =
-      let s = from_flat_map (λ (z : List Part). z) p (sections t) i in
-      let Q : List Part → Type 0 = λ z. IsIn p z in
-      elim s.1 [
-        | inl e ↦ in_numbered series.CNode _ p (λ f. cc) (λ f. cc) (subst Q (sym e) s.2)
-        | inr a ↦ elim a [
-          | inl e ↦ in_numbered series.Tcb _ p (λ f. cc) (λ f. cc) (subst Q (sym e) s.2)
-          | inr b ↦ elim b [
-            | inl e ↦ in_endpoints p (subst Q (sym e) s.2)
-            | inr c ↦ elim c [
-              | inl e ↦ in_notifications p (subst Q (sym e) s.2)
-              | inr d ↦ elim d [
-                | inl e ↦ in_numbered series.Lock _ p (λ f. cc) (λ f. cc) (subst Q (sym e) s.2)
-                | inr g ↦ elim g [
-                  | inl e ↦ in_numbered series.Irq _ p (λ f. cc) (λ f. cc) (subst Q (sym e) s.2)
-                  | inr h ↦ elim h [
-                    | inl e ↦ in_tables p (subst Q (sym e) s.2)
-                    | inr j ↦ elim j [
-                      | inl e ↦ in_numbered series.Frame _ p (λ f. cc) (λ f. cc) (subst Q (sym e) s.2)
-                      | inr n ↦ absurd n
-                    ]
-                  ]
-                ]
-              ]
-            ]
-          ]
-        ]
-      ]
+  fits =
+      by_section t Fits
+      (λ p i. in_numbered series.CNode _ p (λ f. cc) (λ f. cc) i)
+      (λ p i. in_numbered series.Tcb _ p (λ f. cc) (λ f. cc) i)
+      in_endpoints
+      in_notifications
+      (λ p i. in_numbered series.Lock _ p (λ f. cc) (λ f. cc) i)
+      (λ p i. in_numbered series.Irq _ p (λ f. cc) (λ f. cc) i)
+      in_tables
+      (λ p i. in_numbered series.Frame _ p (λ f. cc) (λ f. cc) i)
 
   -- the part of a name
   named_part : (at n : ℕ) (s : Series) → (0 < first (name_of s n)) → IsNamed (spec_of t) at s n

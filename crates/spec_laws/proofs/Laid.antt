@@ -18,44 +18,17 @@ use Rattle.capdl_text.proofs.Tokens.{word_or}
 
 prefix_name : (s : Series) → is_name (prefix s) ≡ true
 prefix_name series.CNode = refl
-prefix_name series.Tcb = refl
-prefix_name series.Ep = refl
-prefix_name series.Ntfn = refl
-prefix_name series.Lock = refl
-prefix_name series.Irq = refl
-prefix_name series.Pgd = refl
-prefix_name series.Pud = refl
-prefix_name series.Pd = refl
-prefix_name series.Pt = refl
-prefix_name series.Frame = refl
+prefix_name _ = refl
 
 prefix_short : (s : Series) → length (prefix s) ≤ 6
 prefix_short series.CNode = omega arith
-prefix_short series.Tcb = omega arith
-prefix_short series.Ep = omega arith
-prefix_short series.Ntfn = omega arith
-prefix_short series.Lock = omega arith
-prefix_short series.Irq = omega arith
-prefix_short series.Pgd = omega arith
-prefix_short series.Pud = omega arith
-prefix_short series.Pd = omega arith
-prefix_short series.Pt = omega arith
-prefix_short series.Frame = omega arith
+prefix_short _ = omega arith
 
 -- no word that is left out begins as a name does
 left_in : (s : Series) (rest : List ℕ) → is_left_out_word (prefix s ++ rest) ≡ false
 unfolding is_left_out_word
 left_in series.CNode rest = refl
-left_in series.Tcb rest = refl
-left_in series.Ep rest = refl
-left_in series.Ntfn rest = refl
-left_in series.Lock rest = refl
-left_in series.Irq rest = refl
-left_in series.Pgd rest = refl
-left_in series.Pud rest = refl
-left_in series.Pd rest = refl
-left_in series.Pt rest = refl
-left_in series.Frame rest = refl
+left_in _ rest = refl
 
 pub part_word : (p : Part) → p.number < 2 ^ 32 → is_word (part_name p) ≡ true
 part_word p l =
@@ -124,8 +97,7 @@ module _ (t : Tables) (fit : IsFit t) (written : IsWritten t) where
 
   use_badge : (d n : ℕ) (u : SlotUse) → (use_cap t d n u).badge < 2 ^ 64
   use_badge d n (OfEnd k m) = badge_few k m (end_of t.flat k m)
-  use_badge d n (Handler k m) = omega arith
-  use_badge d n (OwnLock leaf m) = omega arith
+  use_badge d n _ = omega arith
 
   cnode_laid : (d : ℕ) (x : Domain) → slice_get t.flat.domains d ≡ Some x → are_slots (slots_at t d) ≡ true
   cnode_laid d x here = all_pass (λ (s : ℕ × Cap). is_number s.0 && is_number s.1.badge) (slots_at t d) each
@@ -235,9 +207,6 @@ module _ (t : Tables) (fit : IsFit t) (written : IsWritten t) where
   pub fine_there : (w : What) → IsThere t w → Fine (object t w)
   fine_there (CNodeOf d) h = (cnode_laid d h.0 h.1, tt)
   fine_there (ThreadOf d i) h = thread_there d i (slice_get (threads_at t d) i) (λ y e. in_place y (threads_at t d) i e)
-  fine_there (EndpointOf k) h = (refl, tt)
-  fine_there (NotificationOf k) h = (refl, tt)
-  fine_there (LockOf d n) h = (refl, tt)
-  fine_there (IrqOf k) h = (refl, tt)
   fine_there (TableOf d j) h = table_there d h.0.0 h.0.1 j h
   fine_there (FrameOf f) h = frame_there (slice_get t.spaces.frames f) (λ x e. in_place x t.spaces.frames f e)
+  fine_there _ h = (refl, tt)

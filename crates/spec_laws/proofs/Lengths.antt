@@ -141,10 +141,8 @@ frame_short name paddr fill n k h =
     (paddr_short paddr)) (fill_short fill k h)) (omega arith)
 
 level_short : (l : Level) → length (level_word l) ≤ 3
-level_short Global = omega arith
-level_short Upper = omega arith
 level_short Directory = omega arith
-level_short Table = omega arith
+level_short _ = omega arith
 
 pub line_short : (spec : Spec) (name : List ℕ) (o : Object) → length name ≤ 16 → keeps spec o ≡ true → AreShort o
     → length (object_line name o) ≤ 53 + extra o
@@ -258,9 +256,7 @@ module _ (spec : Spec) (names : (o : ℕ) → length (name_at spec o) ≤ 16) wh
   holder_short name (Thread tcb) n h = tcb_text_short name tcb (has_slot tcb) n h
   holder_short name (Pages level slots) n h = slots_short name slots n h
   holder_short name (Irq notification) n h = irq_text_short name notification n
-  holder_short name Endpoint n h = omega arith
-  holder_short name Notification n h = omega arith
-  holder_short name (Frame paddr fill) n h = omega arith
+  holder_short name _ n h = omega arith
 
   -- ---- interrupt lines, and the whole
 

@@ -2,6 +2,8 @@ pub mod Common
 pub mod AllFrames
 pub mod Blocks
 pub mod DomainLines
+pub mod EachPart
+pub mod MapLines
 pub mod EndsAt
 pub mod Finding
 pub mod FramesInOrder
@@ -30,7 +32,6 @@ pub mod Tabled
 pub mod TablesInOrder
 pub mod Threading
 pub mod Threads
-pub mod Whats
 pub mod Connections
 pub mod Devices
 pub mod EndsHere

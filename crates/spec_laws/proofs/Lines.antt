@@ -112,22 +112,14 @@ places_differ (x ∷ ls) r h =
 
 module _ (t : Tables) (fit : IsFit t) where
   one_each : (k : ℕ) (c : FlatConnection) (x : Connector) → length (line_by t k c x) ≤ 1
-  one_each k c Interrupt = omega arith
-  one_each k c Rpc = omega arith
   one_each k c Notification = omega arith
-  one_each k c SharedMemory = omega arith
-  one_each k c Mmio = omega arith
-  one_each k c Direct = omega arith
+  one_each k c _ = omega arith
 
   from_line : (l : Line) (k : ℕ) (c : FlatConnection) (x : Connector) → IsIn l (line_by t k c x)
       → (x ≡ Interrupt) × ((irq_number t.settled k c, place t (IrqOf k)) ≡ l)
   from_line l k c Interrupt (inl same) = (refl, same)
   from_line l k c Interrupt (inr i) = absurd i
-  from_line l k c Rpc i = absurd i
-  from_line l k c Notification i = absurd i
-  from_line l k c SharedMemory i = absurd i
-  from_line l k c Mmio i = absurd i
-  from_line l k c Direct i = absurd i
+  from_line l k c _ i = absurd i
 
   lines_rise : rise (lines t) ≡ true
   lines_rise =

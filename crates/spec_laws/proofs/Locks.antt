@@ -1,57 +1,20 @@
 -- No two uses have one lock
-use Rattle.spec_laws.proofs.Common.{CNodeOf, CanSlot, Cap, Connector, Direct, Domain, Each, EndpointOf, Entry, FlatConnection, FrameOf, Handler, Interrupt, IrqOf, IsIn, IsJoint, IsNamed, Layer, List, LockOf, Mmio, None, NotificationOf, Object}
-use Rattle.spec_laws.proofs.Common.{OfDomain, OfEnd, Option, OwnLock, OwnLocks, Owned, Part, Rpc, SharedMemory, SlotPlan, SlotUse, Slots, Some, Spec, TableOf, Tables, ThreadOf, What, [], ap, arch, arith, before, domain_locks, domain_uses}
-use Rattle.spec_laws.proofs.Common.{each_append, entry, entry_object, frame_object, from_gather, from_get_map, gather, in_gather, in_place, in_together, inl, inr, interrupt, irq_owner, layers, lock, locks, map, name_at, name_of, numbered, object}
-use Rattle.spec_laws.proofs.Common.{object_at, objects_stand, option_map_or, owned, page_mapping, pages_at, part, parts, place, place_is, place_of, plan_of, refl, sections, shapes, single, sizes, slice_get, slice_index_or, slots_at, spec_of, stands}
-use Rattle.spec_laws.proofs.Common.{subst, suc, sym, table_of, tables_at, tcb, threads_at, use_cap, uses_at, zero, ℕ, ◌+◌, ◌∙◌, ◌∷◌, ◌≡◌}
+use Rattle.spec_laws.proofs.Common.{CNodeOf, CanSlot, Cap, Connector, Domain, Each, Entry, FlatConnection, Handler, Interrupt, IrqOf, IsIn, IsJoint, IsNamed, List, LockOf, None, Object}
+use Rattle.spec_laws.proofs.Common.{OfDomain, OfEnd, Option, OwnLock, OwnLocks, Owned, Part, Rpc, SlotPlan, SlotUse, Slots, Some, Spec, Tables, [], ap, arith, before, domain_locks, domain_uses}
+use Rattle.spec_laws.proofs.Common.{entry, entry_object, from_gather, from_get_map, gather, in_gather, in_place, in_together, inl, inr, interrupt, irq_owner, lock, locks, map, name_at, name_of, numbered, object}
+use Rattle.spec_laws.proofs.Common.{object_at, objects_stand, option_map_or, owned, part, parts, place, place_of, plan_of, refl, sections, single, slice_get, slots_at, spec_of, stands}
+use Rattle.spec_laws.proofs.Common.{subst, suc, sym, use_cap, uses_at, zero, ℕ, ◌+◌, ◌∙◌, ◌∷◌, ◌≡◌}
 use Rattle.adl_meaning.specs.declared.connector.Connector.TheVariants.{Notification as Notifies}
 use Rattle.cap_model.specs.declared.object.Object.TheVariants as objects
-use Rattle.page_tables.specs.Levels.{numbered as in_levels}
 use Rattle.system_spec.specs.declared.series.Series.TheVariants as series
 use Rattle.spec_laws.proofs.SlotLists.{some}
 use Rattle.spec_laws.proofs.Numbering.{irq_part}
+use Rattle.spec_laws.proofs.Whose.{object_stands, of_node}
 use Rattle.spec_laws.proofs.Slotting.{cap_is, of_handler, of_use as from_use, uses_are}
-
--- ---- what is a CNode
-
-abbrev NoCNode : Object → Type 0
-NoCNode (objects.CNode bits slots) = ⊥
-NoCNode _ = Unit {0}
 
 pub each_map : {X Y : Type 0} (P : Y → Type 0) (f : X → Y) (xs : List X) → ((x : X) → P (f x)) → Each P (map f xs)
 each_map P f [] h = tt
 each_map P f (x ∷ xs) h = (h x, each_map P f xs h)
-
-no_table : (first link : ℕ) (ys : List Layer) → Each NoCNode (in_levels first link ys)
-no_table first link [] = tt
-no_table first link (y ∷ ys) = each_append NoCNode (in_levels first (first + sizes ys) ys) (map (table_of y.shape link) y.tables)
-    (no_table first (first + sizes ys) ys) (each_map NoCNode (table_of y.shape link) y.tables (λ r. tt))
-
-pub at_index : {X : Type 0} (P : X → Type 0) (xs : List X) (n : ℕ) (d : X) → Each P xs → P d → P (slice_index_or xs n d)
-at_index P [] n d h k = k
-at_index P (x ∷ xs) zero d h k = h.0
-at_index P (x ∷ xs) (suc n) d h k = at_index P xs n d h.1 k
-
-by_option : {X : Type 0} (P : Object → Type 0) (f : X → Object) (o : Option X) → ((x : X) → P (f x)) → P objects.Endpoint
-    → P (option_map_or f o objects.Endpoint)
-by_option P f None h k = k
-by_option P f (Some x) h k = h x
-
-pub what_is : (t : Tables) (w : What) (bits : ℕ) (slots : List (ℕ × Cap)) → object t w ≡ objects.CNode bits slots
-    → (e : ℕ) × (w ≡ CNodeOf e)
-what_is t (CNodeOf e) bits slots h = (e, refl)
-what_is t (ThreadOf d i) bits slots h =
-    absurd (subst NoCNode h (by_option NoCNode (λ x. objects.Thread (tcb t d x)) (slice_get (threads_at t d) i) (λ x. tt) tt))
-what_is t (EndpointOf k) bits slots h = absurd (subst NoCNode h tt)
-what_is t (NotificationOf k) bits slots h = absurd (subst NoCNode h tt)
-what_is t (LockOf d n) bits slots h = absurd (subst NoCNode h tt)
-what_is t (IrqOf k) bits slots h = absurd (subst NoCNode h tt)
-what_is t (TableOf d j) bits slots h =
-    absurd (subst NoCNode h (at_index NoCNode (tables_at t (place t (TableOf d 0)) (place t (FrameOf 0)) d) j objects.Endpoint
-    (no_table (place t (TableOf d 0)) 0 (layers (shapes (arch t)) (map (page_mapping (place t (FrameOf 0))) (pages_at t d))))
-    tt))
-what_is t (FrameOf f) bits slots h =
-    absurd (subst NoCNode h (by_option NoCNode frame_object (slice_get t.spaces.frames f) (λ x. tt) tt))
 
 pub part_there : (t : Tables) (m : ℕ) (o : Object) → object_at (spec_of t) m ≡ Some o
     → (p : Part) × (slice_get (parts t) m ≡ Some p) × (object t p.what ≡ o)
@@ -92,9 +55,7 @@ no_joint : (spec : Spec) (at k r : ℕ) (c : Connector) → IsJoint spec at c k 
 no_joint spec at k r Rpc j n = no_ep k r (sym j ∙ n)
 no_joint spec at k r Notifies j n = no_ntfn k r (sym j ∙ n)
 no_joint spec at k r Interrupt j n = no_ntfn k r (sym j ∙ n)
-no_joint spec at k r SharedMemory j n = j
-no_joint spec at k r Mmio j n = j
-no_joint spec at k r Direct j n = j
+no_joint spec at k r _ j n = j
 
 module _ (t : Tables) (can : CanSlot t) where
   abbrev spec : Spec
@@ -191,12 +152,12 @@ module _ (t : Tables) (can : CanSlot t) where
   pub slot_is : (d m r bits : ℕ) (slots : List (ℕ × Cap)) (a : Cap) → object_at spec d ≡ Some (objects.CNode bits slots)
       → IsIn (m, a) slots → IsNamed spec a.object series.Lock r → IsLockSlot d m a
   slot_is d m r bits slots a o i name =
-      let p = part_there t d (objects.CNode bits slots) o in
-      let w = what_is t p.0.what bits slots p.2 in
-      let at : place t (CNodeOf w.0) ≡ d = ap (λ z. place t z) (sym w.1) ∙ place_is t d p.0 p.1 in
+      let p = object_stands t d (objects.CNode bits slots) o in
+      let w = of_node p.what p.sort in
+      let at : place t (CNodeOf w.0) ≡ d = subst (λ z. place t z ≡ d) w.1 p.stands in
       let same : w.0 ≡ d = omega (arith, at) in
       let filled : slots_at t d ≡ slots = ap (λ z. slots_at t z) (sym same)
-      ∙ ap slots_of_cnode (ap (λ z. object t z) (sym w.1) ∙ p.2) in
+      ∙ ap slots_of_cnode (ap (λ z. object t z) (sym w.1) ∙ p.is) in
       let P : List (ℕ × Cap) → Type 0 = λ z. IsIn (m, a) z in
       in_domain d m r a (slice_get t.flat.domains d) refl (subst P (sym filled) i) name
 

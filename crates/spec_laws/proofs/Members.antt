@@ -10,9 +10,8 @@ in_range n i l =
 -- ---- lists that begin with another
 
 pub index_is : {X : Type 0} (xs : List X) (j : ℕ) (d y : X) → slice_get xs j ≡ Some y → slice_index_or xs j d ≡ y
-index_is [] j d y e = cc
-index_is (x ∷ xs) zero d y e = cc
 index_is (x ∷ xs) (suc j) d y e = index_is xs j d y e
+index_is _ _ d y e = cc
 
 pub whole : (v : ℕ) → (4096 * (v / 4096)) / 4096 ≡ v / 4096
 whole v = omega arith

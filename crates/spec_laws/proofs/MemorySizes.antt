@@ -89,11 +89,7 @@ from_registers c e r = by_connector c.connector refl r
     by_connector : (z : Connector) → c.connector ≡ z → registers_in z c.ends ≡ Some e → (c.connector ≡ Mmio) × (n : ℕ)
         × (to_place c.ends ≡ Some n) × (slice_get c.ends n ≡ Some e)
     by_connector Mmio is r = let p = by_place (to_place c.ends) refl r in (is, p.0, p.1, p.2)
-    by_connector Rpc is r = cc
-    by_connector Notification is r = cc
-    by_connector SharedMemory is r = cc
-    by_connector Interrupt is r = cc
-    by_connector Direct is r = cc
+    by_connector _ is r = cc
 
 -- ---- pages by the settings of an end
 
@@ -173,10 +169,7 @@ module _ (s : Source) (sound : AreNamesSound s) (dotted : AreDotted (hierarchy_o
       by_connector : (z : Connector) → c.connector ≡ z → is_window z e.role ≡ true → 0 < memory_pages (settled_of s) k c
       by_connector SharedMemory is w = shared_some k n c e at there is
       by_connector Mmio is w = registers_some k c at is
-      by_connector Rpc is w = cc
-      by_connector Notification is w = cc
-      by_connector Interrupt is w = cc
-      by_connector Direct is w = cc
+      by_connector _ is w = cc
 
   -- the bytes at the registers are those of the device
   bytes_here : (k n : ℕ) (c : FlatConnection) (e : FlatEnd) (f : IsEndFound s k n c e) → c.connector ≡ Mmio

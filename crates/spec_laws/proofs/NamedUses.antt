@@ -12,10 +12,7 @@ of_end Notification role k n count u l (inr i) = absurd i
 of_end Interrupt To k n count u l (inl e) = subst (NamesOneOf count) e l
 of_end Interrupt To k n count u l (inr (inl e)) = subst (NamesOneOf count) e l
 of_end Interrupt To k n count u l (inr (inr i)) = absurd i
-of_end Interrupt From k n count u l i = absurd i
-of_end SharedMemory role k n count u l i = absurd i
-of_end Mmio role k n count u l i = absurd i
-of_end Direct role k n count u l i = absurd i
+of_end _ _ k n count u l i = absurd i
 
 of_joined : (leaf member k n count : ℕ) (connector : Connector) (e : FlatEnd) (u : SlotUse) → k < count
     → IsIn u (joined_uses leaf member k connector n e) → NamesOneOf count u

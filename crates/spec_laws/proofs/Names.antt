@@ -19,16 +19,7 @@ series_of (a ∷ b ∷ rest) = by_letters a b
 
 series_found : (s : Series) (rest : List ℕ) → series_of (prefix s ++ rest) ≡ s
 series_found CNode rest = refl
-series_found Tcb rest = refl
-series_found Ep rest = refl
-series_found Ntfn rest = refl
-series_found Lock rest = refl
-series_found Irq rest = refl
-series_found Pgd rest = refl
-series_found Pud rest = refl
-series_found Pd rest = refl
-series_found Pt rest = refl
-series_found Frame rest = refl
+series_found _ rest = refl
 
 pub same_series : (s r : Series) (m n : ℕ) → name_of s m ≡ name_of r n → s ≡ r
 same_series s r m n e = sym (series_found s (decimal m)) ∙ ap series_of e ∙ series_found r (decimal n)

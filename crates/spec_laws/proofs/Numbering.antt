@@ -94,9 +94,8 @@ domain_has t x =
     x.leaves (λ i leaf e. leaf_has t leaf)
 
 as_many : (d n : ℕ) (u : SlotUse) → length (lock d n u) ≡ length (lock_of u)
-as_many d n (OfEnd k m) = refl
-as_many d n (Handler k m) = refl
 as_many d n (OwnLock leaf m) = refl
+as_many d n _ = refl
 
 module _ (t : Tables) (uses_are : (d : ℕ) (x : Domain) → slice_get t.flat.domains d ≡ Some x
     → uses_at t d ≡ domain_uses t.source t.flat x.leaves) (d n leaf m : ℕ) (x : Domain)
@@ -144,12 +143,8 @@ module _ (t : Tables) (uses_are : (d : ℕ) (x : Domain) → slice_get t.flat.do
 -- ---- interrupts
 
 as_interrupt : (k : ℕ) (o : Owner) (c : Connector) → length (irq_by k o c) ≡ length (cond (has_irq c) (k ∷ []) [])
-as_interrupt k o Interrupt = refl
-as_interrupt k o Rpc = refl
-as_interrupt k o Notifies = refl
 as_interrupt k o SharedMemory = refl
-as_interrupt k o Mmio = refl
-as_interrupt k o Direct = refl
+as_interrupt k o _ = refl
 
 pub irqs_before : (t : Tables) (k : ℕ) → before irq t.flat.connections k ≡ before interrupt t.flat.connections k
 irqs_before t k =

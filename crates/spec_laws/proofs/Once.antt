@@ -24,8 +24,7 @@ once_none i j x e f = cc
 
 pub once_one : {X : Type 0} (y : X) → Once (y ∷ [])
 once_one y zero zero x e f = refl
-once_one y zero (suc j) x e f = cc
-once_one y (suc i) j x e f = cc
+once_one y _ _ x e f = cc
 
 pub once_gather : {X Y : Type 0} (f : ℕ → X → List Y) (xs : List X) → ((k : ℕ) (x : X) → slice_get xs k ≡ Some x → Once (f k x))
     → ((k l : ℕ) (x z : X) (y : Y) → IsIn y (f k x) → IsIn y (f l z) → k ≡ l) → Once (gather f xs)

@@ -23,43 +23,30 @@ few_endpoints : (cs : List FlatConnection) → length (gather endpoint cs) ≤ l
 few_endpoints cs = length-gather endpoint cs (λ k c. one k c.connector)
   where
     one : (k : ℕ) (c : Connector) → length (endpoint_by k c) ≤ 1
-    one k Rpc = omega arith
     one k Notification = omega arith
-    one k Interrupt = omega arith
-    one k SharedMemory = omega arith
-    one k Mmio = omega arith
-    one k Direct = omega arith
+    one k _ = omega arith
 
 few_notifications : (cs : List FlatConnection) → length (gather notification cs) ≤ length cs
 few_notifications cs = length-gather notification cs (λ k c. one k c.connector)
   where
     one : (k : ℕ) (c : Connector) → length (notification_by k c) ≤ 1
-    one k Rpc = omega arith
     one k Notification = omega arith
-    one k Interrupt = omega arith
-    one k SharedMemory = omega arith
-    one k Mmio = omega arith
-    one k Direct = omega arith
+    one k _ = omega arith
 
 few_irqs : (cs : List FlatConnection) → length (gather irq cs) ≤ length cs
 few_irqs cs = length-gather irq cs (λ k c. one k (irq_owner k c) c.connector)
   where
     one : (k : ℕ) (o : _) (c : Connector) → length (irq_by k o c) ≤ 1
-    one k o Rpc = omega arith
     one k o Notification = omega arith
-    one k o Interrupt = omega arith
-    one k o SharedMemory = omega arith
-    one k o Mmio = omega arith
-    one k o Direct = omega arith
+    one k o _ = omega arith
 
 -- a use has one lock at most
 few_locks : (d : ℕ) (uses : List SlotUse) → length (gather (lock d) uses) ≤ length uses
 few_locks d uses = length-gather (lock d) uses (λ n u. one n u)
   where
     one : (n : ℕ) (u : SlotUse) → length (lock d n u) ≤ 1
-    one n (OfEnd k m) = omega arith
-    one n (Handler k m) = omega arith
     one n (OwnLock leaf m) = omega arith
+    one n _ = omega arith
 
 module _ (t : Tables) (slots_are : t.slots ≡ slots_of t.source t.flat) (spaces_are : t.spaces ≡ spaces_of (from t))
     (small : IsSmall t.flat) (slots : AreFewSlots t.source t.flat)

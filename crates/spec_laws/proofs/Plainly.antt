@@ -94,9 +94,8 @@ module _ (g : Given) (plain : IsPlain g) where
       (section_fine (name_of g.images x.0.image) x.0.section j.0 p.0 p.1 (below_count (page_count x.0.section) j.0 j.1))
 
   content_fine : (settled : Settled) (c : Content) (at j : ℕ) → ShownFine (region_page settled c at j).shown
-  content_fine settled Stack at j = λ f e. absurd cc
-  content_fine settled Buffer at j = λ f e. absurd cc
   content_fine settled (Window w) at j = tt
+  content_fine settled _ at j = λ f e. absurd cc
 
   page_fine : (d : ℕ) (p : MappedPage) → IsIn p (mapped_pages g d) → ShownFine p.shown
   page_fine d p i =

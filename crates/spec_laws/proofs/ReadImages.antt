@@ -20,12 +20,10 @@ use Rattle.spec_laws.proofs.ComponentNames.{component_named}
 -- ---- types are names
 
 component_spelled : (i : Item) (n : Name) → IsOne item_line i → component_of i ≡ Some n → is_name n ≡ true
-component_spelled (items.Import p) n w e = cc
-component_spelled (items.Procedure p) n w e = cc
 component_spelled (items.Component c) n w e =
     let same : c.id.name ≡ n = cc in
     subst (λ (z : Name). is_name z ≡ true) same (component_named c (item_component c w))
-component_spelled (items.Assembly a) n w e = cc
+component_spelled _ n w e = cc
 
 type_named : (s : Source) → AreFilesShort s → (at : ItemAt) (n : Name) → component_name s at ≡ Some n → is_name n ≡ true
 type_named s short at n e = by_file (slice_get s.files at.file) refl e
@@ -86,8 +84,6 @@ number_small (z ∷ x ∷ ds) n e = by_test (z == 48 && (x == 120 || x == 88)) e
     by_test false e = fits_small (is_decimal (z ∷ x ∷ ds)) (digits_value 10 (z ∷ x ∷ ds)) n e
 
 header_small : (fields : List (List ℕ)) (h : Header) → header_of fields ≡ Some h → h.entry < 2 ^ 64
-header_small [] h e = cc
-header_small (word ∷ []) h e = cc
 header_small (word ∷ entry ∷ []) h e = by_test (bytes_eq word (codes "entry")) e
   where
     by_test : (b : Bool) → cond b (option_map (header Arm11) (number_value entry)) None ≡ Some h → h.entry < 2 ^ 64
@@ -102,7 +98,7 @@ header_small (word ∷ entry ∷ arch ∷ []) h e = by_test (bytes_eq word (code
         let n = map_some (header Aarch64) (number_value entry) h e in
         subst (λ (z : Header). z.entry < 2 ^ 64) n.2 (number_small entry n.0 n.1)
     by_test false e = cc
-header_small (word ∷ entry ∷ arch ∷ more ∷ rest) h e = cc
+header_small _ h e = cc
 
 -- ---- images
 

@@ -1,9 +1,9 @@
 -- The regions of spaces, and the lines of windows
-use Rattle.spec_laws.proofs.Common.{Bool, Buffer, CanMap, Cap, Domain, DomainLine, EndAt, FlatConnection, FrameOf, Handler, IsAt, IsIn, IsRegionPage, LeafSetting, List, MapLine, MappedPage, OfEnd, Option, OwnLock, Page, RW, Region, Settled, SlotUse}
-use Rattle.spec_laws.proofs.Common.{Some, Space, Spaces, Tables, Tcb, ThreadLine, ThreadPlace, WindowLine, [], ap, arith, begins, cap, cond, domain_lines, domain_slots, domain_threads, domain_windows, ends, eq-eqb, eqb-true, false, find, flat_map}
-use Rattle.spec_laws.proofs.Common.{frame_at, from_gather, from_ones, gather, get_map, get_ones, in_append, in_gather, in_place, in_right, inl, inr, leaves_of, length, map, map_lines, mapped_pages, memory_pages, number_shown, object_at}
-use Rattle.spec_laws.proofs.Common.{option_map_or, page, pages_at, place, place_of, refl, region, region_page, root_of, single, slice_get, slot_line, slot_lines, space, spec_of, subst, suc, sym, system, tcb, thread_line, thread_lines, thread_place}
-use Rattle.spec_laws.proofs.Common.{thread_regions, threads_at, threads_of, true, use_cap, uses_at, window_at, window_line, window_lines, window_region, windows_at, windows_of, zero, ℕ, ◌%◌, ◌*◌, ◌++◌, ◌+◌, ◌/◌, ◌==◌, ◌∙◌, ◌∷◌, ◌≡◌}
+use Rattle.spec_laws.proofs.Common.{Bool, Buffer, CanMap, Cap, Domain, EndAt, FlatConnection, FrameOf, IsAt, IsIn, IsRegionPage, LeafSetting, List, MapLine, MappedPage, Option, OwnLock, Page, RW, Region, Settled, SlotUse}
+use Rattle.spec_laws.proofs.Common.{Some, Space, Spaces, Tables, Tcb, ThreadLine, WindowLine, [], ap, arith, begins, cap, cond, domain_lines, domain_windows, ends, eq-eqb, eqb-true, false, find, flat_map}
+use Rattle.spec_laws.proofs.Common.{frame_at, from_ones, gather, get_map, get_ones, in_gather, in_place, in_right, inl, leaves_of, length, map, map_lines, mapped_pages, memory_pages, number_shown, object_at}
+use Rattle.spec_laws.proofs.Common.{option_map_or, page, pages_at, place, place_of, refl, region, region_page, root_of, slice_get, slot_line, slot_lines, space, spec_of, subst, suc, sym, system, tcb, thread_lines, thread_place}
+use Rattle.spec_laws.proofs.Common.{thread_regions, threads_of, true, use_cap, window_at, window_line, window_lines, window_region, windows_at, windows_of, zero, ℕ, ◌%◌, ◌*◌, ◌++◌, ◌+◌, ◌/◌, ◌==◌, ◌∙◌, ◌∷◌, ◌≡◌}
 use Rattle.std.specs.Prelude.{option_map}
 use Rattle.cap_model.specs.declared.object.Object.TheVariants as objects
 use Rattle.system_spec.specs.declared.part.What.TheVariants.{ThreadOf as OfThread}
@@ -12,6 +12,7 @@ use Rattle.vspace_layout.specs.declared.thread.ThreadOf.{ThreadOf}
 use Rattle.vspace_layout.specs.Regions.{domain_windows as windows_in}
 use Rattle.spec_laws.specs.Regioned.{AreRegions, HasRegions, IsWindowLine, SaysWindow}
 use Rattle.spec_laws.proofs.Finding.{pages_are, rise}
+use Rattle.spec_laws.proofs.MapLines.{by_line}
 use Rattle.spec_laws.proofs.Paging.{has_domain, region_in, window_is}
 use Rattle.spec_laws.proofs.Rooted.{frames_from}
 use Rattle.spec_laws.proofs.SlotLists.{some}
@@ -162,55 +163,29 @@ module _ (t : Tables) (can : CanMap t) where
   said d j e c h = ap (λ o. WindowLine e.connection e.end (begins t d (2 * length (threads_of (system t) d) + j))
       (4096 * option_map_or (memory_pages t.settled e.connection) o 0)) h
 
-  window_from : (line : MapLine) → IsIn line (window_lines t) → IsWindowLine t line
-  window_from line i =
-      let f : ℕ → Domain → List MapLine = λ d x. domain_windows t d in
-      let a = from_gather f line t.flat.domains i in
-      let g : ℕ → Window → List MapLine = λ n w. window_line w ∷ [] in
-      let b = from_gather g line (windows_at t a.0) a.3 in
-      let k : ℕ → EndAt → Window = λ n z. window_at (system t) a.0 n z in
-      let e = from_ones k (windows_of (system t) a.0) b.0 b.1 (ap (λ z. slice_get z b.0) (sym (windows_are a.0 a.1 a.2)) ∙ b.2) in
-      let v = window_is t a.0 e.0 (in_place e.0 (windows_of (system t) a.0) b.0 e.1) in
+  of_window : (d : ℕ) (x : Domain) → slice_get t.flat.domains d ≡ Some x → (n : ℕ) (w : Window)
+      → slice_get (windows_at t d) n ≡ Some w → IsWindowLine t (window_line w)
+  of_window d x h n w s =
+      let made : ℕ → EndAt → Window = λ n z. window_at (system t) d n z in
+      let e = from_ones made (windows_of (system t) d) n w (ap (λ z. slice_get z n) (sym (windows_are d x h)) ∙ s) in
+      let v = window_is t d e.0 (in_place e.0 (windows_of (system t) d) n e.1) in
       record {
-        domain = a.0;
-        number = b.0;
+        domain = d;
+        number = n;
         e = e.0;
         here = e.1;
         connection = v.connection;
         of_connection = v.here;
-        is = sym (single (window_line b.1) line b.3) ∙ ap (λ z. window_line z) (sym e.2) ∙ said a.0 b.0 e.0 v.connection v.here;
+        is = ap (λ z. window_line z) (sym e.2) ∙ said d n e.0 v.connection v.here;
       }
 
   no_slot : (o n : ℕ) (u : SlotUse) → SaysWindow (slot_line o n u) → ⊥
-  no_slot o n (OfEnd k m) s = s
-  no_slot o n (Handler k m) s = s
   no_slot o n (OwnLock leaf m) s = s
+  no_slot o n _ s = s
 
   only : (line : MapLine) → IsIn line (map_lines t) → SaysWindow line → IsWindowLine t line
-  only line i s = elim (in_append line (domain_lines t) (thread_lines t ++ (slot_lines t ++ window_lines t)) i) [
-    | inl j ↦
-        let f : ℕ → Domain → List MapLine = λ d x. DomainLine d ∷ [] in
-        let a = from_gather f line t.flat.domains j in
-        absurd (subst SaysWindow (sym (single (DomainLine a.0) line a.3)) s)
-    | inr r ↦ elim (in_append line (thread_lines t) (slot_lines t ++ window_lines t) r) [
-      | inl j ↦
-          let f : ℕ → Domain → List MapLine = λ d x. domain_threads t d in
-          let a = from_gather f line t.flat.domains j in
-          let h : ℕ → ThreadPlace → List MapLine = λ n z. thread_line t a.0 n z ∷ [] in
-          let b = from_gather h line (threads_at t a.0) a.3 in
-          absurd (subst SaysWindow (sym (single (thread_line t a.0 b.0 b.1) line b.3)) s)
-      | inr q ↦ elim (in_append line (slot_lines t) (window_lines t) q) [
-        | inl j ↦
-            let f : ℕ → Domain → List MapLine = λ d x. domain_slots t d in
-            let a = from_gather f line t.flat.domains j in
-            let h : ℕ → SlotUse → List MapLine = λ n u. slot_line (use_cap t a.0 n u).object n u ∷ [] in
-            let b = from_gather h line (uses_at t a.0) a.3 in
-            absurd (no_slot (use_cap t a.0 b.0 b.1).object b.0 b.1
-            (subst SaysWindow (sym (single (slot_line (use_cap t a.0 b.0 b.1).object b.0 b.1) line b.3)) s))
-        | inr j ↦ window_from line j
-      ]
-    ]
-  ]
+  only = by_line t (λ line. SaysWindow line → IsWindowLine t line) (λ d x h s. absurd s) (λ d x h n y e s. absurd s)
+      (λ d x h n u e s. absurd (no_slot (use_cap t d n u).object n u s)) (λ d x h n w e s. of_window d x h n w e)
 
   every : (line : MapLine) → IsWindowLine t line → IsIn line (map_lines t)
   every line w =

@@ -31,10 +31,9 @@ same_truth true b = b
 same_truth false b = not b
 
 truth_is : (a b : Bool) → same_truth a b ≡ true → a ≡ b
-truth_is true true h = refl
 truth_is true false h = absurd (true≢false (sym h))
 truth_is false true h = absurd (true≢false (sym h))
-truth_is false false h = refl
+truth_is _ _ h = refl
 
 -- the rights of an end's capability confer just what the table gives the end over its connection's object
 pub row_law : (c : Connector) (r : Role) (a : Authority) → has_slot c r ≡ true
@@ -78,12 +77,8 @@ joint_leaves c r o s Write f h =
 joint_leaves c r o s _ f h = refl
 
 pub joint_no_frames : (c : Connector) → is_frames (joint_object c) ≡ false
-joint_no_frames Rpc = refl
 joint_no_frames Notification = refl
-joint_no_frames SharedMemory = refl
-joint_no_frames Mmio = refl
-joint_no_frames Interrupt = refl
-joint_no_frames Direct = refl
+joint_no_frames _ = refl
 
 -- ---- who is given what, over what
 

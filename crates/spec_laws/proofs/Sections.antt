@@ -1,6 +1,6 @@
 -- In each section the series and the number of a part tell its place.
-use Rattle.spec_laws.proofs.Common.{Bool, Connector, Direct, Directory, EndpointOf, FlatConnection, Global, Interrupt, Level, List, Mmio, Notification, NotificationOf, OfConnection, Owned, PageTable, Part, Rpc, Series, SharedMemory, Some, Table}
-use Rattle.spec_laws.proofs.Common.{Tables, Upper, [], all_tables, ap, arith, before, cases_order, cnodes, cond, count_by, count_by-le-length, endpoint, endpoint_by, endpoints, eq-eqb, flat_map, frame_parts, from_ones, from_place, gather_ones, inl}
+use Rattle.spec_laws.proofs.Common.{Bool, Connector, Directory, EndpointOf, FlatConnection, Interrupt, Level, List, Notification, NotificationOf, OfConnection, Owned, PageTable, Part, Rpc, Series, Some}
+use Rattle.spec_laws.proofs.Common.{Tables, [], all_tables, ap, arith, before, cases_order, cnodes, cond, count_by, count_by-le-length, endpoint, endpoint_by, endpoints, eq-eqb, flat_map, frame_parts, from_ones, from_place, gather_ones, inl}
 use Rattle.spec_laws.proofs.Common.{inr, irqs, is_of, length, length-take-le, length_append, level_number, level_series, locks, notification, notification_by, notifications, numbered, of_level, part, parts, rank, refl, same_Some, sections, slice_get}
 use Rattle.spec_laws.proofs.Common.{slice_get_within, split_get, subst, suc, sum_by-cons, sym, table_part, table_parts, take, tcbs, true, zero, ℕ, ◌+◌, ◌<◌, ◌==◌, ◌∙◌, ◌∷◌, ◌≡◌, ◌≤◌}
 use Rattle.cam_base.proofs.NumberedLists.{single}
@@ -76,11 +76,7 @@ endpoint_at t j p e =
         → j ≡ before endpoint t.flat.connections k + i → OfConnections t endpoint series.Ep j p
     by_kind Rpc k i c here is h a =
         one_part t endpoint series.Ep k i j c (part series.Ep k (OfConnection k) (EndpointOf k)) p here is h a refl refl
-    by_kind Notification k i c here is h a = cc
-    by_kind SharedMemory k i c here is h a = cc
-    by_kind Mmio k i c here is h a = cc
-    by_kind Interrupt k i c here is h a = cc
-    by_kind Direct k i c here is h a = cc
+    by_kind _ k i c here is h a = cc
 
 notification_at : (t : Tables) (j : ℕ) (p : Part) → slice_get (notifications t) j ≡ Some p
     → OfConnections t notification series.Ntfn j p
@@ -97,10 +93,7 @@ notification_at t j p e =
     by_kind Interrupt k i c here is h a =
         one_part t notification series.Ntfn k i j c (part series.Ntfn k (OfConnection k) (NotificationOf k)) p here is h a
         refl refl
-    by_kind Rpc k i c here is h a = cc
-    by_kind SharedMemory k i c here is h a = cc
-    by_kind Mmio k i c here is h a = cc
-    by_kind Direct k i c here is h a = cc
+    by_kind _ k i c here is h a = cc
 
 told_connections : (t : Tables) (s : List Part) (f : ℕ → FlatConnection → List Part) (name : Series) (bound : ℕ)
     → length t.flat.connections ≤ bound → ((j : ℕ) (p : Part) → slice_get s j ≡ Some p → OfConnections t f name j p)
@@ -135,19 +128,15 @@ level_back _ = 3
 
 unfold_back : (l : Level) → level_back (level_series l) ≡ level_number l
 unfolding level_back
-unfold_back Global = refl
-unfold_back Upper = refl
 unfold_back Directory = refl
-unfold_back Table = refl
+unfold_back _ = refl
 
 table_rank : (l : Level) → rank (level_series l) ≡ 6
-table_rank Global = refl
-table_rank Upper = refl
 table_rank Directory = refl
-table_rank Table = refl
+table_rank _ = refl
 
 -- behind one that passes there are more that do
-count_rises : {X : Type 0} (test : X → Bool) (xs : List X) (i j : ℕ) (x : X) → slice_get xs i ≡ Some x → test x ≡ true → i < j
+pub count_rises : {X : Type 0} (test : X → Bool) (xs : List X) (i j : ℕ) (x : X) → slice_get xs i ≡ Some x → test x ≡ true → i < j
     → count_by test (take i xs) < count_by test (take j xs)
 count_rises test [] i j x e p l = cc
 count_rises test (y ∷ xs) i zero x e p l = absurd (omega (arith, l))

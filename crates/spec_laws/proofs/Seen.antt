@@ -41,8 +41,6 @@ window_size (Window e) n = n
 
 region_seen : (settled : Settled) (start : ℕ) (r : Region) (c : Content) → r.content ≡ c
     → window_size c r.pages ≤ total (λ (p : MappedPage). is_seen p.shown) (pages_from settled start r)
-region_seen settled start r Stack e = omega arith
-region_seen settled start r Buffer e = omega arith
 region_seen settled start r (Window w) e =
     let ps = pages_from settled start r in
     let n = length-map-range_with_len (page_of settled start r) 0 r.pages in
@@ -57,6 +55,7 @@ region_seen settled start r (Window w) e =
         ap (λ c. is_seen (region_page settled c (start + 4096 * m.0) m.0).shown) (sym e)
         ∙ ap (λ (z : MappedPage). is_seen z.shown) m.2 in
         omega (arith, s)
+region_seen settled start r _ e = omega arith
 
 -- ---- one hit at most
 
@@ -165,10 +164,7 @@ module _ (g : Given) where
       let m = h (inl refl) in
       omega (arith, l, m)
   frames_most k c n Mmio h = let l = register_most k c (first_to_end c.ends) in let m = h (inr refl) in omega (arith, l, m)
-  frames_most k c n Rpc h = omega arith
-  frames_most k c n Notification h = omega arith
-  frames_most k c n Interrupt h = omega arith
-  frames_most k c n Direct h = omega arith
+  frames_most k c n _ h = omega arith
 
   abbrev through : ℕ → ℕ
   through k = total (hit k) all_windows

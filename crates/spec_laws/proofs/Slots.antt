@@ -1,11 +1,10 @@
 -- The slots of a system are those of its source
-use Rattle.spec_laws.proofs.Common.{CanSlot, Cap, Connector, Direct, Domain, DomainLine, EndSetting, FlatConnection, Handler, HasSlots, Interrupt, IrqOf, IsIn, IsIrqLine, IsIrqOf, IsLineOf, IsSlotLine, IsUsed, List, MapLine, Mmio, Object, OfEnd}
-use Rattle.spec_laws.proofs.Common.{Option, OwnLock, Rpc, SharedMemory, SlotUse, Some, Spec, Tables, ThreadPlace, [], ap, arith, bits_for, domain_lines, domain_slots, domain_threads, domain_windows, from_gather, gather, in_append, in_gather, in_left}
-use Rattle.spec_laws.proofs.Common.{in_right, inl, inr, irq_number, length, line_by, lines, map_lines, option_and_then, option_map_or, place, refl, setting_of, single, slice_get, slot_line, slot_lines, slots_at, spec_of, subst, sym, thread_line}
-use Rattle.spec_laws.proofs.Common.{thread_lines, threads_at, use_cap, uses_at, window_line, window_lines, windows_at, ℕ, ◌++◌, ◌+◌, ◌∙◌, ◌∷◌, ◌≡◌}
-use Rattle.adl_meaning.specs.declared.connector.Connector.TheVariants.{Notification as Notifies}
+use Rattle.spec_laws.proofs.Common.{CanSlot, Cap, Connector, Domain, EndSetting, FlatConnection, HasSlots, Interrupt, IrqOf, IsIn, IsIrqLine, IsIrqOf, IsLineOf, IsSlotLine, IsUsed, List, MapLine, Object}
+use Rattle.spec_laws.proofs.Common.{Option, OwnLock, SlotUse, Some, Spec, Tables, [], ap, arith, bits_for, domain_lines, domain_slots, from_gather, gather, in_gather, in_left}
+use Rattle.spec_laws.proofs.Common.{in_right, inl, irq_number, length, line_by, lines, map_lines, option_and_then, option_map_or, place, refl, setting_of, single, slice_get, slot_line, slot_lines, slots_at, spec_of, subst, sym}
+use Rattle.spec_laws.proofs.Common.{thread_lines, use_cap, uses_at, window_lines, ℕ, ◌++◌, ◌+◌, ◌∙◌, ◌∷◌, ◌≡◌}
 use Rattle.cap_model.specs.declared.object.Object.TheVariants as objects
-use Rattle.vspace_layout.specs.declared.spaces.Window.{Window}
+use Rattle.spec_laws.proofs.MapLines.{by_line}
 use Rattle.spec_laws.proofs.SlotLists.{from_order, some}
 use Rattle.spec_laws.proofs.Slotting.{cnode_object, irq_is, slotted, uses_are}
 
@@ -44,24 +43,18 @@ module _ (t : Tables) (can : CanSlot t) where
             irq = irq_is t can k c h e;
             number = set_number k (place t (IrqOf k)) c h (irq_is t can k c h e);
           })
-      by_kind k c h Rpc e j = absurd j
-      by_kind k c h Notifies e j = absurd j
-      by_kind k c h SharedMemory e j = absurd j
-      by_kind k c h Mmio e j = absurd j
-      by_kind k c h Direct e j = absurd j
+      by_kind k c h _ e j = absurd j
 
   -- ---- the map
 
   said : (d n : ℕ) (u : SlotUse) → IsLineOf u (n + 1) (use_cap t d n u) (slot_line (use_cap t d n u).object n u)
-  said d n (OfEnd k m) = refl
-  said d n (Handler k m) = refl
   said d n (OwnLock leaf m) = refl
+  said d n _ = refl
 
   line_is : (d n : ℕ) (u : SlotUse) (line : MapLine) → IsLineOf u (n + 1) (use_cap t d n u) line
       → slot_line (use_cap t d n u).object n u ≡ line
-  line_is d n (OfEnd k m) line e = sym e
-  line_is d n (Handler k m) line e = sym e
   line_is d n (OwnLock leaf m) line e = sym e
+  line_is d n _ line e = sym e
 
   used : (d : ℕ) (x : Domain) (n : ℕ) (u : SlotUse) → slice_get t.flat.domains d ≡ Some x → slice_get (uses_at t d) n ≡ Some u
       → IsUsed t spec (slot_line (use_cap t d n u).object n u)
@@ -82,45 +75,9 @@ module _ (t : Tables) (can : CanSlot t) where
         said = said d n u;
       }
 
-  no_domain : (line : MapLine) → IsIn line (domain_lines t) → IsSlotLine line → ⊥
-  no_domain line i s =
-      let f : ℕ → Domain → List MapLine = λ d x. DomainLine d ∷ [] in
-      let a = from_gather f line t.flat.domains i in
-      subst IsSlotLine (sym (single (DomainLine a.0) line a.3)) s
-
-  no_thread : (line : MapLine) → IsIn line (thread_lines t) → IsSlotLine line → ⊥
-  no_thread line i s =
-      let f : ℕ → Domain → List MapLine = λ d x. domain_threads t d in
-      let a = from_gather f line t.flat.domains i in
-      let h : ℕ → ThreadPlace → List MapLine = λ i thread. thread_line t a.0 i thread ∷ [] in
-      let b = from_gather h line (threads_at t a.0) a.3 in
-      subst IsSlotLine (sym (single (thread_line t a.0 b.0 b.1) line b.3)) s
-
-  no_window : (line : MapLine) → IsIn line (window_lines t) → IsSlotLine line → ⊥
-  no_window line i s =
-      let f : ℕ → Domain → List MapLine = λ d x. domain_windows t d in
-      let a = from_gather f line t.flat.domains i in
-      let h : ℕ → Window → List MapLine = λ j w. window_line w ∷ [] in
-      let b = from_gather h line (windows_at t a.0) a.3 in
-      subst IsSlotLine (sym (single (window_line b.1) line b.3)) s
-
   map_only : (line : MapLine) → IsIn line (map_lines t) → IsSlotLine line → IsUsed t spec line
-  map_only line i s = elim (in_append line (domain_lines t) (thread_lines t ++ (slot_lines t ++ window_lines t)) i) [
-    | inl d ↦ absurd (no_domain line d s)
-    | inr r ↦ elim (in_append line (thread_lines t) (slot_lines t ++ window_lines t) r) [
-      | inl h ↦ absurd (no_thread line h s)
-      | inr q ↦ elim (in_append line (slot_lines t) (window_lines t) q) [
-        | inl l ↦
-            let f : ℕ → Domain → List MapLine = λ d x. domain_slots t d in
-            let a = from_gather f line t.flat.domains l in
-            let h : ℕ → SlotUse → List MapLine = λ n u. slot_line (use_cap t a.0 n u).object n u ∷ [] in
-            let b = from_gather h line (uses_at t a.0) a.3 in
-            subst (IsUsed t spec) (single (slot_line (use_cap t a.0 b.0 b.1).object b.0 b.1) line b.3)
-            (used a.0 a.1 b.0 b.1 a.2 b.2)
-        | inr w ↦ absurd (no_window line w s)
-      ]
-    ]
-  ]
+  map_only = by_line t (λ line. IsSlotLine line → IsUsed t spec line) (λ d x h s. absurd s) (λ d x h n y e s. absurd s)
+      (λ d x h n u e s. used d x n u h e) (λ d x h n w e s. absurd s)
 
   abbrev slots_of_cnode : Option Object → List (ℕ × Cap)
   slots_of_cnode (Some (objects.CNode bits slots)) = slots

@@ -80,10 +80,7 @@ of_joint Notifies r k n j m (inr i) = absurd i
 of_joint Interrupt To k n j m (inl e) = (cc, cc, refl)
 of_joint Interrupt To k n j m (inr (inl e)) = cc
 of_joint Interrupt To k n j m (inr (inr i)) = absurd i
-of_joint Interrupt From k n j m i = absurd i
-of_joint SharedMemory r k n j m i = absurd i
-of_joint Mmio r k n j m i = absurd i
-of_joint Direct r k n j m i = absurd i
+of_joint _ _ k n j m i = absurd i
 
 pub of_handler : (c : Connector) (r : Role) (k n j m : ℕ) → IsIn (Handler j m) (end_uses c r k n)
     → (k ≡ j) × (n ≡ m) × (c ≡ Interrupt) × (r ≡ To)
@@ -94,10 +91,7 @@ of_handler Notifies r k n j m (inr i) = absurd i
 of_handler Interrupt To k n j m (inl e) = cc
 of_handler Interrupt To k n j m (inr (inl e)) = (cc, cc, refl, refl)
 of_handler Interrupt To k n j m (inr (inr i)) = absurd i
-of_handler Interrupt From k n j m i = absurd i
-of_handler SharedMemory r k n j m i = absurd i
-of_handler Mmio r k n j m i = absurd i
-of_handler Direct r k n j m i = absurd i
+of_handler _ _ k n j m i = absurd i
 
 of_lock : (c : Connector) (r : Role) (k n j m : ℕ) → IsIn (OwnLock j m) (end_uses c r k n) → ⊥
 of_lock Rpc r k n j m (inl e) = cc
@@ -147,9 +141,7 @@ module _ (t : Tables) (can : CanSlot t) where
           (notification_by k n) in notification_named k c h (subst P (sym e) (inl refl))
       by_kind Interrupt e f = let P : Connector → Type 0 = λ n. IsIn (part series.Ntfn k (OfConnection k) (NotificationOf k))
           (notification_by k n) in notification_named k c h (subst P (sym e) (inl refl))
-      by_kind SharedMemory e f = cc
-      by_kind Mmio e f = cc
-      by_kind Direct e f = cc
+      by_kind _ e f = cc
 
   badge : (k n : ℕ) (c : FlatConnection) (e : FlatEnd) → slice_get t.flat.connections k ≡ Some c → slice_get c.ends n ≡ Some e
       → IsBadge t k n e.role (badge_at t k n)

@@ -14,18 +14,9 @@ use Rattle.arch_policy.specs.Ends.{EndAt}
 one_role : (c : Connector) (r q : Role) → (end_rule c r).hardware ≡ true → (end_rule c q).hardware ≡ true → r ≡ q
 one_role c From From h k = refl
 one_role c To To h k = refl
-one_role Rpc From To h k = absurd (true≢false (sym h))
-one_role Notification From To h k = absurd (true≢false (sym h))
-one_role SharedMemory From To h k = absurd (true≢false (sym h))
-one_role Mmio From To h k = absurd (true≢false (sym h))
 one_role Interrupt From To h k = absurd (true≢false (sym k))
-one_role Direct From To h k = absurd (true≢false (sym h))
-one_role Rpc To From h k = absurd (true≢false (sym h))
-one_role Notification To From h k = absurd (true≢false (sym h))
-one_role SharedMemory To From h k = absurd (true≢false (sym h))
 one_role Mmio To From h k = absurd (true≢false (sym k))
-one_role Interrupt To From h k = absurd (true≢false (sym h))
-one_role Direct To From h k = absurd (true≢false (sym h))
+one_role _ _ _ h k = absurd (true≢false (sym h))
 
 just_one : (n : ℕ) → nat_le 1 n ≡ true → nat_le n 1 ≡ true → n ≡ 1
 just_one n low high = grind (arith, leb_tells 1 n, leb_tells n 1)

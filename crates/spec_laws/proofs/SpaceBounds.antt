@@ -140,10 +140,7 @@ module _ (g : Given) where
             ((frames_stand g).shared e.connection j s.connection s.there (ap is_shared is) l)
         by_connector Mmio is w l = let r = have.found e.connection e.end s.connection s.end s.there s.joined is in
             register_below e.connection j s.connection r.0 s.there r.1 l
-        by_connector Rpc is w l = cc
-        by_connector Notification is w l = cc
-        by_connector Interrupt is w l = cc
-        by_connector Direct is w l = cc
+        by_connector _ is w l = cc
 
     number_below : (d n : ℕ) (x : Domain) (p : MappedPage) → slice_get g.flat.domains d ≡ Some x
         → slice_get (mapped_pages g d) n ≡ Some p → number_shown g d n p.shown < length (frames g)

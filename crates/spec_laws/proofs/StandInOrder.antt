@@ -101,11 +101,7 @@ module _ (t : Tables) (can : CanSlot t) where
       by_kind : (m : Connector) (k : ℕ) (c : FlatConnection) → slice_get t.flat.connections k ≡ Some c → c.connector ≡ m
           → IsIn p (endpoint_by k m) → Numbered p
       by_kind Rpc k c h e i = subst Numbered (single (part series.Ep k (OfConnection k) (EndpointOf k)) p i) (c, h, e)
-      by_kind Notifies k c h e i = absurd i
-      by_kind SharedMemory k c h e i = absurd i
-      by_kind Mmio k c h e i = absurd i
-      by_kind Interrupt k c h e i = absurd i
-      by_kind Direct k c h e i = absurd i
+      by_kind _ k c h e i = absurd i
 
   of_notification : (p : Part) → IsIn p (notifications t) → Numbered p
   of_notification p i = let g = from_gather notification p t.flat.connections i in by_kind g.1.connector g.0 g.1 g.2 refl g.3
@@ -116,10 +112,7 @@ module _ (t : Tables) (can : CanSlot t) where
           subst Numbered (single (part series.Ntfn k (OfConnection k) (NotificationOf k)) p i) (c, h, inl e)
       by_kind Interrupt k c h e i =
           subst Numbered (single (part series.Ntfn k (OfConnection k) (NotificationOf k)) p i) (c, h, inr e)
-      by_kind Rpc k c h e i = absurd i
-      by_kind SharedMemory k c h e i = absurd i
-      by_kind Mmio k c h e i = absurd i
-      by_kind Direct k c h e i = absurd i
+      by_kind _ k c h e i = absurd i
 
   of_lock : (n : ℕ) (x : Owned) → slice_get (locks t) n ≡ Some x → HasNumber t series.Lock n
   of_lock n x e =
@@ -149,17 +142,11 @@ module _ (t : Tables) (can : CanSlot t) where
           let within = slice_get_within (irq_by k o Interrupt) i x there in
           let same = irqs_before t k in
           (k, c, h, e, omega (arith, sum, within, same))
-      by_kind Rpc k c h e o i there sum = cc
-      by_kind Notifies k c h e o i there sum = cc
-      by_kind SharedMemory k c h e o i there sum = cc
-      by_kind Mmio k c h e o i there sum = cc
-      by_kind Direct k c h e o i there sum = cc
+      by_kind _ k c h e o i there sum = cc
 
   of_level : (l : Level) (n : ℕ) → HasNumber t (level_series l) n
-  of_level Global n = tt
-  of_level Upper n = tt
   of_level Directory n = tt
-  of_level Table n = tt
+  of_level _ n = tt
 
   of_table : (p : Part) → IsIn p (table_parts (all_tables t)) → Numbered p
   of_table p i =

@@ -84,13 +84,7 @@ module _ (t : Tables) where
     go : (x : Option Object) → object_at (spec_of t) o ≡ x → Contains (slots_of x) (i, held) → InDomain o held
     go (Some (objects.Pages level slots)) h c =
         from_pages o i held level slots (object_stands t o (objects.Pages level slots) h) c
-    go None h c = absurd (let w = c.1 in omega arith)
-    go (Some objects.Endpoint) h c = absurd (let w = c.1 in omega arith)
-    go (Some objects.Notification) h c = absurd (let w = c.1 in omega arith)
-    go (Some (objects.CNode bits slots)) h c = absurd (let w = c.1 in omega arith)
-    go (Some (objects.Thread tcb)) h c = absurd (let w = c.1 in omega arith)
-    go (Some (objects.Frame paddr fill)) h c = absurd (let w = c.1 in omega arith)
-    go (Some (objects.Irq n)) h c = absurd (let w = c.1 in omega arith)
+    go _ h c = absurd (let w = c.1 in omega arith)
 
   -- ---- each page is held
 

@@ -1,23 +1,23 @@
 -- Each page table is one that some page needs, and tables of a level stand by domain and address
-use Rattle.spec_laws.proofs.Common.{AreShapes, AreStacked, AreTablesInOrder, Arrives, Ascends, Bool, CNodeOf, CanMap, Cap, Directory, Domain, EndpointOf, FrameInfo, FrameOf, Global, IrqOf, IsBefore, IsIn, IsNamed, IsTableFor, IsTableOfSpace, IsThere}
-use Rattle.spec_laws.proofs.Common.{Level, List, LockOf, MappedPage, Mapping, None, NotificationOf, Object, Option, Page, PageTable, Rises, Shape, Some, Table, TableOf, Tables, ThreadOf, ThreadPlace, Upper, What, [], above, all_tables, ap}
-use Rattle.spec_laws.proofs.Common.{append_assoc, arch, arith, arrives, as_many, at_place, before, below, cases_lt, cond, count_by, domain_tables, drop, eq-eqb, eqb-true, false, first_of, frame_object, from_ones, from_place, from_runs, gather}
+use Rattle.spec_laws.proofs.Common.{AreShapes, AreStacked, AreTablesInOrder, Arrives, Ascends, Bool, CanMap, Cap, Directory, Domain, Global, IsBefore, IsIn, IsNamed, IsTableFor, IsTableOfSpace, IsThere}
+use Rattle.spec_laws.proofs.Common.{Level, List, MappedPage, Mapping, Object, Page, PageTable, Rises, Shape, Some, Table, TableOf, Tables, Upper, [], above, all_tables, ap}
+use Rattle.spec_laws.proofs.Common.{append_assoc, arch, arith, arrives, as_many, at_place, before, below, cases_lt, cond, count_by, domain_tables, drop, eq-eqb, eqb-true, false, first_of, from_ones, from_place, from_runs, gather}
 use Rattle.spec_laws.proofs.Common.{gather_ones, gathered, get_ones, head_of, heads, in_place, inl, inr, is_of, kind_of_object, layers, length, level_number, level_of, level_series, map, mapped_pages, mul-le-mul_right, name_at, name_of, object}
-use Rattle.spec_laws.proofs.Common.{object_at, object_there, objects_from, objects_stand, of_level, one_table, option_map_or, page_mapping, page_table, parts, place, place_is, refl, root_of, root_span, runs, shapes, shapes_fit, shapes_stack, sizes}
-use Rattle.spec_laws.proofs.Common.{slice_get, span, span_some, spec_of, subst, suc, sym, system, table_of, table_part, tables_at, tables_counted, tables_rise, take, tcb, threads_at, true, upper, upper_below, uppers, zero, ℕ, ◌++◌, ◌+◌, ◌-◌, ◌/◌}
+use Rattle.spec_laws.proofs.Common.{object_at, object_there, objects_from, objects_stand, of_level, one_table, page_mapping, page_table, parts, place, refl, root_of, root_span, runs, shapes, shapes_fit, shapes_stack, sizes}
+use Rattle.spec_laws.proofs.Common.{slice_get, span, span_some, spec_of, subst, suc, sym, system, table_of, table_part, tables_at, tables_counted, tables_rise, take, true, upper, upper_below, uppers, zero, ℕ, ◌++◌, ◌+◌, ◌-◌, ◌/◌}
 use Rattle.spec_laws.proofs.Common.{◌<◌, ◌∙◌, ◌∷◌, ◌≡◌, ◌≤◌}
 use Rattle.cap_model.specs.declared.kind.Kind.TheVariants as kinds
 use Rattle.cap_model.specs.declared.object.Object.TheVariants as objects
 use Rattle.page_tables.specs.Levels.{numbered}
-use Rattle.system_spec.proofs.There.{there as part_is_there}
 use Rattle.spec_laws.proofs.Blocks.{behind}
 use Rattle.spec_laws.proofs.Finding.{laid_page, maps, maps_below, pages_are, rise, some_map}
 use Rattle.spec_laws.proofs.Kinding.{series_kind, table_kind}
 use Rattle.spec_laws.proofs.Lists.{not_above}
-use Rattle.spec_laws.proofs.Locks.{part_there}
 use Rattle.spec_laws.proofs.RootLevels.{count_cons, ones}
 use Rattle.spec_laws.proofs.Rooted.{frames_from, from_root, table_in, tables_of_domain}
+use Rattle.spec_laws.proofs.Sections.{count_rises}
 use Rattle.spec_laws.proofs.Tabled.{no_level, there, upper_of}
+use Rattle.spec_laws.proofs.Whose.{object_stands, of_pages}
 
 -- ---- each table is needed
 
@@ -149,50 +149,12 @@ sorted (suc j) (k ∷ o ∷ ks) l ls xs y first link T back v w m n e stacked fi
     sorted j (o ∷ ks) l ls U up.0 first next T (mine ++ back) v w m n e stacked.1 (λ s q. fit s (inr q)) up.1 rising
     (upper_below k xs (root_span (o ∷ ks)) bound h) b c split
 
--- ---- which objects are page tables
-
-pages_what : (t : Tables) (w : What) (level : Level) (slots : List (ℕ × Cap)) → object t w ≡ objects.Pages level slots
-    → (d j : ℕ) × (w ≡ TableOf d j)
-pages_what t (CNodeOf d) level slots h = cc
-pages_what t (ThreadOf d i) level slots h = by_thread (slice_get (threads_at t d) i) h
-  where
-    by_thread : (o : Option ThreadPlace) → option_map_or (λ x. objects.Thread (tcb t d x)) o objects.Endpoint ≡ objects.Pages
-        level slots → (e j : ℕ) × (ThreadOf d i ≡ TableOf e j)
-    by_thread (Some x) f = absurd cc
-    by_thread None f = absurd cc
-pages_what t (EndpointOf k) level slots h = cc
-pages_what t (NotificationOf k) level slots h = cc
-pages_what t (LockOf d n) level slots h = cc
-pages_what t (IrqOf k) level slots h = cc
-pages_what t (TableOf d j) level slots h = (d, j, refl)
-pages_what t (FrameOf f) level slots h = by_frame (slice_get t.spaces.frames f) h
-  where
-    by_frame : (o : Option FrameInfo) → option_map_or frame_object o objects.Endpoint ≡ objects.Pages level slots
-        → (e j : ℕ) × (FrameOf f ≡ TableOf e j)
-    by_frame (Some x) e = absurd cc
-    by_frame None e = absurd cc
+-- ---- counts of page tables
 
 pages_same : (l m : Level) → kinds.Pages l ≡ kinds.Pages m → l ≡ m
 pages_same l m e = cc
 
--- more pass in front of what stands behind one that passes
-count_rises : (p : PageTable → Bool) (xs : List PageTable) (a b : ℕ) (x : PageTable) → slice_get xs a ≡ Some x → p x ≡ true
-    → a < b → count_by p (take a xs) < count_by p (take b xs)
-count_rises p [] a b x e h l = cc
-count_rises p (y ∷ ys) zero zero x e h l = absurd (omega (arith, l))
-count_rises p (y ∷ ys) zero (suc b) x e h l =
-    let same : y ≡ x = cc in
-    let c = count_cons p y (take b ys) in
-    let one : ones p y ≡ 1 = ap (ones p) same ∙ ap (λ z. cond z 1 0) h in
-    omega (arith, c, one)
-count_rises p (y ∷ ys) (suc a) zero x e h l = absurd (omega (arith, l))
-count_rises p (y ∷ ys) (suc a) (suc b) x e h l =
-    let ih = count_rises p ys a b x e h (omega (arith, l)) in
-    let c = count_cons p y (take a ys) in
-    let d = count_cons p y (take b ys) in
-    omega (arith, ih, c, d)
-
--- and each lesser count is that of one that passes
+-- each lesser count is that of one that passes
 attained : (p : PageTable → Bool) (xs : List PageTable) (a n : ℕ) → n < count_by p (take a xs)
     → (b : ℕ) × (x : PageTable) × (slice_get xs b ≡ Some x) × (p x ≡ true) × (count_by p (take b xs) ≡ n)
 attained p [] zero n l = absurd (omega (arith, l))
@@ -223,30 +185,14 @@ attained p (y ∷ ys) (suc a) n l = by_test (p y) refl n l (λ m k. attained p y
 -- an object of a level's kind is a table of the level
 from_kind : (o : Object) (l : Level) → kind_of_object o ≡ kinds.Pages l → (slots : List (ℕ × Cap)) × (o ≡ objects.Pages l slots)
 from_kind (objects.Pages m slots) l e = (slots, ap (λ z. objects.Pages z slots) (pages_same m l e))
-from_kind objects.Endpoint l e = absurd cc
-from_kind objects.Notification l e = absurd cc
-from_kind (objects.CNode bits slots) l e = absurd cc
-from_kind (objects.Thread tcb) l e = absurd cc
-from_kind (objects.Frame paddr fill) l e = absurd cc
-from_kind (objects.Irq n) l e = absurd cc
+from_kind _ l e = absurd cc
 
 same_level : (l m : Level) → level_number l ≡ level_number m → l ≡ m
 same_level Global Global e = refl
 same_level Upper Upper e = refl
 same_level Directory Directory e = refl
 same_level Table Table e = refl
-same_level Global Upper e = absurd (omega (arith, e))
-same_level Global Directory e = absurd (omega (arith, e))
-same_level Global Table e = absurd (omega (arith, e))
-same_level Upper Global e = absurd (omega (arith, e))
-same_level Upper Directory e = absurd (omega (arith, e))
-same_level Upper Table e = absurd (omega (arith, e))
-same_level Directory Global e = absurd (omega (arith, e))
-same_level Directory Upper e = absurd (omega (arith, e))
-same_level Directory Table e = absurd (omega (arith, e))
-same_level Table Global e = absurd (omega (arith, e))
-same_level Table Upper e = absurd (omega (arith, e))
-same_level Table Directory e = absurd (omega (arith, e))
+same_level _ _ e = absurd (omega (arith, e))
 
 ascends_map : (f : Page → Mapping) (g : ℕ → MappedPage → Page) → ((n : ℕ) (p : MappedPage) → (f (g n p)).at ≡ p.at)
     → (ps : List MappedPage) → Rises (map (λ p. p.at) ps) → Ascends (map f (gather (λ n p. g n p ∷ []) ps))
@@ -283,9 +229,9 @@ module _ (t : Tables) (can : CanMap t) where
   all : (at : ℕ) (level : Level) (slots : List (ℕ × Cap)) → object_at (spec_of t) at ≡ Some (objects.Pages level slots)
       → IsTableOfSpace t (spec_of t) (root_of t) at
   all at level slots o =
-      let p = part_there t at (objects.Pages level slots) o in
-      let w = pages_what t p.0.what level slots p.2 in
-      let is : IsThere t (TableOf w.0 w.1) = subst (λ z. IsThere t z) w.2 (part_is_there t p.0 (in_place p.0 (parts t) at p.1)) in
+      let p = object_stands t at (objects.Pages level slots) o in
+      let w = of_pages p.what p.sort in
+      let is : IsThere t (TableOf w.0 w.1) = subst (λ z. IsThere t z) w.2 p.there in
       let x = is.0 in
       let long = as_long w.0 in
       let l = below (tables_at t 0 0 w.0) w.1 is.1.0 is.1.1 in
@@ -303,7 +249,7 @@ module _ (t : Tables) (can : CanMap t) where
         within = r.within;
         number = w.1;
         table = r.table;
-        at = sym (place_is t at p.0 p.1) ∙ ap (λ z. place t z) w.2 ∙ stands;
+        at = sym p.stands ∙ ap (λ z. place t z) w.2 ∙ stands;
       }
 
   -- ---- and they stand in order
@@ -356,9 +302,9 @@ module _ (t : Tables) (can : CanMap t) where
   stands_among : (at : ℕ) (l : Level) (slots : List (ℕ × Cap)) → object_at (spec_of t) at ≡ Some (objects.Pages l slots)
       → Stands at l
   stands_among at l slots o =
-      let p = part_there t at (objects.Pages l slots) o in
-      let w = pages_what t p.0.what l slots p.2 in
-      let is : IsThere t (TableOf w.0 w.1) = subst (λ z. IsThere t z) w.2 (part_is_there t p.0 (in_place p.0 (parts t) at p.1)) in
+      let p = object_stands t at (objects.Pages l slots) o in
+      let w = of_pages p.what p.sort in
+      let is : IsThere t (TableOf w.0 w.1) = subst (λ z. IsThere t z) w.2 p.there in
       let x = is.0 in
       let e = is.1 in
       let m = before (domain_tables t) t.flat.domains w.0 + w.1 in
@@ -366,16 +312,16 @@ module _ (t : Tables) (can : CanMap t) where
       let g : ℕ → Object → PageTable = λ n z. page_table w.0 n (level_of z) in
       let stand : place t (TableOf w.0 w.1) ≡ first_of t 6 + m = omega arith in
       let kind : kinds.Pages l ≡ kinds.Pages (level_of e.0) =
-      ap kind_of_object (sym p.2 ∙ ap (object t) w.2) ∙ table_kind t w.0 w.1 e.0 e.1 ∙ sym (series_kind (level_of e.0)) in
+      ap kind_of_object (sym p.is ∙ ap (object t) w.2) ∙ table_kind t w.0 w.1 e.0 e.1 ∙ sym (series_kind (level_of e.0)) in
       record {
         among = m;
-        is = sym (place_is t at p.0 p.1) ∙ ap (λ z. place t z) w.2 ∙ stand;
+        is = sym p.stands ∙ ap (λ z. place t z) w.2 ∙ stand;
         table = y;
         listed = gathered (domain_tables t) t.flat.domains w.0 x.0 w.1 y m x.1
             (get_ones g (tables_at t 0 0 w.0) w.1 e.0 e.1) refl;
         level = sym (pages_same l (level_of e.0) kind);
         part = table_in t w.0 x.0 x.1 w.1 e.0 e.1;
-        stands = ap (λ z. place t z) (sym w.2) ∙ place_is t at p.0 p.1;
+        stands = subst (λ z. place t z ≡ at) w.2 p.stands;
       }
 
   abbrev number_at : Level → ℕ → ℕ

@@ -1,17 +1,16 @@
 -- Thread lines and threads are one to one
-use Rattle.spec_laws.proofs.Common.{AreThreads, AreThreadsNumbered, CNodeOf, CanMap, Domain, EndAt, HasThread, Image, IsIn, IsThreadOf, Leaf, LeafSetting, List, None, OfDomain, Option, Part, Some, Space, Spaces, Tables, Tcb, ThreadLine, ThreadPlace}
-use Rattle.spec_laws.proofs.Common.{[], ap, arith, at_place, component_name, ends, entry_in, from_ones, in_place, leaves_of, map_lines, name_at, object_at, objects_stand, option_map_or, part, parts, place, place_is, place_of, refl, root_of}
-use Rattle.spec_laws.proofs.Common.{slice_get, space, spec_of, stands, subst, sym, system, tcb, thread, thread_place, threads_at, threads_of, ℕ, ◌∙◌, ◌≡◌}
+use Rattle.spec_laws.proofs.Common.{AreThreads, AreThreadsNumbered, CNodeOf, CanMap, Domain, EndAt, HasThread, Image, IsIn, IsThreadOf, Leaf, LeafSetting, List, OfDomain, Option, Part, Some, Tables, Tcb, ThreadLine, ThreadPlace}
+use Rattle.spec_laws.proofs.Common.{[], ap, arith, at_place, component_name, ends, entry_in, from_ones, in_place, leaves_of, map_lines, name_at, object_at, objects_stand, option_map_or, part, parts, place, place_of, refl, root_of}
+use Rattle.spec_laws.proofs.Common.{slice_get, space, spec_of, stands, subst, sym, system, tcb, thread, thread_place, threads_of, ℕ, ◌∙◌, ◌≡◌, IsThere}
 use Rattle.cap_model.specs.declared.object.Object.TheVariants as objects
 use Rattle.system_spec.specs.declared.part.What.TheVariants.{ThreadOf as OfThread}
 use Rattle.system_spec.specs.declared.series.Series.TheVariants as series
 use Rattle.vspace_layout.specs.declared.thread.ThreadOf.{ThreadOf}
 use Rattle.vspace_layout.specs.Threads.{domain_threads as threads_in}
-use Rattle.spec_laws.proofs.Locks.{part_there}
 use Rattle.spec_laws.proofs.Paging.{has_domain}
 use Rattle.spec_laws.proofs.SlotLists.{some}
 use Rattle.spec_laws.proofs.Threads.{Line, at_home, has_thread, line_from, line_to, once_threads, thread_object, thread_part, threads_are, threads_before}
-use Rattle.spec_laws.proofs.Whats.{thread_what}
+use Rattle.spec_laws.proofs.Whose.{object_stands, of_tcb}
 
 same_some : {X : Type 0} (a b : X) (o : Option X) → o ≡ Some a → o ≡ Some b → a ≡ b
 same_some a b o e f = cc
@@ -50,7 +49,7 @@ module _ (t : Tables) (can : CanMap t) where
       }
 
   pub the_line : (at leaf : ℕ) (end : Option EndAt) → IsIn (ThreadLine at leaf end) (map_lines t) → Line t can at leaf end
-  the_line at leaf end i = line_from t can (ThreadLine at leaf end) i tt
+  the_line at leaf end i = line_from t can (ThreadLine at leaf end) i
 
   only : (at leaf : ℕ) (end : Option EndAt) → IsIn (ThreadLine at leaf end) (map_lines t)
       → HasThread t leaf end × IsThreadOf t (spec_of t) (root_of t) leaf at
@@ -146,30 +145,19 @@ module _ (t : Tables) (can : CanMap t) where
 
   -- ---- and each thread has one
 
-  pub in_domain : (d i : ℕ) (x : ThreadPlace) → slice_get (threads_at t d) i ≡ Some x
-      → (z : Domain) × (slice_get t.flat.domains d ≡ Some z)
-  in_domain d i x e = by_space (slice_get t.spaces.spaces d) refl e
-    where
-      by_space : (o : Option Space) → slice_get t.spaces.spaces d ≡ o → slice_get (option_map_or (λ (s : Space). s.threads) o [])
-          i ≡ Some x → (z : Domain) × (slice_get t.flat.domains d ≡ Some z)
-      by_space None g f = cc
-      by_space (Some s) g f =
-          let k : ℕ → Domain → Space = λ n z. space (system t) n z in
-          let u = from_ones k t.flat.domains d s (ap (λ (z : Spaces). slice_get z.spaces d) (sym can.spaces) ∙ g) in (u.0, u.1)
-
   all : (at : ℕ) (c : Tcb) → object_at (spec_of t) at ≡ Some (objects.Thread c) → (leaf : ℕ) × (end : Option EndAt)
       × IsIn (ThreadLine at leaf end) (map_lines t)
   all at c o =
-      let p = part_there t at (objects.Thread c) o in
-      let w = thread_what t p.0.what c p.2 in
-      let x = in_domain w.domain w.number w.thread w.there in
-      let P : List ThreadPlace → Type 0 = λ z. slice_get z w.number ≡ Some w.thread in
-      let k : ℕ → ThreadOf → ThreadPlace = λ n z. thread_place (system t) w.domain n z in
-      let y = from_ones k (threads_of (system t) w.domain) w.number w.thread
-      (subst P (threads_are t can w.domain x.0 x.1) w.there) in
-      let stand : place t (OfThread w.domain w.number) ≡ at = ap (λ z. place t z) (sym w.what) ∙ place_is t at p.0 p.1 in
+      let x = object_stands t at (objects.Thread c) o in
+      let w = of_tcb x.what x.sort in
+      let d = w.0 in
+      let is : IsThere t (OfThread d w.1) = subst (λ z. IsThere t z) w.2 x.there in
+      let k : ℕ → ThreadOf → ThreadPlace = λ n z. thread_place (system t) d n z in
+      let P : List ThreadPlace → Type 0 = λ z. slice_get z w.1 ≡ Some is.1.0 in
+      let y = from_ones k (threads_of (system t) d) w.1 is.1.0 (subst P (threads_are t can d is.0.0 is.0.1) is.1.1) in
+      let stand : place t (OfThread d w.1) ≡ at = subst (λ z. place t z ≡ at) w.2 x.stands in
       let Q : ℕ → Type 0 = λ z. IsIn (ThreadLine z y.0.leaf y.0.end) (map_lines t) in
-      (y.0.leaf, y.0.end, subst Q stand (line_to t can w.domain w.number x.0 y.0 x.1 y.1))
+      (y.0.leaf, y.0.end, subst Q stand (line_to t can d w.1 is.0.0 y.0 is.0.1 y.1))
 
   pub threads_hold : AreThreads t (spec_of t) (root_of t) (map_lines t)
   threads_hold = record { only = only; every = every; one = one_line; all = all; numbered = numbers_are; apart = apart }

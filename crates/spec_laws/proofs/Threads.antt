@@ -1,15 +1,15 @@
 -- Threads and their lines
-use Rattle.spec_laws.proofs.Common.{Bool, CanMap, Connector, Direct, Domain, DomainLine, EndAt, FlatConnection, FlatEnd, From, Handler, HasThread, Interrupt, IsIn, Leaf, List, MapLine, Mmio, None, Notification, OfDomain, OfEnd, Option, OwnLock}
-use Rattle.spec_laws.proofs.Common.{Owned, Part, Role, Rpc, Serves, SharedMemory, SlotUse, Some, Space, Spaces, Tables, ThreadLine, ThreadPlace, To, [], ap, arith, before, cond, domain_lines, domain_slots, domain_tcbs, domain_threads, domain_windows}
-use Rattle.spec_laws.proofs.Common.{end_rule, ends, ends_at, false, flat_map, from_flat_map, from_gather, from_ones, gather, gather_ones, gathered, get_ones, in_append, in_flat_map, in_gather, in_left, in_right, in_together, inl, inr, is_called}
-use Rattle.spec_laws.proofs.Common.{leaf_members, leaf_threads, leaves_of, length, map_lines, numbered, object_at, objects_stand, option_map_or, owned, part, parts, place, refl, sections, server, serves, single, slice_get, slot_line, slot_lines}
-use Rattle.spec_laws.proofs.Common.{space, spec_of, subst, sym, system, tcb, tcbs, thread, thread_line, thread_lines, thread_place, threads_at, threads_of, true, use_cap, uses_at, window_line, window_lines, windows_at, ℕ, ◌++◌, ◌+◌, ◌∙◌, ◌∷◌, ◌≡◌}
+use Rattle.spec_laws.proofs.Common.{Bool, CanMap, Connector, Domain, EndAt, FlatConnection, FlatEnd, HasThread, IsIn, Leaf, List, MapLine, None, OfDomain, Option, OwnLock}
+use Rattle.spec_laws.proofs.Common.{Owned, Part, Role, Rpc, Serves, SlotUse, Some, Space, Spaces, Tables, ThreadLine, ThreadPlace, To, [], ap, arith, before, cond, domain_lines, domain_tcbs, domain_threads}
+use Rattle.spec_laws.proofs.Common.{end_rule, ends, ends_at, false, flat_map, from_flat_map, from_ones, gather, gather_ones, gathered, get_ones, in_flat_map, in_gather, in_left, in_right, in_together, inl, inr, is_called}
+use Rattle.spec_laws.proofs.Common.{leaf_members, leaf_threads, leaves_of, length, map_lines, numbered, object_at, objects_stand, option_map_or, owned, part, parts, place, refl, sections, server, serves, slice_get, slot_line, slot_lines}
+use Rattle.spec_laws.proofs.Common.{space, spec_of, subst, sym, system, tcb, tcbs, thread, thread_line, thread_lines, thread_place, threads_at, threads_of, true, use_cap, window_lines, ℕ, ◌++◌, ◌+◌, ◌∙◌, ◌∷◌, ◌≡◌}
 use Rattle.cap_model.specs.declared.object.Object.TheVariants as objects
 use Rattle.system_spec.specs.declared.part.What.TheVariants.{ThreadOf as OfThread}
 use Rattle.system_spec.specs.declared.series.Series.TheVariants as series
-use Rattle.vspace_layout.specs.declared.spaces.Window.{Window}
 use Rattle.vspace_layout.specs.declared.thread.ThreadOf.{ThreadOf}
 use Rattle.spec_laws.proofs.CapsFit.{end_is as end_there}
+use Rattle.spec_laws.proofs.MapLines.{by_line}
 use Rattle.spec_laws.proofs.Numbering.{before_same}
 use Rattle.spec_laws.proofs.EndsAt.{end_of_leaf, ends_are, in_leaf_ends, once_leaf}
 use Rattle.spec_laws.proofs.Once.{Once, once_cons, once_flat, once_none, once_one}
@@ -17,12 +17,7 @@ use Rattle.spec_laws.proofs.Paging.{shown_if}
 
 called : (c : Connector) (r : Role) → is_called c r ≡ true → (c ≡ Rpc) × (r ≡ To)
 called Rpc To h = (refl, refl)
-called Rpc From h = cc
-called Notification r h = cc
-called SharedMemory r h = cc
-called Mmio r h = cc
-called Interrupt r h = cc
-called Direct r h = cc
+called _ _ h = cc
 
 serves_by : (t : Tables) (e : EndAt) (c : FlatConnection) (x : FlatEnd) → slice_get t.flat.connections e.connection ≡ Some c
     → slice_get c.ends e.end ≡ Some x → serves t.flat e ≡ is_called c.connector x.role
@@ -183,62 +178,30 @@ module _ (t : Tables) (can : CanMap t) where
   SaysThread (ThreadLine at leaf end) = Line at leaf end
   SaysThread _ = Unit {0}
 
-  thread_from : (line : MapLine) → IsIn line (thread_lines t) → SaysThread line
-  thread_from line i =
-      let f : ℕ → Domain → List MapLine = λ d x. domain_threads t d in
-      let a = from_gather f line t.flat.domains i in
-      let g : ℕ → ThreadPlace → List MapLine = λ n z. thread_line t a.0 n z ∷ [] in
-      let b = from_gather g line (threads_at t a.0) a.3 in
-      let P : List ThreadPlace → Type 0 = λ z. slice_get z b.0 ≡ Some b.1 in
-      let k : ℕ → ThreadOf → ThreadPlace = λ n z. thread_place (system t) a.0 n z in
-      let y = from_ones k (threads_of (system t) a.0) b.0 b.1 (subst P (threads_are a.0 a.1 a.2) b.2) in
-      let it : Line (place t (OfThread a.0 b.0)) b.1.leaf b.1.end = record {
-        domain = a.0;
-        leaves = a.1;
-        here = a.2;
-        number = b.0;
+  of_thread : (d : ℕ) (x : Domain) → slice_get t.flat.domains d ≡ Some x → (n : ℕ) (z : ThreadPlace)
+      → slice_get (threads_at t d) n ≡ Some z → Line (place t (OfThread d n)) z.leaf z.end
+  of_thread d x h n z e =
+      let made : ℕ → ThreadOf → ThreadPlace = λ n y. thread_place (system t) d n y in
+      let y = from_ones made (threads_of (system t) d) n z (ap (λ zs. slice_get zs n) (sym (threads_are d x h)) ∙ e) in
+      record {
+        domain = d;
+        leaves = x;
+        here = h;
+        number = n;
         y = y.0;
         stands = y.1;
         at_is = refl;
         leaf_is = ap (λ (z : ThreadPlace). z.leaf) y.2;
         end_is = ap (λ (z : ThreadPlace). z.end) y.2;
-      } in
-      subst SaysThread (single (thread_line t a.0 b.0 b.1) line b.3) it
+      }
 
-  abbrev IsThreadLine : MapLine → Type 0
-  IsThreadLine (ThreadLine at leaf end) = Unit {0}
-  IsThreadLine _ = ⊥
+  of_slot : (o n : ℕ) (u : SlotUse) → SaysThread (slot_line o n u)
+  of_slot o n (OwnLock leaf m) = tt
+  of_slot o n _ = tt
 
-  no_slot : (o n : ℕ) (u : SlotUse) → IsThreadLine (slot_line o n u) → ⊥
-  no_slot o n (OfEnd k m) s = s
-  no_slot o n (Handler k m) s = s
-  no_slot o n (OwnLock leaf m) s = s
-
-  pub line_from : (line : MapLine) → IsIn line (map_lines t) → IsThreadLine line → SaysThread line
-  line_from line i s = elim (in_append line (domain_lines t) (thread_lines t ++ (slot_lines t ++ window_lines t)) i) [
-    | inl j ↦
-        let f : ℕ → Domain → List MapLine = λ d x. DomainLine d ∷ [] in
-        let a = from_gather f line t.flat.domains j in
-        absurd (subst IsThreadLine (sym (single (DomainLine a.0) line a.3)) s)
-    | inr r ↦ elim (in_append line (thread_lines t) (slot_lines t ++ window_lines t) r) [
-      | inl j ↦ thread_from line j
-      | inr q ↦ elim (in_append line (slot_lines t) (window_lines t) q) [
-        | inl j ↦
-            let f : ℕ → Domain → List MapLine = λ d x. domain_slots t d in
-            let a = from_gather f line t.flat.domains j in
-            let h : ℕ → SlotUse → List MapLine = λ n u. slot_line (use_cap t a.0 n u).object n u ∷ [] in
-            let b = from_gather h line (uses_at t a.0) a.3 in
-            absurd (no_slot (use_cap t a.0 b.0 b.1).object b.0 b.1
-            (subst IsThreadLine (sym (single (slot_line (use_cap t a.0 b.0 b.1).object b.0 b.1) line b.3)) s))
-        | inr j ↦
-            let f : ℕ → Domain → List MapLine = λ d x. domain_windows t d in
-            let a = from_gather f line t.flat.domains j in
-            let h : ℕ → Window → List MapLine = λ n w. window_line w ∷ [] in
-            let b = from_gather h line (windows_at t a.0) a.3 in
-            absurd (subst IsThreadLine (sym (single (window_line b.1) line b.3)) s)
-      ]
-    ]
-  ]
+  pub line_from : (line : MapLine) → IsIn line (map_lines t) → SaysThread line
+  line_from = by_line t SaysThread (λ d x h. tt) of_thread (λ d x h n u e. of_slot (use_cap t d n u).object n u)
+      (λ d x h n w e. tt)
 
   pub line_to : (d i : ℕ) (x : Domain) (y : ThreadOf) → slice_get t.flat.domains d ≡ Some x
       → slice_get (threads_of (system t) d) i ≡ Some y → IsIn (ThreadLine (place t (OfThread d i)) y.leaf y.end) (map_lines t)

@@ -85,12 +85,7 @@ module _ (t : Tables) (h : IsConnected t) where
       let root : Some (place t (CNodeOf w.domain)) ≡ Some n = ap (λ (z : Tcb). z.cspace) w.is ∙ there in
       let same : place t (CNodeOf w.domain) ≡ n = cc in
       w.label ∙ sym (label_there t (CNodeOf w.domain) (w.found, w.here)) ∙ ap (label_of (labels t)) same
-  root_of o n objects.Endpoint at there = absurd cc
-  root_of o n objects.Notification at there = absurd cc
-  root_of o n (objects.CNode bits slots) at there = absurd cc
-  root_of o n (objects.Frame paddr fill) at there = absurd cc
-  root_of o n (objects.Pages level slots) at there = absurd cc
-  root_of o n (objects.Irq m) at there = absurd cc
+  root_of o n _ at there = absurd cc
 
   -- a domain with a thread has a page, so it has a root
   space_there : {o : ℕ} {x : Tcb} (w : IsThread o x) → IsThere t (TableOf w.domain 0)
@@ -106,12 +101,7 @@ module _ (t : Tables) (h : IsConnected t) where
       let root : Some (place t (TableOf w.domain 0)) ≡ Some n = ap (λ (z : Tcb). z.vspace) w.is ∙ there in
       let same : place t (TableOf w.domain 0) ≡ n = cc in
       w.label ∙ sym (label_there t (TableOf w.domain 0) (space_there w)) ∙ ap (label_of (labels t)) same
-  space_of o n objects.Endpoint at there = absurd cc
-  space_of o n objects.Notification at there = absurd cc
-  space_of o n (objects.CNode bits slots) at there = absurd cc
-  space_of o n (objects.Frame paddr fill) at there = absurd cc
-  space_of o n (objects.Pages level slots) at there = absurd cc
-  space_of o n (objects.Irq m) at there = absurd cc
+  space_of o n _ at there = absurd cc
 
   -- ---- buffers
 
@@ -159,13 +149,7 @@ module _ (t : Tables) (h : IsConnected t) where
     go : (x : Option Object) → object_at (spec_of t) o ≡ x → buffer_of x ≡ Some held
         → label_of (labels t) o ≡ label_of (labels t) held.object
     go (Some (objects.Thread x)) q e = buffer_own o held x (thread_is o x (object_stands t o (objects.Thread x) q)) e
-    go None q e = absurd cc
-    go (Some objects.Endpoint) q e = absurd cc
-    go (Some objects.Notification) q e = absurd cc
-    go (Some (objects.CNode bits slots)) q e = absurd cc
-    go (Some (objects.Frame paddr fill)) q e = absurd cc
-    go (Some (objects.Pages level slots)) q e = absurd cc
-    go (Some (objects.Irq n)) q e = absurd cc
+    go _ q e = absurd cc
 
   -- ---- all that threads have
 

@@ -135,16 +135,10 @@ from_end_uses Notification r k n u (inr i) = absurd i
 from_end_uses Interrupt To k n u (inl e) = (refl, inl e)
 from_end_uses Interrupt To k n u (inr (inl e)) = (refl, inr (record { interrupt = refl; receives = refl; is = e }))
 from_end_uses Interrupt To k n u (inr (inr i)) = absurd i
-from_end_uses Interrupt From k n u i = absurd i
-from_end_uses SharedMemory r k n u i = absurd i
-from_end_uses Mmio r k n u i = absurd i
-from_end_uses Direct r k n u i = absurd i
+from_end_uses _ _ k n u i = absurd i
 
 pub end_in_uses : (c : Connector) (r : Role) (k n : ℕ) → has_slot c r ≡ true → IsIn (OfEnd k n) (end_uses c r k n)
 end_in_uses Rpc r k n s = inl refl
 end_in_uses Notification r k n s = inl refl
 end_in_uses Interrupt To k n s = inl refl
-end_in_uses Interrupt From k n s = absurd (true≢false (sym s))
-end_in_uses SharedMemory r k n s = absurd (true≢false (sym s))
-end_in_uses Mmio r k n s = absurd (true≢false (sym s))
-end_in_uses Direct r k n s = absurd (true≢false (sym s))
+end_in_uses _ _ k n s = absurd (true≢false (sym s))

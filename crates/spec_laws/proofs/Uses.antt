@@ -43,10 +43,7 @@ from_end cs k n c e u h s i = by_kind c.connector e.role refl i (λ slot. record
     by_kind Interrupt To q (inl same) end = subst (IsUse cs) same (end tt)
     by_kind Interrupt To q (inr (inl same)) end = subst (IsUse cs) same (c, h, q)
     by_kind Interrupt To q (inr (inr i)) end = absurd i
-    by_kind Interrupt From q i end = absurd i
-    by_kind SharedMemory r q i end = absurd i
-    by_kind Mmio r q i end = absurd i
-    by_kind Direct r q i end = absurd i
+    by_kind _ _ q i end = absurd i
 
 from_joined : (leaf m k n : ℕ) (c : FlatConnection) (e : FlatEnd) (u : SlotUse) → IsIn u (joined_uses leaf m k c.connector n e)
     → IsIn u (end_uses c.connector e.role k n)

@@ -1,14 +1,14 @@
 -- What stands at a place of the spec, and whose label it has.
-use Rattle.spec_laws.proofs.Common.{CNodeOf, Connector, Direct, Domain, EndpointOf, Entry, FlatConnection, FrameInfo, FrameOf, Handler, Interrupt, IrqOf, IsIn, IsThere, Layer, List, LockOf, Mmio, None, Notification, NotificationOf, Object}
-use Rattle.spec_laws.proofs.Common.{OfConnection, OfDomain, OfEnd, OfLeaf, Option, OwnLock, Owned, Owner, PageTable, Part, Rpc, Series, SharedMemory, SlotUse, Some, Spec, TableOf, Tables, ThreadOf, ThreadPlace, What, [], all_tables, ap, arch, arith}
-use Rattle.spec_laws.proofs.Common.{by_section, cnodes, domain_locks, domain_tcbs, endpoint, endpoint_by, endpoints, entry, entry_at, entry_object, frame_object, frame_owner, frame_parts, from_gather, from_get_map, from_map, from_ones, get_or}
-use Rattle.spec_laws.proofs.Common.{has_part, in_append, in_place, inl, inr, irq, irq_by, irq_owner, irqs, label_of, labels_of, layers, lock, locks, map, notification, notification_by, notifications, number_of, numbered, object, object_at}
-use Rattle.spec_laws.proofs.Common.{option_map_or, owned, page_mapping, pages_at, part, part_label, parts, place, place_is, place_of, refl, shapes, single, sizes, slice_get, slice_index, spec_of, stands, subst, suc, sym, table_of, table_part}
-use Rattle.spec_laws.proofs.Common.{table_parts, tcb, tcbs, there, threads_at, uses_at, zero, ℕ, ◌+◌, ◌∙◌, ◌∷◌, ◌≡◌, ◌⊎◌}
+use Rattle.spec_laws.proofs.Common.{CNodeOf, EndpointOf, Entry, FrameInfo, FrameOf, IrqOf, IsIn, IsThere, Layer, List, LockOf, None, NotificationOf, Object}
+use Rattle.spec_laws.proofs.Common.{OfConnection, OfDomain, OfLeaf, Option, Owner, Part, Some, Spec, TableOf, Tables, ThreadOf, What, [], ap, arch, arith}
+use Rattle.spec_laws.proofs.Common.{endpoint, entry, entry_at, entry_object, frame_object, frame_owner, from_get_map, from_map, get_or}
+use Rattle.spec_laws.proofs.Common.{has_part, in_append, in_place, inl, inr, irq, irq_owner, label_of, labels_of, layers, lock, map, notification, number_of, object, object_at}
+use Rattle.spec_laws.proofs.Common.{option_map_or, page_mapping, pages_at, part_label, parts, place, place_is, refl, shapes, sizes, slice_get, slice_index, spec_of, stands, subst, suc, sym, table_of}
+use Rattle.spec_laws.proofs.Common.{tcb, there, zero, ℕ, ◌+◌, ◌∙◌, ◌∷◌, ◌≡◌, ◌⊎◌}
 use Rattle.cap_model.specs.declared.object.Object.TheVariants as objects
 use Rattle.page_tables.specs.Levels.{numbered as tables_numbered}
+use Rattle.spec_laws.proofs.EachPart.{of_every}
 use Rattle.spec_laws.proofs.TablesKept.{moved, object_is, standing}
-use Rattle.system_spec.specs.declared.series.Series.TheVariants as series
 
 -- ---- whose a part is
 
@@ -31,106 +31,17 @@ owner_of t (FrameOf f) = frame_owner_at t f
 abbrev Whose : Tables → Part → Type 0
 Whose t p = p.owner ≡ owner_of t p.what
 
-abbrev WhoseOwned : Tables → Owned → Type 0
-WhoseOwned t x = x.owner ≡ owner_of t x.what
-
-in_order : (t : Tables) (s : Series) (xs : List Owned) (p : Part) → ((x : Owned) → IsIn x xs → WhoseOwned t x)
-    → IsIn p (numbered s xs) → Whose t p
-in_order t s xs p h i =
-    let n = place_of p (numbered s xs) i in
-    let o = from_ones (λ j (x : Owned). part s j x.owner x.what) xs n.0 p n.1 in
-    subst (λ z. Whose t z) {x = part s n.0 o.0.owner o.0.what} o.2 (h o.0 (in_place o.0 xs n.0 o.1))
-
-module _ (t : Tables) where
-  of_cnode : (o : Owned) → IsIn o (cnodes t.flat.domains) → WhoseOwned t o
-  of_cnode o i =
-      let f : ℕ → Domain → List Owned = λ n z. owned (OfDomain n) (CNodeOf n) ∷ [] in
-      let g = from_gather f o t.flat.domains i in
-      subst (λ z. WhoseOwned t z) (single (owned (OfDomain g.0) (CNodeOf g.0)) o g.3) refl
-
-  of_thread : (o : Owned) → IsIn o (tcbs t) → WhoseOwned t o
-  of_thread o i =
-      let g = from_gather (domain_tcbs t) o t.flat.domains i in
-      let f : ℕ → ThreadPlace → List Owned = λ n z. owned (OfDomain g.0) (ThreadOf g.0 n) ∷ [] in
-      let h = from_gather f o (threads_at t g.0) g.3 in
-      subst (λ z. WhoseOwned t z) (single (owned (OfDomain g.0) (ThreadOf g.0 h.0)) o h.3) refl
-
-  of_endpoint : (p : Part) → IsIn p (endpoints t) → Whose t p
-  of_endpoint p i =
-      let g = from_gather endpoint p t.flat.connections i in
-      by_kind g.1.connector g.0 g.3
-    where
-      by_kind : (c : Connector) (k : ℕ) → IsIn p (endpoint_by k c) → Whose t p
-      by_kind Rpc k i = subst (λ z. Whose t z) (single (part series.Ep k (OfConnection k) (EndpointOf k)) p i) refl
-      by_kind Notification k i = absurd i
-      by_kind SharedMemory k i = absurd i
-      by_kind Mmio k i = absurd i
-      by_kind Interrupt k i = absurd i
-      by_kind Direct k i = absurd i
-
-  of_notification : (p : Part) → IsIn p (notifications t) → Whose t p
-  of_notification p i =
-      let g = from_gather notification p t.flat.connections i in
-      by_kind g.1.connector g.0 g.3
-    where
-      by_kind : (c : Connector) (k : ℕ) → IsIn p (notification_by k c) → Whose t p
-      by_kind Notification k i = subst (λ z. Whose t z) (single (part series.Ntfn k (OfConnection k) (NotificationOf k)) p i) refl
-      by_kind Interrupt k i = subst (λ z. Whose t z) (single (part series.Ntfn k (OfConnection k) (NotificationOf k)) p i) refl
-      by_kind Rpc k i = absurd i
-      by_kind SharedMemory k i = absurd i
-      by_kind Mmio k i = absurd i
-      by_kind Direct k i = absurd i
-
-  of_lock : (o : Owned) → IsIn o (locks t) → WhoseOwned t o
-  of_lock o i =
-      let g = from_gather (domain_locks t) o t.flat.domains i in
-      let u = from_gather (lock g.0) o (uses_at t g.0) g.3 in
-      by_use u.1 g.0 u.0 u.3
-    where
-      by_use : (u : SlotUse) (d n : ℕ) → IsIn o (lock d n u) → WhoseOwned t o
-      by_use (OfEnd k l) d n i = absurd i
-      by_use (Handler k l) d n i = absurd i
-      by_use (OwnLock leaf l) d n i = subst (λ z. WhoseOwned t z) (single (owned (OfDomain d) (LockOf d n)) o i) refl
-
-  of_irq : (o : Owned) → IsIn o (irqs t) → WhoseOwned t o
-  of_irq o i =
-      let g = from_gather irq o t.flat.connections i in
-      let device : irq_owner g.0 g.1 ≡ device_at t g.0 = ap (λ z. option_map_or (irq_owner g.0) z (OfConnection g.0)) (sym g.2) in
-      by_kind g.1.connector g.0 (irq_owner g.0 g.1) g.3 device
-    where
-      by_kind : (c : Connector) (k : ℕ) (w : Owner) → IsIn o (irq_by k w c) → w ≡ device_at t k → WhoseOwned t o
-      by_kind Interrupt k w i h = subst (λ z. WhoseOwned t z) (single (owned w (IrqOf k)) o i) h
-      by_kind Rpc k w i h = absurd i
-      by_kind Notification k w i h = absurd i
-      by_kind SharedMemory k w i h = absurd i
-      by_kind Mmio k w i h = absurd i
-      by_kind Direct k w i h = absurd i
-
-  of_table : (p : Part) → IsIn p (table_parts (all_tables t)) → Whose t p
-  of_table p i =
-      let f : ℕ → PageTable → List Part = λ m z. table_part (all_tables t) m z ∷ [] in
-      let g = from_gather f p (all_tables t) i in
-      subst (λ z. Whose t z) {x = table_part (all_tables t) g.0 g.1} (single (table_part (all_tables t) g.0 g.1) p g.3) refl
-
-  of_frame : (o : Owned) → IsIn o (frame_parts t.spaces.frames) → WhoseOwned t o
-  of_frame o i =
-      let f : ℕ → FrameInfo → List Owned = λ n z. owned (frame_owner z.owner) (FrameOf n) ∷ [] in
-      let g = from_gather f o t.spaces.frames i in
-      let own : frame_owner g.1.owner ≡ frame_owner_at t g.0 =
-      ap (λ z. option_map_or (λ (x : FrameInfo). frame_owner x.owner) z (OfLeaf 0)) (sym g.2) in
-      subst (λ z. WhoseOwned t z) {x = owned (frame_owner g.1.owner) (FrameOf g.0)}
-      (single (owned (frame_owner g.1.owner) (FrameOf g.0)) o g.3) own
-
-  whose : (p : Part) → IsIn p (parts t) → Whose t p
-  whose = by_section t (λ p. Whose t p)
-      (λ p i. in_order t series.CNode (cnodes t.flat.domains) p of_cnode i)
-      (λ p i. in_order t series.Tcb (tcbs t) p of_thread i)
-      of_endpoint
-      of_notification
-      (λ p i. in_order t series.Lock (locks t) p of_lock i)
-      (λ p i. in_order t series.Irq (irqs t) p of_irq i)
-      of_table
-      (λ p i. in_order t series.Frame (frame_parts t.spaces.frames) p of_frame i)
+pub whose : (t : Tables) (p : Part) → IsIn p (parts t) → Whose t p
+whose t = of_every t (Whose t) (record {
+  cnode = λ n d. refl;
+  thread = λ n d i x e. refl;
+  endpoint = λ k. refl;
+  notification = λ k. refl;
+  lock = λ n d i. refl;
+  irq = λ n k c e. ap (λ o. option_map_or (irq_owner k) o (OfConnection k)) (sym e);
+  table = λ n d j o e. refl;
+  frame = λ n f x e. ap (λ o. option_map_or (λ (y : FrameInfo). frame_owner y.owner) o (OfLeaf 0)) (sym e);
+})
 
 -- ---- labels
 
@@ -181,12 +92,7 @@ are_pages first link (y ∷ ys) o i =
     ]
 
 pub classed : (t : Tables) (w : What) → IsThere t w → class_of (object t w) ≡ class w
-classed t (CNodeOf d) h = refl
 classed t (ThreadOf d i) h = ap (λ z. class_of (option_map_or (λ x. objects.Thread (tcb t d x)) z objects.Endpoint)) h.1.1
-classed t (EndpointOf k) h = refl
-classed t (NotificationOf k) h = refl
-classed t (LockOf d n) h = refl
-classed t (IrqOf k) h = refl
 classed t (TableOf d j) h =
     let m = moved t 0 0 (place t (TableOf d 0)) (place t (FrameOf 0)) d j h.1.0 h.1.1 in
     let first = place t (TableOf d 0) in
@@ -194,6 +100,7 @@ classed t (TableOf d j) h =
     ap class_of (object_is t d j m.0 m.1) ∙ are_pages first 0 (layers (shapes (arch t)) xs) m.0
     (in_place m.0 (standing t d) j m.1)
 classed t (FrameOf f) h = ap (λ z. class_of (option_map_or frame_object z objects.Endpoint)) h.1
+classed t _ h = refl
 
 -- what stands at a place of the spec
 pub record IsAt (t : Tables) (o : ℕ) (x : Object) : Type 0 where
@@ -240,60 +147,29 @@ boots {A} spec f o x d h = go (slice_get spec.entries o) refl where
 
 pub of_node : (w : What) → class w ≡ 2 → (d : ℕ) × (w ≡ CNodeOf d)
 of_node (CNodeOf d) e = (d, refl)
-of_node (ThreadOf d i) e = absurd (omega (arith, e))
-of_node (EndpointOf k) e = absurd (omega (arith, e))
-of_node (NotificationOf k) e = absurd (omega (arith, e))
-of_node (LockOf d n) e = absurd (omega (arith, e))
-of_node (IrqOf k) e = absurd (omega (arith, e))
-of_node (TableOf d j) e = absurd (omega (arith, e))
-of_node (FrameOf f) e = absurd (omega (arith, e))
+of_node _ e = absurd (omega (arith, e))
 
 pub of_tcb : (w : What) → class w ≡ 3 → (d i : ℕ) × (w ≡ ThreadOf d i)
 of_tcb (ThreadOf d i) e = (d, i, refl)
-of_tcb (CNodeOf d) e = absurd (omega (arith, e))
-of_tcb (EndpointOf k) e = absurd (omega (arith, e))
-of_tcb (NotificationOf k) e = absurd (omega (arith, e))
-of_tcb (LockOf d n) e = absurd (omega (arith, e))
-of_tcb (IrqOf k) e = absurd (omega (arith, e))
-of_tcb (TableOf d j) e = absurd (omega (arith, e))
-of_tcb (FrameOf f) e = absurd (omega (arith, e))
+of_tcb _ e = absurd (omega (arith, e))
+
+pub of_frame : (w : What) → class w ≡ 4 → (f : ℕ) × (w ≡ FrameOf f)
+of_frame (FrameOf f) e = (f, refl)
+of_frame _ e = absurd (omega (arith, e))
 
 pub of_pages : (w : What) → class w ≡ 5 → (d j : ℕ) × (w ≡ TableOf d j)
 of_pages (TableOf d j) e = (d, j, refl)
-of_pages (CNodeOf d) e = absurd (omega (arith, e))
-of_pages (ThreadOf d i) e = absurd (omega (arith, e))
-of_pages (EndpointOf k) e = absurd (omega (arith, e))
-of_pages (NotificationOf k) e = absurd (omega (arith, e))
-of_pages (LockOf d n) e = absurd (omega (arith, e))
-of_pages (IrqOf k) e = absurd (omega (arith, e))
-of_pages (FrameOf f) e = absurd (omega (arith, e))
+of_pages _ e = absurd (omega (arith, e))
 
 pub of_interrupt : (w : What) → class w ≡ 6 → (k : ℕ) × (w ≡ IrqOf k)
 of_interrupt (IrqOf k) e = (k, refl)
-of_interrupt (CNodeOf d) e = absurd (omega (arith, e))
-of_interrupt (ThreadOf d i) e = absurd (omega (arith, e))
-of_interrupt (EndpointOf k) e = absurd (omega (arith, e))
-of_interrupt (NotificationOf k) e = absurd (omega (arith, e))
-of_interrupt (LockOf d n) e = absurd (omega (arith, e))
-of_interrupt (TableOf d j) e = absurd (omega (arith, e))
-of_interrupt (FrameOf f) e = absurd (omega (arith, e))
+of_interrupt _ e = absurd (omega (arith, e))
 
 pub of_calls : (w : What) → class w ≡ 0 → (k : ℕ) × (w ≡ EndpointOf k)
 of_calls (EndpointOf k) e = (k, refl)
-of_calls (CNodeOf d) e = absurd (omega (arith, e))
-of_calls (ThreadOf d i) e = absurd (omega (arith, e))
-of_calls (NotificationOf k) e = absurd (omega (arith, e))
-of_calls (LockOf d n) e = absurd (omega (arith, e))
-of_calls (IrqOf k) e = absurd (omega (arith, e))
-of_calls (TableOf d j) e = absurd (omega (arith, e))
-of_calls (FrameOf f) e = absurd (omega (arith, e))
+of_calls _ e = absurd (omega (arith, e))
 
 pub of_notices : (w : What) → class w ≡ 1 → ((k : ℕ) × (w ≡ NotificationOf k)) ⊎ ((d n : ℕ) × (w ≡ LockOf d n))
 of_notices (NotificationOf k) e = inl (k, refl)
 of_notices (LockOf d n) e = inr (d, n, refl)
-of_notices (CNodeOf d) e = absurd (omega (arith, e))
-of_notices (ThreadOf d i) e = absurd (omega (arith, e))
-of_notices (EndpointOf k) e = absurd (omega (arith, e))
-of_notices (IrqOf k) e = absurd (omega (arith, e))
-of_notices (TableOf d j) e = absurd (omega (arith, e))
-of_notices (FrameOf f) e = absurd (omega (arith, e))
+of_notices _ e = absurd (omega (arith, e))

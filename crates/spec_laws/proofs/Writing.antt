@@ -42,12 +42,8 @@ lines_few t =
     omega (arith, a, b, c)
   where
     by_kind : (k : ℕ) (c : FlatConnection) (x : Connector) → length (line_by t k c x) ≤ 1
-    by_kind k c Interrupt = omega arith
-    by_kind k c Rpc = omega arith
     by_kind k c Notification = omega arith
-    by_kind k c SharedMemory = omega arith
-    by_kind k c Mmio = omega arith
-    by_kind k c Direct = omega arith
+    by_kind k c _ = omega arith
 
 module _ (t : Tables) where
   -- ---- how much longer the lines of threads and frames are
