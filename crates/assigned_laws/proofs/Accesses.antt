@@ -6,7 +6,7 @@ use Rattle.assigned_laws.proofs.Common.{place_of, refl, same_kind, settled_of, s
 use Rattle.adl_meaning.specs.declared.settled.EndSetting.{EndSetting}
 use Rattle.std.proofs.lemmas.Slice.Eq.{bytes_eq-Decides}
 use Rattle.adl_ast.specs.declared.component.InterfaceKind.{InterfaceKind}
-use Rattle.adl_ast.specs.declared.component.InterfaceKind.TheVariants.{Uses, Provides, Emits, Consumes, Dataport}
+use Rattle.adl_ast.specs.declared.component.InterfaceKind.TheVariants.{Dataport}
 use Rattle.adl_ast.specs.declared.component.Member.TheVariants as members
 use Rattle.adl_ast.specs.declared.file.Item.TheVariants as items
 use Rattle.adl_meaning.specs.Paths.{leaves as tree_leaves}
@@ -35,9 +35,7 @@ item_interface e m i h = go e.item h where
   go : (x : Item) → slice_get (members_of x) m ≡ Some (members.Interface i)
       → option_and_then (λ c. option_and_then as_interface (slice_get c.members m)) (as_component x) ≡ Some i
   go (items.Component c) h = ap (option_and_then as_interface) h
-  go (items.Import x) h = absurd cc
-  go (items.Procedure x) h = absurd cc
-  go (items.Assembly x) h = absurd cc
+  go _ h = absurd cc
 
 member_interface : (s : Source) (a : ItemAt) (m : ℕ) (i : Interface) → slice_get (members_at s a) m ≡ Some (members.Interface i)
     → option_and_then (λ c. option_and_then as_interface (slice_get c.members m)) (component_at s a) ≡ Some i
@@ -58,10 +56,7 @@ member_interface s a m i h = by_file (slice_get s.files a.file) h where
 
 is_dataport_kind : (k : InterfaceKind) → same_kind k Dataport ≡ true → k ≡ Dataport
 is_dataport_kind Dataport h = refl
-is_dataport_kind Uses h = absurd (true≢false (sym h))
-is_dataport_kind Provides h = absurd (true≢false (sym h))
-is_dataport_kind Emits h = absurd (true≢false (sym h))
-is_dataport_kind Consumes h = absurd (true≢false (sym h))
+is_dataport_kind _ h = absurd (true≢false (sym h))
 
 -- who may read or write is at a dataport of software
 record AtMemory (c : Connector) (r : Role) : Type 0 where

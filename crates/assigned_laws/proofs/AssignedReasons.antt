@@ -239,21 +239,14 @@ module _ (s : Source) (sound : AreNamesSound s) (dotted : AreDotted (hierarchy_o
             (labelled_frames y.wire.0 e.role a given));
         to = refl;
       }
-      leading y k here e x at w OfDevice given to =
-          let v = put s sound dotted numbers y k here to.other in
-          record {
-            m = leaf_label t v.0.end.leaf;
-            nq = subst (λ z. IsNamed t (leaf_label t v.0.end.leaf) z) (sym to.label_is) v.2.named;
-            to = record { at = v.0; same = v.1 ∙ sym at; role = sym v.2.role ∙ to.role ∙ ap opposite w.role; label_is = refl };
-          }
-      leading y k here e x at w OfIrq given to =
-          let v = put s sound dotted numbers y k here to.other in
-          record {
-            m = leaf_label t v.0.end.leaf;
-            nq = subst (λ z. IsNamed t (leaf_label t v.0.end.leaf) z) (sym to.label_is) v.2.named;
-            to = record { at = v.0; same = v.1 ∙ sym at; role = sym v.2.role ∙ to.role ∙ ap opposite w.role; label_is = refl };
-          }
       leading y k here e x at w NoObject given to = absurd to
+      leading y k here e x at w _ given to =
+          let v = put s sound dotted numbers y k here to.other in
+          record {
+            m = leaf_label t v.0.end.leaf;
+            nq = subst (λ z. IsNamed t (leaf_label t v.0.end.leaf) z) (sym to.label_is) v.2.named;
+            to = record { at = v.0; same = v.1 ∙ sym at; role = sym v.2.role ∙ to.role ∙ ap opposite w.role; label_is = refl };
+          }
 
   -- an end as it is asked for
   is_end : (c : Connector) (r : Role) (y : Strung) (x : EndAt (flat_of s)) (e : EndOf (hierarchy_of s) y.path y.wire)

@@ -2,8 +2,8 @@
 -- instance, of a group or of a connection of one composition, and these differ in name.
 use Rattle.assigned_laws.proofs.Common.{AreNamesSound, ArePathsApart, Bool, Composition, Connection, Domain, FlatConnection, HasPath, Held, Hierarchy, Id, Instance, IsIn, Leaf, Line, List, Name, None, OfConnection, OfDomain, OfLeaf, Option, Owner}
 use Rattle.assigned_laws.proofs.Common.{Part, Path, Placed, Some, Source, Strung, [], a_group, an_instance, ap, as_connection, as_held, at, body, bytes_eq, cond, connections, connections_once, connections_stand, domain_number, domain_number_is}
-use Rattle.assigned_laws.proofs.Common.{domain_of, domains, domains_are, false, filter_map, find, flat_connection, flat_domain, flat_map, flat_of, from_filter_map, from_flat_map, from_get_map, get_map, group_above, held_by, held_in, hierarchy_of}
-use Rattle.assigned_laws.proofs.Common.{in_flat_map, in_get, in_map, inl, inr, instances_by, is_hardware, kind_named, last_of, leaf_number, leaf_number_is, leaf_of, leaves, leaves_stand, map, map_some, member_of, name_of, named_in, option_and_then}
+use Rattle.assigned_laws.proofs.Common.{domain_of, domains, domains_are, false, filter_map, find, flat_connection, flat_domain, flat_map, flat_of, from_filter_map, from_flat_map, from_get_map, group_above, held_by, held_in, hierarchy_of}
+use Rattle.assigned_laws.proofs.Common.{in_flat_map, in_get, in_map, inl, inr, instances_by, is_hardware, kind_named, last_of, leaf_number, leaf_number_is, leaf_of, leaves, leaves_stand, map_some, member_of, name_of, named_in, option_and_then}
 use Rattle.assigned_laws.proofs.Common.{option_and_then_some, part_named, part_of, part_of_body, parts_by, parts_in, parts_of, place_by, place_of, refl, same_Some, same_path, same_path-Decides, slice_get, snoc_same, subst, sym, top_number, true}
 use Rattle.assigned_laws.proofs.Common.{true≢false, unwrap_or, ℕ, ◌++◌, ◌∙◌, ◌∷◌, ◌≡◌}
 use Rattle.adl_ast.specs.declared.composition.Line.TheVariants as lines
@@ -32,8 +32,7 @@ held_instance i ls m =
     by_line (lines.Instance j) (inl e) = inl (ap as_held e)
     by_line (lines.Instance j) (inr m) = absurd m
     by_line (lines.Group g) m = inr (in_map as_held i g.instances m)
-    by_line (lines.Connection k) m = absurd m
-    by_line (lines.Export e) m = absurd m
+    by_line _ m = absurd m
 
 -- a group of an instance
 record GroupIn (ls : List Line) (name : Name) : Type 0 where
@@ -66,8 +65,7 @@ held_group numbers ls x g m e =
               there (inl refl);
           named = cc;
         }
-    by_line (lines.Connection k) there m = absurd m
-    by_line (lines.Export x) there m = absurd m
+    by_line _ there m = absurd m
 
 held_wire : (k : Connection) (ls : List Line) → IsIn k (filter_map as_connection ls)
     → IsIn (k.id, held_connection) (flat_map held_by ls)
@@ -76,11 +74,9 @@ held_wire k ls m =
     in_flat_map held_by l.0 (k.id, held_connection) ls l.1 (by_line l.0 l.2)
   where
     by_line : (l : Line) → as_connection l ≡ Some k → IsIn (k.id, held_connection) (held_by l)
-    by_line (lines.Instance i) e = absurd cc
-    by_line (lines.Group g) e = absurd cc
     by_line (lines.Connection j) e = let same : j ≡ k = cc in
         inl (ap (λ (z : Connection). let held : Id × Held = (z.id, held_connection) in held) same)
-    by_line (lines.Export x) e = absurd cc
+    by_line _ e = absurd cc
 
 -- ---- the last name of a path
 

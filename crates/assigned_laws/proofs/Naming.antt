@@ -11,19 +11,14 @@ option_label t n o = number_of t.numbers (option_map_or (λ x. owner_in n x.doma
 
 pub has_there : (flat : Flat) (x : Owner) (p : Path) → HasPath flat x p → IsThere flat x
 has_there flat (OfDomain d) p h = (h.0, h.1)
-has_there flat (OfConnection k) p h = (h.0, h.1, h.2)
-has_there flat (OfLeaf l) p h = (h.0, h.1, h.2)
+has_there flat _ p h = (h.0, h.1, h.2)
 
 one_path : (flat : Flat) (x : Owner) (p q : Path) → HasPath flat x p → HasPath flat x q → p ≡ q
 one_path flat (OfDomain d) p q h k =
     let both : Some h.0 ≡ Some k.0 = sym h.1 ∙ k.1 in
     let same : h.0 ≡ k.0 = cc in
     sym h.2 ∙ ap (λ z. z.path) same ∙ k.2
-one_path flat (OfConnection c) p q h k =
-    let both : Some h.0 ≡ Some k.0 = sym h.1 ∙ k.1 in
-    let same : h.0 ≡ k.0 = cc in
-    sym h.3 ∙ ap (λ z. z.path) same ∙ k.3
-one_path flat (OfLeaf l) p q h k =
+one_path flat _ p q h k =
     let both : Some h.0 ≡ Some k.0 = sym h.1 ∙ k.1 in
     let same : h.0 ≡ k.0 = cc in
     sym h.3 ∙ ap (λ z. z.path) same ∙ k.3

@@ -87,8 +87,7 @@ rank_place (t ∷ ts) (suc n) x r e =
 -- who has a label has a path
 pub path_there : (flat : Flat) (x : Owner) → IsThere flat x → (p : Path) × HasPath flat x p
 path_there flat (OfDomain d) h = (h.0.path, (h.0, h.1, refl))
-path_there flat (OfConnection k) h = (h.0.path, (h.0, h.1, h.2, refl))
-path_there flat (OfLeaf l) h = (h.0.path, (h.0, h.1, h.2, refl))
+path_there flat _ h = (h.0.path, (h.0, h.1, h.2, refl))
 
 device_none : (leaf : Leaf) → leaf.domain ≡ None → is_device leaf.domain ≡ true
 device_none leaf e = ap is_device e

@@ -1,5 +1,5 @@
 -- The labels of edges that have a reason, or that locks confer, are those of paths.
-use Rattle.assigned_laws.proofs.Common.{AreDotted, AreNamesSound, Authority, Edge, EndAt, FlatConnection, IsLockEdge, IsNamed, LabelNumbers, LeadsTo, LockAt, NoObject, ObjectKind, OfDevice, OfEndpoint, OfFrames, OfIrq, OfNotification, Path, Reason}
+use Rattle.assigned_laws.proofs.Common.{AreDotted, AreNamesSound, Authority, Edge, EndAt, FlatConnection, IsLockEdge, IsNamed, LabelNumbers, LeadsTo, LockAt, NoObject, ObjectKind, OfEndpoint, OfFrames, OfNotification, Path, Reason}
 use Rattle.assigned_laws.proofs.Common.{Source, Tables, ap, by_bind, by_call, by_direct, by_lock, connection_label, connection_path, domain_label, domain_of, flat_of, gives, has_label, hierarchy_of, labelled_endpoint, labelled_frames}
 use Rattle.assigned_laws.proofs.Common.{labelled_notification, leaf_label, owner, subst, sym, tables_with, true, ℕ, ◌∙◌, ◌≡◌}
 use Rattle.assigned_laws.proofs.Joined.{met, strung_at}
@@ -38,9 +38,8 @@ module _ (s : Source) (sound : AreNamesSound s) (dotted : AreDotted (hierarchy_o
   target_path x OfEndpoint a l g h = joint_path x l (labelled_endpoint x.connection.connector x.end.role a g) h
   target_path x OfNotification a l g h = joint_path x l (labelled_notification x.connection.connector x.end.role a g) h
   target_path x OfFrames a l g h = joint_path x l (labelled_frames x.connection.connector x.end.role a g) h
-  target_path x OfDevice a l g h = same_path l (leaf_label t h.at.end.leaf) h.label_is (leaf_path h.at)
-  target_path x OfIrq a l g h = same_path l (leaf_label t h.at.end.leaf) h.label_is (leaf_path h.at)
   target_path x NoObject a l g h = absurd h
+  target_path x _ a l g h = same_path l (leaf_label t h.at.end.leaf) h.label_is (leaf_path h.at)
 
   pub reason_paths : (e : Edge) → Reason t e → IsPath e.from × IsPath e.to
   reason_paths e (by_direct r) = (

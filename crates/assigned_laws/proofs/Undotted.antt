@@ -1,5 +1,5 @@
 -- Where tokens spell the files of a source, its names are identifiers, so no name of a label's path has a dot.
-use Rattle.assigned_laws.proofs.Common.{AreNamesSound, AreSpelled, AreUndotted, IsUndotted, List, Name, Source, [], and_parts, ap, flat_of, inl, inr, is_letter, is_name, is_word_byte, leb, length, list_all, or_left, sym, true, true≢false, ℕ, ◌&&◌}
+use Rattle.assigned_laws.proofs.Common.{AreNamesSound, AreSpelled, AreUndotted, IsUndotted, Name, Source, [], and_parts, ap, flat_of, inl, inr, is_letter, is_name, is_word_byte, leb, length, list_all, or_left, sym, true, true≢false, ℕ, ◌&&◌}
 use Rattle.assigned_laws.proofs.Common.{◌∙◌, ◌∷◌, ◌≡◌}
 use Rattle.assigned_laws.proofs.Identifiers.{identifiers}
 

@@ -1,6 +1,6 @@
 -- What `list` and `explain` leave is what the source assigns over its hierarchy.
-use Rattle.camkes_tool.proofs.Common.{Answer, Command, Compiled, Contents, Explain, Explained, Faulted, Fits, FitsExplained, FitsListed, Generated, InAll, IsAnswerWritten, IsExplained, IsListWritten, IsListed, List, Listed, NoMemory, Option}
-use Rattle.camkes_tool.proofs.Common.{ReadFault, Refused, Sink, Some, Tells, Told, Usage, inl, inr, listing_text, refl, status_of, subst, sym, ℕ, ◌∙◌, ◌≡◌, ◌≢◌, ◌⊎◌}
+use Rattle.camkes_tool.proofs.Common.{Answer, Command, Contents, Explain, Explained, Faulted, Fits, FitsExplained, FitsListed, InAll, IsAnswerWritten, IsExplained, IsListWritten, IsListed, List, Listed, NoMemory, Option}
+use Rattle.camkes_tool.proofs.Common.{ReadFault, Sink, Some, Tells, inl, inr, listing_text, refl, status_of, subst, sym, ℕ, ◌∙◌, ◌≡◌, ◌≢◌, ◌⊎◌, rules}
 use Rattle.command_words.specs.declared.command.Command.TheVariants.{List as ListOf}
 use Rattle.source_commands.proofs.OverTree.{answers_whether, lists_assigned}
 use Rattle.camkes_tool.proofs.Written.{whole_status, zero_not_five}
@@ -14,16 +14,8 @@ module _ (told : Contents → Type 0) (some : (c : Contents) × told c) (before 
       | inl t ↦ record { text = listing_text listing; whole = t.1; assigned = λ c is. lists_assigned root c listing (fits c is) }
       | inr t ↦ absurd (zero_not_five status zero t.0)
     ]
-    list_written (Faulted file fault) fits tells = let e = whole_status (Faulted file fault) status old new m n tells zero in
-        absurd cc
-    list_written (ReadFault file) fits tells = let e = whole_status (ReadFault file) status old new m n tells zero in absurd cc
-    list_written NoMemory fits tells = let e = whole_status NoMemory status old new m n tells zero in absurd cc
-    list_written (Compiled names b) fits tells = absurd (fits some.0 some.1)
-    list_written (Explained o) fits tells = absurd (fits some.0 some.1)
-    list_written (Told o) fits tells = absurd (fits some.0 some.1)
-    list_written (Generated o) fits tells = absurd (fits some.0 some.1)
-    list_written (Refused file fault) fits tells = absurd (fits some.0 some.1)
-    list_written Usage fits tells = absurd (fits some.0 some.1)
+    list_written answer fits tells =
+        let e = whole_status answer status old new m n tells zero in let f = fits some.0 some.1 in absurd (search rules)
 
     pub listed_written : (asked : Option Command) (answer : Answer) → asked ≡ Some (ListOf root)
         → InAll told (λ c. Fits asked c before now answer) → Tells answer status old new m n
@@ -57,12 +49,7 @@ module _ (told : Contents → Type 0) (some : (c : Contents) × told c) (before 
     answer_written (Faulted file fault) fits tells = absurd (no_other (Faulted file fault) 1 refl (λ e. cc) (λ e. cc) tells)
     answer_written (ReadFault file) fits tells = absurd (no_other (ReadFault file) 4 refl (λ e. cc) (λ e. cc) tells)
     answer_written NoMemory fits tells = absurd (no_other NoMemory 6 refl (λ e. cc) (λ e. cc) tells)
-    answer_written (Compiled names b) fits tells = absurd (fits some.0 some.1)
-    answer_written (Listed o) fits tells = absurd (fits some.0 some.1)
-    answer_written (Told o) fits tells = absurd (fits some.0 some.1)
-    answer_written (Generated o) fits tells = absurd (fits some.0 some.1)
-    answer_written (Refused file fault) fits tells = absurd (fits some.0 some.1)
-    answer_written Usage fits tells = absurd (fits some.0 some.1)
+    answer_written _ fits tells = absurd (fits some.0 some.1)
 
     pub explained_written : (asked : Option Command) (answer : Answer) → asked ≡ Some (Explain root from authority to)
         → InAll told (λ c. Fits asked c before now answer) → Tells answer status old new m n

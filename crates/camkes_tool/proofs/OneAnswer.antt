@@ -1,9 +1,9 @@
 -- For the same words and contents there is one answer, aside from failed reads and want of memory.
-use Rattle.camkes_tool.proofs.Common.{Answer, AreNamedBy, AreOne, AreOneButChoice, Audit, Begin, Build, Certify, Check, Command, Compile, Compiled, Contents, Err, Explain, Explained, Faulted, Fits, FitsCompiled, FitsExplained, FitsGenerated}
+use Rattle.camkes_tool.proofs.Common.{Answer, AreNamedBy, AreOne, AreOneButChoice, Audit, Begin, Build, Certify, Check, Command, Compile, Compiled, Contents, Err, Explain, Explained, Faulted, Fits, FitsCompiled, FitsExplained, FitsGenerated, rules}
 use Rattle.camkes_tool.proofs.Common.{FitsListed, FitsTexts, Generate, Generated, InputError, IsAudited, IsCertified, IsChecked, IsExplained, IsGenerated, IsListed, IsPlanned, IsRun, IsTabled, List, Listed, Listing, NoMemory, None, Ok, Option}
 use Rattle.camkes_tool.proofs.Common.{Outcome, Plan, ReadFault, Refused, Replay, Result, Sections, Sink, Some, SourceError, Summary, Tells, TextNames, Told, Usage, Write, [], after, answer_but_choice, ap, arith, audited_one, build_first}
 use Rattle.camkes_tool.proofs.Common.{build_summary, builds_same, but_choice, canonical, cert_text, certified_one, checked_one, cond, false, inl, inr, is_chosen, is_well, leaves_choice, one_explained, one_first, one_listing, planned_one, policy_text}
-use Rattle.camkes_tool.proofs.Common.{ran_one, refl, script, status_of, string_bytes, subst, sym, tabled_one, text_of, texts_script, ℕ, ◌∙◌, ◌∷◌, ◌≡◌, ◌≤◌}
+use Rattle.camkes_tool.proofs.Common.{ran_one, refl, script, status_of, string_bytes, subst, sym, tabled_one, text_of, texts_script, ℕ, ◌∙◌, ◌∷◌, ◌≡◌, ◌≤◌, ◌⊎◌}
 use Rattle.cam_base.specs.declared.place.Fault.{Fault}
 use Rattle.arch_compile.specs.Maps.{build_map}
 use Rattle.command_words.specs.declared.command.Command.TheVariants.{List as ListOf}
@@ -12,8 +12,8 @@ use Rattle.cam_base.specs.declared.error.Unread.TheVariants as unread
 use Rattle.camkes_tool.proofs.OneGenerated.{one_generated}
 use Rattle.explain.specs.declared.answer.Answer.{Answer as Reply}
 use Rattle.text_commands.specs.OneAnswer as texts
-use Rattle.text_commands.specs.declared.outcome.Outcome.TheVariants.{Audited, Certified, Checked, Planned, Ran, Tabled}
-use Rattle.camkes_tool.specs.Answers.{yields}
+use Rattle.text_commands.specs.declared.outcome.Outcome.TheVariants.{Audited, Certified, Checked, Ran, Tabled}
+use Rattle.camkes_tool.specs.Answers.{FitsRefused, yields}
 
 same_answer : (a : Answer) → AreOne a a
 same_answer a = record { status = refl; script = λ is. refl; compiled = refl; faulted = refl; refused = refl; found = refl }
@@ -62,52 +62,12 @@ module _ (m : Contents) (root base : List ℕ) (old new later last : List ℕ �
   one_of_root (Compiled a s) (Faulted b g) p q x y = absurd (build_first m root s g b x.1 y)
   one_of_root (Faulted a f) (Compiled b t) p q x y = absurd (build_first m root t f a y.1 x)
   one_of_root (Faulted a f) (Faulted b g) p q x y = faulted_same a b f g x y
-  one_of_root (Listed o) b p q x y = absurd x
-  one_of_root (Explained o) b p q x y = absurd x
-  one_of_root (Told o) b p q x y = absurd x
-  one_of_root (Generated o) b p q x y = absurd x
-  one_of_root (Refused a f) b p q x y = absurd x
-  one_of_root Usage b p q x y = absurd x
-  one_of_root (Compiled a s) (Listed o) p q x y = absurd y
-  one_of_root (Compiled a s) (Explained o) p q x y = absurd y
-  one_of_root (Compiled a s) (Told o) p q x y = absurd y
-  one_of_root (Compiled a s) (Generated o) p q x y = absurd y
-  one_of_root (Compiled a s) (Refused b g) p q x y = absurd y
-  one_of_root (Faulted a f) (Listed o) p q x y = absurd y
-  one_of_root (Faulted a f) (Explained o) p q x y = absurd y
-  one_of_root (Faulted a f) (Told o) p q x y = absurd y
-  one_of_root (Faulted a f) (Generated o) p q x y = absurd y
-  one_of_root (Faulted a f) (Refused b g) p q x y = absurd y
-  one_of_root (Compiled a s) Usage p q x y = absurd y
-  one_of_root (Faulted a f) Usage p q x y = absurd y
-  one_of_root (ReadFault a) b p q x y = absurd cc
-  one_of_root NoMemory b p q x y = absurd cc
-  one_of_root (Compiled a s) (ReadFault b) p q x y = absurd cc
-  one_of_root (Compiled a s) NoMemory p q x y = absurd cc
-  one_of_root (Faulted a f) (ReadFault b) p q x y = absurd cc
-  one_of_root (Faulted a f) NoMemory p q x y = absurd cc
+  one_of_root _ _ p q x y = absurd (search rules)
 
 one_usage : (m : Contents) (old new later last : List ℕ → ℕ) (a b : Answer) → yields a ≡ false → yields b ≡ false
     → Fits None m old new a → Fits None m later last b → AreOne a b
 one_usage m old new later last Usage Usage p q x y = same_answer Usage
-one_usage m old new later last Usage (Compiled b t) p q x y = absurd y
-one_usage m old new later last Usage (Listed o) p q x y = absurd y
-one_usage m old new later last Usage (Explained o) p q x y = absurd y
-one_usage m old new later last Usage (Told o) p q x y = absurd y
-one_usage m old new later last Usage (Generated o) p q x y = absurd y
-one_usage m old new later last Usage (Refused b g) p q x y = absurd y
-one_usage m old new later last (Listed o) b p q x y = absurd x
-one_usage m old new later last (Explained o) b p q x y = absurd x
-one_usage m old new later last (Told o) b p q x y = absurd x
-one_usage m old new later last (Generated o) b p q x y = absurd x
-one_usage m old new later last (Refused a f) b p q x y = absurd x
-one_usage m old new later last Usage (Faulted b g) p q x y = absurd y
-one_usage m old new later last Usage (ReadFault b) p q x y = absurd y
-one_usage m old new later last Usage NoMemory p q x y = absurd cc
-one_usage m old new later last (Compiled a s) b p q x y = absurd x
-one_usage m old new later last (Faulted a f) b p q x y = absurd x
-one_usage m old new later last (ReadFault a) b p q x y = absurd x
-one_usage m old new later last NoMemory b p q x y = absurd cc
+one_usage m old new later last _ _ p q x y = absurd (search rules)
 
 -- ---- commands over texts
 
@@ -116,25 +76,16 @@ all_there : (o : Outcome) → leaves_choice (but_choice o) ≡ false → but_cho
 all_there (Checked verdict labels) e = refl
 all_there (Ran replayed labels) e = refl
 all_there (Tabled image) e = refl
-all_there (Audited report spec labels) e = absurd cc
 all_there (Certified cert) e = refl
-all_there (Planned plan spec) e = absurd cc
+all_there _ e = absurd cc
 
 choice_stays : (o : Outcome) → leaves_choice (but_choice o) ≡ leaves_choice o
-choice_stays (Checked verdict labels) = refl
-choice_stays (Ran replayed labels) = refl
-choice_stays (Tabled image) = refl
 choice_stays (Audited report spec labels) = refl
-choice_stays (Certified cert) = refl
-choice_stays (Planned plan spec) = refl
+choice_stays _ = refl
 
 well_stays : (o : Outcome) → is_well (but_choice o) ≡ is_well o
-well_stays (Checked verdict labels) = refl
-well_stays (Ran replayed labels) = refl
-well_stays (Tabled image) = refl
 well_stays (Audited report spec labels) = refl
-well_stays (Certified cert) = refl
-well_stays (Planned plan spec) = refl
+well_stays _ = refl
 
 outcomes_same : (o p : Outcome) → but_choice o ≡ but_choice p → leaves_choice o ≡ false → o ≡ p
 outcomes_same o p e none =
@@ -166,30 +117,7 @@ one_of_texts Here There one (Refused a f) (Refused b g) p q x y =
     let h = one (Err (unread.Fault f a)) (Err (unread.Fault g b)) tt tt x y in
     let same : Refused a f ≡ Refused b g = cc in
     equal_answers (Refused a f) (Refused b g) same
-one_of_texts Here There one (Compiled a a') b p q x y = absurd x
-one_of_texts Here There one (Listed a) b p q x y = absurd x
-one_of_texts Here There one (Explained a) b p q x y = absurd x
-one_of_texts Here There one (Generated a) b p q x y = absurd x
-one_of_texts Here There one (Faulted a a') b p q x y = absurd x
-one_of_texts Here There one Usage b p q x y = absurd x
-one_of_texts Here There one (ReadFault a) b p q x y = absurd cc
-one_of_texts Here There one NoMemory b p q x y = absurd cc
-one_of_texts Here There one (Told a) (Compiled b b') p q x y = absurd y
-one_of_texts Here There one (Told a) (Listed b) p q x y = absurd y
-one_of_texts Here There one (Told a) (Explained b) p q x y = absurd y
-one_of_texts Here There one (Told a) (Generated b) p q x y = absurd y
-one_of_texts Here There one (Told a) (Faulted b b') p q x y = absurd y
-one_of_texts Here There one (Told a) Usage p q x y = absurd y
-one_of_texts Here There one (Told a) (ReadFault b) p q x y = absurd cc
-one_of_texts Here There one (Told a) NoMemory p q x y = absurd cc
-one_of_texts Here There one (Refused a a') (Compiled b b') p q x y = absurd y
-one_of_texts Here There one (Refused a a') (Listed b) p q x y = absurd y
-one_of_texts Here There one (Refused a a') (Explained b) p q x y = absurd y
-one_of_texts Here There one (Refused a a') (Generated b) p q x y = absurd y
-one_of_texts Here There one (Refused a a') (Faulted b b') p q x y = absurd y
-one_of_texts Here There one (Refused a a') Usage p q x y = absurd y
-one_of_texts Here There one (Refused a a') (ReadFault b) p q x y = absurd cc
-one_of_texts Here There one (Refused a a') NoMemory p q x y = absurd cc
+one_of_texts Here There one _ _ p q x y = absurd (search rules)
 
 -- one answer is one but for a choice
 pub but_choice_one : (Here There : Result Outcome InputError → Type 0) → texts.AreOne Here There → AreOneButChoice Here There
@@ -202,122 +130,45 @@ abbrev pub AreOneOf : {A : Type 0} → (Result A SourceError → Type 0) → (Re
 AreOneOf {A} Here There = (a b : Result A SourceError) → errors.yields a ≡ false → errors.yields b ≡ false → Here a
     → There b → a ≡ b
 
-one_of_listed : (Here There : Result Listing SourceError → Type 0) → AreOneOf Here There → (a b : Answer) → yields a ≡ false
-    → yields b ≡ false → FitsListed Here a → FitsListed There b → AreOne a b
-one_of_listed Here There one (Listed o) (Listed r) p q x y =
-    let h = one (Ok o) (Ok r) refl refl x y in
-    let same : Listed o ≡ Listed r = cc in
-    equal_answers (Listed o) (Listed r) same
-one_of_listed Here There one (Listed o) (Faulted b g) p q x y = let h = one (Ok o) (Err (unread.Fault g b)) refl refl x y in
-    absurd cc
-one_of_listed Here There one (Faulted a f) (Listed r) p q x y = let h = one (Err (unread.Fault f a)) (Ok r) refl refl x y in
-    absurd cc
-one_of_listed Here There one (Faulted a f) (Faulted b g) p q x y =
-    let h = one (Err (unread.Fault f a)) (Err (unread.Fault g b)) refl refl x y in
-    let same : Faulted a f ≡ Faulted b g = cc in
-    equal_answers (Faulted a f) (Faulted b g) same
-one_of_listed Here There one (Compiled a a') b p q x y = absurd x
-one_of_listed Here There one (Explained a) b p q x y = absurd x
-one_of_listed Here There one (Told a) b p q x y = absurd x
-one_of_listed Here There one (Generated a) b p q x y = absurd x
-one_of_listed Here There one (Refused a a') b p q x y = absurd x
-one_of_listed Here There one Usage b p q x y = absurd x
-one_of_listed Here There one (ReadFault a) b p q x y = absurd cc
-one_of_listed Here There one NoMemory b p q x y = absurd cc
-one_of_listed Here There one (Listed a) (Compiled b b') p q x y = absurd y
-one_of_listed Here There one (Listed a) (Explained b) p q x y = absurd y
-one_of_listed Here There one (Listed a) (Told b) p q x y = absurd y
-one_of_listed Here There one (Listed a) (Generated b) p q x y = absurd y
-one_of_listed Here There one (Listed a) (Refused b b') p q x y = absurd y
-one_of_listed Here There one (Listed a) Usage p q x y = absurd y
-one_of_listed Here There one (Listed a) (ReadFault b) p q x y = absurd cc
-one_of_listed Here There one (Listed a) NoMemory p q x y = absurd cc
-one_of_listed Here There one (Faulted a a') (Compiled b b') p q x y = absurd y
-one_of_listed Here There one (Faulted a a') (Explained b) p q x y = absurd y
-one_of_listed Here There one (Faulted a a') (Told b) p q x y = absurd y
-one_of_listed Here There one (Faulted a a') (Generated b) p q x y = absurd y
-one_of_listed Here There one (Faulted a a') (Refused b b') p q x y = absurd y
-one_of_listed Here There one (Faulted a a') Usage p q x y = absurd y
-one_of_listed Here There one (Faulted a a') (ReadFault b) p q x y = absurd cc
-one_of_listed Here There one (Faulted a a') NoMemory p q x y = absurd cc
+-- what a command over a source found, or what came in its place
+abbrev pub IsFoundBy : {A : Type 0} → (A → Answer) → (Result A SourceError → Type 0) → Answer → Type 0
+IsFoundBy {A} found asked a = ((o : A) × asked (Ok o) × (a ≡ found o)) ⊎ FitsRefused (λ e. asked (Err e)) a
 
-one_of_explained : (Here There : Result Reply SourceError → Type 0) → AreOneOf Here There → (a b : Answer) → yields a ≡ false
-    → yields b ≡ false → FitsExplained Here a → FitsExplained There b → AreOne a b
-one_of_explained Here There one (Explained o) (Explained r) p q x y =
-    let h = one (Ok o) (Ok r) refl refl x y in
-    let same : Explained o ≡ Explained r = cc in
-    equal_answers (Explained o) (Explained r) same
-one_of_explained Here There one (Explained o) (Faulted b g) p q x y = let h = one (Ok o) (Err (unread.Fault g b)) refl refl x y in
-    absurd cc
-one_of_explained Here There one (Faulted a f) (Explained r) p q x y = let h = one (Err (unread.Fault f a)) (Ok r) refl refl x y in
-    absurd cc
-one_of_explained Here There one (Faulted a f) (Faulted b g) p q x y =
-    let h = one (Err (unread.Fault f a)) (Err (unread.Fault g b)) refl refl x y in
-    let same : Faulted a f ≡ Faulted b g = cc in
-    equal_answers (Faulted a f) (Faulted b g) same
-one_of_explained Here There one (Compiled a a') b p q x y = absurd x
-one_of_explained Here There one (Listed a) b p q x y = absurd x
-one_of_explained Here There one (Told a) b p q x y = absurd x
-one_of_explained Here There one (Generated a) b p q x y = absurd x
-one_of_explained Here There one (Refused a a') b p q x y = absurd x
-one_of_explained Here There one Usage b p q x y = absurd x
-one_of_explained Here There one (ReadFault a) b p q x y = absurd cc
-one_of_explained Here There one NoMemory b p q x y = absurd cc
-one_of_explained Here There one (Explained a) (Compiled b b') p q x y = absurd y
-one_of_explained Here There one (Explained a) (Listed b) p q x y = absurd y
-one_of_explained Here There one (Explained a) (Told b) p q x y = absurd y
-one_of_explained Here There one (Explained a) (Generated b) p q x y = absurd y
-one_of_explained Here There one (Explained a) (Refused b b') p q x y = absurd y
-one_of_explained Here There one (Explained a) Usage p q x y = absurd y
-one_of_explained Here There one (Explained a) (ReadFault b) p q x y = absurd cc
-one_of_explained Here There one (Explained a) NoMemory p q x y = absurd cc
-one_of_explained Here There one (Faulted a a') (Compiled b b') p q x y = absurd y
-one_of_explained Here There one (Faulted a a') (Listed b) p q x y = absurd y
-one_of_explained Here There one (Faulted a a') (Told b) p q x y = absurd y
-one_of_explained Here There one (Faulted a a') (Generated b) p q x y = absurd y
-one_of_explained Here There one (Faulted a a') (Refused b b') p q x y = absurd y
-one_of_explained Here There one (Faulted a a') Usage p q x y = absurd y
-one_of_explained Here There one (Faulted a a') (ReadFault b) p q x y = absurd cc
-one_of_explained Here There one (Faulted a a') NoMemory p q x y = absurd cc
+pub listed_by : (asked : Result Listing SourceError → Type 0) (a : Answer) → FitsListed asked a → IsFoundBy Listed asked a
+listed_by asked (Listed o) x = inl (o, x, refl)
+listed_by asked _ x = inr x
 
-one_of_generated : (Here There : Result Summary SourceError → Type 0) → AreOneOf Here There → (a b : Answer) → yields a ≡ false
-    → yields b ≡ false → FitsGenerated Here a → FitsGenerated There b → AreOne a b
-one_of_generated Here There one (Generated o) (Generated r) p q x y =
+pub explained_by : (asked : Result Reply SourceError → Type 0) (a : Answer) → FitsExplained asked a
+    → IsFoundBy Explained asked a
+explained_by asked (Explained o) x = inl (o, x, refl)
+explained_by asked _ x = inr x
+
+pub generated_by : (asked : Result Summary SourceError → Type 0) (a : Answer) → FitsGenerated asked a
+    → IsFoundBy Generated asked a
+generated_by asked (Generated o) x = inl (o, x, refl)
+generated_by asked _ x = inr x
+
+module _ {A : Type 0} (Here There : Result A SourceError → Type 0) (one : AreOneOf Here There) where
+  not_both : (o : A) (b : Answer) → yields b ≡ false → Here (Ok o) → FitsRefused (λ e. There (Err e)) b → ⊥
+  not_both o (Faulted b g) q x y = let h = one (Ok o) (Err (unread.Fault g b)) refl refl x y in cc
+  not_both o _ q x y = search rules
+
+  refused_same : (a b : Answer) → yields a ≡ false → yields b ≡ false → FitsRefused (λ e. Here (Err e)) a
+      → FitsRefused (λ e. There (Err e)) b → a ≡ b
+  refused_same (Faulted a f) (Faulted b g) p q x y =
+      let h = one (Err (unread.Fault f a)) (Err (unread.Fault g b)) refl refl x y in cc
+  refused_same _ _ p q x y = absurd (search rules)
+
+one_of_source : {A : Type 0} (found : A → Answer) (Here There : Result A SourceError → Type 0) → AreOneOf Here There
+    → (a b : Answer) → yields a ≡ false → yields b ≡ false → IsFoundBy found Here a → IsFoundBy found There b → AreOne a b
+one_of_source found Here There one a b p q (inl (o, x, is)) (inl (r, y, be)) =
     let h = one (Ok o) (Ok r) refl refl x y in
-    let same : Generated o ≡ Generated r = cc in
-    equal_answers (Generated o) (Generated r) same
-one_of_generated Here There one (Generated o) (Faulted b g) p q x y = let h = one (Ok o) (Err (unread.Fault g b)) refl refl x y in
-    absurd cc
-one_of_generated Here There one (Faulted a f) (Generated r) p q x y = let h = one (Err (unread.Fault f a)) (Ok r) refl refl x y in
-    absurd cc
-one_of_generated Here There one (Faulted a f) (Faulted b g) p q x y =
-    let h = one (Err (unread.Fault f a)) (Err (unread.Fault g b)) refl refl x y in
-    let same : Faulted a f ≡ Faulted b g = cc in
-    equal_answers (Faulted a f) (Faulted b g) same
-one_of_generated Here There one (Compiled a a') b p q x y = absurd x
-one_of_generated Here There one (Listed a) b p q x y = absurd x
-one_of_generated Here There one (Explained a) b p q x y = absurd x
-one_of_generated Here There one (Told a) b p q x y = absurd x
-one_of_generated Here There one (Refused a a') b p q x y = absurd x
-one_of_generated Here There one Usage b p q x y = absurd x
-one_of_generated Here There one (ReadFault a) b p q x y = absurd cc
-one_of_generated Here There one NoMemory b p q x y = absurd cc
-one_of_generated Here There one (Generated a) (Compiled b b') p q x y = absurd y
-one_of_generated Here There one (Generated a) (Listed b) p q x y = absurd y
-one_of_generated Here There one (Generated a) (Explained b) p q x y = absurd y
-one_of_generated Here There one (Generated a) (Told b) p q x y = absurd y
-one_of_generated Here There one (Generated a) (Refused b b') p q x y = absurd y
-one_of_generated Here There one (Generated a) Usage p q x y = absurd y
-one_of_generated Here There one (Generated a) (ReadFault b) p q x y = absurd cc
-one_of_generated Here There one (Generated a) NoMemory p q x y = absurd cc
-one_of_generated Here There one (Faulted a a') (Compiled b b') p q x y = absurd y
-one_of_generated Here There one (Faulted a a') (Listed b) p q x y = absurd y
-one_of_generated Here There one (Faulted a a') (Explained b) p q x y = absurd y
-one_of_generated Here There one (Faulted a a') (Told b) p q x y = absurd y
-one_of_generated Here There one (Faulted a a') (Refused b b') p q x y = absurd y
-one_of_generated Here There one (Faulted a a') Usage p q x y = absurd y
-one_of_generated Here There one (Faulted a a') (ReadFault b) p q x y = absurd cc
-one_of_generated Here There one (Faulted a a') NoMemory p q x y = absurd cc
+    let same : o ≡ r = cc in
+    equal_answers a b (is ∙ ap found same ∙ sym be)
+one_of_source found Here There one a b p q (inl (o, x, is)) (inr y) = absurd (not_both Here There one o b q x y)
+one_of_source found Here There one a b p q (inr x) (inl (r, y, be)) =
+    absurd (not_both There Here (λ c d s t h k. sym (one d c t s k h)) r a p y x)
+one_of_source found Here There one a b p q (inr x) (inr y) = equal_answers a b (refused_same Here There one a b p q x y)
 
 -- ---- every command
 
@@ -329,15 +180,19 @@ one_asked m (Some (Check cdl policy cert)) old new later last a b p q x y =
     one_of_texts _ _ (but_choice_one (IsChecked m old new cdl policy cert) (IsChecked m later last cdl policy cert)
     (checked_one m old new later last cdl policy cert)) a b p q x y
 one_asked m (Some (ListOf root)) old new later last a b p q x y =
-    one_of_listed (IsListed root m old new) (IsListed root m later last) (one_listing m root old new later last) a b p q x y
+    one_of_source Listed (IsListed root m old new) (IsListed root m later last) (one_listing m root old new later last) a b p q
+    (listed_by (IsListed root m old new) a x) (listed_by (IsListed root m later last) b y)
 one_asked m (Some (Explain root from authority to)) old new later last a b p q x y =
-    one_of_explained (IsExplained from authority to root m old new) (IsExplained from authority to root m later last)
-    (one_explained m root from authority to old new later last) a b p q x y
+    one_of_source Explained (IsExplained from authority to root m old new) (IsExplained from authority to root m later last)
+    (one_explained m root from authority to old new later last) a b p q
+    (explained_by (IsExplained from authority to root m old new) a x)
+    (explained_by (IsExplained from authority to root m later last) b y)
 one_asked m (Some (Replay cdl policy steps)) old new later last a b p q x y =
     one_of_texts _ _ (but_choice_one (IsRun m old new cdl policy steps) (IsRun m later last cdl policy steps)
     (ran_one m old new later last cdl policy steps)) a b p q x y
 one_asked m (Some (Generate count)) old new later last a b p q x y =
-    one_of_generated (IsGenerated count) (IsGenerated count) (one_generated count) a b p q x y
+    one_of_source Generated (IsGenerated count) (IsGenerated count) (one_generated count) a b p q
+    (generated_by (IsGenerated count) a x) (generated_by (IsGenerated count) b y)
 one_asked m (Some (Sections elf)) old new later last a b p q x y =
     one_of_texts _ _ (but_choice_one (IsTabled m old new elf) (IsTabled m later last elf) (tabled_one m old new later last elf)) a
     b p q x y
@@ -360,16 +215,9 @@ pub record IsWhole (a : Answer) (n : ℕ) (old new : Sink) : Type 0 where
   pub done : new ≡ after old (script a)
 
 stays : (a : Answer) → status_of a ≤ 3 → yields a ≡ false
-stays (Compiled a s) l = refl
-stays (Listed o) l = refl
-stays (Explained o) l = refl
-stays (Told o) l = refl
-stays (Generated o) l = refl
-stays (Refused a f) l = refl
-stays (Faulted a f) l = refl
-stays Usage l = refl
 stays (ReadFault a) l = absurd (omega arith)
 stays NoMemory l = absurd (omega arith)
+stays _ l = refl
 
 whole : (a : Answer) (status : ℕ) (old new : Sink) (before now : ℕ) → Tells a status old new before now → status ≤ 3
     → IsWhole a status old new

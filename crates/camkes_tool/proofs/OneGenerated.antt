@@ -17,9 +17,4 @@ module _ (count : ℕ) where
   one_generated (Err (error.Fault f a)) (Ok g) p q x y = absurd (build_first (generated count) root_name y.0 f a y.1 x)
   one_generated (Err (error.Fault f a)) (Err (error.Fault g b)) p q x y =
       faults_same f g a b (one_first (generated count) root_name f g a b x y)
-  one_generated (Err (error.ReadFault a)) b p q x y = cc
-  one_generated (Err error.NoMemory) b p q x y = cc
-  one_generated (Ok f) (Err (error.ReadFault b)) p q x y = cc
-  one_generated (Ok f) (Err error.NoMemory) p q x y = cc
-  one_generated (Err (error.Fault f a)) (Err (error.ReadFault b)) p q x y = cc
-  one_generated (Err (error.Fault f a)) (Err error.NoMemory) p q x y = cc
+  one_generated _ _ p q x y = cc

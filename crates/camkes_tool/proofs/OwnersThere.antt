@@ -3,7 +3,7 @@ use Rattle.camkes_tool.proofs.Common.{Tables}
 use Rattle.camkes_tool.proofs.BackCommon.{Bool, Entry, FlatConnection, FlatEnd, IsIn, None, OfConnection, OfLeaf, Option, Owner, Some, [], ap, cond, false, frame_owner, from_gather, from_map, in_append, in_place, inl, inr, irq_owner, label_of}
 use Rattle.camkes_tool.proofs.BackCommon.{number_of, option_map_or, range_with_len, refl, slice_get, spec_of, subst, sym, true, ℕ, ◌∙◌, ◌≡◌}
 use Rattle.adl_meaning.specs.declared.connector.Connector.{Connector}
-use Rattle.adl_meaning.specs.declared.connector.Connector.TheVariants.{Rpc, Notification, SharedMemory, Mmio, Interrupt, Direct}
+use Rattle.adl_meaning.specs.declared.connector.Connector.TheVariants.{SharedMemory, Interrupt}
 use Rattle.arch_policy.specs.Owners.{has_label}
 use Rattle.arch_policy.specs.Tables.{IsThere as HasLabel}
 use Rattle.spec_laws.proofs.Devices.{device_found}
@@ -13,7 +13,7 @@ use Rattle.spec_laws.specs.Connected.{IsConnected}
 use Rattle.spec_laws.specs.Policy.{given_tables}
 use Rattle.system_spec.proofs.There.{IsDomain, IsThere, Notifies}
 use Rattle.system_spec.specs.declared.part.What.{What}
-use Rattle.system_spec.specs.declared.part.What.TheVariants.{CNodeOf, ThreadOf, EndpointOf, NotificationOf, LockOf, IrqOf, TableOf, FrameOf}
+use Rattle.system_spec.specs.declared.part.What.TheVariants.{CNodeOf, EndpointOf, NotificationOf, IrqOf, FrameOf}
 use Rattle.vspace_layout.specs.Frames.{connection_frames, device_frame, device_frames, frame, frames, frames_at, is_first, memory_part, own_frame, own_frames, own_part, register_frames, register_part, shared_frames, shared_part}
 use Rattle.vspace_layout.specs.MappedPages.{mapped_pages}
 use Rattle.vspace_layout.specs.Memory.{is_shared, memory_paddr, memory_pages, registers}
@@ -27,11 +27,7 @@ use Rattle.vspace_layout.proofs.Standing.{registers_mmio}
 
 shared_labelled : (c : Connector) → is_shared c ≡ true → has_label c ≡ true
 shared_labelled SharedMemory e = refl
-shared_labelled Rpc e = absurd cc
-shared_labelled Notification e = absurd cc
-shared_labelled Mmio e = absurd cc
-shared_labelled Interrupt e = absurd cc
-shared_labelled Direct e = absurd cc
+shared_labelled _ e = absurd cc
 
 module _ (t : Tables) (h : IsConnected t) where
   -- ---- frames
@@ -125,15 +121,13 @@ module _ (t : Tables) (h : IsConnected t) where
 
   owner_there : (w : What) → IsThere t w → HasLabel t.flat (owner_of t w)
   owner_there (CNodeOf d) w = w
-  owner_there (ThreadOf d i) w = w.0
   owner_there (EndpointOf k) w = (w.0, w.1, ap has_label w.2)
   owner_there (NotificationOf k) w = notified k w.0 w.1 w.2
-  owner_there (LockOf d n) w = w.0
   owner_there (IrqOf k) w = of_irq k w.0 w.1 w.2
-  owner_there (TableOf d j) w = w.0
   owner_there (FrameOf f) w =
       let own = ap (λ z. option_map_or (λ (x : FrameInfo). frame_owner x.owner) z (OfLeaf 0)) w.1 in
       subst (λ z. HasLabel t.flat z) (sym own) (of_frame f w.0 w.1)
+  owner_there _ w = w.0
 
   -- ---- labels of objects
 

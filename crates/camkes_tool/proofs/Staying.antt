@@ -80,14 +80,7 @@ module _ (spec : Spec) where
       rw e (thread_static first t (record (thread_at s t) { pending = None }) kept refl refl)
   step_static s new (steps.ReplyTo t i None) plain is (c, p, acts, there, e) =
       rw e (waits_static (dropped s c i) p.caller false (dropped_static s c i is))
-  step_static s new (steps.Reply t (Some copy)) plain is does = absurd plain
-  step_static s new (steps.ReplyTo t i (Some copy)) plain is does = absurd plain
-  step_static s new (steps.Take t i j r) plain is does = absurd plain
-  step_static s new (steps.Put t i j r) plain is does = absurd plain
-  step_static s new (steps.Grant t i u j k r) plain is does = absurd plain
-  step_static s new (steps.SetCspace t i j) plain is does = absurd plain
-  step_static s new (steps.SetVspace t i j) plain is does = absurd plain
-  step_static s new (steps.Map t i j r) plain is does = absurd plain
+  step_static s new _ plain is does = absurd plain
 
   boot_static : IsStatic spec (boot spec)
   boot_static = record { mapped = refl; roots = λ t. refl; spaces = λ t. refl; caps = λ c i cap there. there }

@@ -1,31 +1,19 @@
 -- What a command answers fits as it is told, also where its words are known by equations; and want of memory fits every
 -- command.
-use Rattle.camkes_tool.proofs.Common.{Answer, Audit, Certify, Check, Command, Compile, Contents, Err, Explain, Fault, Fits, FitsTexts, Generate, InputError, IsAudited, IsCertified, IsChecked, IsPlanned, IsRun, IsTabled, List, None, Ok, Option}
+use Rattle.camkes_tool.proofs.Common.{Answer, Audit, Certify, Check, Command, Contents, Err, Explain, Fits, FitsTexts, InputError, IsAudited, IsCertified, IsChecked, IsPlanned, IsRun, IsTabled, List, Option}
 use Rattle.camkes_tool.proofs.Common.{Outcome, Plan, Replay, Result, Sections, Some, subst, sym, ℕ, ◌≡◌}
-use Rattle.command_words.specs.declared.command.Command.TheVariants.{List as ListOf}
-use Rattle.cam_base.specs.declared.error.Unread.TheVariants.{ReadFault, NoMemory}
+use Rattle.cam_base.specs.declared.error.Unread.TheVariants.{NoMemory}
 use Rattle.camkes_tool.specs.Deciding.{told}
 use Rattle.camkes_tool.specs.declared.answer.Answer.TheVariants as answers
 
 pub fits_told : (asked : Result Outcome InputError → Type 0) (r : Result Outcome InputError) → asked r → FitsTexts asked (told r)
-fits_told asked (Ok outcome) h = h
-fits_told asked (Err (Fault fault file)) h = h
-fits_told asked (Err (ReadFault file)) h = h
 fits_told asked (Err NoMemory) h = tt
+fits_told asked _ h = h
 
 pub no_memory_fits : (asked : Option Command) (contents : Contents) (before now : List ℕ → ℕ)
     → Fits asked contents before now answers.NoMemory
-no_memory_fits None contents before now = tt
-no_memory_fits (Some (Compile root base)) contents before now = tt
-no_memory_fits (Some (Check cdl policy cert)) contents before now = tt
-no_memory_fits (Some (ListOf root)) contents before now = tt
 no_memory_fits (Some (Explain root from authority to)) contents before now = tt
-no_memory_fits (Some (Replay cdl policy steps)) contents before now = tt
-no_memory_fits (Some (Generate count)) contents before now = tt
-no_memory_fits (Some (Audit cdl policy)) contents before now = tt
-no_memory_fits (Some (Certify cdl policy)) contents before now = tt
-no_memory_fits (Some (Sections elf)) contents before now = tt
-no_memory_fits (Some (Plan cdl untypeds)) contents before now = tt
+no_memory_fits _ contents before now = tt
 
 -- ---- commands and their words, known by equations
 

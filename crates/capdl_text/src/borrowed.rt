@@ -1,6 +1,6 @@
 //! Names and texts where they stand.
 
-ghost use Rattle.cam_base.specs.Names.{named};
+ghost use Rattle.cam_base.specs.Names.{is_name, named};
 ghost use Rattle.std.specs.Prelude.{◌≡◌, IsTrue};
 
 use cam_base::is_name;

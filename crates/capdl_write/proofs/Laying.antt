@@ -11,6 +11,7 @@ use Rattle.capdl_text.specs.Pieces.{Taken, word_taken, digits_taken, mark_taken,
 use Rattle.capdl_text.specs.TokenFaults.{fault_at}
 use Rattle.capdl_text.specs.TokenKinds.{kind_of}
 use Rattle.capdl_text.proofs.Steps.{lexes_gap, no_kind}
+use Rattle.cam_base.proofs.Options.{none_is_not}
 use Rattle.cam_base.proofs.TerminalCodes.{true_is_not_false}
 use Rattle.capdl_text.specs.Lexes.{LexesFrom}
 

@@ -1,8 +1,8 @@
 -- What the program's reader makes of its words is what `read_words` says.
-use Rattle.command_words.proofs.Common.{App, AreUtf8, Bool, Box, Command, Err, HasKind, IfOk, IsUtf8, IsUtf8-string_bytes, Kinds, List, MatchResult, None, Ok, Option, OutOfMemory, Result, Row, Shape, Some, String, Text, [], ap, ap₂, built, bytes_eq}
-use Rattle.command_words.proofs.Common.{bytes_eq-Decides, codes, command_of, cond, count_of, entered, false, fault_of, find, is_dashed, is_simple, is_simple_and_free, label_of, level_fault, list_all, made_of, map, nothing_held, of_count, of_four}
+use Rattle.command_words.proofs.Common.{AreUtf8, Bool, Box, Command, Err, HasKind, IfOk, IsUtf8, IsUtf8-string_bytes, Kinds, List, MatchResult, None, Ok, Option, OutOfMemory, Result, Row, Shape, Some, String, Text, [], ap, ap₂, built, bytes_eq}
+use Rattle.command_words.proofs.Common.{bytes_eq-Decides, codes, command_of, cond, count_of, false, fault_of, is_simple, is_simple_and_free, level_fault, made_of, map, nothing_held, of_count, of_four}
 use Rattle.command_words.proofs.Common.{of_one, of_three, of_two, option_and_then, option_map, read_words, reader, refl, rows_after, same_Some, string_bytes, subcommand_of, subcommand_rows, subst, sym, taken, true, true≢false, ℕ, ⊎_elim, ◌||◌, ◌∙◌}
-use Rattle.command_words.proofs.Common.{◌∷◌, ◌≡◌}
+use Rattle.command_words.proofs.Common.{◌∷◌, ◌≡◌, is_dashed}
 use Rattle.std.specs.Box.{box_value}
 use Rattle.clap.specs.Values.{kind_of}
 use Rattle.clap.specs.declared.error.Error.{Error}
@@ -44,74 +44,53 @@ sub name = Rattle.std.specs.Option.unwrap_or (named name subs) (Rattle.clap.spec
 
 compile_fits : (us : List Text) → FitsAt (sub (codes "compile")) us (of_two Compile us)
 unfolding clap_on_literals
-compile_fits [] = (λ p. fails p, λ p. refl)
-compile_fits (a ∷ []) = (λ p. fails p, λ p. refl)
 compile_fits (a ∷ b ∷ []) = (λ p. refl, λ p. works p)
-compile_fits (a ∷ b ∷ c ∷ us) = (λ p. fails p, λ p. refl)
+compile_fits _ = (λ p. fails p, λ p. refl)
 
 check_fits : (us : List Text) → FitsAt (sub (codes "check")) us (of_three Check us)
 unfolding clap_on_literals
-check_fits [] = (λ p. fails p, λ p. refl)
-check_fits (a ∷ []) = (λ p. fails p, λ p. refl)
-check_fits (a ∷ b ∷ []) = (λ p. fails p, λ p. refl)
 check_fits (a ∷ b ∷ c ∷ []) = (λ p. refl, λ p. works p)
-check_fits (a ∷ b ∷ c ∷ d ∷ us) = (λ p. fails p, λ p. refl)
+check_fits _ = (λ p. fails p, λ p. refl)
 
 list_fits : (us : List Text) → FitsAt (sub (codes "list")) us (of_one Listing us)
 unfolding clap_on_literals
-list_fits [] = (λ p. fails p, λ p. refl)
 list_fits (a ∷ []) = (λ p. refl, λ p. works p)
-list_fits (a ∷ b ∷ us) = (λ p. fails p, λ p. refl)
+list_fits _ = (λ p. fails p, λ p. refl)
 
 explain_fits : (us : List Text) → FitsAt (sub (codes "explain")) us (of_four Explain us)
 unfolding clap_on_literals
-explain_fits [] = (λ p. fails p, λ p. refl)
-explain_fits (a ∷ []) = (λ p. fails p, λ p. refl)
-explain_fits (a ∷ b ∷ []) = (λ p. fails p, λ p. refl)
-explain_fits (a ∷ b ∷ c ∷ []) = (λ p. fails p, λ p. refl)
 explain_fits (a ∷ b ∷ c ∷ d ∷ []) = (λ p. refl, λ p. works p)
-explain_fits (a ∷ b ∷ c ∷ d ∷ e ∷ us) = (λ p. fails p, λ p. refl)
+explain_fits _ = (λ p. fails p, λ p. refl)
 
 replay_fits : (us : List Text) → FitsAt (sub (codes "replay")) us (of_three Replay us)
 unfolding clap_on_literals
-replay_fits [] = (λ p. fails p, λ p. refl)
-replay_fits (a ∷ []) = (λ p. fails p, λ p. refl)
-replay_fits (a ∷ b ∷ []) = (λ p. fails p, λ p. refl)
 replay_fits (a ∷ b ∷ c ∷ []) = (λ p. refl, λ p. works p)
-replay_fits (a ∷ b ∷ c ∷ d ∷ us) = (λ p. fails p, λ p. refl)
+replay_fits _ = (λ p. fails p, λ p. refl)
 
 generate_fits : (us : List Text) → FitsAt (sub (codes "generate")) us (of_count Generate us)
 unfolding clap_on_literals
-generate_fits [] = (λ p. fails p, λ p. refl)
 generate_fits (a ∷ []) = (λ p. refl, λ p. works p)
-generate_fits (a ∷ b ∷ us) = (λ p. fails p, λ p. refl)
+generate_fits _ = (λ p. fails p, λ p. refl)
 
 audit_fits : (us : List Text) → FitsAt (sub (codes "audit")) us (of_two Audit us)
 unfolding clap_on_literals
-audit_fits [] = (λ p. fails p, λ p. refl)
-audit_fits (a ∷ []) = (λ p. fails p, λ p. refl)
 audit_fits (a ∷ b ∷ []) = (λ p. refl, λ p. works p)
-audit_fits (a ∷ b ∷ c ∷ us) = (λ p. fails p, λ p. refl)
+audit_fits _ = (λ p. fails p, λ p. refl)
 
 certify_fits : (us : List Text) → FitsAt (sub (codes "certify")) us (of_two Certify us)
 unfolding clap_on_literals
-certify_fits [] = (λ p. fails p, λ p. refl)
-certify_fits (a ∷ []) = (λ p. fails p, λ p. refl)
 certify_fits (a ∷ b ∷ []) = (λ p. refl, λ p. works p)
-certify_fits (a ∷ b ∷ c ∷ us) = (λ p. fails p, λ p. refl)
+certify_fits _ = (λ p. fails p, λ p. refl)
 
 sections_fits : (us : List Text) → FitsAt (sub (codes "sections")) us (of_one Sections us)
 unfolding clap_on_literals
-sections_fits [] = (λ p. fails p, λ p. refl)
 sections_fits (a ∷ []) = (λ p. refl, λ p. works p)
-sections_fits (a ∷ b ∷ us) = (λ p. fails p, λ p. refl)
+sections_fits _ = (λ p. fails p, λ p. refl)
 
 plan_fits : (us : List Text) → FitsAt (sub (codes "plan")) us (of_two Plan us)
 unfolding clap_on_literals
-plan_fits [] = (λ p. fails p, λ p. refl)
-plan_fits (a ∷ []) = (λ p. fails p, λ p. refl)
 plan_fits (a ∷ b ∷ []) = (λ p. refl, λ p. works p)
-plan_fits (a ∷ b ∷ c ∷ us) = (λ p. fails p, λ p. refl)
+plan_fits _ = (λ p. fails p, λ p. refl)
 
 next : (b : Bool) (s : Shape) (o : Option Shape) (m n : Made) → has_slots s ≡ true → ((us : List Text) → FitsAt s us (m us))
     → FitsMade o n
@@ -180,49 +159,37 @@ taken_texts (w ∷ ws) us u e = go (bytes_eq w (codes "--")) (is_dashed w) (take
     go : (a b : Bool) (o : Option (List Text)) → ((vs : List Text) → o ≡ Some vs → AreTexts vs)
         → cond a (Some ws) (cond b None (option_map (λ more. w ∷ more) o)) ≡ Some us → AreTexts us
     go true b o rest e = subst AreTexts (same_Some ws us e) u.1
-    go false true o rest e = absurd (some≢none us (sym e))
-    go false false None rest e = absurd (some≢none us (sym e))
     go false false (Some vs) rest e = subst AreTexts (same_Some (w ∷ vs) us e) (u.0, rest vs refl)
+    go false _ _ rest e = absurd (some≢none us (sym e))
 
 one_texts : (make : Text → Command) → ((a : Text) → IsUtf8 a → AreUtf8 (make a)) → (us : List Text) (c : Command) → AreTexts us
     → of_one make us ≡ Some c → AreUtf8 c
-one_texts make fit [] c u e = absurd (some≢none c (sym e))
 one_texts make fit (a ∷ []) c u e = subst AreUtf8 (same_Some (make a) c e) (fit a u.0)
-one_texts make fit (a ∷ b ∷ us) c u e = absurd (some≢none c (sym e))
+one_texts make fit _ c u e = absurd (some≢none c (sym e))
 
 two_texts : (make : Text → Text → Command) → ((a b : Text) → IsUtf8 a × IsUtf8 b → AreUtf8 (make a b))
     → (us : List Text) (c : Command) → AreTexts us → of_two make us ≡ Some c → AreUtf8 c
-two_texts make fit [] c u e = absurd (some≢none c (sym e))
-two_texts make fit (a ∷ []) c u e = absurd (some≢none c (sym e))
 two_texts make fit (a ∷ b ∷ []) c u e = subst AreUtf8 (same_Some (make a b) c e) (fit a b (u.0, u.1.0))
-two_texts make fit (a ∷ b ∷ d ∷ us) c u e = absurd (some≢none c (sym e))
+two_texts make fit _ c u e = absurd (some≢none c (sym e))
 
 three_texts : (make : Text → Text → Text → Command) → ((a b d : Text) → IsUtf8 a × (IsUtf8 b × IsUtf8 d) → AreUtf8 (make a b d))
     → (us : List Text) (c : Command) → AreTexts us → of_three make us ≡ Some c → AreUtf8 c
-three_texts make fit [] c u e = absurd (some≢none c (sym e))
-three_texts make fit (a ∷ []) c u e = absurd (some≢none c (sym e))
-three_texts make fit (a ∷ b ∷ []) c u e = absurd (some≢none c (sym e))
 three_texts make fit (a ∷ b ∷ d ∷ []) c u e = subst AreUtf8 (same_Some (make a b d) c e) (fit a b d (u.0, (u.1.0, u.1.1.0)))
-three_texts make fit (a ∷ b ∷ d ∷ f ∷ us) c u e = absurd (some≢none c (sym e))
+three_texts make fit _ c u e = absurd (some≢none c (sym e))
 
 four_texts : (make : Text → Text → Text → Text → Command) → ((a b d f : Text) → IsUtf8 a × (IsUtf8 b × (IsUtf8 d × IsUtf8 f))
     → AreUtf8 (make a b d f)) → (us : List Text) (c : Command) → AreTexts us → of_four make us ≡ Some c → AreUtf8 c
-four_texts make fit [] c u e = absurd (some≢none c (sym e))
-four_texts make fit (a ∷ []) c u e = absurd (some≢none c (sym e))
-four_texts make fit (a ∷ b ∷ []) c u e = absurd (some≢none c (sym e))
-four_texts make fit (a ∷ b ∷ d ∷ []) c u e = absurd (some≢none c (sym e))
 four_texts make fit (a ∷ b ∷ d ∷ f ∷ []) c u e = subst AreUtf8 (same_Some (make a b d f) c e)
     (fit a b d f (u.0, (u.1.0, (u.1.1.0, u.1.1.1.0))))
-four_texts make fit (a ∷ b ∷ d ∷ f ∷ g ∷ us) c u e = absurd (some≢none c (sym e))
+four_texts make fit _ c u e = absurd (some≢none c (sym e))
 
 counted_texts : (count : Option ℕ) (c : Command) → option_map Generate count ≡ Some c → AreUtf8 c
 counted_texts None c e = absurd (some≢none c (sym e))
 counted_texts (Some n) c e = subst AreUtf8 (same_Some (Generate n) c e) tt
 
 count_texts : (us : List Text) (c : Command) → of_count Generate us ≡ Some c → AreUtf8 c
-count_texts [] c e = absurd (some≢none c (sym e))
 count_texts (a ∷ []) c e = counted_texts (count_of a) c e
-count_texts (a ∷ b ∷ us) c e = absurd (some≢none c (sym e))
+count_texts _ c e = absurd (some≢none c (sym e))
 
 either_texts : (b : Bool) (x y : Option Command) (c : Command) → (x ≡ Some c → AreUtf8 c) → (y ≡ Some c → AreUtf8 c)
     → cond b x y ≡ Some c → AreUtf8 c

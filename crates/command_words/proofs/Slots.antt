@@ -242,11 +242,10 @@ module _ (s : Shape) (slots : has_slots s ≡ true) where
           (sym ((bytes_eq-Decides w dashes).0 is_d))
           (subst (λ vs. SameWalk (at rows pending p false) (dashes ∷ ws) (at rows pending p true) vs) (same_Some ws us e)
           (dashes_first rows pending p ws))
-      go false true o is_d is_b rest e = absurd (some≢none us (sym e))
-      go false false None is_d is_b rest e = absurd (some≢none us (sym e))
       go false false (Some vs) is_d is_b rest e =
           subst (λ xs. SameWalk (at rows pending p false) (w ∷ ws) (at rows pending p true) xs) (same_Some (w ∷ vs) us e)
           (one_step w rows pending p ws vs is_d is_b (rest vs refl))
+      go false _ _ is_d is_b rest e = absurd (some≢none us (sym e))
 
   -- ---- words that no command takes
 

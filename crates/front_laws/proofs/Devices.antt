@@ -40,20 +40,18 @@ there_device rs paddr h =
 
 -- the page that a need is for
 abbrev as_page : Need → Option ℕ
-as_page Nothing = None
 as_page (DevicePage paddr) = Some paddr
-as_page (Block bits) = None
+as_page _ = None
 
 abbrev pages : List Need → List ℕ
 pages ns = filter_map as_page ns
 
 -- what is said of one object, behind these
 abbrev said : List Untyped → List Need → Need → Option PlanRefusal
-said rs before Nothing = None
-said rs before (Block bits) = None
 said rs before (DevicePage paddr) =
     cond (not (list_any (has_page paddr) rs)) (Some (NoDevice (length before)))
     (cond (is_needed paddr (pages before)) (Some (SharedFrame (length before))) None)
+said rs before _ = None
 
 pages_more : (before : List Need) (n : Need) → pages (before ++ n ∷ []) ≡ pages before ++ pages (n ∷ [])
 pages_more before n = filter_map-append as_page before (n ∷ [])
@@ -100,9 +98,8 @@ taken_there ns before rest paddr item e t =
     }
   where
     the_page : (n : Need) → as_page n ≡ Some paddr → n ≡ DevicePage paddr
-    the_page Nothing e = cc
-    the_page (Block bits) e = cc
     the_page (DevicePage a) e = let s : a ≡ paddr = cc in ap (λ z. DevicePage z) s
+    the_page _ e = cc
 
 there_taken : (ns before rest : List Need) (paddr : ℕ) (item : Need) → ns ≡ before ++ item ∷ rest
     → IsTaken ns (length before) paddr → is_needed paddr (pages before) ≡ true
@@ -130,16 +127,13 @@ served rs ns front rest e clean i paddr l n =
         → is_needed paddr (pages p) ≡ b
         → cond (not a) (Some (NoDevice (length p))) (cond b (Some (SharedFrame (length p))) None) ≡ None
         → HasDevice rs paddr × (IsTaken ns i paddr → ⊥)
-    by_tests p q w m false b s t none = cc
-    by_tests p q w m true true s t none = cc
     by_tests p q w m true false s t none =
         let P : ℕ → Type 0 = λ z. IsTaken ns z paddr in
         (device_there rs paddr s, λ k. true≢false (sym (there_taken ns p q paddr (DevicePage paddr) w (subst P (sym m) k)) ∙ t))
+    by_tests p q w m _ _ s t none = cc
 
 clean_served : (rs : List Untyped) (ns front rest : List Need) → ns ≡ front ++ rest → AreServed rs ns (length front)
     → IsClean (said rs) [] front
-clean_served rs ns front rest e a p q Nothing s = refl
-clean_served rs ns front rest e a p q (Block bits) s = refl
 clean_served rs ns front rest e a p q (DevicePage paddr) s =
     let whole : ns ≡ p ++ DevicePage paddr ∷ (q ++ rest) = e ∙ ap (λ z. z ++ rest) s
     ∙ append_assoc p (DevicePage paddr ∷ q) rest in
@@ -159,12 +153,11 @@ clean_served rs ns front rest e a p q (DevicePage paddr) s =
         ap (λ z. cond (not z) (Some (NoDevice (length p))) (cond (is_needed paddr (pages p)) (Some (SharedFrame (length p)))
         None)) (there_device rs paddr k.0)
         ∙ ap (λ z. cond z (Some (SharedFrame (length p))) None) t
+clean_served rs ns front rest e a p q _ s = refl
 
 from_said : (rs : List Untyped) (ns front rest : List Need) (item : Need) (x : PlanRefusal) → ns ≡ front ++ item ∷ rest
     → said rs front item ≡ Some x → IsClean (said rs) [] front
     → IsDeviceRefusal rs ns x
-from_said rs ns front rest Nothing x e s clean = cc
-from_said rs ns front rest (Block bits) x e s clean = cc
 from_said rs ns front rest (DevicePage paddr) x e s clean =
     by_tests (list_any (has_page paddr) rs) (is_needed paddr (pages front)) refl refl s
   where
@@ -186,6 +179,7 @@ from_said rs ns front rest (DevicePage paddr) x e s clean =
         subst P same (shared_frame (length front) paddr here (device_there rs paddr t)
         (taken_there ns front rest paddr (DevicePage paddr) e u) (served rs ns front (DevicePage paddr ∷ rest) e clean))
     by_tests true false t u says = cc
+from_said rs ns front rest _ x e s clean = cc
 
 pub from_refusal : (rs : List Untyped) (ns : List Need) (x : PlanRefusal) → device_refusal rs [] 0 ns ≡ Some x
     → IsDeviceRefusal rs ns x

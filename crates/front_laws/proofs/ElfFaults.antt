@@ -67,21 +67,18 @@ sound_from size h e = by_tests (is_used h) (is_sized h) (is_whole size h) (is_al
       whole = λ u. absurd (true≢false (sym u ∙ p));
       aligned = λ u. absurd (true≢false (sym u ∙ p));
     }
-    by_tests true false c d p q r s e = cc
-    by_tests true true false d p q r s e = cc
-    by_tests true true true false p q r s e = cc
     by_tests true true true true p q r s e = record { sized = λ u. q; whole = λ u. r; aligned = λ u. s }
+    by_tests true _ _ _ p q r s e = cc
 
 fault_from : (size : ℕ) (h : ProgramHeader) (f : ElfFault) → header_fault size h ≡ Some f → IsHeaderFault size h f
 fault_from size h f e = by_tests (is_used h) (is_sized h) (is_whole size h) (is_aligned h) refl refl refl refl e
   where
     by_tests : (a b c d : Bool) → is_used h ≡ a → is_sized h ≡ b → is_whole size h ≡ c → is_aligned h ≡ d
         → told h size a b c d ≡ Some f → IsHeaderFault size h f
-    by_tests false b c d p q r s e = cc
     by_tests true false c d p q r s e = let same : fault code.Size h.first h.end ≡ f = cc in not_sized p q (sym same)
     by_tests true true false d p q r s e = let same : short size ≡ f = cc in not_whole p q r (sym same)
     by_tests true true true false p q r s e = let same : fault code.Align h.first h.end ≡ f = cc in not_aligned p q r s (sym same)
-    by_tests true true true true p q r s e = cc
+    by_tests _ _ _ _ p q r s e = cc
 
 -- ---- all of them
 
@@ -237,36 +234,31 @@ from_no_elf_fault bytes e = by_tests (starts_with nat_eq bytes magic) (nat_lt (l
         → headers_fault (length bytes) (headers c bytes) ≡ o → (b : Bool)
         → nat_lt sections_limit (length (sections_of_all (headers c bytes))) ≡ b
         → option_or o (fault_if b (fault code.Limit 0 0)) ≡ None → IsSoundElf bytes
-    by_behind c table None s true t e = cc
     by_behind c table None s false t e = record {
       class = c;
       table = table;
       sound = all_sound bytes c s;
       few = ltb-false sections_limit (length (sections_of_all (headers c bytes))) t;
     }
-    by_behind c table (Some g) s b t e = cc
+    by_behind c table _ s _ t e = cc
 
     by_fields : (c : Class) → IsOfClass bytes c → (x y z : Bool) → nat_lt (length bytes) (fields_end c) ≡ x
         → is_of_another_length c (file_header c bytes) ≡ y → is_past (length bytes) c (file_header c bytes) ≡ z
         → option_or (cond x (Some (short (length bytes))) (cond y (Some (fault code.Size (length_at c) (length_at c + 2)))
         (fault_if z (short (length bytes))))) (behind_table bytes c) ≡ None
         → IsSoundElf bytes
-    by_fields c kind true y z p q r e = cc
-    by_fields c kind false true z p q r e = cc
-    by_fields c kind false false true p q r e = cc
     by_fields c kind false false false p q r e =
         by_behind c (has_table bytes c kind p q r) (headers_fault (length bytes) (headers c bytes)) refl
         (nat_lt sections_limit (length (sections_of_all (headers c bytes)))) refl e
+    by_fields c kind _ _ _ p q r e = cc
 
     by_tests : (a b : Bool) (o : Option Class) → starts_with nat_eq bytes magic ≡ a → nat_lt (length bytes) 6 ≡ b
         → class_of (slice_index bytes 4) (slice_index bytes 5) ≡ o
         → fault_behind bytes (behind_magic bytes a b o) ≡ None → IsSoundElf bytes
-    by_tests false b o p q r e = cc
-    by_tests true true o p q r e = cc
-    by_tests true false None p q r e = cc
     by_tests true false (Some c) p q r e =
         by_fields c (record { begins = p; long = ltb-false (length bytes) 6 q; says = r }) (nat_lt (length bytes) (fields_end c))
         (is_of_another_length c (file_header c bytes)) (is_past (length bytes) c (file_header c bytes)) refl refl refl e
+    by_tests _ _ _ p q r e = cc
 
 -- ---- and back
 

@@ -117,9 +117,8 @@ from_differs types (Some c) held x (Some p) e d = by_both (interface_at types p)
   where
     by_both : (i j : Option Interface) → interface_at types p ≡ i → c.interface x.target.name ≡ j → differs i j ≡ true
         → IsMisfit types (Some c) held [] x
-    by_both None j k l d = cc
-    by_both (Some i) None k l d = cc
     by_both (Some i) (Some j) k l d = unlike_target c p i j refl e k l (not-true (same_interface i j) d)
+    by_both _ _ k l d = cc
 
 from_misfit : (types : Types) (owner : Option Known) (held : Holding) (targets : Name → Bool) (inners : Port → Bool) (x : Export)
     → is_misfit types owner held targets inners x ≡ true → Why types owner held targets inners [] x
@@ -322,12 +321,11 @@ from_composition s owner k f h i =
         absurd (cc (q.3))
 
 from_item : (s : Source) (x : Item) (f : Fault) → HasItem s x → IsIn f (misfits_in_item (known_in s) x) → IsMisfitIn s f
-from_item s (items.Import i) f h j = absurd j
-from_item s (items.Procedure p) f h j = absurd j
 from_item s (items.Component c) f h j =
     let k = from_flat_map (misfits_in_composition (known_in s) (Some (known_of c))) f (compositions c) j in
     from_composition s (Some (known_of c)) k.0 f (of_component c k.0 h k.1) k.2
 from_item s (items.Assembly a) f h j = from_composition s None a.composition f (of_assembly a h) j
+from_item s _ f h j = absurd j
 
 pub from_misfits : (s : Source) (f : Fault) → IsIn f (misfit_exports s) → IsMisfitIn s f
 from_misfits s f i =

@@ -31,20 +31,16 @@ suit_at rs (m ∷ ns) (p ∷ places) (suc k) n a e = suit_at rs ns places k n a.
 bytes_in : (ns : List Need) (places : List (Option ℕ)) (k : ℕ) (n : Need) (first : ℕ) → slice_get ns k ≡ Some n
     → slice_get places k ≡ Some (Some first)
     → IsIn (bytes_of n first) (all_bytes ns places)
-bytes_in [] places k n first e f = cc
-bytes_in (m ∷ ns) [] k n first e f = cc
 bytes_in (m ∷ ns) (Some p ∷ places) zero n first e f = let a : m ≡ n = cc in let b : p ≡ first = cc in
     inl (ap (λ z. bytes_of z p) a ∙ ap (bytes_of n) b)
-bytes_in (m ∷ ns) (None ∷ places) zero n first e f = cc
 bytes_in (m ∷ ns) (Some p ∷ places) (suc k) n first e f = inr (bytes_in ns places k n first e f)
 bytes_in (m ∷ ns) (None ∷ places) (suc k) n first e f = bytes_in ns places k n first e f
+bytes_in _ _ _ n first e f = cc
 
 apart_at : (ns : List Need) (places : List (Option ℕ)) (i j : ℕ) (n m : Need) (a b : ℕ) → AllApart (all_bytes ns places) → i < j
     → slice_get ns i ≡ Some n
     → slice_get places i ≡ Some (Some a) → slice_get ns j ≡ Some m → slice_get places j ≡ Some (Some b)
     → Apart (bytes_of n a) (bytes_of m b)
-apart_at [] places i j n m a b all l e f g h = cc
-apart_at (x ∷ ns) [] i j n m a b all l e f g h = cc
 apart_at (x ∷ ns) (p ∷ places) i zero n m a b all l e f g h = absurd (omega (arith, l))
 apart_at (x ∷ ns) (Some p ∷ places) zero (suc j) n m a b all l e f g h =
     let s : x ≡ n = cc in
@@ -53,11 +49,11 @@ apart_at (x ∷ ns) (Some p ∷ places) zero (suc j) n m a b all l e f g h =
     let Q : ℕ → Type 0 = λ z. Apart (bytes_of n z) (bytes_of m b) in
     subst Q t (subst P s (all_by (Apart (bytes_of x p)) (all_bytes ns places) (bytes_of m b) all.0
     (bytes_in ns places j m b g h)))
-apart_at (x ∷ ns) (None ∷ places) zero (suc j) n m a b all l e f g h = cc
 apart_at (x ∷ ns) (Some p ∷ places) (suc i) (suc j) n m a b all l e f g h =
     apart_at ns places i j n m a b all.1 (omega (arith, l)) e f g h
 apart_at (x ∷ ns) (None ∷ places) (suc i) (suc j) n m a b all l e f g h =
     apart_at ns places i j n m a b all (omega (arith, l)) e f g h
+apart_at _ _ _ _ n m a b all l e f g h = cc
 
 -- bytes that are apart share no address
 no_address : (n m : Need) (a b address : ℕ) → Apart (bytes_of n a) (bytes_of m b) → a ≤ address → address < a + 2 ^ bits_of n

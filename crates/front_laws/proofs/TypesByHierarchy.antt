@@ -115,13 +115,7 @@ from_sizes h k f low (Some c) own i = let m = from_flat_map size_faults f c.memb
     by_member : (m : Member) → IsIn m c.members → IsIn f (size_faults m) → IsTypeFault h f
     by_member (members.Interface i) j x = let t = from_true (not (option_map_or is_size i.size true))
         (at_word code.TypeMismatch i.id) f x in by_size i j i.size refl t.0 (sym t.1)
-    by_member (members.Control p) j x = absurd x
-    by_member (members.Hardware p) j x = absurd x
-    by_member (members.Include p) j x = absurd x
-    by_member (members.Attribute p) j x = absurd x
-    by_member (members.Lock p) j x = absurd x
-    by_member (members.Composition p) j x = absurd x
-    by_member (members.Configuration p) j x = absurd x
+    by_member _ j x = absurd x
 
 from_body : (h : Hierarchy) (k : ℕ) (f : Fault) → k ≤ top_number h → IsIn f (body_faults h k) → IsTypeFault h f
 from_body h k f low i =

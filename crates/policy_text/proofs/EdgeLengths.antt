@@ -1,5 +1,5 @@
 -- How long the lines of edges and the text of a certificate are, where its labels are below the limit.
-use Rattle.policy_text.proofs.Common.{AsyncSend, Authority, Call, Control, Edge, Grant, GrantBack, Handle, List, Read, Receive, Reply, Reset, SyncSend, Write, [], ap, arith, edge_line, flat_map, has, length, length-append, refl, same_edge}
+use Rattle.policy_text.proofs.Common.{AsyncSend, Authority, Edge, List, [], ap, arith, edge_line, flat_map, has, length, length-append, refl, same_edge}
 use Rattle.policy_text.proofs.Common.{same_edge_self, text_of, true, ℕ, ◌*◌, ◌+◌, ◌<◌, ◌||◌, ◌∷◌, ◌≡◌, ◌≤◌}
 use Rattle.std.proofs.Math.Nat.{mul-suc}
 use Rattle.std.proofs.lemmas.Fmt.{length-decimal-le}
@@ -20,18 +20,8 @@ pub number_short : (n : ℕ) → n < 8192 → length (decimal n) ≤ 4
 number_short n l = length-decimal-le 4 n (omega arith) (omega (arith, l)) (omega (arith, l))
 
 word_short : (a : Authority) → length (text_of a) ≤ 9
-word_short Receive = omega arith
-word_short SyncSend = omega arith
 word_short AsyncSend = omega arith
-word_short Reset = omega arith
-word_short Grant = omega arith
-word_short Read = omega arith
-word_short Write = omega arith
-word_short Control = omega arith
-word_short Call = omega arith
-word_short Reply = omega arith
-word_short GrantBack = omega arith
-word_short Handle = omega arith
+word_short _ = omega arith
 
 pub edge_short : (e : Edge) → e.from < 8192 → e.to < 8192 → length (edge_line e) ≤ 25
 edge_short e f t =

@@ -63,12 +63,9 @@ long_formed word l a m e h = go (bytes_eq word (codes "edge")) refl
     go false d = let is = rw d at h in absurd cc
 
 entry_formed : (kind : Kind) (fs : List (List ℕ)) (e : Entry) → entry_of kind fs ≡ Some e → Formed e
-entry_formed kind [] e h = absurd cc
-entry_formed kind (a ∷ []) e h = absurd cc
-entry_formed kind (a ∷ b ∷ []) e h = absurd cc
 entry_formed kind (a ∷ b ∷ c ∷ []) e h = short_formed kind a b c e h
 entry_formed kind (a ∷ b ∷ c ∷ d ∷ []) e h = long_formed a b c d e h
-entry_formed kind (a ∷ b ∷ c ∷ d ∷ f ∷ more) e h = absurd cc
+entry_formed kind _ e h = absurd cc
 
 abbrev pub FormedAll : List Told → Type 0
 FormedAll [] = Unit {0}
@@ -279,8 +276,7 @@ gives_key ((line, label m name) ∷ ts) n h = go (bytes_eq m n) refl (λ k. give
     go true e rest = or_left (list_any (λ p. p.0 == label_value n) (filter_map label_of ts))
         ((Decides-eqb (label_value m) (label_value n)).1 (ap label_value ((bytes_eq-Decides m n).0 e)))
     go false e rest = or_right (label_value m == label_value n) (rest (ap (λ b. b || has_label ts n) (sym e) ∙ h))
-gives_key ((line, object word m) ∷ ts) n h = gives_key ts n h
-gives_key ((line, edge l a m) ∷ ts) n h = gives_key ts n h
+gives_key ((line, _) ∷ ts) n h = gives_key ts n h
 
 pub known_named : (ts : List Told) (n : Number) → has_label ts n ≡ true
     → is_some (label_name (by_number (filter_map label_of ts)) (label_value n)) ≡ true

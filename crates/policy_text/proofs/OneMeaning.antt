@@ -1,5 +1,5 @@
 -- Lines mean at most one policy, and one table of edges; bytes have one answer.
-use Rattle.policy_text.proofs.Common.{Edge, Err, IsAnswer, IsCertRead, IsFault, IsPolicyRead, List, None, Ok, Option, Policy, Refused, Result, SaysEdges, TextFault, Told, ap, cert_lines, first_cert_fault, first_policy_fault, one_table, policy_lines}
+use Rattle.policy_text.proofs.Common.{Edge, Err, IsAnswer, IsCertRead, IsFault, IsPolicyRead, List, None, Ok, Option, Policy, Refused, Result, SaysEdges, TextFault, Told, ap, cert_lines, first_cert_fault, first_policy_fault, one_table, policy_lines, rules}
 use Rattle.policy_text.proofs.Common.{refl, sym, ℕ, ◌∙◌, ◌≡◌}
 use Rattle.cam_base.specs.declared.error.Refused.TheVariants as refused
 use Rattle.policy_text.specs.PolicyTexts.{Says}
@@ -32,9 +32,7 @@ one_answer fault Means one (Ok p) (Ok q) s t h k = ap (λ x. Ok x) (one p q h.1 
 one_answer fault Means one (Ok p) (Err (refused.Fault f)) s t h k = let n = h.0 in absurd cc
 one_answer fault Means one (Err (refused.Fault f)) (Ok q) s t h k = let n = k.0 in absurd cc
 one_answer fault Means one (Err (refused.Fault f)) (Err (refused.Fault g)) s t h k = cc
-one_answer fault Means one (Err refused.NoMemory) b s t h k = absurd s
-one_answer fault Means one (Ok p) (Err refused.NoMemory) s t h k = absurd t
-one_answer fault Means one (Err (refused.Fault f)) (Err refused.NoMemory) s t h k = absurd t
+one_answer fault Means one _ _ s t h k = absurd (search rules)
 
 policy_answers : (bytes : List ℕ) (a : Result Policy (Refused TextFault)) → IsPolicyRead bytes a
     → Answers (first_policy_fault bytes) (Says (policy_lines bytes)) a

@@ -1,5 +1,5 @@
 -- The rows of labels, objects and edges: their fields, and what they say.
-use Rattle.policy_text.proofs.Common.{All, All-append, All-cons, All-nil, All-weaker, AsyncSend, Authority, Bool, Call, Control, Edge, Grant, GrantBack, Handle, Kind, List, Read, Receive, Reply, Reset, Some, SyncSend, Write, [], and_parts, ap}
+use Rattle.policy_text.proofs.Common.{All, All-append, All-cons, All-nil, All-weaker, AsyncSend, Authority, Bool, Edge, Kind, List, Some, [], and_parts, ap}
 use Rattle.policy_text.proofs.Common.{append_assoc, arith, codes, decimal, digits-decimal, edge, edge_line, entry_of, false, fields, is_decimal-decimal, is_digit, is_label_byte, is_label_name, is_letter, is_name, is_word, is_word_byte, label}
 use Rattle.policy_text.proofs.Common.{label_line, leb, length, list_all, nat_lt, nat_tests, object, object_line, refl, slice_split_at, slice_split_none, text_of, true, ℕ, ◌&&◌, ◌++◌, ◌<◌, ◌==◌, ◌^◌, ◌∙◌, ◌∷◌, ◌≡◌}
 use Rattle.cam_base.specs.Texts.{together}
@@ -55,18 +55,8 @@ literal_field : (bs : List ℕ) → list_all (λ b. nat_lt 32 b) bs ≡ true →
 literal_field bs h = field_of (λ b. nat_lt 32 b) past_any bs h
 
 text_past : (a : Authority) → list_all (λ b. nat_lt 32 b) (text_of a) ≡ true
-text_past Receive = refl
-text_past SyncSend = refl
 text_past AsyncSend = refl
-text_past Reset = refl
-text_past Grant = refl
-text_past Read = refl
-text_past Write = refl
-text_past Control = refl
-text_past Call = refl
-text_past Reply = refl
-text_past GrantBack = refl
-text_past Handle = refl
+text_past _ = refl
 
 no_space : (b : ℕ) → 32 < b → (b == 32) ≡ false
 no_space b h = grind (arith, nat_tests)

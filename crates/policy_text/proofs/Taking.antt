@@ -1,5 +1,5 @@
 -- What is kept of the lines so far, after one line more.
-use Rattle.policy_text.proofs.Common.{Authority, Bool, Entry, Err, HasEdges, HasFewEdges, HasRoom, IfSome, IsAdded, IsSeen, Line, List, NoMemory, None, Number, Ok, OnOk, Option, Result, Seen, Some, Takes, Told, Words, [], ap, arith, bytes_eq, cond}
+use Rattle.policy_text.proofs.Common.{Authority, Bool, Entry, Err, HasEdges, HasFewEdges, HasRoom, IfSome, IsAdded, IsSeen, Line, List, NoMemory, None, Number, Ok, OnOk, Option, Result, Seen, Some, Takes, Told, Words, [], ap, arith, bytes_eq, cond, rules}
 use Rattle.policy_text.proofs.Common.{count_by, edge, edges_limit, false, gives, is_edge, is_label, is_new_edge, is_object, label, labels_object, list_any, names_label, nat_le, new_edges, not, object, refl, says_edge, subst, sum_by-append, sym, true}
 use Rattle.policy_text.proofs.Common.{wrong_entry, ℕ, ◌&&◌, ◌++◌, ◌+◌, ◌||◌, ◌∙◌, ◌∷◌, ◌≡◌, ◌≤◌}
 use Rattle.policy_text.proofs.Before.{any_more, count_more, edges_more, one_if}
@@ -112,8 +112,6 @@ edges_grown : (before : List Told) (line : Line) (l : List ℕ) (a : Authority) 
     → AddsEdge line.text o n → IfSome o (HasEdges before)
     → IfSome n (HasEdges (before ++ (line, edge l a m) ∷ []))
 edges_grown before line l a m None None adds h = tt
-edges_grown before line l a m None (Some new) adds h = absurd cc
-edges_grown before line l a m (Some old) None adds h = absurd adds
 edges_grown before line l a m (Some old) (Some new) added h = record {
   each = grown says_edge before (line, edge l a m) line.text old new (λ other. refl) added h.each;
   len =
@@ -121,6 +119,7 @@ edges_grown before line l a m (Some old) (Some new) added h = record {
       ap (λ (b : Bool). cond b 0 1) (h.each line.text) ∙ edge_counted (list_any (says_edge line.text) before) in
       omega (arith, here, added.len, h.len, edges_more [] before (line, edge l a m));
 }
+edges_grown before line l a m _ _ adds h = absurd (search rules)
 
 pub seen_edge : (old : Seen) (edges : Option Words) (before : List Told) (line : Line) (l : List ℕ) (a : Authority) (m : List ℕ)
     → IsSeen old before
@@ -185,9 +184,8 @@ takes_edge old edges text entry l a m (Err e) is added = tt
 -- ---- how many edges there are
 
 few_new : (b c : Bool) → one_if (b && c) ≤ one_if b
-few_new true true = omega arith
 few_new true false = omega arith
-few_new false c = omega arith
+few_new _ _ = omega arith
 
 pub new_edges_most : (before ts : List Told) → new_edges before ts ≤ count_by (λ t. is_edge t.1) ts
 new_edges_most before [] = omega arith

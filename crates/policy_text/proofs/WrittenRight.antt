@@ -135,9 +135,8 @@ objects_right knows before at (o ∷ os) known names differ fresh room =
 -- ---- edges
 
 one_few : (a b : Bool) → ◌≤◌ (cond (a && b) 1 0) (cond a 1 0)
-one_few true true = omega arith
 one_few true false = omega arith
-one_few false b = omega arith
+one_few _ _ = omega arith
 
 pub edges_right : (knows : Number → Bool) (before : List Told) (at : ℕ) (es : List Edge)
     → All (λ e. (knows (decimal e.from) ≡ true) × (knows (decimal e.to) ≡ true)) es

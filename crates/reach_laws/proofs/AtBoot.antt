@@ -8,7 +8,7 @@ use Rattle.cap_model.specs.Kept.{IsKept, fits, fits_as, if_any, keeps, keeps_tab
 use Rattle.cap_model.specs.Levels.{child, size}
 use Rattle.cap_model.specs.declared.kind.Kind.TheVariants as kinds
 use Rattle.cap_model.specs.declared.level.Level.{Level}
-use Rattle.cap_model.specs.declared.level.Level.TheVariants.{Global, Upper, Directory, Table}
+use Rattle.cap_model.specs.declared.level.Level.TheVariants.{Directory, Table}
 use Rattle.cap_model.specs.declared.object.Object.TheVariants as objects
 
 -- ---- what memory confers
@@ -25,59 +25,18 @@ is_memory (kinds.Pages level) = true
 is_memory _ = false
 
 by_memory : (k : Kind) (r : Rights) (a : Authority) → is_memory k ≡ true → kind_confers k r a ≡ true → is_of_memory a ≡ true
-by_memory kinds.Frame r Read m h = refl
-by_memory kinds.Frame r Write m h = refl
-by_memory kinds.Frame r Control m h = refl
-by_memory kinds.Frame r _ m h = absurd (true≢false (sym h))
-by_memory (kinds.Pages level) r Read m h = refl
-by_memory (kinds.Pages level) r Write m h = refl
-by_memory (kinds.Pages level) r Control m h = refl
-by_memory (kinds.Pages level) r _ m h = absurd (true≢false (sym h))
-by_memory kinds.Endpoint r a m h = absurd (true≢false (sym m))
-by_memory kinds.Notification r a m h = absurd (true≢false (sym m))
-by_memory kinds.CNode r a m h = absurd (true≢false (sym m))
-by_memory kinds.Thread r a m h = absurd (true≢false (sym m))
-by_memory kinds.Irq r a m h = absurd (true≢false (sym m))
+by_memory k r Read m h = refl
+by_memory k r Write m h = refl
+by_memory k r Control m h = refl
+by_memory kinds.Frame r _ m h = absurd cc
+by_memory _ r _ m h = absurd cc
 
 -- the kinds that a page table names, and a frame
 same_memory : (k : Kind) (level : Level) → same_kind k (child level) ≡ true → is_memory k ≡ true
 same_memory kinds.Frame level h = refl
 same_memory (kinds.Pages l) level h = refl
-same_memory kinds.Endpoint level h = absurd (no level h)
-  where
-    no : (level : Level) → same_kind kinds.Endpoint (child level) ≡ true → ⊥
-    no Global h = true≢false (sym h)
-    no Upper h = true≢false (sym h)
-    no Directory h = true≢false (sym h)
-    no Table h = true≢false (sym h)
-same_memory kinds.Notification level h = absurd (no level h)
-  where
-    no : (level : Level) → same_kind kinds.Notification (child level) ≡ true → ⊥
-    no Global h = true≢false (sym h)
-    no Upper h = true≢false (sym h)
-    no Directory h = true≢false (sym h)
-    no Table h = true≢false (sym h)
-same_memory kinds.CNode level h = absurd (no level h)
-  where
-    no : (level : Level) → same_kind kinds.CNode (child level) ≡ true → ⊥
-    no Global h = true≢false (sym h)
-    no Upper h = true≢false (sym h)
-    no Directory h = true≢false (sym h)
-    no Table h = true≢false (sym h)
-same_memory kinds.Thread level h = absurd (no level h)
-  where
-    no : (level : Level) → same_kind kinds.Thread (child level) ≡ true → ⊥
-    no Global h = true≢false (sym h)
-    no Upper h = true≢false (sym h)
-    no Directory h = true≢false (sym h)
-    no Table h = true≢false (sym h)
-same_memory kinds.Irq level h = absurd (no level h)
-  where
-    no : (level : Level) → same_kind kinds.Irq (child level) ≡ true → ⊥
-    no Global h = true≢false (sym h)
-    no Upper h = true≢false (sym h)
-    no Directory h = true≢false (sym h)
-    no Table h = true≢false (sym h)
+same_memory _ Directory h = absurd cc
+same_memory _ _ h = absurd cc
 
 -- a capability to an object of such a kind
 option_memory : (o : Option Kind) (r : Rights) (level : Level) (a : Authority) → is_kind o (child level) ≡ true
@@ -107,7 +66,6 @@ module _ (spec : Spec) (labels : List ℕ) (kept : IsKept spec) where
   -- IPC buffers are frames
   buffer_memory : (o : Option Object) (t : ℕ) (cap : Cap) (a : Authority) → object_at spec t ≡ o → buffer_of o ≡ Some cap
       → confers spec cap a ≡ true → is_of_memory a ≡ true
-  buffer_memory None t cap a there is c = absurd cc
   buffer_memory (Some (objects.Thread tcb)) t cap a there is c =
       let k = object_kept t (objects.Thread tcb) there in
       let parts = and_parts _ (if_any (is_space_root spec) tcb.vspace && if_any (fits_as spec kinds.Frame) tcb.buffer) k in
@@ -115,12 +73,7 @@ module _ (spec : Spec) (labels : List ℕ) (kept : IsKept spec) where
       (and_parts (if_any (is_space_root spec) tcb.vspace) (if_any (fits_as spec kinds.Frame) tcb.buffer) parts.1).1 in
       let frame : fits_as spec kinds.Frame cap ≡ true = subst (λ z. if_any (fits_as spec kinds.Frame) z ≡ true) is buffer in
       cap_memory cap Table a frame c
-  buffer_memory (Some objects.Endpoint) t cap a there is c = absurd cc
-  buffer_memory (Some objects.Notification) t cap a there is c = absurd cc
-  buffer_memory (Some (objects.CNode bits slots)) t cap a there is c = absurd cc
-  buffer_memory (Some (objects.Frame paddr fill)) t cap a there is c = absurd cc
-  buffer_memory (Some (objects.Pages level slots)) t cap a there is c = absurd cc
-  buffer_memory (Some (objects.Irq n)) t cap a there is c = absurd cc
+  buffer_memory _ t cap a there is c = absurd cc
 
   -- page tables name page tables and frames
   slot_memory : (level : Level) (slots : List (ℕ × Cap)) (n : Option ℕ) (i : ℕ) (cap : Cap) (a : Authority)
@@ -142,13 +95,7 @@ module _ (spec : Spec) (labels : List ℕ) (kept : IsKept spec) where
       → confers spec cap a ≡ true → is_of_memory a ≡ true
   table_memory (Some (objects.Pages level slots)) p i cap a there is c = slot_memory level slots (size spec.arch level) i cap a
       (object_kept p (objects.Pages level slots) there) is c
-  table_memory None p i cap a there is c = absurd (let w = is.1 in omega arith)
-  table_memory (Some objects.Endpoint) p i cap a there is c = absurd (let w = is.1 in omega arith)
-  table_memory (Some objects.Notification) p i cap a there is c = absurd (let w = is.1 in omega arith)
-  table_memory (Some (objects.CNode bits slots)) p i cap a there is c = absurd (let w = is.1 in omega arith)
-  table_memory (Some (objects.Thread tcb)) p i cap a there is c = absurd (let w = is.1 in omega arith)
-  table_memory (Some (objects.Frame paddr fill)) p i cap a there is c = absurd (let w = is.1 in omega arith)
-  table_memory (Some (objects.Irq n)) p i cap a there is c = absurd (let w = is.1 in omega arith)
+  table_memory _ p i cap a there is c = absurd (let w = is.1 in omega arith)
 
   -- an interrupt that signals, of this label
   pub record Signals (l : ℕ) : Type 0 where

@@ -1,6 +1,6 @@
 -- One call, and one binding, from the boot state.
-use Rattle.reach_laws.proofs.Common.{Acts, AsyncSend, CNode, Call, Capability, Endpoint, Entry, Frame, Handle, Held, Irq, Kind, List, None, Notification, Object, Option, Pages, Peer, Pending, Reaches, Receive, Reply, Rights, Some, Spec, State}
-use Rattle.reach_laws.proofs.Common.{Thread, ThreadState, [], ap, boot, boot_irq, boot_thread, called, entry_at, entry_object, inl, inr, is_at, is_kind, kind_at, label_of, length, no_thread, number_found, object_at, of_irq, of_reply, option_confers}
+use Rattle.reach_laws.proofs.Common.{Acts, AsyncSend, Call, Capability, Endpoint, Entry, Handle, Held, Irq, Kind, List, None, Notification, Object, Option, Peer, Pending, Reaches, Receive, Reply, Rights, Some, Spec, State}
+use Rattle.reach_laws.proofs.Common.{ThreadState, [], ap, boot, boot_irq, boot_thread, called, entry_at, entry_object, inl, inr, is_at, is_kind, kind_at, label_of, length, no_thread, number_found, object_at, of_irq, of_reply, option_confers}
 use Rattle.reach_laws.proofs.Common.{refl, slice_get_within, subst, sym, thread_at, true, with_pending, ℕ, ◌&&◌, ◌<◌, ◌||◌, ◌∙◌, ◌∷◌, ◌≡◌, ◌≢◌, ◌⊎◌}
 use Rattle.std.proofs.Common.{slice_get}
 use Rattle.std.specs.Prelude.{slice_set}
@@ -44,45 +44,22 @@ module _ (spec : Spec) (labels : List ℕ) (laid : IsArranged spec labels) where
 
   calls_by : (o : Option Kind) (r : Rights) → option_confers o r Call ≡ true
       → (o ≡ Some Endpoint) × (r.write && (r.grant || r.reply) ≡ true)
-  calls_by None r h = absurd cc
   calls_by (Some Endpoint) r h = (refl, h)
-  calls_by (Some Notification) r h = absurd cc
-  calls_by (Some CNode) r h = absurd cc
-  calls_by (Some Thread) r h = absurd cc
-  calls_by (Some Frame) r h = absurd cc
-  calls_by (Some (Pages level)) r h = absurd cc
-  calls_by (Some Irq) r h = absurd cc
+  calls_by _ r h = absurd cc
 
   receives_by : (o : Option Kind) (r : Rights) → option_confers o r Receive ≡ true
       → ((o ≡ Some Endpoint) ⊎ (o ≡ Some Notification)) × (r.read ≡ true)
-  receives_by None r h = absurd cc
   receives_by (Some Endpoint) r h = (inl refl, h)
   receives_by (Some Notification) r h = (inr refl, h)
-  receives_by (Some CNode) r h = absurd cc
-  receives_by (Some Thread) r h = absurd cc
-  receives_by (Some Frame) r h = absurd cc
-  receives_by (Some (Pages level)) r h = absurd cc
-  receives_by (Some Irq) r h = absurd cc
+  receives_by _ r h = absurd cc
 
   handles_by : (o : Option Kind) (r : Rights) → option_confers o r Handle ≡ true → o ≡ Some Irq
-  handles_by None r h = absurd cc
-  handles_by (Some Endpoint) r h = absurd cc
-  handles_by (Some Notification) r h = absurd cc
-  handles_by (Some CNode) r h = absurd cc
-  handles_by (Some Thread) r h = absurd cc
-  handles_by (Some Frame) r h = absurd cc
-  handles_by (Some (Pages level)) r h = absurd cc
   handles_by (Some Irq) r h = refl
+  handles_by _ r h = absurd cc
 
   signals_by : (o : Option Kind) (r : Rights) → option_confers o r AsyncSend ≡ true → (o ≡ Some Notification) × (r.write ≡ true)
-  signals_by None r h = absurd cc
-  signals_by (Some Endpoint) r h = absurd cc
   signals_by (Some Notification) r h = (refl, h)
-  signals_by (Some CNode) r h = absurd cc
-  signals_by (Some Thread) r h = absurd cc
-  signals_by (Some Frame) r h = absurd cc
-  signals_by (Some (Pages level)) r h = absurd cc
-  signals_by (Some Irq) r h = absurd cc
+  signals_by _ r h = absurd cc
 
   -- ---- one call
 

@@ -1,6 +1,6 @@
 -- Which ends the connector table gives an authority, and over what.
-use Rattle.reach_laws.proofs.Common.{AsyncSend, Bool, Call, Connector, Control, Direct, From, Grant, GrantBack, Handle, Interrupt, Mmio, NoObject, ObjectKind, OfDevice, OfEndpoint, OfFrames, OfIrq, OfNotification, Receive, Role, Rpc, SharedMemory}
-use Rattle.reach_laws.proofs.Common.{To, and_parts, false, gives, has_label, implied, implies, inl, inr, over_object, refl, same_connector, same_object, same_role, sym, true, true≢false, ◌&&◌, ◌||◌, ◌∙◌, ◌∷◌, ◌≡◌, ◌⊎◌}
+use Rattle.reach_laws.proofs.Common.{AsyncSend, Bool, Call, Connector, Control, From, Grant, GrantBack, Handle, Interrupt, ObjectKind, OfEndpoint, OfIrq, OfNotification, Receive, Role, Rpc}
+use Rattle.reach_laws.proofs.Common.{To, and_parts, false, gives, has_label, implied, implies, inl, inr, over_object, refl, same_connector, same_object, same_role, sym, true, true≢false, ◌&&◌, ◌||◌, ◌≡◌, ◌⊎◌}
 use Rattle.adl_meaning.specs.declared.connector.Connector.TheVariants.{Notification}
 use Rattle.arch_policy.proofs.Same.{is_connector, is_object}
 use Rattle.conn_rules.proofs.Roles.{is_role}
@@ -55,10 +55,7 @@ either_object : (o : ObjectKind) → same_object o OfEndpoint || same_object o O
     → (o ≡ OfEndpoint) ⊎ (o ≡ OfNotification)
 either_object OfEndpoint h = inl refl
 either_object OfNotification h = inr refl
-either_object NoObject h = absurd (true≢false (sym h))
-either_object OfFrames h = absurd (true≢false (sym h))
-either_object OfDevice h = absurd (true≢false (sym h))
-either_object OfIrq h = absurd (true≢false (sym h))
+either_object _ h = absurd (true≢false (sym h))
 
 pub who_receives : (c : Connector) (r : Role) (o : ObjectKind) → gives c r o Receive ≡ true → IsReceiver c r o
 who_receives c r o h =
@@ -75,10 +72,7 @@ either_connector : (c : Connector) → same_connector c Notification || same_con
     → (c ≡ Notification) ⊎ (c ≡ Interrupt)
 either_connector Notification h = inl refl
 either_connector Interrupt h = inr refl
-either_connector Rpc h = absurd (true≢false (sym h))
-either_connector SharedMemory h = absurd (true≢false (sym h))
-either_connector Mmio h = absurd (true≢false (sym h))
-either_connector Direct h = absurd (true≢false (sym h))
+either_connector _ h = absurd (true≢false (sym h))
 
 pub who_signals : (c : Connector) (r : Role) (o : ObjectKind) → gives c r o AsyncSend ≡ true
     → ((c ≡ Notification) ⊎ (c ≡ Interrupt)) × (r ≡ From) × (o ≡ OfNotification)

@@ -3,6 +3,9 @@ use Rattle.reach_laws.proofs.Common.{AreApart, AsyncSend, Authority, Call, Conne
 use Rattle.reach_laws.proofs.Common.{Reason, Receive, Reply, Role, Rpc, Spec, Tables, To, [], ap, boot, by_bind, by_call, by_direct, by_lock, connection_label, edge, gives, leaf_label, opposite, refl, subst, sym, triples, triples_are_policy, true, ℕ}
 use Rattle.reach_laws.proofs.Common.{◌↔◌, ◌∙◌, ◌≡◌, ◌≢◌}
 use Rattle.adl_meaning.specs.declared.connector.Connector.TheVariants.{Notification}
+use Rattle.arch_policy.specs.Gives.{leaves}
+use Rattle.arch_policy.specs.Reasons.{LeadsTo}
+use Rattle.cspace_layout.specs.Lookups.{setting_of}
 use Rattle.cert_check.proofs.Keeps.{runs_stay}
 use Rattle.reach_laws.proofs.FirstSteps.{bind_reached, call_reached}
 use Rattle.reach_laws.proofs.AtBoot.{Signals, held, held_signal}
@@ -17,44 +20,31 @@ given_as c r d q o a e f h = ap (λ x. gives x r o a) e ∙ ap (λ x. gives d x 
 -- ---- direct reasons
 
 module _ (t : Tables) where
+  -- what an end's role gives on an object of its connection, of an authority that its setting leaves
+  end_reason : (x : EndAt t.flat) (c : Connector) (r : Role) (o : ObjectKind) (a : Authority) → IsEnd c r x
+      → gives c r o a ≡ true → leaves (setting_of t.settled x.place x.number) a ≡ true
+      → LeadsTo t x o (connection_label t x.place)
+      → DirectReason t (edge (leaf_label t x.end.leaf) a (connection_label t x.place))
+  end_reason x c r o a is given left to = record {
+    at = x;
+    object = o;
+    given = given_as x.connection.connector x.end.role c r o a is.connector is.role given;
+    left = left;
+    from = refl;
+    to = to;
+  }
+
   pub caller_reason : (x : EndAt t.flat) → IsEnd Rpc From x
       → DirectReason t (edge (leaf_label t x.end.leaf) Call (connection_label t x.place))
-  caller_reason x is =
-      record {
-        at = x;
-        object = OfEndpoint;
-        given = given_as x.connection.connector x.end.role Rpc From OfEndpoint Call
-            is.connector is.role refl;
-        left = refl;
-        from = refl;
-        to = refl;
-      }
+  caller_reason x is = end_reason x Rpc From OfEndpoint Call is refl refl refl
 
   pub server_reason : (x : EndAt t.flat) → IsEnd Rpc To x
       → DirectReason t (edge (leaf_label t x.end.leaf) Receive (connection_label t x.place))
-  server_reason x is =
-      record {
-        at = x;
-        object = OfEndpoint;
-        given = given_as x.connection.connector x.end.role Rpc To OfEndpoint Receive
-            is.connector is.role refl;
-        left = refl;
-        from = refl;
-        to = refl;
-      }
+  server_reason x is = end_reason x Rpc To OfEndpoint Receive is refl refl refl
 
   pub signaller_reason : (x : EndAt t.flat) → IsEnd Notification From x
       → DirectReason t (edge (leaf_label t x.end.leaf) AsyncSend (connection_label t x.place))
-  signaller_reason x is =
-      record {
-        at = x;
-        object = OfNotification;
-        given = given_as x.connection.connector x.end.role Notification From
-            OfNotification AsyncSend is.connector is.role refl;
-        left = refl;
-        from = refl;
-        to = refl;
-      }
+  signaller_reason x is = end_reason x Notification From OfNotification AsyncSend is refl refl refl
 
   pub handler_reason : (l d : ℕ) → Handles t l d → DirectReason t (edge l Handle d)
   handler_reason l d h =

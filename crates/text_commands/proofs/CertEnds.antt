@@ -1,6 +1,6 @@
 -- The edges of a least certificate go from labels of objects to labels of objects.
 use Rattle.text_commands.proofs.Common.{Authority, Bool, Contains, Edge, FitsSpec, Has, IsLeast, KeepsRules, List, Node, None, Option, Some, Spec, [], and_parts, ap, arith, boot, edge, false, filter, has, inl, inr, irq_at, length, list_any}
-use Rattle.text_commands.proofs.Common.{nat_tests, no_node, no_thread, node_at, refl, same_edge, same_edge_true, slice_get, slice_index, subst, suc, sym, table_keeps, thread_at, true, zero, ℕ, ◌&&◌, ◌<◌, ◌==◌, ◌||◌, ◌∙◌, ◌∷◌, ◌≡◌, ◌≢◌, ◌⊎◌}
+use Rattle.text_commands.proofs.Common.{nat_tests, no_node, no_thread, node_at, refl, same_edge, same_edge_true, slice_index, subst, suc, sym, table_keeps, thread_at, true, zero, ℕ, ◌&&◌, ◌<◌, ◌==◌, ◌||◌, ◌∙◌, ◌∷◌, ◌≡◌, ◌⊎◌}
 use Rattle.std.proofs.lemmas.Map.Views.{any-filter_same}
 use Rattle.cap_model.specs.ObjectLabels.{label_of}
 use Rattle.authorities.specs.declared.authority.Authority.TheVariants.{Receive, AsyncSend, Grant, Control, Call, Reply, GrantBack, Handle}
@@ -8,8 +8,8 @@ use Rattle.cap_machine.proofs.Booting.{boot_fits}
 use Rattle.cap_model.proofs.BootPlaces.{contains_at}
 use Rattle.cap_model.proofs.Kept.{fits_below, is_at_below, object_below, object_kept, root_below, slot_kept}
 use Rattle.cap_model.specs.Auth.{Held, Structural, buffer_of, table_of}
-use Rattle.cap_model.specs.Kept.{IsKept, fits, fits_as, if_any, keeps_slots, keeps_table}
-use Rattle.cap_model.specs.Kinds.{is_at, is_space_root}
+use Rattle.cap_model.specs.Kept.{IsKept, fits, fits_as, if_any, keeps_table}
+use Rattle.cap_model.specs.Kinds.{is_at}
 use Rattle.cap_model.specs.Levels.{child, size}
 use Rattle.cap_model.specs.Lookup.{object_at}
 use Rattle.cap_model.specs.declared.cap.Cap.{Cap}
@@ -78,13 +78,7 @@ module _ (spec : Spec) (labels : List ℕ) (kept : IsKept spec) (each : length l
       let halves = and_parts _ _ keeps in
       let rest = and_parts _ _ halves.1 in
       (object_below spec t (objects.Thread tcb) e, buffer_kept tcb cap is rest.1)
-  buffer_ends t cap None e is = absurd cc
-  buffer_ends t cap (Some objects.Endpoint) e is = absurd cc
-  buffer_ends t cap (Some objects.Notification) e is = absurd cc
-  buffer_ends t cap (Some (objects.CNode bits slots)) e is = absurd cc
-  buffer_ends t cap (Some (objects.Frame paddr fill)) e is = absurd cc
-  buffer_ends t cap (Some (objects.Pages level slots)) e is = absurd cc
-  buffer_ends t cap (Some (objects.Irq notification)) e is = absurd cc
+  buffer_ends t cap _ e is = absurd cc
 
   slot_below : (level : Level) (o : Option ℕ) (slots : List (ℕ × Cap)) (i : ℕ) (cap : Cap) → keeps_table spec level o slots ≡ true
       → Contains slots (i, cap) → cap.object < length spec.entries
@@ -104,13 +98,7 @@ module _ (spec : Spec) (labels : List ℕ) (kept : IsKept spec) (each : length l
     slot_below level (size spec.arch level) slots i cap
         (object_kept spec p (objects.Pages level slots) kept e) there,
   )
-  table_ends p i cap None e there = absurd (nothing_in i cap there)
-  table_ends p i cap (Some objects.Endpoint) e there = absurd (nothing_in i cap there)
-  table_ends p i cap (Some objects.Notification) e there = absurd (nothing_in i cap there)
-  table_ends p i cap (Some (objects.CNode bits slots)) e there = absurd (nothing_in i cap there)
-  table_ends p i cap (Some (objects.Thread tcb)) e there = absurd (nothing_in i cap there)
-  table_ends p i cap (Some (objects.Frame paddr fill)) e there = absurd (nothing_in i cap there)
-  table_ends p i cap (Some (objects.Irq notification)) e there = absurd (nothing_in i cap there)
+  table_ends p i cap _ e there = absurd (nothing_in i cap there)
 
   -- a thread that has something is one
   thread_below : {A : Type 0} (t : ℕ) (part : ThreadState → Option A) (x : A) → part no_thread ≡ None

@@ -79,12 +79,11 @@ module _ (spec : Spec) (policy : Policy) where
   all_labelled : (labels : List ℕ) (entries : List Entry) → map (λ n. Some n) labels ≡ map label_or_none entries
       → find (λ entry. is_none (label_or_none entry)) entries ≡ None
   all_labelled [] [] e = refl
-  all_labelled [] (entry ∷ entries) e = absurd cc
-  all_labelled (n ∷ labels) [] e = absurd cc
   all_labelled (n ∷ labels) (entry ∷ entries) e =
       let head : label_or_none entry ≡ Some n = cc in
       let tail : map (λ n. Some n) labels ≡ map label_or_none entries = cc in
       rw head (all_labelled labels entries tail)
+  all_labelled _ _ e = absurd cc
 
   label_reads : ReadsOne (IsLabelling spec policy)
   label_reads = record {

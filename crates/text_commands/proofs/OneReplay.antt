@@ -1,6 +1,6 @@
 -- Steps lead to one state, or stop at one place.
-use Rattle.text_commands.proofs.Common.{AreEdgesOf, Done, Edge, Illegal, IsReplayed, LeadsTo, List, None, Replayed, Run, Some, Spec, State, Step, StopsAt, Why, [], ap, arith, boot, cases_lt, checks, first_failing, has, inl, inr, length, one_table}
-use Rattle.text_commands.proofs.Common.{one_truth, refl, slice_get, subst, suc, sym, take, true, zero, ℕ, ◌+◌, ◌<◌, ◌∙◌, ◌∷◌, ◌≡◌, ◌≤◌, ◌⊎◌}
+use Rattle.text_commands.proofs.Common.{AreEdgesOf, Done, Edge, Illegal, IsReplayed, LeadsTo, List, Replayed, Run, Some, Spec, State, Step, StopsAt, Why, [], ap, arith, boot, cases_lt, checks, first_failing, has, inl, inr, one_table}
+use Rattle.text_commands.proofs.Common.{one_truth, slice_get, subst, suc, sym, take, zero, ℕ, ◌+◌, ◌<◌, ◌∙◌, ◌∷◌, ◌≡◌, ◌≤◌, ◌⊎◌}
 use Rattle.cap_machine.proofs.Table.{next_passes, one_next}
 use Rattle.cap_machine.specs.StepTable.{StepTo}
 

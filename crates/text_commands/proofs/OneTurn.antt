@@ -1,6 +1,6 @@
 -- Turns of inputs have one answer for the same contents.
-use Rattle.text_commands.proofs.Common.{Answers, AreOne, Contents, Decided, Err, Fault, Holds, InputError, InputFault, IsAbsent, IsAnswer, IsInput, IsTold, IsTooLong, List, NoMemory, None, Ok, Option, ReadFault, Refused, Result, Some, Then, Turn, ap}
-use Rattle.text_commands.proofs.Common.{arith, inl, inr, length, map, most_bytes, refl, subst, sym, ℕ, ◌<◌, ◌∙◌, ◌≡◌, ◌≤◌}
+use Rattle.text_commands.proofs.Common.{Answers, AreOne, Contents, Decided, Err, Fault, InputError, InputFault, IsAnswer, IsInput, IsTold, List, None, Ok, Option, Refused, Result, Some, Then, Turn, ap, rules}
+use Rattle.text_commands.proofs.Common.{arith, inl, inr, length, most_bytes, refl, subst, sym, ℕ, ◌<◌, ◌∙◌, ◌≡◌, ◌≤◌}
 use Rattle.std.specs.FinMap as contents
 use Rattle.cam_base.specs.declared.error.Refused.TheVariants as refused
 
@@ -12,8 +12,7 @@ Alike {B} Same Here There = (a b : Result B InputError) → IsAnswer a → IsAns
 error_of : (A : Type 0) {B : Type 0} (r : Result B InputError) (e : InputError) → r ≡ Err e → IsAnswer r
     → IsAnswer {A = A} (Err e)
 error_of A r (Fault fault file) is s = tt
-error_of A r (ReadFault file) is s = absurd (subst (λ z. IsAnswer z) is s)
-error_of A r NoMemory is s = absurd (subst (λ z. IsAnswer z) is s)
+error_of A r _ is s = absurd (subst (λ z. IsAnswer z) is s)
 
 module _ {A B : Type 0} (Same : Result B InputError → Result B InputError → Type 0) (same_error : (e : InputError)
     → Same (Err e) (Err e)) where
@@ -60,12 +59,7 @@ then_one first first' rest rest' one more = then_alike (λ a b. a ≡ b) (λ e. 
 -- an answer that is there
 pub answers_one : {A : Type 0} (Says : A → Type 0) → ((x y : A) → Says x → Says y → x ≡ y) → AreOne (Answers Says) (Answers Says)
 answers_one Says one (Ok x) (Ok y) s t h k = ap (λ z. Ok z) (one x y h k)
-answers_one Says one (Ok x) (Err (Fault fault file)) s t h k = absurd k
-answers_one Says one (Ok x) (Err (ReadFault file)) s t h k = absurd t
-answers_one Says one (Ok x) (Err NoMemory) s t h k = absurd t
-answers_one Says one (Err (Fault fault file)) b s t h k = absurd h
-answers_one Says one (Err (ReadFault file)) b s t h k = absurd s
-answers_one Says one (Err NoMemory) b s t h k = absurd s
+answers_one Says one _ _ s t h k = absurd (search rules)
 
 -- ---- inputs
 
@@ -85,12 +79,7 @@ told_one tell file reads one (Err (Fault f l)) (Err (Fault g n)) s t h k =
     let faults : f ≡ g = h.1.2 ∙ ap tell same ∙ sym k.1.2 in
     let files : l ≡ n = h.0 ∙ sym k.0 in
     cc
-told_one tell file reads one (Ok x) (Err (ReadFault g)) s t h k = absurd t
-told_one tell file reads one (Ok x) (Err NoMemory) s t h k = absurd t
-told_one tell file reads one (Err (Fault f l)) (Err (ReadFault g)) s t h k = absurd t
-told_one tell file reads one (Err (Fault f l)) (Err NoMemory) s t h k = absurd t
-told_one tell file reads one (Err (ReadFault g)) b s t h k = absurd s
-told_one tell file reads one (Err NoMemory) b s t h k = absurd s
+told_one tell file reads one _ _ s t h k = absurd (search rules)
 
 -- bytes and a fault of the same file
 apart : (m : Contents) (old new later last : List ℕ → ℕ) (file bytes : List ℕ) (f : InputFault) (name : List ℕ)
@@ -130,12 +119,7 @@ module _ (m : Contents) (old new later last : List ℕ → ℕ) (file : List ℕ
       let files : l ≡ n = same.0 in
       let faults : f ≡ g = same.1 in
       cc
-  input_one (Ok x) (Err (ReadFault g)) s t h k = absurd t
-  input_one (Ok x) (Err NoMemory) s t h k = absurd t
-  input_one (Err (Fault f l)) (Err (ReadFault g)) s t h k = absurd t
-  input_one (Err (Fault f l)) (Err NoMemory) s t h k = absurd t
-  input_one (Err (ReadFault g)) b s t h k = absurd s
-  input_one (Err NoMemory) b s t h k = absurd s
+  input_one _ _ s t h k = absurd (search rules)
 
   pub turn_one : {A E : Type 0} (tell : E → InputFault) (reads : List ℕ → Result A (Refused E) → Type 0)
       → ((bytes : List ℕ) → ReadsOne (reads bytes))
@@ -171,9 +155,4 @@ module _ {A R : Type 0} (tell : R → Option (InputFault × List ℕ)) (accepts 
         let files : l ≡ n = ap (λ (z : InputFault × List ℕ). z.1) pairs in
         let e : Fault f l ≡ Fault g n = cc in
         subst (λ z. Same (Err (Fault f l)) (Err z)) e (same_error (Fault f l))
-    decided_alike (Ok x) (Err (ReadFault g)) s t h k = absurd t
-    decided_alike (Ok x) (Err NoMemory) s t h k = absurd t
-    decided_alike (Err (Fault f l)) (Err (ReadFault g)) s t h k = absurd t
-    decided_alike (Err (Fault f l)) (Err NoMemory) s t h k = absurd t
-    decided_alike (Err (ReadFault g)) b s t h k = absurd s
-    decided_alike (Err NoMemory) b s t h k = absurd s
+    decided_alike _ _ s t h k = absurd (search rules)

@@ -1,6 +1,6 @@
 -- A certificate has one verdict.
-use Rattle.text_commands.proofs.Common.{AtMost, Edge, Finds, Judged, List, No, None, Option, Some, Spec, Verdict, Yes, [], ap, arith, at_most_both, cases_lt, inl, inr, refl, subst, suc, sym, zero, ℕ, ◌<◌, ◌∙◌, ◌∷◌, ◌≡◌, ◌≤◌, ◌⊎◌}
-use Rattle.cert_check.specs.Least.{FindsLeast, Holds, Least, LeastAlone, LeastOf, LeastPair}
+use Rattle.text_commands.proofs.Common.{Edge, Judged, List, No, Option, Some, Spec, Verdict, Yes, [], ap, arith, at_most_both, cases_lt, inl, inr, refl, subst, suc, sym, zero, ℕ, ◌<◌, ◌∙◌, ◌∷◌, ◌≡◌, ◌≤◌, ◌⊎◌}
+use Rattle.cert_check.specs.Least.{Holds, Least, LeastAlone, LeastOf, LeastPair}
 use Rattle.cert_check.specs.Rules.{rule_number}
 use Rattle.cert_check.specs.Violations.{BreaksBoot, BreaksControl, BreaksGrant, BreaksCall, BreaksGrantBack, BreaksBind, BreaksPolicy}
 use Rattle.cert_check.specs.declared.rule.Rule.{Rule}
@@ -8,24 +8,18 @@ use Rattle.cert_check.specs.declared.rule.Rule.TheVariants as rules
 use Rattle.cert_check.specs.declared.violation.Violation.{Violation}
 
 rule_of : ℕ → Rule
-rule_of zero = rules.Policy
 rule_of (suc zero) = rules.BootEdges
 rule_of (suc (suc zero)) = rules.Control
 rule_of (suc (suc (suc zero))) = rules.Grant
 rule_of (suc (suc (suc (suc zero)))) = rules.Call
 rule_of (suc (suc (suc (suc (suc zero))))) = rules.GrantBack
 rule_of (suc (suc (suc (suc (suc (suc zero)))))) = rules.Bind
-rule_of (suc (suc (suc (suc (suc (suc (suc n))))))) = rules.Policy
+rule_of _ = rules.Policy
 
 same_rule : (r : Rule) → rule_of (rule_number r) ≡ r
 unfolding rule_of
 same_rule rules.BootEdges = refl
-same_rule rules.Control = refl
-same_rule rules.Grant = refl
-same_rule rules.Call = refl
-same_rule rules.GrantBack = refl
-same_rule rules.Bind = refl
-same_rule rules.Policy = refl
+same_rule _ = refl
 
 alone_one : (P : Edge → Type 0) (have had : List (Option Edge)) (lack lacked : Edge) → LeastAlone P have lack
     → LeastAlone P had lacked → (have ≡ had) × (lack ≡ lacked)
@@ -57,12 +51,8 @@ module _ (spec : Spec) (labels : List ℕ) (policy cert : List Edge) where
   none_least : (rule : Rule) (have : List (Option Edge)) (lack : Edge) → Holds spec labels policy cert rule
       → LeastOf spec labels policy cert rule have lack → ⊥
   none_least rules.BootEdges have lack h l = h lack l.0.0
-  none_least rules.Control have lack h l = h l.0 l.1.0
-  none_least rules.Grant have lack h l = h l.0 l.1.0
-  none_least rules.Call have lack h l = h l.0 l.1.0
-  none_least rules.GrantBack have lack h l = h l.0 l.1.0
-  none_least rules.Bind have lack h l = h l.0 l.1.0
   none_least rules.Policy have lack h l = h lack l.0.0
+  none_least _ have lack h l = h l.0 l.1.0
 
   rules_one : (r q : Rule) (have had : List (Option Edge)) (lack lacked : Edge) → Least spec labels policy cert r have lack
       → Least spec labels policy cert q had lacked → r ≡ q

@@ -1,5 +1,5 @@
 -- Turns of inputs, with other counts: what was read stays so, and a read fault from a later count is one from an earlier.
-use Rattle.text_commands.proofs.Common.{Contents, Err, Fault, InputError, InputFault, IsErrorOf, IsInput, IsTooLong, List, NoMemory, Ok, ReadFault, Refused, Result, TooLong, Turn, arith, inl, inr, of_file, ℕ}
+use Rattle.text_commands.proofs.Common.{Contents, Err, Fault, InputError, InputFault, IsErrorOf, IsInput, IsTooLong, List, NoMemory, Ok, ReadFault, Refused, Result, TooLong, Turn, arith, inl, inr, of_file, rules, ℕ}
 use Rattle.cam_io.proofs.Counts.{rose_after}
 use Rattle.cam_io.specs.Causes.{NoneFell}
 use Rattle.cam_io.specs.Reading.{KeepsFiles}
@@ -19,11 +19,10 @@ too_long contents before now name NoMemory is long = tt
 input_from : (contents : Contents) (first before now : List ℕ → ℕ) (file : List ℕ) (r : Result (List ℕ) InputError)
     → NoneFell first before
     → IsInput contents before now file r → IsInput contents first now file r
-input_from contents first before now file (Ok bytes) fell h = h
-input_from contents first before now file (Err (Fault fault f)) fell h = h
 input_from contents first before now file (Err (ReadFault f)) fell h =
     (h.0, rose_after (first file) (before file) (now file) (fell file) h.1)
 input_from contents first before now file (Err NoMemory) fell h = tt
+input_from contents first before now file _ fell h = h
 
 module _ {A E : Type 0} (tell : E → InputFault) (reads : List ℕ → Result A (Refused E) → Type 0) (file : List ℕ) where
   pub turn_from : (contents : Contents) (first before now : List ℕ → ℕ) (r : Result A InputError) → NoneFell first before
@@ -58,3 +57,6 @@ module _ {F : Type 0} (contents : Contents) (faults : F → List ℕ → ℕ) wh
     pub turn_until : (a b n : F) (x : A) → Turn contents (faults a) (faults b) tell reads file (Ok x)
         → Turn contents (faults a) (faults n) tell reads file (Ok x)
     turn_until a b n x t = turn_done tell reads file contents (faults a) (faults b) (faults a) (faults n) x t
+
+-- what a command's answers cite: a turn that is done, told with other counts; a turn after others, told from before them
+pub ruleset turns = (rules, turn_done, turn_after)
