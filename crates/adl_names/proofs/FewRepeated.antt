@@ -21,7 +21,8 @@ module _ {T : Type 0} (words : T → List Id) where
       ∙ ap (λ z. is_met words xs n || z) (or-false (has_word words n x) ∙ ap (λ z. list_any (λ w. bytes_eq n w.name) z) (sym is))
 
   pub noted_word : (xs : List T) (x : T) (w : Id) (f : Option Fault) (rest : List Id) → w ∷ [] ≡ words x
-      → noted (noted f (where_true (is_met words xs w.name) (at_word code.Duplicate w))) (repeats_after (is_met words (xs ++ x ∷ [])) rest)
+      → noted (noted f (where_true (is_met words xs w.name) (at_word code.Duplicate w)))
+      (repeats_after (is_met words (xs ++ x ∷ [])) rest)
       ≡ noted f (repeats_after (is_met words xs) (words x ++ rest))
   noted_word xs x w f rest is =
       let same : is_met words (xs ++ x ∷ []) ≡ (λ n. is_met words xs n || bytes_eq n w.name) =
@@ -69,7 +70,9 @@ repeated_params_in (parts.Method m ∷ ps) = ap (λ z. repeated_params m ++ z) (
 pub procedure_noted : (p : Procedure) (ms : List ProcMember) (f g : Option Fault) → ms ≡ p.members
     → g ≡ noted f (repeats (flat_map method_words ms)) → noted g (flat_map repeated_in ms) ≡ noted f (duplicates_in_procedure p)
 procedure_noted p ms f g is h =
-    ap (λ o. noted o (flat_map repeated_in ms)) h ∙ sym (noted-append f (repeats (flat_map method_words ms)) (flat_map repeated_in ms))
+    ap (λ o. noted o (flat_map repeated_in ms)) h
+    ∙ sym (noted-append f (repeats (flat_map method_words ms)) (flat_map repeated_in ms))
     ∙ ap (λ z. noted f (repeats z ++ flat_map repeated_in ms)) (methods_words ms)
     ∙ ap (λ z. noted f (repeats (map (λ m. m.id) (filter_map as_method ms)) ++ z)) (repeated_params_in ms)
-    ∙ ap (λ z. noted f (repeats (map (λ m. m.id) (filter_map as_method z)) ++ flat_map repeated_params (filter_map as_method z))) is
+    ∙ ap (λ z. noted f (repeats (map (λ m. m.id) (filter_map as_method z))
+    ++ flat_map repeated_params (filter_map as_method z))) is

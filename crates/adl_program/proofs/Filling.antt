@@ -30,8 +30,9 @@ filled_more P h order all i t o l r e = record {
 }
 
 -- the same where the next one's entry stands for it already
-pub filled_same : {T : Type 0} (P : ℕ → T → Type 0) (h : Hierarchy) (order : List ℕ) (all : List T) (i : ℕ) → i < length order
-    → IsFilled P h order all i → ((t : T) → P (get_or order i 0) (get_or all (get_or order i 0) t)) → IsFilled P h order all (i + 1)
+pub filled_same : {T : Type 0} (P : ℕ → T → Type 0) (h : Hierarchy) (order : List ℕ) (all : List T) (i : ℕ)
+    → i < length order → IsFilled P h order all i → ((t : T) → P (get_or order i 0) (get_or all (get_or order i 0) t))
+    → IsFilled P h order all (i + 1)
 filled_same P h order all i l r e = record {
   length_is = r.length_is;
   each = λ k u m. elim (cases_eq k (get_or order i 0)) [

@@ -103,3 +103,12 @@ impl<T: Copy> List<T> {
         Ok(())
     }
 }
+
+/// The same items, in no more memory than they need. Takes no memory.
+pub fn fitted<T: Drop>(items: List<T>) -> List<T>
+    ensures { result ≡ items }
+{
+    let mut items = items.into_vec();
+    items.shrink_to_fit();
+    List::from_vec(items)
+}

@@ -29,4 +29,5 @@ returns-clause-text c =
     ∙ ap (λ k. 48 ∷ drop k one) next
     ∙ ap (λ z. 48 ∷ z) (put_last made (f - 1) 120 (omega (arith, same, long, low, high)) ∙ ap (λ k. 120 ∷ drop k made) last)
     ∙ ap (λ z. 48 ∷ 120 ∷ z) (c.put_hex-first.ensures.text
-    ∙ ap (λ z. hex_digits 16 c.args.n ++ z) (drop_all 18 c.args.buf.now (omega (arith, long))) ∙ append-nil (hex_digits 16 c.args.n))
+    ∙ ap (λ z. hex_digits 16 c.args.n ++ z) (drop_all 18 c.args.buf.now (omega (arith, long)))
+    ∙ append-nil (hex_digits 16 c.args.n))
