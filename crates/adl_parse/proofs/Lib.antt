@@ -1,6 +1,6 @@
 pub mod Common
 pub mod Parts
-pub mod Words
+pub mod Terminals
 pub mod Starts
 pub mod Whole
 pub mod Answering

@@ -11,59 +11,33 @@ use Rattle.adl_parse.specs.Parts.{IsPartAt, FaultIsOne}
 seen_length : (bytes : List ℕ) (ts : List Token) → length (see bytes ts) ≡ length ts
 seen_length bytes ts = length-map ts (seen_at bytes)
 
-see_drop : (bytes : List ℕ) (n : ℕ) (ts : List Token) → drop n (see bytes ts) ≡ see bytes (drop n ts)
+pub see_drop : (bytes : List ℕ) (n : ℕ) (ts : List Token) → drop n (see bytes ts) ≡ see bytes (drop n ts)
 see_drop bytes n ts = drop-map (seen_at bytes) n ts
 
-module _ {A : Type 0} (f : Rule A) (d : decides opens f ≡ true) (bytes : List ℕ) (tokens : List Token) (at : ℕ)
-    (slice : List Token) (is : slice ≡ tokens) (from : List Token) (cut : from ≡ drop at slice) where
-  all_within : (x : A) (rest : List Token) → reads f (drop at (see bytes tokens)) ≡ Ok (x, see bytes rest)
-      → length rest ≤ length tokens
-  all_within x rest e =
-      subst (λ (n : ℕ). n ≤ length tokens) (seen_length bytes rest) (subst (λ (n : ℕ). length (see bytes rest) ≤ n)
-      (seen_length bytes tokens)
-      (ends_within token_code nested_line opens nested_is f d limit (see bytes tokens) at x (see bytes rest) e))
-
-  pub part_within : (x : A) (rest : List Token) → reads f (see bytes from) ≡ Ok (x, see bytes rest) → length rest ≤ length slice
-  part_within x rest e = subst (λ (z : List Token). (reads f (see bytes (drop at z)) ≡ Ok (x, see bytes rest))
-      → length rest ≤ length z) (sym is) (λ q. all_within x rest (ap (reads f) (see_drop bytes at tokens) ∙ q))
-      (ap (λ (w : List Token). reads f (see bytes w)) (sym cut) ∙ e)
-
-  all_ok : (x : A) (rest : List Token) → reads f (drop at (see bytes tokens)) ≡ Ok (x, see bytes rest)
-      → IsPartAt f bytes tokens at (Ok (x, length tokens - length rest))
-  all_ok x rest e =
-      subst (λ (n : ℕ). (a : List Seen) × (drop at (see bytes tokens) ≡ a ++ drop (length tokens - n) (see bytes tokens))
-      × IsSpelledBy f x a) (seen_length bytes rest)
-      (subst (λ (n : ℕ). (a : List Seen) × (drop at (see bytes tokens) ≡ a ++ drop (n - length (see bytes rest))
-      (see bytes tokens)) × IsSpelledBy f x a) (seen_length bytes tokens)
-      (part_at token_code nested_line opens nested_is f d limit (see bytes tokens) at x (see bytes rest) e))
+module _ {A : Type 0} (f : Rule A) (d : decides opens f ≡ true) (bytes : List ℕ) (tokens : List Token) (at : ℕ) where
+  pub part_within : (x : A) (rest : List Seen) → reads f (drop at (see bytes tokens)) ≡ Ok (x, rest) → length rest ≤ length tokens
+  part_within x rest e = subst (λ (n : ℕ). length rest ≤ n) (seen_length bytes tokens)
+      (ends_within token_code nested_line opens nested_is f d limit (see bytes tokens) at x rest e)
 
   -- what is read is a part that ends where the rest begins
-  pub part_ok : (x : A) (rest : List Token) → reads f (see bytes from) ≡ Ok (x, see bytes rest)
-      → IsPartAt f bytes tokens at (Ok (x, length slice - length rest))
-  part_ok x rest e = subst (λ (z : List Token). (reads f (see bytes (drop at z)) ≡ Ok (x, see bytes rest))
-      → IsPartAt f bytes tokens at (Ok (x, length z - length rest))) (sym is)
-      (λ q. all_ok x rest (ap (reads f) (see_drop bytes at tokens) ∙ q)) (ap (λ (w : List Token). reads f (see bytes w))
-      (sym cut) ∙ e)
+  pub part_ok : (x : A) (rest : List Seen) → reads f (drop at (see bytes tokens)) ≡ Ok (x, rest)
+      → IsPartAt f bytes tokens at (Ok (x, length tokens - length rest))
+  part_ok x rest e = subst (λ (n : ℕ). (a : List Seen) × (drop at (see bytes tokens) ≡ a ++ drop (n - length rest)
+      (see bytes tokens)) × IsSpelledBy f x a) (seen_length bytes tokens)
+      (part_at token_code nested_line opens nested_is f d limit (see bytes tokens) at x rest e)
 
-  all_refused : further opens f ≡ [] → (e : ReadError) (r : Refused Fault) → Fails e (reads f (drop at (see bytes tokens)))
+  -- where reading gave up, the refusal says so
+  pub part_refused : further opens f ≡ [] → (e : ReadError) (r : Refused Fault) → Fails e (reads f (drop at (see bytes tokens)))
       → IsRefusalOf bytes tokens e r → IsPartAt f bytes tokens at (Err r)
-  all_refused closed e refusals.NoMemory h q = tt
-  all_refused closed errors.NoMemory (refusals.Fault g) h q = absurd q
-  all_refused closed (errors.Stop stop) (refusals.Fault g) h q = (
+  part_refused closed e refusals.NoMemory h q = tt
+  part_refused closed errors.NoMemory (refusals.Fault g) h q = absurd q
+  part_refused closed (errors.Stop stop) (refusals.Fault g) h q = (
     stop.why,
     stop.left,
     q,
     part_stops token_code nested_line opens nested_is f d limit (drop at (see bytes tokens)) closed
         stop.why stop.left h,
   )
-
-  -- where reading gave up, the refusal says so
-  pub part_refused : further opens f ≡ [] → (e : ReadError) (r : Refused Fault) → Fails e (reads f (see bytes from))
-      → IsRefusalOf bytes slice e r → IsPartAt f bytes tokens at (Err r)
-  part_refused closed e r h q = subst (λ (z : List Token). Fails e (reads f (see bytes (drop at z))) → IsRefusalOf bytes z e r
-      → IsPartAt f bytes tokens at (Err r)) (sym is)
-      (λ k. all_refused closed e r (subst (λ (w : List Seen). Fails e (reads f w)) (sym (see_drop bytes at tokens)) k))
-      (subst (λ (w : List Token). Fails e (reads f (see bytes w))) cut h) q
 
 -- two faults of one part are one
 pub one_fault : {A : Type 0} (f : Rule A) → FaultIsOne f

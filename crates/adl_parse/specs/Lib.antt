@@ -1,6 +1,7 @@
 pub mod Faults
 pub mod Parts
-pub mod Words
+pub mod Reads
+pub mod Terminals
 pub mod Files
 pub mod Members
 pub use Rattle.adl_ast.specs.Codes

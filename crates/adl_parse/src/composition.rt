@@ -1,221 +1,169 @@
 //! Compositions and their lines.
 
 ghost use Rattle.adl_ast.proofs.Eats.{instance_eats, end_eats, composition_member_eats};
-ghost use Rattle.adl_ast.specs.Codes.{key_code};
-ghost use Rattle.adl_ast.specs.Forms.{instance_line, instance_form, group_line, role_form, end_line, end_form, connection_line, export_line, composition_member_line, composition_member_form, composition_line};
-ghost use Rattle.adl_ast.specs.Seeing.{see};
+ghost use Rattle.adl_ast.specs.Codes.{mark_code, token_code};
+ghost use Rattle.adl_ast.specs.Forms.{instance_form, group_line, role_form, end_line, end_form, connection_line, export_line, composition_member_line, composition_member_form, composition_line};
 ghost use Rattle.adl_ast.specs.Spelling.{reads};
-ghost use Rattle.cam_base.specs.declared.token.Keyword.TheVariants as keys;
-ghost use Rattle.cam_base.specs.Gives.{Gives};
-ghost use Rattle.cam_base.specs.Reading.{starts};
+ghost use Rattle.adl_parse.specs.Reads.{Reads};
+ghost use Rattle.cam_base.proofs.Loops.{behind_eats};
+ghost use Rattle.cam_base.specs.Form.{behind};
+ghost use Rattle.cam_base.specs.declared.token.Mark.TheVariants as marks;
 ghost use Rattle.std.specs.Prelude.{◌∷◌, []};
 
+use crate::cursor::Cursor;
 use crate::dotted::dotted;
-use crate::token::{Adl, next_is, take, word};
+use crate::repeated::{Repeated, read_all, read_from};
+use crate::terminal::Terminal;
 use adl_ast::{Composition, Connection, End, Export, Group, Instance, Line, Role};
-use cam_base::{Keyword, Kind, Mark, ReadError, Repeated, Token, read_all, read_list};
-use std::alloc::Global;
-
-#[tactic(auto, unfolding(adl_ast::specs::Forms::instance_line))]
-fn instance<'a>(
-    alloc: Global,
-    bytes: &[u8],
-    tokens: &'a [Token],
-) -> Result<(Instance, &'a [Token]), ReadError>
-    ensures { Gives (λ x. (x.0, see bytes.now x.1.now)) result (reads instance_line (see bytes.now tokens.now)) }
-{
-    let (_keyword, rest) = take(bytes, tokens, Kind::Key(Keyword::KComponent))?;
-    let (component, rest) = word(alloc, bytes, rest)?;
-    let (id, rest) = word(alloc, bytes, rest)?;
-    let (_end, rest) = take(bytes, rest, Kind::Mark(Mark::Semi))?;
-    Ok((Instance { component, id }, rest))
-}
+use cam_base::{Keyword, Mark, ReadError};
 
 struct Instances;
 
-impl Repeated<Adl> for Instances {
+impl Repeated for Instances {
     type Item = Instance;
 
-    ghost codes = { key_code keys.KComponent ∷ [] };
+    ghost form = { instance_form };
 
-    ghost gives = { λ _. reads instance_form };
+    ghost eats = { instance_eats };
 
-    ghost eats = { λ _. instance_eats };
-
-    fn starts(bytes: &[u8], tokens: &[Token]) -> bool {
-        next_is(bytes, tokens, Kind::Key(Keyword::KComponent))
+    fn starts(at: &Cursor<'_>) -> bool {
+        at.next_is(Terminal::Key(Keyword::KComponent))
     }
 
-    fn read<'a>(
-        alloc: Global,
-        bytes: &[u8],
-        tokens: &'a [Token],
-    ) -> Result<(Instance, &'a [Token]), ReadError> {
-        instance(alloc, bytes, tokens)
+    #[tactic(auto, unfolding(adl_ast::specs::Forms::instance_line))]
+    fn read(at: &mut Cursor<'_>) -> Result<Instance, ReadError> {
+        at.take(Terminal::Key(Keyword::KComponent))?;
+        let component = at.word()?;
+        let id = at.word()?;
+        at.take(Terminal::Mark(Mark::Semi))?;
+        Ok(Instance { component, id })
     }
 }
 
 #[tactic(auto, unfolding(adl_ast::specs::Forms::group_line))]
-fn group<'a>(
-    alloc: Global,
-    bytes: &[u8],
-    tokens: &'a [Token],
-) -> Result<(Group, &'a [Token]), ReadError>
-    ensures { Gives (λ x. (x.0, see bytes.now x.1.now)) result (reads group_line (see bytes.now tokens.now)) }
+fn group(at: &mut Cursor<'_>) -> Result<Group, ReadError>
+    ensures { Reads result at.new (reads group_line at.old) }
 {
-    let (_keyword, rest) = take(bytes, tokens, Kind::Key(Keyword::KGroup))?;
-    let (id, rest) = word(alloc, bytes, rest)?;
-    let (_open, rest) = take(bytes, rest, Kind::Mark(Mark::BraceL))?;
-    let (instances, rest) = read_all::<Adl, Instances>(alloc, bytes, rest)?;
-    let (_close, rest) = take(bytes, rest, Kind::Mark(Mark::BraceR))?;
-    Ok((Group { id, instances }, rest))
+    at.take(Terminal::Key(Keyword::KGroup))?;
+    let id = at.word()?;
+    at.take(Terminal::Mark(Mark::BraceL))?;
+    let instances = read_all::<Instances>(at)?;
+    at.take(Terminal::Mark(Mark::BraceR))?;
+    Ok(Group { id, instances })
 }
 
-fn role<'a>(bytes: &[u8], tokens: &'a [Token]) -> Result<(Role, &'a [Token]), ReadError>
-    ensures { Gives (λ x. (x.0, see bytes.now x.1.now)) result (reads role_form (see bytes.now tokens.now)) }
+fn role(at: &mut Cursor<'_>) -> Result<Role, ReadError>
+    ensures { Reads result at.new (reads role_form at.old) }
 {
-    if next_is(bytes, tokens, Kind::Key(Keyword::KFrom)) {
-        let (_from, rest) = take(bytes, tokens, Kind::Key(Keyword::KFrom))?;
-        return Ok((Role::From, rest));
+    if at.next_is(Terminal::Key(Keyword::KFrom)) {
+        at.take(Terminal::Key(Keyword::KFrom))?;
+        return Ok(Role::From);
     }
-    let (_to, rest) = take(bytes, tokens, Kind::Key(Keyword::KTo))?;
-    Ok((Role::To, rest))
+    at.take(Terminal::Key(Keyword::KTo))?;
+    Ok(Role::To)
 }
 
-struct Ends;
+#[tactic(auto, unfolding(adl_ast::specs::Forms::end_line))]
+fn end(at: &mut Cursor<'_>) -> Result<End, ReadError>
+    ensures { Reads result at.new (reads end_line at.old) }
+{
+    let role = role(at)?;
+    let (words, place) = dotted(at)?;
+    Ok(End { role, words, place })
+}
 
-impl Repeated<Adl> for Ends {
+struct MoreEnds;
+
+impl Repeated for MoreEnds {
     type Item = End;
 
-    ghost codes = { key_code keys.KFrom ∷ key_code keys.KTo ∷ [] };
+    ghost form = { behind (mark_code marks.Comma) end_form };
 
-    ghost gives = { λ _. reads end_form };
+    ghost eats = { behind_eats token_code (mark_code marks.Comma ∷ []) (reads end_form) end_eats };
 
-    ghost eats = { λ _. end_eats };
-
-    fn starts(bytes: &[u8], tokens: &[Token]) -> bool {
-        next_is(bytes, tokens, Kind::Key(Keyword::KFrom))
-            || next_is(bytes, tokens, Kind::Key(Keyword::KTo))
+    fn starts(at: &Cursor<'_>) -> bool {
+        at.next_is(Terminal::Mark(Mark::Comma))
     }
 
-    #[tactic(auto, unfolding(adl_ast::specs::Forms::end_line))]
-    fn read<'a>(
-        alloc: Global,
-        bytes: &[u8],
-        tokens: &'a [Token],
-    ) -> Result<(End, &'a [Token]), ReadError> {
-        let (role, rest) = role(bytes, tokens)?;
-        let ((words, place), rest) = dotted(alloc, bytes, rest)?;
-        Ok((End { role, words, place }, rest))
+    fn read(at: &mut Cursor<'_>) -> Result<End, ReadError> {
+        at.take(Terminal::Mark(Mark::Comma))?;
+        end(at)
     }
 }
 
 #[tactic(auto, unfolding(adl_ast::specs::Forms::connection_line))]
-fn connection<'a>(
-    alloc: Global,
-    bytes: &[u8],
-    tokens: &'a [Token],
-) -> Result<(Connection, &'a [Token]), ReadError>
-    ensures { Gives (λ x. (x.0, see bytes.now x.1.now)) result (reads connection_line (see bytes.now tokens.now)) }
+fn connection(at: &mut Cursor<'_>) -> Result<Connection, ReadError>
+    ensures { Reads result at.new (reads connection_line at.old) }
 {
-    let (_keyword, rest) = take(bytes, tokens, Kind::Key(Keyword::KConnection))?;
-    let (connector, rest) = word(alloc, bytes, rest)?;
-    let (id, rest) = word(alloc, bytes, rest)?;
-    let (_open, rest) = take(bytes, rest, Kind::Mark(Mark::ParenL))?;
-    let (ends, rest) = read_list::<Adl, Ends>(alloc, bytes, rest)?;
-    let (_close, rest) = take(bytes, rest, Kind::Mark(Mark::ParenR))?;
-    let (_end, rest) = take(bytes, rest, Kind::Mark(Mark::Semi))?;
-    Ok((
-        Connection {
-            connector,
-            id,
-            ends,
-        },
-        rest,
-    ))
+    at.take(Terminal::Key(Keyword::KConnection))?;
+    let connector = at.word()?;
+    let id = at.word()?;
+    at.take(Terminal::Mark(Mark::ParenL))?;
+    let first = end(at)?;
+    let ends = read_from::<MoreEnds>(at, first)?;
+    at.take(Terminal::Mark(Mark::ParenR))?;
+    at.take(Terminal::Mark(Mark::Semi))?;
+    Ok(Connection {
+        connector,
+        id,
+        ends,
+    })
 }
 
 #[tactic(auto, unfolding(adl_ast::specs::Forms::export_line))]
-fn export<'a>(
-    alloc: Global,
-    bytes: &[u8],
-    tokens: &'a [Token],
-) -> Result<(Export, &'a [Token]), ReadError>
-    ensures { Gives (λ x. (x.0, see bytes.now x.1.now)) result (reads export_line (see bytes.now tokens.now)) }
+fn export(at: &mut Cursor<'_>) -> Result<Export, ReadError>
+    ensures { Reads result at.new (reads export_line at.old) }
 {
-    let (_keyword, rest) = take(bytes, tokens, Kind::Key(Keyword::KExport))?;
-    let ((words, place), rest) = dotted(alloc, bytes, rest)?;
-    let (_arrow, rest) = take(bytes, rest, Kind::Mark(Mark::Arrow))?;
-    let (target, rest) = word(alloc, bytes, rest)?;
-    let (_end, rest) = take(bytes, rest, Kind::Mark(Mark::Semi))?;
-    Ok((
-        Export {
-            words,
-            target,
-            place,
-        },
-        rest,
-    ))
+    at.take(Terminal::Key(Keyword::KExport))?;
+    let (words, place) = dotted(at)?;
+    at.take(Terminal::Mark(Mark::Arrow))?;
+    let target = at.word()?;
+    at.take(Terminal::Mark(Mark::Semi))?;
+    Ok(Export {
+        words,
+        target,
+        place,
+    })
 }
 
 struct Lines;
 
-impl Repeated<Adl> for Lines {
+impl Repeated for Lines {
     type Item = Line;
 
-    ghost codes = { key_code keys.KComponent ∷ key_code keys.KGroup ∷ key_code keys.KConnection ∷ key_code keys.KExport ∷ [] };
+    ghost form = { composition_member_form };
 
-    ghost gives = { λ _. reads composition_member_form };
+    ghost eats = { composition_member_eats };
 
-    ghost eats = { λ _. composition_member_eats };
-
-    fn starts(bytes: &[u8], tokens: &[Token]) -> bool {
-        next_is(bytes, tokens, Kind::Key(Keyword::KComponent))
-            || next_is(bytes, tokens, Kind::Key(Keyword::KGroup))
-            || next_is(bytes, tokens, Kind::Key(Keyword::KConnection))
-            || next_is(bytes, tokens, Kind::Key(Keyword::KExport))
+    fn starts(at: &Cursor<'_>) -> bool {
+        at.next_is(Terminal::Key(Keyword::KComponent))
+            || at.next_is(Terminal::Key(Keyword::KGroup))
+            || at.next_is(Terminal::Key(Keyword::KConnection))
+            || at.next_is(Terminal::Key(Keyword::KExport))
     }
 
     #[tactic(auto, unfolding(adl_ast::specs::Forms::composition_member_line))]
-    fn read<'a>(
-        alloc: Global,
-        bytes: &[u8],
-        tokens: &'a [Token],
-    ) -> Result<(Line, &'a [Token]), ReadError> {
-        if next_is(bytes, tokens, Kind::Key(Keyword::KComponent)) {
-            let (instance, rest) = instance(alloc, bytes, tokens)?;
-            Ok((Line::Instance(instance), rest))
-        } else if next_is(bytes, tokens, Kind::Key(Keyword::KGroup)) {
-            let (group, rest) = group(alloc, bytes, tokens)?;
-            Ok((Line::Group(group), rest))
-        } else if next_is(bytes, tokens, Kind::Key(Keyword::KConnection)) {
-            let (connection, rest) = connection(alloc, bytes, tokens)?;
-            Ok((Line::Connection(connection), rest))
+    fn read(at: &mut Cursor<'_>) -> Result<Line, ReadError> {
+        if at.next_is(Terminal::Key(Keyword::KComponent)) {
+            Ok(Line::Instance(Instances::read(at)?))
+        } else if at.next_is(Terminal::Key(Keyword::KGroup)) {
+            Ok(Line::Group(group(at)?))
+        } else if at.next_is(Terminal::Key(Keyword::KConnection)) {
+            Ok(Line::Connection(connection(at)?))
         } else {
-            let (export, rest) = export(alloc, bytes, tokens)?;
-            Ok((Line::Export(export), rest))
+            Ok(Line::Export(export(at)?))
         }
     }
 }
 
 /// A composition.
 #[tactic(auto, unfolding(adl_ast::specs::Forms::composition_line))]
-pub fn read_composition<'a>(
-    alloc: Global,
-    bytes: &[u8],
-    tokens: &'a [Token],
-) -> Result<(Composition, &'a [Token]), ReadError>
-    ensures { Gives (λ x. (x.0, see bytes.now x.1.now)) result (reads composition_line (see bytes.now tokens.now)) }
+pub fn read_composition(at: &mut Cursor<'_>) -> Result<Composition, ReadError>
+    ensures { Reads result at.new (reads composition_line at.old) }
 {
-    let (keyword, rest) = take(bytes, tokens, Kind::Key(Keyword::KComposition))?;
-    let (_open, rest) = take(bytes, rest, Kind::Mark(Mark::BraceL))?;
-    let (lines, rest) = read_all::<Adl, Lines>(alloc, bytes, rest)?;
-    let (_close, rest) = take(bytes, rest, Kind::Mark(Mark::BraceR))?;
-    Ok((
-        Composition {
-            place: keyword.place,
-            lines,
-        },
-        rest,
-    ))
+    let place = at.take(Terminal::Key(Keyword::KComposition))?.place();
+    at.take(Terminal::Mark(Mark::BraceL))?;
+    let lines = read_all::<Lines>(at)?;
+    at.take(Terminal::Mark(Mark::BraceR))?;
+    Ok(Composition { place, lines })
 }

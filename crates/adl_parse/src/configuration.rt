@@ -1,107 +1,76 @@
 //! Configurations and their settings.
 
 ghost use Rattle.adl_ast.proofs.Eats.{setting_eats};
-ghost use Rattle.adl_ast.specs.Codes.{word_codes};
 ghost use Rattle.adl_ast.specs.Forms.{setter_line, setting_line, setting_form, configuration_line, configuration_form};
-ghost use Rattle.adl_ast.specs.Seeing.{see};
 ghost use Rattle.adl_ast.specs.Spelling.{reads};
+ghost use Rattle.adl_parse.specs.Reads.{Reads};
 ghost use Rattle.cam_base.specs.Form.{maybe};
-ghost use Rattle.cam_base.specs.Gives.{Gives};
 
+use crate::cursor::Cursor;
 use crate::dotted::path;
-use crate::token::{Adl, next_is, next_is_word, take, word};
+use crate::repeated::{Repeated, read_all};
+use crate::terminal::Terminal;
 use crate::value::read_value;
 use adl_ast::{Configuration, Setter, Setting};
-use cam_base::{Keyword, Kind, Mark, ReadError, Repeated, Token, read_all};
-use std::alloc::Global;
+use cam_base::{Keyword, Mark, ReadError};
 
 #[tactic(auto, unfolding(adl_ast::specs::Forms::setter_line))]
-fn setter<'a>(
-    alloc: Global,
-    bytes: &[u8],
-    tokens: &'a [Token],
-) -> Result<(Setter, &'a [Token]), ReadError>
-    ensures { Gives (λ x. (x.0, see bytes.now x.1.now)) result (reads setter_line (see bytes.now tokens.now)) }
+fn setter(at: &mut Cursor<'_>) -> Result<Setter, ReadError>
+    ensures { Reads result at.new (reads setter_line at.old) }
 {
-    if next_is(bytes, tokens, Kind::Mark(Mark::Equals)) {
-        let (_equals, rest) = take(bytes, tokens, Kind::Mark(Mark::Equals))?;
-        let (value, rest) = read_value(alloc, bytes, rest)?;
-        Ok((Setter::Literal(value), rest))
+    if at.next_is(Terminal::Mark(Mark::Equals)) {
+        at.take(Terminal::Mark(Mark::Equals))?;
+        Ok(Setter::Literal(read_value(at)?))
     } else {
-        let (_back, rest) = take(bytes, tokens, Kind::Mark(Mark::Back))?;
-        let (id, rest) = word(alloc, bytes, rest)?;
-        Ok((Setter::Reference(id), rest))
+        at.take(Terminal::Mark(Mark::Back))?;
+        Ok(Setter::Reference(at.word()?))
     }
 }
 
 struct Settings;
 
-impl Repeated<Adl> for Settings {
+impl Repeated for Settings {
     type Item = Setting;
 
-    ghost codes = { word_codes };
+    ghost form = { setting_form };
 
-    ghost gives = { λ _. reads setting_form };
+    ghost eats = { setting_eats };
 
-    ghost eats = { λ _. setting_eats };
-
-    fn starts(bytes: &[u8], tokens: &[Token]) -> bool {
-        next_is_word(bytes, tokens)
+    fn starts(at: &Cursor<'_>) -> bool {
+        at.next_is(Terminal::Word)
     }
 
     #[tactic(auto, unfolding(adl_ast::specs::Forms::setting_line))]
-    fn read<'a>(
-        alloc: Global,
-        bytes: &[u8],
-        tokens: &'a [Token],
-    ) -> Result<(Setting, &'a [Token]), ReadError> {
-        let ((words, place), rest) = path(alloc, bytes, tokens)?;
-        let (setter, rest) = setter(alloc, bytes, rest)?;
-        let (_end, rest) = take(bytes, rest, Kind::Mark(Mark::Semi))?;
-        Ok((
-            Setting {
-                words,
-                setter,
-                place,
-            },
-            rest,
-        ))
+    fn read(at: &mut Cursor<'_>) -> Result<Setting, ReadError> {
+        let (words, place) = path(at)?;
+        let setter = setter(at)?;
+        at.take(Terminal::Mark(Mark::Semi))?;
+        Ok(Setting {
+            words,
+            setter,
+            place,
+        })
     }
 }
 
 /// A configuration.
 #[tactic(auto, unfolding(adl_ast::specs::Forms::configuration_line))]
-pub fn read_configuration<'a>(
-    alloc: Global,
-    bytes: &[u8],
-    tokens: &'a [Token],
-) -> Result<(Configuration, &'a [Token]), ReadError>
-    ensures { Gives (λ x. (x.0, see bytes.now x.1.now)) result (reads configuration_line (see bytes.now tokens.now)) }
+pub fn read_configuration(at: &mut Cursor<'_>) -> Result<Configuration, ReadError>
+    ensures { Reads result at.new (reads configuration_line at.old) }
 {
-    let (keyword, rest) = take(bytes, tokens, Kind::Key(Keyword::KConfiguration))?;
-    let (_open, rest) = take(bytes, rest, Kind::Mark(Mark::BraceL))?;
-    let (settings, rest) = read_all::<Adl, Settings>(alloc, bytes, rest)?;
-    let (_close, rest) = take(bytes, rest, Kind::Mark(Mark::BraceR))?;
-    Ok((
-        Configuration {
-            place: keyword.place,
-            settings,
-        },
-        rest,
-    ))
+    let place = at.take(Terminal::Key(Keyword::KConfiguration))?.place();
+    at.take(Terminal::Mark(Mark::BraceL))?;
+    let settings = read_all::<Settings>(at)?;
+    at.take(Terminal::Mark(Mark::BraceR))?;
+    Ok(Configuration { place, settings })
 }
 
 /// A configuration, or nothing.
-pub fn maybe_configuration<'a>(
-    alloc: Global,
-    bytes: &[u8],
-    tokens: &'a [Token],
-) -> Result<(Option<Configuration>, &'a [Token]), ReadError>
-    ensures { Gives (λ x. (x.0, see bytes.now x.1.now)) result (reads (maybe configuration_form) (see bytes.now tokens.now)) }
+pub fn maybe_configuration(at: &mut Cursor<'_>) -> Result<Option<Configuration>, ReadError>
+    ensures { Reads result at.new (reads (maybe configuration_form) at.old) }
 {
-    if !next_is(bytes, tokens, Kind::Key(Keyword::KConfiguration)) {
-        return Ok((None, tokens));
+    if !at.next_is(Terminal::Key(Keyword::KConfiguration)) {
+        return Ok(None);
     }
-    let (configuration, rest) = read_configuration(alloc, bytes, tokens)?;
-    Ok((Some(configuration), rest))
+    Ok(Some(read_configuration(at)?))
 }

@@ -1,66 +1,50 @@
 //! Dotted names: their words and their place.
 
 ghost use Rattle.adl_ast.proofs.Eats.{dot_word_eats};
-ghost use Rattle.adl_ast.specs.Codes.{mark_code};
 ghost use Rattle.adl_ast.specs.Forms.{dot_word, dotted_line, dotted_of, path_line, last_place};
-ghost use Rattle.adl_ast.specs.Seeing.{see};
 ghost use Rattle.adl_ast.specs.Spelling.{reads};
-ghost use Rattle.cam_base.specs.declared.token.Mark.TheVariants as marks;
+ghost use Rattle.adl_parse.specs.Reads.{Reads};
 ghost use Rattle.cam_base.specs.Form.{maybe};
-ghost use Rattle.cam_base.specs.Gives.{Gives};
-ghost use Rattle.std.specs.Prelude.{◌≡◌, ◌∷◌, [], IfOk};
+ghost use Rattle.std.specs.Prelude.{◌≡◌, ◌∷◌, IfOk};
 
-use crate::token::{Adl, next_is, span, take, word};
+use crate::cursor::{Cursor, span};
+use crate::repeated::{Repeated, read_all};
+use crate::terminal::Terminal;
 use adl_ast::{Dotted, Id};
-use cam_base::{Kind, List, Mark, NoMemory, Place, ReadError, Repeated, Token, read_all};
+use cam_base::{List, Mark, NoMemory, Place, ReadError};
 use std::alloc::Global;
 
-fn dot_word<'a>(
-    alloc: Global,
-    bytes: &[u8],
-    tokens: &'a [Token],
-) -> Result<(Id, &'a [Token]), ReadError>
-    ensures { Gives (λ x. (x.0, see bytes.now x.1.now)) result (reads dot_word (see bytes.now tokens.now)) }
+fn dot_word(at: &mut Cursor<'_>) -> Result<Id, ReadError>
+    ensures { Reads result at.new (reads dot_word at.old) }
 {
-    let (_dot, rest) = take(bytes, tokens, Kind::Mark(Mark::Dot))?;
-    word(alloc, bytes, rest)
+    at.take(Terminal::Mark(Mark::Dot))?;
+    at.word()
 }
 
-fn maybe_dot_word<'a>(
-    alloc: Global,
-    bytes: &[u8],
-    tokens: &'a [Token],
-) -> Result<(Option<Id>, &'a [Token]), ReadError>
-    ensures { Gives (λ x. (x.0, see bytes.now x.1.now)) result (reads (maybe dot_word) (see bytes.now tokens.now)) }
+fn maybe_dot_word(at: &mut Cursor<'_>) -> Result<Option<Id>, ReadError>
+    ensures { Reads result at.new (reads (maybe dot_word) at.old) }
 {
-    if !next_is(bytes, tokens, Kind::Mark(Mark::Dot)) {
-        return Ok((None, tokens));
+    if !at.next_is(Terminal::Mark(Mark::Dot)) {
+        return Ok(None);
     }
-    let (id, rest) = dot_word(alloc, bytes, tokens)?;
-    Ok((Some(id), rest))
+    Ok(Some(dot_word(at)?))
 }
 
 struct DotWords;
 
-impl Repeated<Adl> for DotWords {
+impl Repeated for DotWords {
     type Item = Id;
 
-    ghost codes = { mark_code marks.Dot ∷ [] };
+    ghost form = { dot_word };
 
-    ghost gives = { λ _. reads dot_word };
+    ghost eats = { dot_word_eats };
 
-    ghost eats = { λ _. dot_word_eats };
-
-    fn starts(bytes: &[u8], tokens: &[Token]) -> bool {
-        next_is(bytes, tokens, Kind::Mark(Mark::Dot))
+    fn starts(at: &Cursor<'_>) -> bool {
+        at.next_is(Terminal::Mark(Mark::Dot))
     }
 
-    fn read<'a>(
-        alloc: Global,
-        bytes: &[u8],
-        tokens: &'a [Token],
-    ) -> Result<(Id, &'a [Token]), ReadError> {
-        dot_word(alloc, bytes, tokens)
+    fn read(at: &mut Cursor<'_>) -> Result<Id, ReadError> {
+        dot_word(at)
     }
 }
 
@@ -87,18 +71,13 @@ fn dotted_of(
 
 /// Two or three words with dots between, and their place.
 #[tactic(auto, unfolding(adl_ast::specs::Forms::dotted_line))]
-pub fn dotted<'a>(
-    alloc: Global,
-    bytes: &[u8],
-    tokens: &'a [Token],
-) -> Result<((Dotted, Place), &'a [Token]), ReadError>
-    ensures { Gives (λ x. (x.0, see bytes.now x.1.now)) result (reads dotted_line (see bytes.now tokens.now)) }
+pub fn dotted(at: &mut Cursor<'_>) -> Result<(Dotted, Place), ReadError>
+    ensures { Reads result at.new (reads dotted_line at.old) }
 {
-    let (first, rest) = word(alloc, bytes, tokens)?;
-    let (second, rest) = dot_word(alloc, bytes, rest)?;
-    let (third, rest) = maybe_dot_word(alloc, bytes, rest)?;
-    let name = dotted_of(alloc, first, second, third)?;
-    Ok((name, rest))
+    let first = at.word()?;
+    let second = dot_word(at)?;
+    let third = maybe_dot_word(at)?;
+    Ok(dotted_of(at.alloc(), first, second, third)?)
 }
 
 fn last_place(place: Place, ids: &[Id]) -> Place
@@ -125,17 +104,12 @@ fn joined(alloc: Global, first: Id, second: Id, more: List<Id>) -> Result<Dotted
 
 /// Two or more words with dots between, and their place.
 #[tactic(auto, unfolding(adl_ast::specs::Forms::path_line))]
-pub fn path<'a>(
-    alloc: Global,
-    bytes: &[u8],
-    tokens: &'a [Token],
-) -> Result<((Dotted, Place), &'a [Token]), ReadError>
-    ensures { Gives (λ x. (x.0, see bytes.now x.1.now)) result (reads path_line (see bytes.now tokens.now)) }
+pub fn path(at: &mut Cursor<'_>) -> Result<(Dotted, Place), ReadError>
+    ensures { Reads result at.new (reads path_line at.old) }
 {
-    let (first, rest) = word(alloc, bytes, tokens)?;
-    let (second, rest) = dot_word(alloc, bytes, rest)?;
-    let (more, rest) = read_all::<Adl, DotWords>(alloc, bytes, rest)?;
+    let first = at.word()?;
+    let second = dot_word(at)?;
+    let more = read_all::<DotWords>(at)?;
     let place = span(first.place(), last_place(second.place(), more.as_slice()));
-    let ids = joined(alloc, first, second, more)?;
-    Ok(((ids, place), rest))
+    Ok((joined(at.alloc(), first, second, more)?, place))
 }

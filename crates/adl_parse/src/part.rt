@@ -8,6 +8,7 @@ ghost use Rattle.std.specs.Prelude.{◌≡◌, ◌≤◌, IfOk, length};
 use crate::assembly::read_assembly;
 use crate::composition::read_composition;
 use crate::configuration::read_configuration;
+use crate::cursor::Cursor;
 use crate::value::read_value;
 use adl_ast::{Assembly, Composition, Configuration, Value};
 use cam_base::{Code, Fault, NoMemory, Place, ReadError, Refused, Stop, Text, Token, Tokens, Why};
@@ -54,12 +55,7 @@ fn name_of(why: Why) -> &'static [u8]
 }
 
 /// The fault where reading stopped.
-pub fn fault_of(
-    alloc: Global,
-    bytes: &[u8],
-    tokens: &[Token],
-    stop: Stop,
-) -> Result<Fault, NoMemory>
+fn fault_of(alloc: Global, bytes: &[u8], tokens: &[Token], stop: Stop) -> Result<Fault, NoMemory>
     ensures { IfOk result (λ fault. fault ≡ fault_of bytes.now tokens.now stop.why stop.left) }
 {
     let at = tokens.len().saturating_sub(stop.left);
@@ -71,12 +67,12 @@ pub fn fault_of(
 }
 
 /// The refusal where reading gave up.
-pub fn refusal_of(alloc: Global, bytes: &[u8], tokens: &[Token], error: ReadError) -> Refused<Fault>
-    ensures { IsRefusalOf bytes.now tokens.now error result }
+pub fn refusal_of(alloc: Global, bytes: &[u8], tokens: &Tokens, error: ReadError) -> Refused<Fault>
+    ensures { IsRefusalOf bytes.now tokens.now.list error result }
 {
     match error {
         ReadError::NoMemory => Refused::NoMemory,
-        ReadError::Stop(stop) => match fault_of(alloc, bytes, tokens, stop) {
+        ReadError::Stop(stop) => match fault_of(alloc, bytes, tokens.list.as_slice(), stop) {
             Ok(fault) => Refused::Fault(fault),
             Err(NoMemory) => Refused::NoMemory,
         },
@@ -94,10 +90,9 @@ pub fn parse_value(
     ensures part { IsPartAt value_line bytes.now tokens.now.list at result }
     ensures end { IfOk result (λ x. x.1 ≤ length tokens.now.list) }
 {
-    let tokens = tokens.list.as_slice();
-    let (_before, rest) = tokens.split_at(at);
-    match read_value(alloc, bytes, rest) {
-        Ok((value, rest)) => Ok((value, tokens.len() - rest.len())),
+    let mut left = Cursor::new(alloc, bytes, tokens, at);
+    match read_value(&mut left) {
+        Ok(value) => Ok((value, left.position(tokens))),
         Err(error) => Err(refusal_of(alloc, bytes, tokens, error)),
     }
 }
@@ -113,10 +108,9 @@ pub fn parse_composition(
     ensures part { IsPartAt composition_line bytes.now tokens.now.list at result }
     ensures end { IfOk result (λ x. x.1 ≤ length tokens.now.list) }
 {
-    let tokens = tokens.list.as_slice();
-    let (_before, rest) = tokens.split_at(at);
-    match read_composition(alloc, bytes, rest) {
-        Ok((composition, rest)) => Ok((composition, tokens.len() - rest.len())),
+    let mut left = Cursor::new(alloc, bytes, tokens, at);
+    match read_composition(&mut left) {
+        Ok(composition) => Ok((composition, left.position(tokens))),
         Err(error) => Err(refusal_of(alloc, bytes, tokens, error)),
     }
 }
@@ -132,10 +126,9 @@ pub fn parse_configuration(
     ensures part { IsPartAt configuration_line bytes.now tokens.now.list at result }
     ensures end { IfOk result (λ x. x.1 ≤ length tokens.now.list) }
 {
-    let tokens = tokens.list.as_slice();
-    let (_before, rest) = tokens.split_at(at);
-    match read_configuration(alloc, bytes, rest) {
-        Ok((configuration, rest)) => Ok((configuration, tokens.len() - rest.len())),
+    let mut left = Cursor::new(alloc, bytes, tokens, at);
+    match read_configuration(&mut left) {
+        Ok(configuration) => Ok((configuration, left.position(tokens))),
         Err(error) => Err(refusal_of(alloc, bytes, tokens, error)),
     }
 }
@@ -151,10 +144,9 @@ pub fn parse_assembly(
     ensures part { IsPartAt assembly_line bytes.now tokens.now.list at result }
     ensures end { IfOk result (λ x. x.1 ≤ length tokens.now.list) }
 {
-    let tokens = tokens.list.as_slice();
-    let (_before, rest) = tokens.split_at(at);
-    match read_assembly(alloc, bytes, rest) {
-        Ok((assembly, rest)) => Ok((assembly, tokens.len() - rest.len())),
+    let mut left = Cursor::new(alloc, bytes, tokens, at);
+    match read_assembly(&mut left) {
+        Ok(assembly) => Ok((assembly, left.position(tokens))),
         Err(error) => Err(refusal_of(alloc, bytes, tokens, error)),
     }
 }

@@ -1,63 +1,58 @@
 //! Procedures, their methods and parameters.
 
 ghost use Rattle.adl_ast.proofs.Eats.{next_param_eats, proc_member_eats};
-ghost use Rattle.adl_ast.specs.Codes.{token_code, key_code, mark_code, word_codes, not_void_codes};
-ghost use Rattle.adl_ast.specs.Forms.{direction_line, direction_form, direction_codes, param_of, param_line, param_form, void_params_line, directed_line, undirected_line, first_param, other_params_line, params_line, method_line, proc_member_line, proc_member_form, procedure_line, more_words, brackets};
-ghost use Rattle.adl_ast.specs.Seeing.{see};
+ghost use Rattle.adl_ast.specs.Codes.{token_code, mark_code, not_void_codes};
+ghost use Rattle.adl_ast.specs.Forms.{direction_line, direction_form, direction_codes, param_of, param_line, param_form, void_params_line, first_param, params_line, method_line, proc_member_line, proc_member_form, procedure_line};
 ghost use Rattle.adl_ast.specs.Spelling.{reads};
-ghost use Rattle.cam_base.specs.declared.token.Keyword.TheVariants as keys;
-ghost use Rattle.cam_base.specs.declared.token.Mark.TheVariants as marks;
+ghost use Rattle.adl_parse.specs.Reads.{Reads};
 ghost use Rattle.cam_base.specs.Form.{maybe, behind};
-ghost use Rattle.cam_base.specs.Gives.{Gives};
 ghost use Rattle.cam_base.specs.Reading.{starts};
-ghost use Rattle.std.specs.Prelude.{◌≡◌, ◌∷◌, ◌++◌, []};
+ghost use Rattle.cam_base.specs.declared.token.Mark.TheVariants as marks;
+ghost use Rattle.std.specs.Prelude.{◌≡◌, ◌++◌};
 
+use crate::cursor::Cursor;
 use crate::import::read_import;
-use crate::typed::{More, brackets, more_words, typed_name, typed_of};
-use crate::{Adl, WordKind, id_of, next_has, next_is, next_is_word, take, take_of, word};
+use crate::repeated::{Repeated, read_all, read_from};
+use crate::terminal::Terminal;
+use crate::typed::{brackets, more_words, typed_name, typed_of};
 use adl_ast::{Direction, Id, Method, Param, ProcMember, Procedure, Words};
-use cam_base::{Keyword, Kind, List, Mark, ReadError, Repeated, Token, read_all, read_from};
-use std::alloc::Global;
+use cam_base::{Keyword, List, Mark, ReadError};
 
-fn starts_direction(bytes: &[u8], tokens: &[Token]) -> bool
-    ensures { result ≡ starts token_code direction_codes (see bytes.now tokens.now) }
+fn starts_direction(at: &Cursor<'_>) -> bool
+    ensures { result ≡ starts token_code direction_codes at.now }
 {
-    next_is(bytes, tokens, Kind::Key(Keyword::KIn))
-        || next_is(bytes, tokens, Kind::Key(Keyword::KOut))
-        || next_is(bytes, tokens, Kind::Key(Keyword::KInout))
-        || next_is(bytes, tokens, Kind::Key(Keyword::KRefin))
+    at.next_is(Terminal::Key(Keyword::KIn))
+        || at.next_is(Terminal::Key(Keyword::KOut))
+        || at.next_is(Terminal::Key(Keyword::KInout))
+        || at.next_is(Terminal::Key(Keyword::KRefin))
 }
 
 #[tactic(auto, unfolding(adl_ast::specs::Forms::direction_line))]
-fn direction<'a>(bytes: &[u8], tokens: &'a [Token]) -> Result<(Direction, &'a [Token]), ReadError>
-    ensures { Gives (λ x. (x.0, see bytes.now x.1.now)) result (reads direction_line (see bytes.now tokens.now)) }
+fn direction(at: &mut Cursor<'_>) -> Result<Direction, ReadError>
+    ensures { Reads result at.new (reads direction_line at.old) }
 {
-    if next_is(bytes, tokens, Kind::Key(Keyword::KIn)) {
-        let (_in, rest) = take(bytes, tokens, Kind::Key(Keyword::KIn))?;
-        Ok((Direction::DirIn, rest))
-    } else if next_is(bytes, tokens, Kind::Key(Keyword::KOut)) {
-        let (_out, rest) = take(bytes, tokens, Kind::Key(Keyword::KOut))?;
-        Ok((Direction::DirOut, rest))
-    } else if next_is(bytes, tokens, Kind::Key(Keyword::KInout)) {
-        let (_inout, rest) = take(bytes, tokens, Kind::Key(Keyword::KInout))?;
-        Ok((Direction::DirInOut, rest))
+    if at.next_is(Terminal::Key(Keyword::KIn)) {
+        at.take(Terminal::Key(Keyword::KIn))?;
+        Ok(Direction::DirIn)
+    } else if at.next_is(Terminal::Key(Keyword::KOut)) {
+        at.take(Terminal::Key(Keyword::KOut))?;
+        Ok(Direction::DirOut)
+    } else if at.next_is(Terminal::Key(Keyword::KInout)) {
+        at.take(Terminal::Key(Keyword::KInout))?;
+        Ok(Direction::DirInOut)
     } else {
-        let (_refin, rest) = take(bytes, tokens, Kind::Key(Keyword::KRefin))?;
-        Ok((Direction::DirRefIn, rest))
+        at.take(Terminal::Key(Keyword::KRefin))?;
+        Ok(Direction::DirRefIn)
     }
 }
 
-fn maybe_direction<'a>(
-    bytes: &[u8],
-    tokens: &'a [Token],
-) -> Result<(Option<Direction>, &'a [Token]), ReadError>
-    ensures { Gives (λ x. (x.0, see bytes.now x.1.now)) result (reads (maybe direction_form) (see bytes.now tokens.now)) }
+fn maybe_direction(at: &mut Cursor<'_>) -> Result<Option<Direction>, ReadError>
+    ensures { Reads result at.new (reads (maybe direction_form) at.old) }
 {
-    if !starts_direction(bytes, tokens) {
-        return Ok((None, tokens));
+    if !starts_direction(at) {
+        return Ok(None);
     }
-    let (direction, rest) = direction(bytes, tokens)?;
-    Ok((Some(direction), rest))
+    Ok(Some(direction(at)?))
 }
 
 fn param_of(direction: Option<Direction>, typed: (Words, Id), array: bool) -> Param
@@ -73,41 +68,31 @@ fn param_of(direction: Option<Direction>, typed: (Words, Id), array: bool) -> Pa
 }
 
 #[tactic(auto, unfolding(adl_ast::specs::Forms::param_line))]
-fn param<'a>(
-    alloc: Global,
-    bytes: &[u8],
-    tokens: &'a [Token],
-) -> Result<(Param, &'a [Token]), ReadError>
-    ensures { Gives (λ x. (x.0, see bytes.now x.1.now)) result (reads param_line (see bytes.now tokens.now)) }
+fn param(at: &mut Cursor<'_>) -> Result<Param, ReadError>
+    ensures { Reads result at.new (reads param_line at.old) }
 {
-    let (direction, rest) = maybe_direction(bytes, tokens)?;
-    let (typed, rest) = typed_name(alloc, bytes, rest)?;
-    let (array, rest) = brackets(bytes, rest)?;
-    Ok((param_of(direction, typed, array), rest))
+    let direction = maybe_direction(at)?;
+    let typed = typed_name(at)?;
+    let array = brackets(at)?;
+    Ok(param_of(direction, typed, array))
 }
 
 struct MoreParams;
 
-impl Repeated<Adl> for MoreParams {
+impl Repeated for MoreParams {
     type Item = Param;
 
-    ghost codes = { mark_code marks.Comma ∷ [] };
+    ghost form = { behind (mark_code marks.Comma) param_form };
 
-    ghost gives = { λ _. reads (behind (mark_code marks.Comma) param_form) };
+    ghost eats = { next_param_eats };
 
-    ghost eats = { λ _. next_param_eats };
-
-    fn starts(bytes: &[u8], tokens: &[Token]) -> bool {
-        next_is(bytes, tokens, Kind::Mark(Mark::Comma))
+    fn starts(at: &Cursor<'_>) -> bool {
+        at.next_is(Terminal::Mark(Mark::Comma))
     }
 
-    fn read<'a>(
-        alloc: Global,
-        bytes: &[u8],
-        tokens: &'a [Token],
-    ) -> Result<(Param, &'a [Token]), ReadError> {
-        let (_comma, rest) = take(bytes, tokens, Kind::Mark(Mark::Comma))?;
-        param(alloc, bytes, rest)
+    fn read(at: &mut Cursor<'_>) -> Result<Param, ReadError> {
+        at.take(Terminal::Mark(Mark::Comma))?;
+        param(at)
     }
 }
 
@@ -115,174 +100,108 @@ impl Repeated<Adl> for MoreParams {
 type Params = (bool, List<Param>);
 
 #[tactic(auto, unfolding(adl_ast::specs::Forms::void_params_line))]
-fn void_params<'a>(
-    alloc: Global,
-    bytes: &[u8],
-    tokens: &'a [Token],
-) -> Result<(Params, &'a [Token]), ReadError>
-    ensures { Gives (λ x. (x.0, see bytes.now x.1.now)) result (reads void_params_line (see bytes.now tokens.now)) }
+fn void_params(at: &mut Cursor<'_>) -> Result<Params, ReadError>
+    ensures { Reads result at.new (reads void_params_line at.old) }
 {
-    let (void, rest) = take_of(bytes, tokens, WordKind::Void)?;
-    if !next_is_word(bytes, rest) {
-        return Ok(((true, List::new(alloc)), rest));
+    let void = at.take(Terminal::Void)?;
+    if !at.next_is(Terminal::Word) {
+        return Ok((true, List::new(at.alloc())));
     }
-    let (more, rest) = more_words(alloc, bytes, rest)?;
-    let (array, rest) = brackets(bytes, rest)?;
-    let word = id_of(alloc, bytes, void)?;
-    let typed = typed_of(alloc, word, more)?;
-    let first = param_of(None, typed, array);
-    let (params, rest) = read_from::<Adl, MoreParams>(alloc, bytes, rest, first)?;
-    Ok(((false, params), rest))
+    let more = more_words(at)?;
+    let array = brackets(at)?;
+    let word = void.id(at.alloc())?;
+    let typed = typed_of(at.alloc(), word, more)?;
+    let params = read_from::<MoreParams>(at, param_of(None, typed, array))?;
+    Ok((false, params))
 }
 
-#[tactic(auto, unfolding(adl_ast::specs::Forms::directed_line))]
-fn directed<'a>(
-    alloc: Global,
-    bytes: &[u8],
-    tokens: &'a [Token],
-) -> Result<(Param, &'a [Token]), ReadError>
-    ensures { Gives (λ x. (x.0, see bytes.now x.1.now)) result (reads directed_line (see bytes.now tokens.now)) }
+#[tactic(auto, unfolding(adl_ast::specs::Forms::directed_line, adl_ast::specs::Forms::undirected_line))]
+fn first_param(at: &mut Cursor<'_>) -> Result<Param, ReadError>
+    ensures { Reads result at.new (reads first_param at.old) }
 {
-    let (direction, rest) = direction(bytes, tokens)?;
-    let (typed, rest) = typed_name(alloc, bytes, rest)?;
-    let (array, rest) = brackets(bytes, rest)?;
-    Ok((param_of(Some(direction), typed, array), rest))
-}
-
-#[tactic(auto, unfolding(adl_ast::specs::Forms::undirected_line))]
-fn undirected<'a>(
-    alloc: Global,
-    bytes: &[u8],
-    tokens: &'a [Token],
-) -> Result<(Param, &'a [Token]), ReadError>
-    ensures { Gives (λ x. (x.0, see bytes.now x.1.now)) result (reads undirected_line (see bytes.now tokens.now)) }
-{
-    let (word, rest) = take_of(bytes, tokens, WordKind::NotVoid)?;
-    let (more, rest) = more_words(alloc, bytes, rest)?;
-    let (array, rest) = brackets(bytes, rest)?;
-    let first = id_of(alloc, bytes, word)?;
-    let typed = typed_of(alloc, first, more)?;
-    Ok((param_of(None, typed, array), rest))
-}
-
-fn first_param<'a>(
-    alloc: Global,
-    bytes: &[u8],
-    tokens: &'a [Token],
-) -> Result<(Param, &'a [Token]), ReadError>
-    ensures { Gives (λ x. (x.0, see bytes.now x.1.now)) result (reads first_param (see bytes.now tokens.now)) }
-{
-    if starts_direction(bytes, tokens) {
-        directed(alloc, bytes, tokens)
-    } else {
-        undirected(alloc, bytes, tokens)
+    if starts_direction(at) {
+        let direction = direction(at)?;
+        let typed = typed_name(at)?;
+        let array = brackets(at)?;
+        return Ok(param_of(Some(direction), typed, array));
     }
+    let word = at.take(Terminal::NotVoid)?;
+    let more = more_words(at)?;
+    let array = brackets(at)?;
+    let first = word.id(at.alloc())?;
+    let typed = typed_of(at.alloc(), first, more)?;
+    Ok(param_of(None, typed, array))
 }
 
-#[tactic(auto, unfolding(adl_ast::specs::Forms::other_params_line))]
-fn other_params<'a>(
-    alloc: Global,
-    bytes: &[u8],
-    tokens: &'a [Token],
-) -> Result<(Params, &'a [Token]), ReadError>
-    ensures { Gives (λ x. (x.0, see bytes.now x.1.now)) result (reads other_params_line (see bytes.now tokens.now)) }
+fn starts_other(at: &Cursor<'_>) -> bool
+    ensures { result ≡ starts token_code (direction_codes ++ not_void_codes) at.now }
 {
-    let (first, rest) = first_param(alloc, bytes, tokens)?;
-    let (params, rest) = read_from::<Adl, MoreParams>(alloc, bytes, rest, first)?;
-    Ok(((false, params), rest))
+    starts_direction(at) || at.next_is(Terminal::NotVoid)
 }
 
-fn starts_other(bytes: &[u8], tokens: &[Token]) -> bool
-    ensures { result ≡ starts token_code (direction_codes ++ not_void_codes) (see bytes.now tokens.now) }
+#[tactic(auto, unfolding(adl_ast::specs::Forms::params_line, adl_ast::specs::Forms::other_params_line))]
+fn params(at: &mut Cursor<'_>) -> Result<Params, ReadError>
+    ensures { Reads result at.new (reads params_line at.old) }
 {
-    starts_direction(bytes, tokens) || next_has(bytes, tokens, WordKind::NotVoid)
-}
-
-#[tactic(auto, unfolding(adl_ast::specs::Forms::params_line))]
-fn params<'a>(
-    alloc: Global,
-    bytes: &[u8],
-    tokens: &'a [Token],
-) -> Result<(Params, &'a [Token]), ReadError>
-    ensures { Gives (λ x. (x.0, see bytes.now x.1.now)) result (reads params_line (see bytes.now tokens.now)) }
-{
-    if next_has(bytes, tokens, WordKind::Void) {
-        void_params(alloc, bytes, tokens)
-    } else if starts_other(bytes, tokens) {
-        other_params(alloc, bytes, tokens)
+    if at.next_is(Terminal::Void) {
+        void_params(at)
+    } else if starts_other(at) {
+        let first = first_param(at)?;
+        Ok((false, read_from::<MoreParams>(at, first)?))
     } else {
-        Ok(((false, List::new(alloc)), tokens))
+        Ok((false, List::new(at.alloc())))
     }
 }
 
 #[tactic(auto, unfolding(adl_ast::specs::Forms::method_line))]
-fn method<'a>(
-    alloc: Global,
-    bytes: &[u8],
-    tokens: &'a [Token],
-) -> Result<(Method, &'a [Token]), ReadError>
-    ensures { Gives (λ x. (x.0, see bytes.now x.1.now)) result (reads method_line (see bytes.now tokens.now)) }
+fn method(at: &mut Cursor<'_>) -> Result<Method, ReadError>
+    ensures { Reads result at.new (reads method_line at.old) }
 {
-    let ((words, id), rest) = typed_name(alloc, bytes, tokens)?;
-    let (_open, rest) = take(bytes, rest, Kind::Mark(Mark::ParenL))?;
-    let ((void, params), rest) = params(alloc, bytes, rest)?;
-    let (_close, rest) = take(bytes, rest, Kind::Mark(Mark::ParenR))?;
-    let (_end, rest) = take(bytes, rest, Kind::Mark(Mark::Semi))?;
-    Ok((
-        Method {
-            result: words,
-            id,
-            void,
-            params,
-        },
-        rest,
-    ))
+    let (words, id) = typed_name(at)?;
+    at.take(Terminal::Mark(Mark::ParenL))?;
+    let (void, params) = params(at)?;
+    at.take(Terminal::Mark(Mark::ParenR))?;
+    at.take(Terminal::Mark(Mark::Semi))?;
+    Ok(Method {
+        result: words,
+        id,
+        void,
+        params,
+    })
 }
 
 struct ProcMembers;
 
-impl Repeated<Adl> for ProcMembers {
+impl Repeated for ProcMembers {
     type Item = ProcMember;
 
-    ghost codes = { key_code keys.KInclude ∷ word_codes };
+    ghost form = { proc_member_form };
 
-    ghost gives = { λ _. reads proc_member_form };
+    ghost eats = { proc_member_eats };
 
-    ghost eats = { λ _. proc_member_eats };
-
-    fn starts(bytes: &[u8], tokens: &[Token]) -> bool {
-        next_is(bytes, tokens, Kind::Key(Keyword::KInclude)) || next_is_word(bytes, tokens)
+    fn starts(at: &Cursor<'_>) -> bool {
+        at.next_is(Terminal::Key(Keyword::KInclude)) || at.next_is(Terminal::Word)
     }
 
     #[tactic(auto, unfolding(adl_ast::specs::Forms::proc_member_line))]
-    fn read<'a>(
-        alloc: Global,
-        bytes: &[u8],
-        tokens: &'a [Token],
-    ) -> Result<(ProcMember, &'a [Token]), ReadError> {
-        if next_is(bytes, tokens, Kind::Key(Keyword::KInclude)) {
-            let (include, rest) = read_import(alloc, bytes, tokens, Keyword::KInclude)?;
-            Ok((ProcMember::Include(include), rest))
+    fn read(at: &mut Cursor<'_>) -> Result<ProcMember, ReadError> {
+        if at.next_is(Terminal::Key(Keyword::KInclude)) {
+            Ok(ProcMember::Include(read_import(at, Keyword::KInclude)?))
         } else {
-            let (method, rest) = method(alloc, bytes, tokens)?;
-            Ok((ProcMember::Method(method), rest))
+            Ok(ProcMember::Method(method(at)?))
         }
     }
 }
 
 /// A procedure.
 #[tactic(auto, unfolding(adl_ast::specs::Forms::procedure_line))]
-pub fn read_procedure<'a>(
-    alloc: Global,
-    bytes: &[u8],
-    tokens: &'a [Token],
-) -> Result<(Procedure, &'a [Token]), ReadError>
-    ensures { Gives (λ x. (x.0, see bytes.now x.1.now)) result (reads procedure_line (see bytes.now tokens.now)) }
+pub fn read_procedure(at: &mut Cursor<'_>) -> Result<Procedure, ReadError>
+    ensures { Reads result at.new (reads procedure_line at.old) }
 {
-    let (_keyword, rest) = take(bytes, tokens, Kind::Key(Keyword::KProcedure))?;
-    let (id, rest) = word(alloc, bytes, rest)?;
-    let (_open, rest) = take(bytes, rest, Kind::Mark(Mark::BraceL))?;
-    let (members, rest) = read_all::<Adl, ProcMembers>(alloc, bytes, rest)?;
-    let (_close, rest) = take(bytes, rest, Kind::Mark(Mark::BraceR))?;
-    Ok((Procedure { id, members }, rest))
+    at.take(Terminal::Key(Keyword::KProcedure))?;
+    let id = at.word()?;
+    at.take(Terminal::Mark(Mark::BraceL))?;
+    let members = read_all::<ProcMembers>(at)?;
+    at.take(Terminal::Mark(Mark::BraceR))?;
+    Ok(Procedure { id, members })
 }

@@ -1,49 +1,31 @@
 //! A type and a name, and whether brackets stand behind them.
 
-ghost use Rattle.adl_ast.specs.Forms.{word, more_words, typed_of, typed_line, brackets};
-ghost use Rattle.adl_ast.specs.Seeing.{see};
+ghost use Rattle.adl_ast.specs.Forms.{more_words, typed_of, typed_line, brackets};
 ghost use Rattle.adl_ast.specs.Spelling.{reads};
-ghost use Rattle.cam_base.specs.Form.{Then, maybe};
-ghost use Rattle.cam_base.specs.Gives.{Gives};
+ghost use Rattle.adl_parse.specs.Reads.{Reads};
 ghost use Rattle.std.specs.Prelude.{◌≡◌, IfOk};
 
-use crate::{maybe_word, next_is, next_is_word, take, word};
+use crate::cursor::Cursor;
+use crate::terminal::Terminal;
 use adl_ast::{Id, Words};
-use cam_base::{Kind, Mark, NoMemory, ReadError, Token};
+use cam_base::{Mark, NoMemory, ReadError};
 use std::alloc::Global;
 
 /// The words behind the first: one to three.
 pub type More = (Id, Option<(Id, Option<Id>)>);
 
-#[inline(always)]
-fn last_words<'a>(
-    alloc: Global,
-    bytes: &[u8],
-    tokens: &'a [Token],
-) -> Result<(Option<(Id, Option<Id>)>, &'a [Token]), ReadError>
-    ensures { Gives (λ x. (x.0, see bytes.now x.1.now)) result (reads (maybe (Then word (maybe word)))
-        (see bytes.now tokens.now)) }
-{
-    if !next_is_word(bytes, tokens) {
-        return Ok((None, tokens));
-    }
-    let (third, rest) = word(alloc, bytes, tokens)?;
-    let (fourth, rest) = maybe_word(alloc, bytes, rest)?;
-    Ok((Some((third, fourth)), rest))
-}
-
 /// One to three more words.
 #[inline(always)]
-pub fn more_words<'a>(
-    alloc: Global,
-    bytes: &[u8],
-    tokens: &'a [Token],
-) -> Result<(More, &'a [Token]), ReadError>
-    ensures { Gives (λ x. (x.0, see bytes.now x.1.now)) result (reads more_words (see bytes.now tokens.now)) }
+pub fn more_words(at: &mut Cursor<'_>) -> Result<More, ReadError>
+    ensures { Reads result at.new (reads more_words at.old) }
 {
-    let (second, rest) = word(alloc, bytes, tokens)?;
-    let (last, rest) = last_words(alloc, bytes, rest)?;
-    Ok(((second, last), rest))
+    let second = at.word()?;
+    if !at.next_is(Terminal::Word) {
+        return Ok((second, None));
+    }
+    let third = at.word()?;
+    let fourth = at.maybe_word()?;
+    Ok((second, Some((third, fourth))))
 }
 
 /// The words of the type, and the name, which is the last word.
@@ -67,28 +49,23 @@ pub fn typed_of(alloc: Global, first: Id, more: More) -> Result<(Words, Id), NoM
 
 /// A type and a name.
 #[tactic(auto, unfolding(adl_ast::specs::Forms::typed_line))]
-pub fn typed_name<'a>(
-    alloc: Global,
-    bytes: &[u8],
-    tokens: &'a [Token],
-) -> Result<((Words, Id), &'a [Token]), ReadError>
-    ensures { Gives (λ x. (x.0, see bytes.now x.1.now)) result (reads typed_line (see bytes.now tokens.now)) }
+pub fn typed_name(at: &mut Cursor<'_>) -> Result<(Words, Id), ReadError>
+    ensures { Reads result at.new (reads typed_line at.old) }
 {
-    let (first, rest) = word(alloc, bytes, tokens)?;
-    let (more, rest) = more_words(alloc, bytes, rest)?;
-    let typed = typed_of(alloc, first, more)?;
-    Ok((typed, rest))
+    let first = at.word()?;
+    let more = more_words(at)?;
+    Ok(typed_of(at.alloc(), first, more)?)
 }
 
 /// Whether `[]` stands here.
 #[inline(always)]
-pub fn brackets<'a>(bytes: &[u8], tokens: &'a [Token]) -> Result<(bool, &'a [Token]), ReadError>
-    ensures { Gives (λ x. (x.0, see bytes.now x.1.now)) result (reads brackets (see bytes.now tokens.now)) }
+pub fn brackets(at: &mut Cursor<'_>) -> Result<bool, ReadError>
+    ensures { Reads result at.new (reads brackets at.old) }
 {
-    if !next_is(bytes, tokens, Kind::Mark(Mark::SquareL)) {
-        return Ok((false, tokens));
+    if !at.next_is(Terminal::Mark(Mark::SquareL)) {
+        return Ok(false);
     }
-    let (_open, rest) = take(bytes, tokens, Kind::Mark(Mark::SquareL))?;
-    let (_close, rest) = take(bytes, rest, Kind::Mark(Mark::SquareR))?;
-    Ok((true, rest))
+    at.take(Terminal::Mark(Mark::SquareL))?;
+    at.take(Terminal::Mark(Mark::SquareR))?;
+    Ok(true)
 }

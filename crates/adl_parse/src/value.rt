@@ -1,264 +1,168 @@
 //! Values, brackets within brackets up to a limit.
 
 ghost use Rattle.adl_ast.specs.Codes.{token_code, mark_code, number_code, text_code};
-ghost use Rattle.adl_ast.specs.Forms.{number_form, text_form, value_form, value_line, values_line, list_line, entry_line, entry_form, entries_line, dictionary_line, nested_line};
-ghost use Rattle.adl_ast.specs.Seeing.{see};
+ghost use Rattle.adl_ast.specs.Forms.{value_form, value_line, values_line, list_line, entry_line, entry_form, entries_line, dictionary_line};
 ghost use Rattle.adl_ast.specs.Spelling.{nests, reads, opens};
+ghost use Rattle.adl_parse.specs.Reads.{Reads};
 ghost use Rattle.cam_base.specs.declared.token.Mark.TheVariants as marks;
 ghost use Rattle.cam_base.specs.Form.{Nested, behind};
-ghost use Rattle.cam_base.specs.Gives.{Gives};
 ghost use Rattle.cam_base.specs.Reading.{starts};
 ghost use Rattle.std.specs.Prelude.{◌≡◌, ◌∷◌, [], true};
 
-use crate::token::{inner_text, next_is, number_of, span, take};
+use crate::cursor::{Cursor, span};
+use crate::terminal::Terminal;
 use adl_ast::{Value, ValueKind};
-use cam_base::{Kind, List, Mark, ReadError, Stop, Text, Token, Why, fitted};
-use std::alloc::Global;
+use cam_base::{List, Mark, ReadError, Text, Why, fitted};
 
 /// How deep brackets may nest.
 const LIMIT: u32 = 32;
 
 /// A value.
 #[tactic(auto, unfolding(adl_ast::specs::Forms::value_line))]
-pub fn read_value<'a>(
-    alloc: Global,
-    bytes: &[u8],
-    tokens: &'a [Token],
-) -> Result<(Value, &'a [Token]), ReadError>
-    ensures { Gives (λ x. (x.0, see bytes.now x.1.now)) result (reads value_line (see bytes.now tokens.now)) }
+pub fn read_value(at: &mut Cursor<'_>) -> Result<Value, ReadError>
+    ensures { Reads result at.new (reads value_line at.old) }
 {
-    value_within(alloc, bytes, tokens, LIMIT)
+    value_within(at, LIMIT)
 }
 
-fn number<'a>(bytes: &[u8], tokens: &'a [Token]) -> Result<(Value, &'a [Token]), ReadError>
-    ensures { Gives (λ x. (x.0, see bytes.now x.1.now)) result (nests 0 number_form (see bytes.now tokens.now)) }
+fn starts_nested(at: &Cursor<'_>) -> bool
+    ensures { result ≡ starts token_code opens at.now }
 {
-    let (token, rest) = take(bytes, tokens, Kind::Number(0))?;
-    let value = Value {
-        kind: ValueKind::Number(number_of(token.kind)),
-        place: token.place,
-    };
-    Ok((value, rest))
+    at.next_is(Terminal::Mark(Mark::SquareL)) || at.next_is(Terminal::Mark(Mark::BraceL))
 }
 
-fn text<'a>(
-    alloc: Global,
-    bytes: &[u8],
-    tokens: &'a [Token],
-) -> Result<(Value, &'a [Token]), ReadError>
-    ensures { Gives (λ x. (x.0, see bytes.now x.1.now)) result (nests 0 text_form (see bytes.now tokens.now)) }
+fn starts_value(at: &Cursor<'_>) -> bool
+    ensures { result ≡ starts token_code (mark_code marks.SquareL ∷ mark_code marks.BraceL ∷ number_code ∷ text_code ∷ []) at.now }
 {
-    let (token, rest) = take(bytes, tokens, Kind::Text)?;
-    let value = Value {
-        kind: ValueKind::Text(inner_text(alloc, bytes, token)?),
-        place: token.place,
-    };
-    Ok((value, rest))
-}
-
-fn starts_nested(bytes: &[u8], tokens: &[Token]) -> bool
-    ensures { result ≡ starts token_code opens (see bytes.now tokens.now) }
-{
-    next_is(bytes, tokens, Kind::Mark(Mark::SquareL))
-        || next_is(bytes, tokens, Kind::Mark(Mark::BraceL))
-}
-
-fn starts_value(bytes: &[u8], tokens: &[Token]) -> bool
-    ensures { result ≡ starts token_code (mark_code marks.SquareL ∷ mark_code marks.BraceL ∷ number_code ∷ text_code ∷ [])
-        (see bytes.now tokens.now) }
-{
-    starts_nested(bytes, tokens)
-        || next_is(bytes, tokens, Kind::Number(0))
-        || next_is(bytes, tokens, Kind::Text)
+    starts_nested(at) || at.next_is(Terminal::Number) || at.next_is(Terminal::Text)
 }
 
 /// A value, its brackets nested at most so deep.
 #[cycle(values)]
 #[tactic(auto, unfolding(adl_ast::specs::Forms::value_line))]
-fn value_within<'a>(
-    alloc: Global,
-    bytes: &[u8],
-    tokens: &'a [Token],
-    room: u32,
-) -> Result<(Value, &'a [Token]), ReadError>
-    ensures { Gives (λ x. (x.0, see bytes.now x.1.now)) result (nests room value_form (see bytes.now tokens.now)) }
+fn value_within(at: &mut Cursor<'_>, room: u32) -> Result<Value, ReadError>
+    ensures { Reads result at.new (nests room value_form at.old) }
 {
-    if starts_nested(bytes, tokens) {
-        nested(alloc, bytes, tokens, room)
-    } else if next_is(bytes, tokens, Kind::Number(0)) {
-        number(bytes, tokens)
-    } else {
-        text(alloc, bytes, tokens)
+    if starts_nested(at) {
+        return nested(at, room);
     }
+    if at.next_is(Terminal::Number) {
+        let number = at.take(Terminal::Number)?;
+        return Ok(Value {
+            kind: ValueKind::Number(number.number()),
+            place: number.place(),
+        });
+    }
+    let text = at.take(Terminal::Text)?;
+    Ok(Value {
+        kind: ValueKind::Text(text.inner_text(at.alloc())?),
+        place: text.place(),
+    })
 }
 
+/// A list or a dictionary, one level deeper.
 #[cycle(values)]
-#[tactic(auto, unfolding(cam_base::specs::Reading::read_deep))]
-fn nested<'a>(
-    alloc: Global,
-    bytes: &[u8],
-    tokens: &'a [Token],
-    room: u32,
-) -> Result<(Value, &'a [Token]), ReadError>
-    requires { starts token_code opens (see bytes.now tokens.now) ≡ true }
-    ensures { Gives (λ x. (x.0, see bytes.now x.1.now)) result (nests room Nested (see bytes.now tokens.now)) }
+#[tactic(auto, unfolding(adl_ast::specs::Forms::nested_line, cam_base::specs::Reading::read_deep))]
+fn nested(at: &mut Cursor<'_>, room: u32) -> Result<Value, ReadError>
+    requires { starts token_code opens at.old ≡ true }
+    ensures { Reads result at.new (nests room Nested at.old) }
 {
     if room == 0 {
-        return Err(ReadError::Stop(Stop {
-            why: Why::TooDeep,
-            left: tokens.len(),
-        }));
-    }
-    bracketed(alloc, bytes, tokens, room - 1)
-}
-
-/// A list or a dictionary, the brackets in it nested at most so deep.
-#[cycle(values)]
-#[tactic(auto, unfolding(adl_ast::specs::Forms::nested_line))]
-fn bracketed<'a>(
-    alloc: Global,
-    bytes: &[u8],
-    tokens: &'a [Token],
-    room: u32,
-) -> Result<(Value, &'a [Token]), ReadError>
-    ensures { Gives (λ x. (x.0, see bytes.now x.1.now)) result (nests room nested_line (see bytes.now tokens.now)) }
-{
-    if next_is(bytes, tokens, Kind::Mark(Mark::SquareL)) {
-        list(alloc, bytes, tokens, room)
+        Err(at.stop(Why::TooDeep))
+    } else if at.next_is(Terminal::Mark(Mark::SquareL)) {
+        list(at, room - 1)
     } else {
-        dictionary(alloc, bytes, tokens, room)
+        dictionary(at, room - 1)
     }
 }
 
 #[cycle(values)]
 #[tactic(auto, unfolding(adl_ast::specs::Forms::list_line))]
-fn list<'a>(
-    alloc: Global,
-    bytes: &[u8],
-    tokens: &'a [Token],
-    room: u32,
-) -> Result<(Value, &'a [Token]), ReadError>
-    ensures { Gives (λ x. (x.0, see bytes.now x.1.now)) result (nests room list_line (see bytes.now tokens.now)) }
+fn list(at: &mut Cursor<'_>, room: u32) -> Result<Value, ReadError>
+    ensures { Reads result at.new (nests room list_line at.old) }
 {
-    let (open, rest) = take(bytes, tokens, Kind::Mark(Mark::SquareL))?;
-    let (items, rest) = values(alloc, bytes, rest, room)?;
-    let (close, rest) = take(bytes, rest, Kind::Mark(Mark::SquareR))?;
-    let value = Value {
+    let first = at.take(Terminal::Mark(Mark::SquareL))?.place();
+    let items = values(at, room)?;
+    let last = at.take(Terminal::Mark(Mark::SquareR))?.place();
+    Ok(Value {
         kind: ValueKind::Items(items),
-        place: span(open.place, close.place),
-    };
-    Ok((value, rest))
+        place: span(first, last),
+    })
 }
 
 #[cycle(values)]
 #[tactic(auto, unfolding(adl_ast::specs::Forms::values_line))]
-fn values<'a>(
-    alloc: Global,
-    bytes: &[u8],
-    tokens: &'a [Token],
-    room: u32,
-) -> Result<(List<Value>, &'a [Token]), ReadError>
-    ensures { Gives (λ x. (x.0, see bytes.now x.1.now)) result (nests room values_line (see bytes.now tokens.now)) }
+fn values(at: &mut Cursor<'_>, room: u32) -> Result<List<Value>, ReadError>
+    ensures { Reads result at.new (nests room values_line at.old) }
 {
-    let mut items = List::new(alloc);
-    if !starts_value(bytes, tokens) {
-        return Ok((items, tokens));
+    let mut items = List::new(at.alloc());
+    if !starts_value(at) {
+        return Ok(items);
     }
-    let (first, mut rest) = value_within(alloc, bytes, tokens, room)?;
+    let first = value_within(at, room)?;
     items.push(first)?;
-    'more: while next_is(bytes, rest, Kind::Mark(Mark::Comma)) {
-        let (item, after) = next_value(alloc, bytes, rest, room)?;
+    'more: while at.next_is(Terminal::Mark(Mark::Comma)) {
+        let item = next_value(at, room)?;
         items.push(item)?;
-        rest = after;
     }
-    Ok((fitted(items), rest))
+    Ok(fitted(items))
 }
 
 #[cycle(values)]
-fn next_value<'a>(
-    alloc: Global,
-    bytes: &[u8],
-    tokens: &'a [Token],
-    room: u32,
-) -> Result<(Value, &'a [Token]), ReadError>
-    ensures { Gives (λ x. (x.0, see bytes.now x.1.now)) result (nests room (behind (mark_code marks.Comma) value_form)
-        (see bytes.now tokens.now)) }
+fn next_value(at: &mut Cursor<'_>, room: u32) -> Result<Value, ReadError>
+    ensures { Reads result at.new (nests room (behind (mark_code marks.Comma) value_form) at.old) }
 {
-    let (_comma, rest) = take(bytes, tokens, Kind::Mark(Mark::Comma))?;
-    value_within(alloc, bytes, rest, room)
+    at.take(Terminal::Mark(Mark::Comma))?;
+    value_within(at, room)
 }
 
 #[cycle(values)]
 #[tactic(auto, unfolding(adl_ast::specs::Forms::dictionary_line))]
-fn dictionary<'a>(
-    alloc: Global,
-    bytes: &[u8],
-    tokens: &'a [Token],
-    room: u32,
-) -> Result<(Value, &'a [Token]), ReadError>
-    ensures { Gives (λ x. (x.0, see bytes.now x.1.now)) result (nests room dictionary_line (see bytes.now tokens.now)) }
+fn dictionary(at: &mut Cursor<'_>, room: u32) -> Result<Value, ReadError>
+    ensures { Reads result at.new (nests room dictionary_line at.old) }
 {
-    let (open, rest) = take(bytes, tokens, Kind::Mark(Mark::BraceL))?;
-    let (pairs, rest) = entries(alloc, bytes, rest, room)?;
-    let (close, rest) = take(bytes, rest, Kind::Mark(Mark::BraceR))?;
-    let value = Value {
+    let first = at.take(Terminal::Mark(Mark::BraceL))?.place();
+    let pairs = entries(at, room)?;
+    let last = at.take(Terminal::Mark(Mark::BraceR))?.place();
+    Ok(Value {
         kind: ValueKind::Dictionary(pairs),
-        place: span(open.place, close.place),
-    };
-    Ok((value, rest))
+        place: span(first, last),
+    })
 }
 
 #[cycle(values)]
 #[tactic(auto, unfolding(adl_ast::specs::Forms::entries_line))]
-fn entries<'a>(
-    alloc: Global,
-    bytes: &[u8],
-    tokens: &'a [Token],
-    room: u32,
-) -> Result<(List<(Text, Value)>, &'a [Token]), ReadError>
-    ensures { Gives (λ x. (x.0, see bytes.now x.1.now)) result (nests room entries_line (see bytes.now tokens.now)) }
+fn entries(at: &mut Cursor<'_>, room: u32) -> Result<List<(Text, Value)>, ReadError>
+    ensures { Reads result at.new (nests room entries_line at.old) }
 {
-    let mut items = List::new(alloc);
-    if !next_is(bytes, tokens, Kind::Text) {
-        return Ok((items, tokens));
+    let mut items = List::new(at.alloc());
+    if !at.next_is(Terminal::Text) {
+        return Ok(items);
     }
-    let (first, mut rest) = entry(alloc, bytes, tokens, room)?;
+    let first = entry(at, room)?;
     items.push(first)?;
-    'more: while next_is(bytes, rest, Kind::Mark(Mark::Comma)) {
-        let (item, after) = next_entry(alloc, bytes, rest, room)?;
+    'more: while at.next_is(Terminal::Mark(Mark::Comma)) {
+        let item = next_entry(at, room)?;
         items.push(item)?;
-        rest = after;
     }
-    Ok((fitted(items), rest))
+    Ok(fitted(items))
 }
 
 #[cycle(values)]
-fn next_entry<'a>(
-    alloc: Global,
-    bytes: &[u8],
-    tokens: &'a [Token],
-    room: u32,
-) -> Result<((Text, Value), &'a [Token]), ReadError>
-    ensures { Gives (λ x. (x.0, see bytes.now x.1.now)) result (nests room (behind (mark_code marks.Comma) entry_form)
-        (see bytes.now tokens.now)) }
+fn next_entry(at: &mut Cursor<'_>, room: u32) -> Result<(Text, Value), ReadError>
+    ensures { Reads result at.new (nests room (behind (mark_code marks.Comma) entry_form) at.old) }
 {
-    let (_comma, rest) = take(bytes, tokens, Kind::Mark(Mark::Comma))?;
-    entry(alloc, bytes, rest, room)
+    at.take(Terminal::Mark(Mark::Comma))?;
+    entry(at, room)
 }
 
 #[cycle(values)]
 #[tactic(auto, unfolding(adl_ast::specs::Forms::entry_line))]
-fn entry<'a>(
-    alloc: Global,
-    bytes: &[u8],
-    tokens: &'a [Token],
-    room: u32,
-) -> Result<((Text, Value), &'a [Token]), ReadError>
-    ensures { Gives (λ x. (x.0, see bytes.now x.1.now)) result (nests room entry_form (see bytes.now tokens.now)) }
+fn entry(at: &mut Cursor<'_>, room: u32) -> Result<(Text, Value), ReadError>
+    ensures { Reads result at.new (nests room entry_form at.old) }
 {
-    let (token, rest) = take(bytes, tokens, Kind::Text)?;
-    let (_colon, rest) = take(bytes, rest, Kind::Mark(Mark::Colon))?;
-    let (value, rest) = value_within(alloc, bytes, rest, room)?;
-    let key = inner_text(alloc, bytes, token)?;
-    Ok(((key, value), rest))
+    let key = at.take(Terminal::Text)?;
+    at.take(Terminal::Mark(Mark::Colon))?;
+    let value = value_within(at, room)?;
+    Ok((key.inner_text(at.alloc())?, value))
 }

@@ -1,4 +1,4 @@
-use Rattle.adl_parse.proofs.Common.{ap, interface_codes, see, starts, sym, token_code, ◌||◌, ◌∙◌}
+use Rattle.adl_parse.proofs.Common.{ap, interface_codes, starts, sym, token_code, ◌||◌, ◌∙◌}
 use Rattle.adl_parse.specs.Members.{flag_codes, body_codes}
 use Rattle.adl_parse.proofs.Starts.{starts_three}
 use Rattle.adl_parse.proofs.component.starts_member.Goals as goal
@@ -6,7 +6,7 @@ use Rattle.adl_parse.proofs.component.starts_member.Goals.{then-starts_flag, els
 
 pub returns-then-starts_interface : goal.returns-then-starts_interface
 returns-then-starts_interface c =
-    let t = see c.args.bytes.now c.args.tokens.now in
+    let t = c.args.at.now in
     let interface = starts token_code interface_codes t in
     let body = starts token_code body_codes t in
     let three = starts_three token_code flag_codes interface_codes body_codes t in
@@ -23,7 +23,7 @@ returns-then-starts_interface c =
 
 pub returns-else-starts_interface : goal.returns-else-starts_interface
 returns-else-starts_interface c =
-    let t = see c.args.bytes.now c.args.tokens.now in
+    let t = c.args.at.now in
     let interface = starts token_code interface_codes t in
     let body = starts token_code body_codes t in
     elim c.if-starts_flag.branch [

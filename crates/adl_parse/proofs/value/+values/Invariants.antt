@@ -1,4 +1,4 @@
-use Rattle.adl_parse.proofs.Common.{Many, behind, entries_line, entry_form, length, mark_code, nests, see, value_form, values_line, with_front, ◌*◌, ◌+◌, ◌≡◌}
+use Rattle.adl_parse.proofs.Common.{Many, behind, entries_line, entry_form, length, mark_code, nests, value_form, values_line, with_front, ◌*◌, ◌+◌, ◌≡◌}
 use Rattle.cam_base.specs.declared.token.Mark.TheVariants as marks
 use Rattle.adl_parse.proofs.value.+values.Given as goal
 
@@ -29,21 +29,16 @@ decreases-list l = 10 * l.room + 6
 abbrev pub decreases-dictionary : goal.decreases-dictionary
 decreases-dictionary l = 10 * l.room + 6
 
-abbrev pub decreases-bracketed : goal.decreases-bracketed
-decreases-bracketed l = 10 * l.room + 7
-
 abbrev pub invariant-values-more : goal.invariant-values-more
-invariant-values-more l =
-    with_front l.items (nests l.room (Many (behind (mark_code marks.Comma) value_form)) (see l.bytes l.rest)) ≡ nests l.room
-    values_line (see l.bytes l.fn.tokens)
+invariant-values-more l = with_front l.items (nests l.room (Many (behind (mark_code marks.Comma) value_form)) l.at)
+    ≡ nests l.room values_line l.fn.at
 
 abbrev pub decreases-values-more : goal.decreases-values-more
-decreases-values-more l = length (see l.bytes l.rest)
+decreases-values-more l = length l.at
 
 abbrev pub invariant-entries-more : goal.invariant-entries-more
-invariant-entries-more l =
-    with_front l.items (nests l.room (Many (behind (mark_code marks.Comma) entry_form)) (see l.bytes l.rest)) ≡ nests l.room
-    entries_line (see l.bytes l.fn.tokens)
+invariant-entries-more l = with_front l.items (nests l.room (Many (behind (mark_code marks.Comma) entry_form)) l.at)
+    ≡ nests l.room entries_line l.fn.at
 
 abbrev pub decreases-entries-more : goal.decreases-entries-more
-decreases-entries-more l = length (see l.bytes l.rest)
+decreases-entries-more l = length l.at

@@ -1,6 +1,6 @@
 use Rattle.adl_parse.proofs.Common.{assembly_line, composition_line, configuration_line, value_line}
 use Rattle.adl_parse.proofs.Parts.{one_fault}
-use Rattle.adl_parse.proofs.asm_laws.part_faults_are_one.Goals as goal
+use Rattle.adl_parse.proofs.laws.part_faults_are_one.Goals as goal
 
 pub returns-clause-value : goal.returns-clause-value
 returns-clause-value c = one_fault value_line
