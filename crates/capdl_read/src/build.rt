@@ -27,9 +27,7 @@ fn put_slot(key: SlotKey, cap: Cap, slots: &mut BTreeMap<u64, Cap>) -> Result<()
             slots.insert(n, cap)?;
             Ok(())
         }
-        SlotKey::Cspace => Ok(()),
-        SlotKey::Vspace => Ok(()),
-        SlotKey::Buffer => Ok(()),
+        SlotKey::Cspace | SlotKey::Vspace | SlotKey::Buffer => Ok(()),
     }
 }
 
@@ -149,24 +147,19 @@ fn paddr_said(fields: &[FrameField]) -> Option<u64>
     None
 }
 
-fn fill_of(alloc: Global, fill: &FillLine) -> Result<Fill, NoMemory>
-    ensures { IfOk result (λ made. made ≡ fill_of fill.now) }
+fn maybe_fill(alloc: Global, fill: Option<&FillLine>) -> Result<Option<Boxed<Fill>>, NoMemory>
+    ensures { IfOk result (λ made. made ≡ option_map fill_of (option_copied fill.entry)) }
 {
-    Ok(Fill {
+    let Some(fill) = fill else {
+        return Ok(None);
+    };
+    let made = Fill {
         offset: fill.offset.value,
         length: fill.length.value,
         file: Text::new(alloc, fill.file.as_bytes())?,
         at: fill.at.value,
-    })
-}
-
-fn maybe_fill(alloc: Global, fill: Option<&FillLine>) -> Result<Option<Boxed<Fill>>, NoMemory>
-    ensures { IfOk result (λ made. made ≡ option_map fill_of (option_copied fill.entry)) }
-{
-    match fill {
-        None => Ok(None),
-        Some(fill) => Ok(Some(Boxed::new(alloc, fill_of(alloc, fill)?)?)),
-    }
+    };
+    Ok(Some(Boxed::new(alloc, made)?))
 }
 
 fn fill_said(alloc: Global, fields: &[FrameField]) -> Result<Option<Boxed<Fill>>, NoMemory>

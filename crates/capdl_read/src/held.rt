@@ -13,14 +13,12 @@ ghost use Rattle.std.specs.Prelude.{◌≡◌, ◌<◌, ◌^◌, ℕ, [], List a
 
 use crate::first::First;
 use crate::kind::{Named, note_holder_kind, note_irq, note_objects, note_slot};
-use crate::known::find;
+use crate::known::{find, note_unknown};
 use crate::twice::meet_name;
-use crate::unknown::note_unknown;
 use cam_base::{List, NoMemory};
 use cap_model::{Arch, Cap, Rights};
 use capdl_text::{Holder, Id, IrqLine, Known, Param, SlotKey, SlotLine, SpecTree};
 use name_tables::SpreadNames;
-use std::alloc::Global;
 use std::collections::BTreeMap;
 
 /// A slot with its capability.
@@ -79,7 +77,6 @@ fn badge_said(params: &[Param]) -> u64
 
 /// What a slot holds.
 fn slot_held<'x>(
-    alloc: Global,
     arch: Arch,
     known: &SpreadNames<'x, Known>,
     holder: Named,
@@ -95,8 +92,8 @@ fn slot_held<'x>(
     ensures slot { IfOk result (λ s. s ≡ slot_said (spread_found known.now) slot.now) }
 {
     let object = find(known, &slot.object.name);
-    note_unknown(alloc, object, &slot.object, &mut faults.unknown)?;
-    note_slot(alloc, arch, holder, slot, object, &mut faults.kind)?;
+    note_unknown(object, &slot.object, &mut faults.unknown)?;
+    note_slot(arch, holder, slot, object, &mut faults.kind)?;
     Ok(Slot {
         key: slot.key,
         cap: Cap {
@@ -108,7 +105,6 @@ fn slot_held<'x>(
 }
 
 fn slots_held<'x>(
-    alloc: Global,
     arch: Arch,
     known: &SpreadNames<'x, Known>,
     holder: Named,
@@ -123,9 +119,9 @@ fn slots_held<'x>(
         (flat_map (slot_off arch (spread_found known.now) holder.entry.id.now holder.entry.known) slots.now)) }
     ensures held { IfOk result (λ held. held ≡ map (slot_said (spread_found known.now)) slots.now) }
 {
-    let mut held = List::from_vec(Vec::with_capacity(alloc, slots.len())?);
+    let mut held = List::from_vec(Vec::with_capacity(faults.kind.alloc(), slots.len())?);
     for slot in slots {
-        held.push(slot_held(alloc, arch, known, holder, slot, faults)?)?;
+        held.push(slot_held(arch, known, holder, slot, faults)?)?;
     }
     Ok(held)
 }
@@ -133,7 +129,6 @@ fn slots_held<'x>(
 /// What the slots of a holder hold.
 #[tactic(auto, using(capdl_text::proofs::Noting::noting))]
 fn holder_held<'x>(
-    alloc: Global,
     arch: Arch,
     known: &SpreadNames<'x, Known>,
     line: &Holder<'x>,
@@ -148,14 +143,13 @@ fn holder_held<'x>(
         id: &line.id,
         known: find(known, &line.id.name),
     };
-    note_unknown(alloc, holder.known, holder.id, &mut faults.unknown)?;
-    note_holder_kind(alloc, holder, &mut faults.kind)?;
-    slots_held(alloc, arch, known, holder, line.slots.as_slice(), faults)
+    note_unknown(holder.known, holder.id, &mut faults.unknown)?;
+    note_holder_kind(holder, &mut faults.kind)?;
+    slots_held(arch, known, holder, line.slots.as_slice(), faults)
 }
 
 /// The slots of holders by name: of the first holder of each. Notes the names of holders that stand a second time.
 fn holders_held<'x>(
-    alloc: Global,
     arch: Arch,
     known: &SpreadNames<'x, Known>,
     holders: &[Holder<'x>],
@@ -171,17 +165,16 @@ fn holders_held<'x>(
     ensures held { IfOk result
         (λ t. (n : Seq ℕ) → slots_told (spread_found t n) ≡ map (slot_said (spread_found known.now)) (held holders.now n)) }
 {
-    let mut table = SpreadNames::with_room(alloc, holders.len())?;
+    let mut table = SpreadNames::with_room(twice.alloc(), holders.len())?;
     for holder in holders {
-        let slots = holder_held(alloc, arch, known, holder, faults)?;
-        meet_name(alloc, &holder.id, slots, &mut table, twice)?;
+        let slots = holder_held(arch, known, holder, faults)?;
+        meet_name(&holder.id, slots, &mut table, twice)?;
     }
     Ok(table)
 }
 
 /// What an interrupt line holds.
 fn line_held<'x>(
-    alloc: Global,
     known: &SpreadNames<'x, Known>,
     id: &Id<'x>,
     faults: &mut Faults,
@@ -193,14 +186,13 @@ fn line_held<'x>(
     ensures place { IfOk result (λ place. place ≡ place_or (spread_found known.now id.now.name)) }
 {
     let object = find(known, &id.name);
-    note_unknown(alloc, object, id, &mut faults.unknown)?;
-    note_irq(alloc, id, object, &mut faults.kind)?;
+    note_unknown(object, id, &mut faults.unknown)?;
+    note_irq(id, object, &mut faults.kind)?;
     Ok(place_of(object))
 }
 
 /// The interrupt lines, sorted by number.
 fn lines_held<'x>(
-    alloc: Global,
     known: &SpreadNames<'x, Known>,
     lines: &[IrqLine<'x>],
     faults: &mut Faults,
@@ -213,9 +205,10 @@ fn lines_held<'x>(
         (flat_map (λ l. irq_off l.object (spread_found known.now l.object.name)) lines.now)) }
     ensures lines { IfOk result (λ said. said ≡ lines_from (spread_found known.now) [] lines.now) }
 {
+    let alloc = faults.kind.alloc();
     let mut said = BTreeMap::new(alloc);
     for line in lines {
-        let place = line_held(alloc, known, &line.object, faults)?;
+        let place = line_held(known, &line.object, faults)?;
         said.insert(line.number.value, place)?;
     }
     let items: Vec<(u64, u32)> = said.into_iter().collect(alloc)?;
@@ -226,7 +219,6 @@ fn lines_held<'x>(
 /// holders that stand a second time.
 #[tactic(auto, using(capdl_text::proofs::Noting::noting))]
 pub(crate) fn look_up<'x>(
-    alloc: Global,
     known: &SpreadNames<'x, Known>,
     tree: &SpecTree<'x>,
     faults: &mut Faults,
@@ -240,15 +232,8 @@ pub(crate) fn look_up<'x>(
         ≡ map (slot_said (spread_found known.now)) (held tree.now.holders n)) }
     ensures irqs { IfOk result (λ held_now. held_now.irqs ≡ lines_from (spread_found known.now) [] tree.now.irqs) }
 {
-    note_objects(alloc, tree.arch, tree.objects.as_slice(), &mut faults.kind)?;
-    let slots = holders_held(
-        alloc,
-        tree.arch,
-        known,
-        tree.holders.as_slice(),
-        faults,
-        twice,
-    )?;
-    let irqs = lines_held(alloc, known, tree.irqs.as_slice(), faults)?;
+    note_objects(tree.arch, tree.objects.as_slice(), &mut faults.kind)?;
+    let slots = holders_held(tree.arch, known, tree.holders.as_slice(), faults, twice)?;
+    let irqs = lines_held(known, tree.irqs.as_slice(), faults)?;
     Ok(Held { slots, irqs })
 }

@@ -2,10 +2,9 @@
 
 ghost use Rattle.cam_base.specs.declared.text_fault.TextCode.TheVariants as code;
 ghost use Rattle.capdl_text.specs.Faults.{at_id, at_place, fault, noted, where_false};
-ghost use Rattle.capdl_text.specs.KindField.{cap_off, fill_off, frame_value_off, has_key, holder_off, holder_takes, holds, irq_off, is_fill, is_space_root, key_off, kind_off, kind_takes, no_params, param_off, params_off, takes, thread_value_off};
+ghost use Rattle.capdl_text.specs.KindField.{cap_off, frame_value_off, has_key, holder_off, holder_takes, holds, irq_off, is_fill, is_space_root, key_off, kind_off, kind_takes, no_params, param_off, params_off, takes, thread_value_off};
 ghost use Rattle.cap_model.specs.Kept.{within};
 ghost use Rattle.std.specs.List.{flat_map};
-ghost use Rattle.std.specs.Option.{option_copied};
 ghost use Rattle.std.specs.Prelude.{◌≡◌, ◌++◌, OnOk};
 
 use crate::first::First;
@@ -13,59 +12,48 @@ use crate::known::are_bits;
 use cam_base::{NoMemory, TextCode};
 use cap_model::{Arch, Kind, Rights};
 use capdl_text::{
-    FillLine, FrameField, FrameValue, Id, KindLine, Known, ObjectLine, Param, SlotKey, SlotLine,
-    Span, ThreadField, ThreadValue,
+    FrameField, FrameValue, Id, KindLine, Known, ObjectLine, Param, SlotKey, SlotLine, Span,
+    ThreadField, ThreadValue,
 };
-use std::alloc::Global;
 
-fn note_place(alloc: Global, suits: bool, place: Span, first: &mut First) -> Result<(), NoMemory>
+fn note_place(suits: bool, place: Span, first: &mut First) -> Result<(), NoMemory>
     ensures { OnOk result (first.new ≡ noted first.old (where_false suits (at_place code.CapdlKindField place))) }
 {
     if suits {
         return Ok(());
     }
-    first.note(alloc, TextCode::CapdlKindField, place, b"")
+    first.note(TextCode::CapdlKindField, place, b"")
 }
 
-fn note_name(
-    alloc: Global,
-    suits: bool,
-    place: Span,
-    name: &[u8],
-    first: &mut First,
-) -> Result<(), NoMemory>
+fn note_name(suits: bool, place: Span, name: &[u8], first: &mut First) -> Result<(), NoMemory>
     ensures { OnOk result (first.new ≡ noted first.old (where_false suits (fault code.CapdlKindField place name.now))) }
 {
     if suits {
         return Ok(());
     }
-    first.note(alloc, TextCode::CapdlKindField, place, name)
+    first.note(TextCode::CapdlKindField, place, name)
 }
 
-fn note_id(alloc: Global, suits: bool, id: &Id, first: &mut First) -> Result<(), NoMemory>
+fn note_id(suits: bool, id: &Id, first: &mut First) -> Result<(), NoMemory>
     ensures { OnOk result (first.new ≡ noted first.old (where_false suits (at_id code.CapdlKindField id.now))) }
 {
-    note_name(alloc, suits, id.place, id.name.as_bytes(), first)
+    note_name(suits, id.place, id.name.as_bytes(), first)
 }
 
-fn note_thread_value(alloc: Global, value: &ThreadValue, first: &mut First) -> Result<(), NoMemory>
+fn note_thread_value(value: &ThreadValue, first: &mut First) -> Result<(), NoMemory>
     ensures { OnOk result (first.new ≡ noted first.old (thread_value_off value.now)) }
 {
     match value {
-        ThreadValue::Prio(n) => note_place(alloc, n.value <= 255, n.place, first),
+        ThreadValue::Prio(n) => note_place(n.value <= 255, n.place, first),
         _ => Ok(()),
     }
 }
 
-fn note_thread_fields(
-    alloc: Global,
-    fields: &[ThreadField],
-    first: &mut First,
-) -> Result<(), NoMemory>
+fn note_thread_fields(fields: &[ThreadField], first: &mut First) -> Result<(), NoMemory>
     ensures { OnOk result (first.new ≡ noted first.old (flat_map (λ f. thread_value_off f.value) fields.now)) }
 {
     for field in fields {
-        note_thread_value(alloc, &field.value, first)?;
+        note_thread_value(&field.value, first)?;
     }
     Ok(())
 }
@@ -76,61 +64,42 @@ fn is_fill(offset: u64, length: u64) -> bool
     0 < length && length <= 4096 && offset <= 4096 - length
 }
 
-fn note_fill(alloc: Global, fill: Option<&FillLine>, first: &mut First) -> Result<(), NoMemory>
-    ensures { OnOk result (first.new ≡ noted first.old (fill_off (option_copied fill.entry))) }
-{
-    match fill {
-        None => Ok(()),
-        Some(fill) => note_place(
-            alloc,
-            is_fill(fill.offset.value, fill.length.value),
-            fill.length.place,
-            first,
-        ),
-    }
-}
-
-fn note_frame_value(alloc: Global, value: &FrameValue, first: &mut First) -> Result<(), NoMemory>
+fn note_frame_value(value: &FrameValue, first: &mut First) -> Result<(), NoMemory>
     ensures { OnOk result (first.new ≡ noted first.old (frame_value_off value.now)) }
 {
     match value {
-        FrameValue::Paddr(n) => note_place(alloc, n.value % 4096 == 0, n.place, first),
-        FrameValue::Fill(fill) => note_fill(alloc, fill.as_ref(), first),
+        FrameValue::Paddr(n) => note_place(n.value % 4096 == 0, n.place, first),
+        FrameValue::Fill(None) => Ok(()),
+        FrameValue::Fill(Some(fill)) => {
+            let suits = is_fill(fill.offset.value, fill.length.value);
+            note_place(suits, fill.length.place, first)
+        }
     }
 }
 
-fn note_frame_fields(
-    alloc: Global,
-    fields: &[FrameField],
-    first: &mut First,
-) -> Result<(), NoMemory>
+fn note_frame_fields(fields: &[FrameField], first: &mut First) -> Result<(), NoMemory>
     ensures { OnOk result (first.new ≡ noted first.old (flat_map (λ f. frame_value_off f.value) fields.now)) }
 {
     for field in fields {
-        note_frame_value(alloc, &field.value, first)?;
+        note_frame_value(&field.value, first)?;
     }
     Ok(())
 }
 
-fn note_kind(alloc: Global, arch: Arch, kind: &KindLine, first: &mut First) -> Result<(), NoMemory>
+fn note_kind(arch: Arch, kind: &KindLine, first: &mut First) -> Result<(), NoMemory>
     ensures { OnOk result (first.new ≡ noted first.old (kind_off arch kind.now)) }
 {
     match kind {
-        KindLine::Endpoint => Ok(()),
-        KindLine::Notification => Ok(()),
-        KindLine::CNode(bits) => note_place(alloc, are_bits(bits.value), bits.place, first),
-        KindLine::Thread(fields) => note_thread_fields(alloc, fields.as_slice(), first),
-        KindLine::Frame(fields) => note_frame_fields(alloc, fields.as_slice(), first),
-        KindLine::Pages(level, place) => {
-            note_place(alloc, arch.size(*level).is_some(), *place, first)
-        }
-        KindLine::Irq => Ok(()),
+        KindLine::Endpoint | KindLine::Notification | KindLine::Irq => Ok(()),
+        KindLine::CNode(bits) => note_place(are_bits(bits.value), bits.place, first),
+        KindLine::Thread(fields) => note_thread_fields(fields.as_slice(), first),
+        KindLine::Frame(fields) => note_frame_fields(fields.as_slice(), first),
+        KindLine::Pages(level, place) => { note_place(arch.size(*level).is_some(), *place, first) }
     }
 }
 
 /// Notes what doesn't suit the kinds of objects that are said.
 pub(crate) fn note_objects(
-    alloc: Global,
     arch: Arch,
     objects: &[ObjectLine],
     first: &mut First,
@@ -138,7 +107,7 @@ pub(crate) fn note_objects(
     ensures { OnOk result (first.new ≡ noted first.old (flat_map (λ o. kind_off arch o.kind) objects.now)) }
 {
     for object in objects {
-        note_kind(alloc, arch, &object.kind, first)?;
+        note_kind(arch, &object.kind, first)?;
     }
     Ok(())
 }
@@ -147,13 +116,8 @@ fn holds(kind: Kind) -> bool
     ensures { result ≡ holds kind }
 {
     match kind {
-        Kind::Endpoint => false,
-        Kind::Notification => false,
-        Kind::Frame => false,
-        Kind::CNode => true,
-        Kind::Thread => true,
-        Kind::Pages(_) => true,
-        Kind::Irq => true,
+        Kind::Endpoint | Kind::Notification | Kind::Frame => false,
+        Kind::CNode | Kind::Thread | Kind::Pages(_) | Kind::Irq => true,
     }
 }
 
@@ -165,16 +129,12 @@ pub(crate) struct Named<'h, 'x> {
 }
 
 /// Notes a holder of a kind without slots.
-pub(crate) fn note_holder_kind(
-    alloc: Global,
-    holder: Named,
-    first: &mut First,
-) -> Result<(), NoMemory>
+pub(crate) fn note_holder_kind(holder: Named, first: &mut First) -> Result<(), NoMemory>
     ensures { OnOk result (first.new ≡ noted first.old (holder_off holder.entry.id.now holder.entry.known)) }
 {
     match holder.known {
         None => Ok(()),
-        Some(known) => note_id(alloc, holds(known.kind), holder.id, first),
+        Some(known) => note_id(holds(known.kind), holder.id, first),
     }
 }
 
@@ -183,24 +143,16 @@ fn has_key(kind: Kind, key: SlotKey) -> bool
 {
     match key {
         SlotKey::Number(_) => !kind.is(Kind::Thread),
-        SlotKey::Cspace => kind.is(Kind::Thread),
-        SlotKey::Vspace => kind.is(Kind::Thread),
-        SlotKey::Buffer => kind.is(Kind::Thread),
+        SlotKey::Cspace | SlotKey::Vspace | SlotKey::Buffer => kind.is(Kind::Thread),
     }
 }
 
-fn note_key(
-    alloc: Global,
-    holder: Named,
-    slot: &SlotLine,
-    first: &mut First,
-) -> Result<(), NoMemory>
+fn note_key(holder: Named, slot: &SlotLine, first: &mut First) -> Result<(), NoMemory>
     ensures { OnOk result (first.new ≡ noted first.old (key_off holder.entry.id.now holder.entry.known slot.now)) }
 {
     match holder.known {
         None => Ok(()),
         Some(known) => note_name(
-            alloc,
             has_key(known.kind, slot.key),
             slot.place,
             holder.id.name.as_bytes(),
@@ -233,11 +185,7 @@ fn kind_takes(holder: Kind, kind: Kind, params: &[Param]) -> bool
     match holder {
         Kind::Pages(level) => kind.is(level.child()),
         Kind::Irq => kind.is(Kind::Notification) && no_params(params),
-        Kind::Endpoint => true,
-        Kind::Notification => true,
-        Kind::CNode => true,
-        Kind::Thread => true,
-        Kind::Frame => true,
+        Kind::Endpoint | Kind::Notification | Kind::CNode | Kind::Thread | Kind::Frame => true,
     }
 }
 
@@ -262,7 +210,6 @@ fn takes(arch: Arch, holder: Option<Known>, key: SlotKey, kind: Kind, params: &[
 }
 
 fn note_cap(
-    alloc: Global,
     arch: Arch,
     holder: Option<Known>,
     slot: &SlotLine,
@@ -274,7 +221,6 @@ fn note_cap(
     match object {
         None => Ok(()),
         Some(known) => note_id(
-            alloc,
             takes(arch, holder, slot.key, known.kind, slot.params.as_slice()),
             &slot.object,
             first,
@@ -290,33 +236,25 @@ fn within(rights: Rights, most: Rights) -> bool
         && ((!rights.grant || most.grant) && (!rights.reply || most.reply))
 }
 
-fn note_param(alloc: Global, kind: Kind, param: Param, first: &mut First) -> Result<(), NoMemory>
+fn note_param(kind: Kind, param: Param, first: &mut First) -> Result<(), NoMemory>
     ensures { OnOk result (first.new ≡ noted first.old (param_off kind param)) }
 {
     match param {
-        Param::Rights(rights, place) => {
-            note_place(alloc, within(rights, kind.rights()), place, first)
-        }
-        Param::Badge(_, number) => note_place(alloc, kind.has_badge(), number.place, first),
+        Param::Rights(rights, place) => { note_place(within(rights, kind.rights()), place, first) }
+        Param::Badge(_, number) => note_place(kind.has_badge(), number.place, first),
     }
 }
 
-fn note_params(
-    alloc: Global,
-    kind: Kind,
-    params: &[Param],
-    first: &mut First,
-) -> Result<(), NoMemory>
+fn note_params(kind: Kind, params: &[Param], first: &mut First) -> Result<(), NoMemory>
     ensures { OnOk result (first.new ≡ noted first.old (flat_map (param_off kind) params.now)) }
 {
     for param in params {
-        note_param(alloc, kind, *param, first)?;
+        note_param(kind, *param, first)?;
     }
     Ok(())
 }
 
 fn note_slot_params(
-    alloc: Global,
     slot: &SlotLine,
     object: Option<Known>,
     first: &mut First,
@@ -325,14 +263,13 @@ fn note_slot_params(
 {
     match object {
         None => Ok(()),
-        Some(known) => note_params(alloc, known.kind, slot.params.as_slice(), first),
+        Some(known) => note_params(known.kind, slot.params.as_slice(), first),
     }
 }
 
 /// Notes what doesn't suit a slot of a holder, where its name stands for this object.
 #[tactic(auto, using(capdl_text::proofs::Noting::noting))]
 pub(crate) fn note_slot(
-    alloc: Global,
     arch: Arch,
     holder: Named,
     slot: &SlotLine,
@@ -342,22 +279,17 @@ pub(crate) fn note_slot(
     ensures { OnOk result (first.new ≡ noted first.old (key_off holder.entry.id.now holder.entry.known slot.now
         ++ cap_off arch holder.entry.known slot.now object ++ params_off slot.now object)) }
 {
-    note_key(alloc, holder, slot, first)?;
-    note_cap(alloc, arch, holder.known, slot, object, first)?;
-    note_slot_params(alloc, slot, object, first)
+    note_key(holder, slot, first)?;
+    note_cap(arch, holder.known, slot, object, first)?;
+    note_slot_params(slot, object, first)
 }
 
 /// Notes the object of an interrupt line that is no interrupt.
-pub(crate) fn note_irq(
-    alloc: Global,
-    id: &Id,
-    object: Option<Known>,
-    first: &mut First,
-) -> Result<(), NoMemory>
+pub(crate) fn note_irq(id: &Id, object: Option<Known>, first: &mut First) -> Result<(), NoMemory>
     ensures { OnOk result (first.new ≡ noted first.old (irq_off id.now object)) }
 {
     match object {
         None => Ok(()),
-        Some(known) => note_id(alloc, known.kind.is(Kind::Irq), id, first),
+        Some(known) => note_id(known.kind.is(Kind::Irq), id, first),
     }
 }

@@ -8,6 +8,8 @@
 
 mod build;
 mod check;
+mod codes;
+mod cursor;
 mod field;
 mod first;
 mod held;
@@ -24,7 +26,6 @@ mod reader;
 mod slot;
 mod token;
 mod twice;
-mod unknown;
 
 pub use capdl_text::{Field, FieldTable, fields};
 pub use laws::texts_are_kept;

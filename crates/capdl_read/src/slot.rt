@@ -1,64 +1,42 @@
 //! Slots and their capabilities.
 
-ghost use Rattle.capdl_text.specs.Codes.{token_code};
-ghost use Rattle.capdl_text.specs.Lexemes.{seen_of, sees};
+ghost use Rattle.capdl_read.specs.Reads.{Reads, ReadsAs, seen};
 ghost use Rattle.capdl_text.proofs.Eats.{param_eats, slot_eats};
-ghost use Rattle.capdl_text.specs.Forms.{badge_line, key_codes, key_line, maybe_params, param_codes, param_form, param_line, params_line, slot_form, slot_line};
-ghost use Rattle.capdl_text.specs.Spelling.{opens, reads};
+ghost use Rattle.capdl_text.specs.Forms.{badge_line, key_codes, key_line, param_codes, param_form, slot_form};
+ghost use Rattle.capdl_text.specs.Spelling.{reads};
 ghost use Rattle.cam_base.specs.Form.{Nested};
-ghost use Rattle.cam_base.specs.Gives.{Gives};
 
-use crate::line::{Line, listed};
-use crate::token::{name, number, number_of, rights_of};
-use cam_base::{List, ReadError, Stop, Why};
+use crate::cursor::Cursor;
+use crate::line::{Line, maybe_some};
+use crate::token::TokenAt;
+use cam_base::{ReadError, Why};
 use cap_model::Rights;
-use capdl_text::{Lexeme, Mark, Param, SlotKey, SlotLine, Sort, Word, next_is, take};
-use std::alloc::Global;
+use capdl_text::{Mark, Param, SlotKey, SlotLine, Sort, Word};
 
 #[tactic(auto, unfolding(capdl_text::specs::Forms::badge_line))]
-fn badge<'a>(bytes: &[u8], tokens: &'a [Lexeme]) -> Result<(Param, &'a [Lexeme]), ReadError>
-    ensures { Gives (λ x. (x.0, sees bytes.now x.1.now)) result (reads badge_line (sees bytes.now tokens.now)) }
+fn badge(at: &mut Cursor) -> Result<Param, ReadError>
+    ensures { Reads result at.new (reads badge_line at.old) }
 {
-    let (word, rest) = take(bytes, tokens, Sort::Word(Word::Badge))?;
-    let (_colon, rest) = take(bytes, rest, Sort::Mark(Mark::Colon))?;
-    let (number, rest) = number(bytes, rest)?;
-    Ok((Param::Badge(word.place, number), rest))
+    let word = at.take(Sort::Word(Word::Badge))?;
+    at.take(Sort::Mark(Mark::Colon))?;
+    Ok(Param::Badge(word.place, at.number()?))
 }
 
 /// A word of rights that is left out, which no text has.
 #[tactic(auto, unfolding(cam_base::specs::Reading::read_deep))]
-fn left_out<'a>(bytes: &[u8], tokens: &'a [Lexeme]) -> Result<(Lexeme, &'a [Lexeme]), ReadError>
-    ensures { Gives (λ x. (seen_of bytes.now x.0, sees bytes.now x.1.now)) result (reads Nested (sees bytes.now tokens.now)) }
+fn left_out<'x>(at: &Cursor<'x, '_>) -> Result<TokenAt<'x>, ReadError>
+    ensures { ReadsAs seen result at.now (reads Nested at.now) }
 {
-    let why = if next_is(bytes, tokens, Sort::Word(Word::LeftOutRights)) {
-        Why::TooDeep
+    if at.next_is(Sort::Word(Word::LeftOutRights)) {
+        Err(at.stop(Why::TooDeep))
     } else {
-        Why::Unexpected
-    };
-    Err(ReadError::Stop(Stop {
-        why,
-        left: tokens.len(),
-    }))
-}
-
-#[tactic(auto, unfolding(capdl_text::specs::Forms::param_line))]
-fn param<'a>(bytes: &[u8], tokens: &'a [Lexeme]) -> Result<(Param, &'a [Lexeme]), ReadError>
-    ensures { Gives (λ x. (x.0, sees bytes.now x.1.now)) result (reads param_line (sees bytes.now tokens.now)) }
-{
-    if next_is(bytes, tokens, Sort::Word(Word::Rights)) {
-        let (word, rest) = take(bytes, tokens, Sort::Word(Word::Rights))?;
-        Ok((Param::Rights(rights_of(bytes, word), word.place), rest))
-    } else if next_is(bytes, tokens, Sort::Word(Word::Badge)) {
-        badge(bytes, tokens)
-    } else {
-        let (word, rest) = left_out(bytes, tokens)?;
-        Ok((Param::Rights(Rights::none(), word.place), rest))
+        Err(at.stop(Why::Unexpected))
     }
 }
 
-struct ParamList;
+struct Params;
 
-impl<'x> Line<'x> for ParamList {
+impl<'x> Line<'x> for Params {
     type Item = Param;
 
     ghost codes = { param_codes };
@@ -67,96 +45,39 @@ impl<'x> Line<'x> for ParamList {
 
     ghost eats = { param_eats };
 
-    fn starts(bytes: &'x [u8], tokens: &[Lexeme]) -> bool {
-        next_is(bytes, tokens, Sort::Word(Word::Rights))
-            || next_is(bytes, tokens, Sort::Word(Word::Badge))
-            || next_is(bytes, tokens, Sort::Word(Word::LeftOutRights))
+    fn starts(at: &Cursor<'x, '_>) -> bool {
+        at.next_is(Sort::Word(Word::Rights))
+            || at.next_is(Sort::Word(Word::Badge))
+            || at.next_is(Sort::Word(Word::LeftOutRights))
     }
 
-    fn read<'a>(
-        _alloc: Global,
-        bytes: &'x [u8],
-        tokens: &'a [Lexeme],
-    ) -> Result<(Param, &'a [Lexeme]), ReadError> {
-        param(bytes, tokens)
+    #[tactic(auto, unfolding(capdl_text::specs::Forms::param_line))]
+    fn read(at: &mut Cursor<'x, '_>) -> Result<Param, ReadError> {
+        if at.next_is(Sort::Word(Word::Rights)) {
+            let word = at.take(Sort::Word(Word::Rights))?;
+            Ok(Param::Rights(word.rights(), word.place))
+        } else if at.next_is(Sort::Word(Word::Badge)) {
+            badge(at)
+        } else {
+            Ok(Param::Rights(Rights::none(), left_out(at)?.place))
+        }
     }
-}
-
-#[tactic(auto, unfolding(capdl_text::specs::Forms::params_line))]
-fn params<'a>(
-    alloc: Global,
-    bytes: &[u8],
-    tokens: &'a [Lexeme],
-) -> Result<(List<Param>, &'a [Lexeme]), ReadError>
-    ensures { Gives (λ x. (x.0, sees bytes.now x.1.now)) result (reads params_line (sees bytes.now tokens.now)) }
-{
-    let (_open, rest) = take(bytes, tokens, Sort::Mark(Mark::ParenL))?;
-    let (params, rest) = listed::<ParamList>(alloc, bytes, rest)?;
-    let (_close, rest) = take(bytes, rest, Sort::Mark(Mark::ParenR))?;
-    Ok((params, rest))
-}
-
-#[tactic(auto, unfolding(capdl_text::specs::Forms::maybe_params))]
-fn maybe<'a>(
-    alloc: Global,
-    bytes: &[u8],
-    tokens: &'a [Lexeme],
-) -> Result<(List<Param>, &'a [Lexeme]), ReadError>
-    ensures { Gives (λ x. (x.0, sees bytes.now x.1.now)) result (reads maybe_params (sees bytes.now tokens.now)) }
-{
-    if !next_is(bytes, tokens, Sort::Mark(Mark::ParenL)) {
-        return Ok((List::new(alloc), tokens));
-    }
-    params(alloc, bytes, tokens)
 }
 
 #[tactic(auto, unfolding(capdl_text::specs::Forms::key_line))]
-fn key<'a>(
-    bytes: &[u8],
-    tokens: &'a [Lexeme],
-) -> Result<((SlotKey, Lexeme), &'a [Lexeme]), ReadError>
-    ensures { Gives (λ x. ((x.0.0, seen_of bytes.now x.0.1), sees bytes.now x.1.now)) result
-        (reads key_line (sees bytes.now tokens.now)) }
+fn key<'x>(at: &mut Cursor<'x, '_>) -> Result<(SlotKey, TokenAt<'x>), ReadError>
+    ensures { ReadsAs (λ x. (x.0, seen x.1)) result at.new (reads key_line at.old) }
 {
-    if next_is(bytes, tokens, Sort::Number) {
-        let (token, rest) = take(bytes, tokens, Sort::Number)?;
-        Ok((
-            (SlotKey::Number(number_of(bytes, token).value), token),
-            rest,
-        ))
-    } else if next_is(bytes, tokens, Sort::Word(Word::Cspace)) {
-        let (token, rest) = take(bytes, tokens, Sort::Word(Word::Cspace))?;
-        Ok(((SlotKey::Cspace, token), rest))
-    } else if next_is(bytes, tokens, Sort::Word(Word::Vspace)) {
-        let (token, rest) = take(bytes, tokens, Sort::Word(Word::Vspace))?;
-        Ok(((SlotKey::Vspace, token), rest))
+    if at.next_is(Sort::Number) {
+        let token = at.take(Sort::Number)?;
+        Ok((SlotKey::Number(token.number().value), token))
+    } else if at.next_is(Sort::Word(Word::Cspace)) {
+        Ok((SlotKey::Cspace, at.take(Sort::Word(Word::Cspace))?))
+    } else if at.next_is(Sort::Word(Word::Vspace)) {
+        Ok((SlotKey::Vspace, at.take(Sort::Word(Word::Vspace))?))
     } else {
-        let (token, rest) = take(bytes, tokens, Sort::Word(Word::Buffer))?;
-        Ok(((SlotKey::Buffer, token), rest))
+        Ok((SlotKey::Buffer, at.take(Sort::Word(Word::Buffer))?))
     }
-}
-
-#[tactic(auto, unfolding(capdl_text::specs::Forms::slot_line))]
-fn slot<'x, 'a>(
-    alloc: Global,
-    bytes: &'x [u8],
-    tokens: &'a [Lexeme],
-) -> Result<(SlotLine<'x>, &'a [Lexeme]), ReadError>
-    ensures { Gives (λ x. (x.0, sees bytes.now x.1.now)) result (reads slot_line (sees bytes.now tokens.now)) }
-{
-    let ((key, token), rest) = key(bytes, tokens)?;
-    let (_colon, rest) = take(bytes, rest, Sort::Mark(Mark::Colon))?;
-    let (object, rest) = name(bytes, rest)?;
-    let (params, rest) = maybe(alloc, bytes, rest)?;
-    Ok((
-        SlotLine {
-            key,
-            place: token.place,
-            object,
-            params,
-        },
-        rest,
-    ))
 }
 
 /// The slots of a holder.
@@ -171,18 +92,24 @@ impl<'x> Line<'x> for Slots {
 
     ghost eats = { slot_eats };
 
-    fn starts(bytes: &'x [u8], tokens: &[Lexeme]) -> bool {
-        next_is(bytes, tokens, Sort::Number)
-            || next_is(bytes, tokens, Sort::Word(Word::Cspace))
-            || next_is(bytes, tokens, Sort::Word(Word::Vspace))
-            || next_is(bytes, tokens, Sort::Word(Word::Buffer))
+    fn starts(at: &Cursor<'x, '_>) -> bool {
+        at.next_is(Sort::Number)
+            || at.next_is(Sort::Word(Word::Cspace))
+            || at.next_is(Sort::Word(Word::Vspace))
+            || at.next_is(Sort::Word(Word::Buffer))
     }
 
-    fn read<'a>(
-        alloc: Global,
-        bytes: &'x [u8],
-        tokens: &'a [Lexeme],
-    ) -> Result<(SlotLine<'x>, &'a [Lexeme]), ReadError> {
-        slot(alloc, bytes, tokens)
+    #[tactic(auto, unfolding(capdl_text::specs::Forms::slot_line, capdl_text::specs::Forms::maybe_params, capdl_text::specs::Forms::params_line))]
+    fn read(at: &mut Cursor<'x, '_>) -> Result<SlotLine<'x>, ReadError> {
+        let (key, token) = key(at)?;
+        at.take(Sort::Mark(Mark::Colon))?;
+        let object = at.name()?;
+        let params = maybe_some::<Params>(at)?;
+        Ok(SlotLine {
+            key,
+            place: token.place,
+            object,
+            params,
+        })
     }
 }

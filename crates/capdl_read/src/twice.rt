@@ -15,11 +15,9 @@ use crate::keyed::{Keyed, rise};
 use cam_base::{NoMemory, TextCode};
 use capdl_text::{Holder, Id, IrqLine, KindLine, ObjectLine, SlotLine, Span, SpecTree};
 use name_tables::{KeySet, SpreadNames};
-use std::alloc::Global;
 
 /// Takes the next name with its value, or notes that it was met before.
 pub(crate) fn meet_name<'x, V: Drop>(
-    alloc: Global,
     id: &Id<'x>,
     value: V,
     met: &mut SpreadNames<'x, V>,
@@ -32,24 +30,23 @@ pub(crate) fn meet_name<'x, V: Drop>(
 {
     let name = id.name.as_bytes();
     if met.add(name, value)? {
-        first.note(alloc, TextCode::CapdlTwice, id.place, name)?;
+        first.note(TextCode::CapdlTwice, id.place, name)?;
     }
     Ok(())
 }
 
-fn note_irq_objects(alloc: Global, lines: &[IrqLine], first: &mut First) -> Result<(), NoMemory>
+fn note_irq_objects(lines: &[IrqLine], first: &mut First) -> Result<(), NoMemory>
     ensures { OnOk result (first.new ≡ noted first.old (names_twice (map (λ l. l.object) lines.now))) }
 {
-    let mut met = SpreadNames::with_room(alloc, lines.len())?;
+    let mut met = SpreadNames::with_room(first.alloc(), lines.len())?;
     for line in lines {
-        meet_name(alloc, &line.object, (), &mut met, first)?;
+        meet_name(&line.object, (), &mut met, first)?;
     }
     Ok(())
 }
 
 /// Takes the next key, or notes that it was met before.
 fn meet_key(
-    alloc: Global,
     keyed: ((u8, u64), Span),
     name: &[u8],
     met: &mut KeySet,
@@ -60,72 +57,67 @@ fn meet_key(
     ensures met { OnOk result ((k : Pair) → has_key met.new k ≡ (has_key met.old k || same_key k keyed.0)) }
 {
     if met.contains(keyed.0) {
-        first.note(alloc, TextCode::CapdlTwice, keyed.1, name)?;
+        first.note(TextCode::CapdlTwice, keyed.1, name)?;
     }
     met.insert(keyed.0)
 }
 
 /// Notes what an earlier one is equal to, under this name. Most texts have their keys in rising order, where none is.
-fn note_keys<K: Keyed>(
-    alloc: Global,
-    name: &[u8],
-    items: &[K],
-    first: &mut First,
-) -> Result<(), NoMemory>
+fn note_keys<K: Keyed>(name: &[u8], items: &[K], first: &mut First) -> Result<(), NoMemory>
     ensures { OnOk result (first.new ≡ noted first.old (keys_twice name.now (map K.keyed_as items.now))) }
 {
     if rise(items) {
         return Ok(());
     }
-    let mut met = KeySet::new(alloc);
+    let mut met = KeySet::new(first.alloc());
     for item in items {
-        meet_key(alloc, item.keyed(), name, &mut met, first)?;
+        meet_key(item.keyed(), name, &mut met, first)?;
     }
     Ok(())
 }
 
-fn note_fields(alloc: Global, kind: &KindLine, first: &mut First) -> Result<(), NoMemory>
+fn note_fields(kind: &KindLine, first: &mut First) -> Result<(), NoMemory>
     ensures { OnOk result (first.new ≡ noted first.old (fields_twice kind.now)) }
 {
     match kind {
-        KindLine::Thread(fields) => note_keys(alloc, b"", fields.as_slice(), first),
-        KindLine::Frame(fields) => note_keys(alloc, b"", fields.as_slice(), first),
+        KindLine::Thread(fields) => note_keys(b"", fields.as_slice(), first),
+        KindLine::Frame(fields) => note_keys(b"", fields.as_slice(), first),
         _ => Ok(()),
     }
 }
 
-fn note_all_fields(alloc: Global, objects: &[ObjectLine], first: &mut First) -> Result<(), NoMemory>
+fn note_all_fields(objects: &[ObjectLine], first: &mut First) -> Result<(), NoMemory>
     ensures { OnOk result (first.new ≡ noted first.old (flat_map (λ o. fields_twice o.kind) objects.now)) }
 {
     for object in objects {
-        note_fields(alloc, &object.kind, first)?;
+        note_fields(&object.kind, first)?;
     }
     Ok(())
 }
 
-fn note_all_params(alloc: Global, slots: &[SlotLine], first: &mut First) -> Result<(), NoMemory>
+fn note_all_params(slots: &[SlotLine], first: &mut First) -> Result<(), NoMemory>
     ensures { OnOk result (first.new ≡ noted first.old (flat_map params_twice slots.now)) }
 {
     for slot in slots {
-        note_keys(alloc, b"", slot.params.as_slice(), first)?;
+        note_keys(b"", slot.params.as_slice(), first)?;
     }
     Ok(())
 }
 
 #[tactic(auto, using(capdl_text::proofs::Noting::noting))]
-fn note_holder(alloc: Global, holder: &Holder, first: &mut First) -> Result<(), NoMemory>
+fn note_holder(holder: &Holder, first: &mut First) -> Result<(), NoMemory>
     ensures { OnOk result (first.new ≡ noted first.old (twice_in holder.now)) }
 {
     let name = holder.id.name.as_bytes();
-    note_keys(alloc, name, holder.slots.as_slice(), first)?;
-    note_all_params(alloc, holder.slots.as_slice(), first)
+    note_keys(name, holder.slots.as_slice(), first)?;
+    note_all_params(holder.slots.as_slice(), first)
 }
 
-fn note_all_slots(alloc: Global, holders: &[Holder], first: &mut First) -> Result<(), NoMemory>
+fn note_all_slots(holders: &[Holder], first: &mut First) -> Result<(), NoMemory>
     ensures { OnOk result (first.new ≡ noted first.old (flat_map twice_in holders.now)) }
 {
     for holder in holders {
-        note_holder(alloc, holder, first)?;
+        note_holder(holder, first)?;
     }
     Ok(())
 }
@@ -133,7 +125,6 @@ fn note_all_slots(alloc: Global, holders: &[Holder], first: &mut First) -> Resul
 /// Notes what stands a second time, where the names of objects and of holders that do are noted by themselves.
 #[tactic(auto, using(capdl_text::proofs::Noting::noting, crate::proofs::Checked::merged))]
 pub(crate) fn note_twices(
-    alloc: Global,
     tree: &SpecTree,
     objects: First,
     holders: First,
@@ -144,9 +135,9 @@ pub(crate) fn note_twices(
     ensures { OnOk result (first.new ≡ noted first.old (twices tree.now)) }
 {
     first.merge(objects);
-    note_all_fields(alloc, tree.objects.as_slice(), first)?;
+    note_all_fields(tree.objects.as_slice(), first)?;
     first.merge(holders);
-    note_all_slots(alloc, tree.holders.as_slice(), first)?;
-    note_keys(alloc, b"", tree.irqs.as_slice(), first)?;
-    note_irq_objects(alloc, tree.irqs.as_slice(), first)
+    note_all_slots(tree.holders.as_slice(), first)?;
+    note_keys(b"", tree.irqs.as_slice(), first)?;
+    note_irq_objects(tree.irqs.as_slice(), first)
 }

@@ -4,17 +4,16 @@ pub use Rattle.cam_base.proofs.Lists.{drop_first, longer_front, take-front}
 pub use Rattle.cam_base.proofs.Options.{none_is_not}
 pub use Rattle.cam_base.proofs.TerminalCodes.{true_is_not_false}
 pub use Rattle.cam_base.specs.Comments.{after_close}
-pub use Rattle.cam_base.specs.Form.{among}
 pub use Rattle.cam_base.specs.Names.{is_letter, is_word_byte}
 pub use Rattle.cam_base.specs.Numbers.{fits, is_decimal, is_digit, is_hex_digit, is_hexadecimal, number_value}
 pub use Rattle.cam_base.specs.declared.text_fault.TextCode.{TextCode}
 pub use Rattle.cam_base.specs.declared.text_fault.TextFault.{TextFault}
 pub use Rattle.cap_model.specs.declared.spec.Spec.{Spec}
-pub use Rattle.capdl_text.specs.Codes.{kind_code, name_codes, token_code}
+pub use Rattle.capdl_text.specs.Codes.{token_code}
 pub use Rattle.capdl_text.specs.Faults.{IsIn, at_id, code_number, earlier, least, noted, precedes}
 pub use Rattle.capdl_text.specs.Forms.{holder_form, irq_form, left_out_line, next_frame_field, object_form, param_form, slot_form, spec_line, thread_field_form}
 pub use Rattle.capdl_text.specs.Gaps.{IsGap, after_dash, after_line, after_slash, is_blank, more, none, one_gap}
-pub use Rattle.capdl_text.specs.Lexemes.{kind_with, sees, sort_code, sort_of, token_of, tokens_of, value_at}
+pub use Rattle.capdl_text.specs.Lexemes.{kind_with, sees, sort_of, token_of, tokens_of, value_at}
 pub use Rattle.capdl_text.specs.Lexes.{IsTokenAt, IsTokenFault, Lexes, LexesFrom, Reached, here, past, place_of}
 pub use Rattle.capdl_text.specs.Pieces.{IsPiece, digits_taken, mark_taken, text_taken, word_taken}
 pub use Rattle.capdl_text.specs.Spelling.{IsSpecSpelled, opens, reads}
@@ -37,5 +36,5 @@ pub use Rattle.std.proofs.lemmas.Option.{same_Some}
 pub use Rattle.std.proofs.lemmas.Slice.Eq.{bytes_eq-Decides}
 pub use Rattle.std.specs.List.{enumerate_from, flat_map, list_all, list_any, slice_get}
 pub use Rattle.std.specs.Option.{is_some, option_map, option_map_or, option_or}
-pub use Rattle.std.specs.Prelude.{codes, if◌then◌else◌, leb, not, unwrap_or, ◌&&◌, ◌==◌, ◌||◌}
+pub use Rattle.std.specs.Prelude.{codes, if◌then◌else◌, not, unwrap_or, ◌&&◌, ◌==◌, ◌||◌}
 pub use Rattle.std.specs.Str.{bytes_eq}

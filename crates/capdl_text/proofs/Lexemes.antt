@@ -1,26 +1,12 @@
 -- Tokens as readers keep them are the tokens.
-use Rattle.capdl_text.proofs.Common.{Bool, IsTokenAt, Kind, Lexeme, List, Mark, None, Option, Some, Sort, Token, [], after_close, after_dash, after_line, after_slash, among, ap, append_assoc, arith, bytes_eq, codes, cond, digits_kind, drop, drop-map}
-use Rattle.capdl_text.proofs.Common.{drop_at, ends_text, false, get_or, is_blank, is_digit, is_end, is_letter, is_word_byte, kind_code, kind_with, leb, length, length-append, length-map, list_all, mark_of, name_codes, nat_tests, none_is_not}
-use Rattle.capdl_text.proofs.Common.{number_value, option_map, place_of, refl, same_Some, see, sees, sort_code, sort_of, subst, sym, take, take_at, text_at, token_code, token_of, tokens_of, true, unwrap_or, value_at, word_of, ℕ, ◌&&◌, ◌++◌, ◌-◌}
-use Rattle.capdl_text.proofs.Common.{◌==◌, ◌∙◌, ◌∷◌, ◌≡◌, ◌≤◌}
+use Rattle.capdl_text.proofs.Common.{Bool, IsTokenAt, Kind, Lexeme, List, Mark, None, Option, Some, Token, [], after_close, after_dash, after_line, after_slash, ap, append_assoc, arith, bytes_eq, codes, cond, digits_kind, drop, drop-map}
+use Rattle.capdl_text.proofs.Common.{drop_at, ends_text, false, is_blank, is_digit, is_end, is_letter, is_word_byte, kind_with, length, length-append, length-map, list_all, mark_of, none_is_not}
+use Rattle.capdl_text.proofs.Common.{number_value, option_map, place_of, refl, same_Some, see, sees, sort_of, subst, sym, take, take_at, text_at, token_of, tokens_of, true, unwrap_or, value_at, word_of, ℕ, ◌&&◌, ◌++◌, ◌-◌}
+use Rattle.capdl_text.proofs.Common.{◌==◌, ◌∙◌, ◌∷◌, ◌≡◌}
 use Rattle.capdl_text.specs.declared.token.Kind.TheVariants as kinds
-use Rattle.capdl_text.specs.declared.token.Sort.TheVariants as sorts
 use Rattle.capdl_text.specs.declared.token.Word.{Word}
-use Rattle.cam_base.specs.Reading.{starts}
 use Rattle.capdl_text.specs.Gaps.{one_gap}
 use Rattle.capdl_text.specs.TokenKinds.{kind_of}
-
--- ---- codes
-
-pub code_with : (s : Sort) (n : ℕ) → kind_code (kind_with s n) ≡ sort_code s
-code_with (sorts.Word word) n = refl
-code_with sorts.Number n = refl
-code_with sorts.Page n = refl
-code_with sorts.Text n = refl
-code_with (sorts.Mark mark) n = refl
-
-pub name_code : (c : ℕ) → leb c 31 ≡ among name_codes c
-name_code c = grind (arith, nat_tests)
 
 -- ---- lists of them
 
@@ -167,10 +153,3 @@ module _ (bytes bs rest : List ℕ) (k : Kind) (token : IsTokenAt bs k rest) (ta
   pub kind_kept : kind_with (sort_of k) (value_at bytes (place_of (length bytes) bs rest)) ≡ k
   kind_kept = ap (λ (w : List ℕ). kind_with (sort_of k) (unwrap_or (number_value w) 0)) text_kept
       ∙ value_kept k token.text token.kind
-
--- the first of them is a word, which may be a name
-pub name_starts : (bytes : List ℕ) (ls : List Lexeme) (d : Lexeme) (b : Bool) → 1 ≤ length ls
-    → ((n : ℕ) → b ≡ among name_codes (kind_code (kind_with (get_or ls 0 d).sort n)))
-    → b ≡ starts token_code name_codes (sees bytes ls)
-name_starts bytes [] d b e h = absurd (omega arith)
-name_starts bytes (l ∷ ls) d b e h = h (value_at bytes l.place)

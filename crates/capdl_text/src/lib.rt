@@ -16,7 +16,6 @@ mod known;
 mod laws;
 mod lexer;
 mod lexer_laws;
-mod next;
 mod piece;
 mod run;
 mod seen;
@@ -33,7 +32,6 @@ pub use laws::{
 };
 pub use lexer::lex;
 pub use lexer_laws::{token_fault_is_one, tokens_are_one, tokens_have_no_fault};
-pub use next::{next_is, next_is_name, take, take_name, text_at};
 pub use seen::Seen;
 pub use token::{Kind, Lexeme, Mark, Sort, Span, Token, Word};
 pub use tree::{
