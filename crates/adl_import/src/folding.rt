@@ -1,6 +1,6 @@
 //! Folding of paths.
 
-ghost use Rattle.adl_import.specs.Folding.{is_slash, is_up, is_dropped, is_in_folder, is_absolute, is_plain, is_import_path, in_folder, one_up, with_part, with_parts, path_text, file_path, folded, import_name, root_name, IsFolded};
+ghost use Rattle.adl_import.specs.Folding.{is_slash, is_up, is_in_folder, is_absolute, is_plain, is_import_path, in_folder, one_up, with_part, with_parts, path_text, folded, import_name, root_name, IsFolded};
 ghost use Rattle.adl_import.specs.Parts.{parts_of, inner_first};
 ghost use Rattle.std.specs.List.{flat_map, join_with_byte, list_all, slice_split};
 ghost use Rattle.std.specs.Option.{option_map};
@@ -21,12 +21,6 @@ fn is_up(part: &[u8]) -> bool
     ensures { result ≡ is_up part.now }
 {
     part == b"..".as_slice()
-}
-
-fn is_dropped(part: &[u8]) -> bool
-    ensures { result ≡ is_dropped part.now }
-{
-    part.is_empty() || part == b".".as_slice()
 }
 
 fn is_absolute(path: &[u8]) -> bool
@@ -105,7 +99,7 @@ fn put_part<'a>(absolute: bool, parts: &mut Vec<&'a [u8]>, part: &'a [u8]) -> Re
     ensures { IfOk result (λ inside. with_part absolute (inner_first parts.old.items) part.entry.now
         ≡ (if inside then Some (inner_first parts.new.items) else None)) }
 {
-    if is_dropped(part) {
+    if part.is_empty() || part == b".".as_slice() {
         return Ok(true);
     }
     if is_up(part) {
@@ -164,24 +158,17 @@ fn path_text(alloc: Global, absolute: bool, parts: &[&[u8]]) -> Result<Text, NoM
     Ok(Text::from_vec(text))
 }
 
-/// The path of parts, outermost first, where they name a file.
-fn file_path(alloc: Global, absolute: bool, parts: &[&[u8]]) -> Result<Text, Refused<BadPath>>
-    ensures { IsFolded (file_path absolute (inner_first parts.now)) result }
-{
-    if !is_in_folder(parts) {
-        return Err(Refused::Fault(BadPath));
-    }
-    Ok(path_text(alloc, absolute, parts)?)
-}
-
 fn fold_path(alloc: Global, path: &[u8]) -> Result<Text, Refused<BadPath>>
     ensures { IsFolded (folded path.now) result }
 {
     let absolute = is_absolute(path);
-    match walk(alloc, absolute, path)? {
-        Some(parts) => file_path(alloc, absolute, parts.as_slice()),
-        None => Err(Refused::Fault(BadPath)),
+    let Some(parts) = walk(alloc, absolute, path)? else {
+        return Err(Refused::Fault(BadPath));
+    };
+    if !is_in_folder(parts.as_slice()) {
+        return Err(Refused::Fault(BadPath));
     }
+    Ok(path_text(alloc, absolute, parts.as_slice())?)
 }
 
 fn in_folder(alloc: Global, folder: &[u8], path: &[u8]) -> Result<Vec<u8>, NoMemory>

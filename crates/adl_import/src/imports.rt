@@ -1,7 +1,7 @@
 //! Taking the imports of a file.
 
-ghost use Rattle.adl_import.specs.Folding.{is_slash, IsFolded};
-ghost use Rattle.adl_import.specs.Imports.{is_built_in, is_built_in_name, folder_of, import_of, imports_in, name_given};
+ghost use Rattle.adl_import.specs.Folding.{is_slash};
+ghost use Rattle.adl_import.specs.Imports.{is_built_in, folder_of, imports_in};
 ghost use Rattle.adl_import.specs.Taking.{IsTaken};
 ghost use Rattle.adl_import.specs.Turns.{fault_at, meet, take_import, take_imports};
 ghost use Rattle.std.specs.Prelude.{◌≡◌, IfOk};
@@ -41,31 +41,14 @@ fn folder_of(name: &[u8]) -> &[u8]
     folder
 }
 
-fn is_built_in_name(name: &[u8]) -> bool
-    ensures { result ≡ is_built_in_name name.now }
-{
-    name == b"std_connector.camkes".as_slice()
-        || name == b"global-connector.camkes".as_slice()
-        || name == b"global-connectors.camkes".as_slice()
-}
-
 fn is_built_in(import: &Import) -> bool
     ensures { result ≡ is_built_in import.now }
 {
-    import.angle && is_built_in_name(import.path.as_bytes())
-}
-
-/// The name that an import gives in a file of a source.
-fn name_given(
-    alloc: Global,
-    root: &[u8],
-    own: &[u8],
-    import: &Import,
-) -> Result<Text, Refused<BadPath>>
-    ensures { IsFolded (name_given root.now own.now import.now) result }
-{
-    let top = if import.angle { root } else { own };
-    fold(alloc, folder_of(top), import.path.as_bytes())
+    let name = import.path.as_bytes();
+    import.angle
+        && (name == b"std_connector.camkes".as_slice()
+            || name == b"global-connector.camkes".as_slice()
+            || name == b"global-connectors.camkes".as_slice())
 }
 
 /// Meets a name, unless it is known.
@@ -99,7 +82,8 @@ fn take_import(
     if is_built_in(import) {
         return Ok(());
     }
-    match name_given(alloc, root, own, import) {
+    let top = if import.angle { root } else { own };
+    match fold(alloc, folder_of(top), import.path.as_bytes()) {
         Ok(name) => meet(alloc, name, import.place, known),
         Err(Refused::Fault(BadPath)) => Err(Refused::Fault(fault_at(
             alloc,
@@ -108,21 +92,6 @@ fn take_import(
             b"",
         )?)),
         Err(Refused::NoMemory) => Err(Refused::NoMemory),
-    }
-}
-
-fn take_item(
-    alloc: Global,
-    root: &[u8],
-    own: &[u8],
-    item: &Item,
-    known: &mut IndexMap<Text, Place>,
-) -> Result<(), Refused<Fault>>
-    ensures { IsTaken (take_imports root.now own.now known.old.entries (import_of item.now)) known.new.entries result }
-{
-    match item {
-        Item::Import(import) => take_import(alloc, root, own, import, known),
-        Item::Procedure(_) | Item::Component(_) | Item::Assembly(_) => Ok(()),
     }
 }
 
@@ -137,7 +106,10 @@ pub(crate) fn take_imports(
     ensures { IsTaken (take_imports root.now own.now known.old.entries (imports_in items.now)) known.new.entries result }
 {
     for ended in items {
-        take_item(alloc, root, own, &ended.item, known)?;
+        match &ended.item {
+            Item::Import(import) => take_import(alloc, root, own, import, known)?,
+            Item::Procedure(_) | Item::Component(_) | Item::Assembly(_) => {}
+        }
     }
     Ok(())
 }
