@@ -6,7 +6,6 @@ ghost use Rattle.adl_meaning.specs.declared.connector.Connector.TheVariants.{Not
 ghost use Rattle.adl_meaning.specs.declared.flat.FlatConnection.{FlatConnection as Line};
 ghost use Rattle.arch_policy.specs.Tables.{leaf_label, told};
 ghost use Rattle.arch_policy.specs.Triples.{crossed, crossed_at, crossed_edges, direct_edges, end_edges, given_edges, labels_in_role, lock_edge, lock_edges, row_edges, row_gives, signal_edges, signals_at};
-ghost use Rattle.arch_policy.specs.Where.{where_true};
 ghost use Rattle.cap_model.specs.Edges.{edge};
 ghost use Rattle.cap_model.specs.Tables.{has};
 ghost use Rattle.cap_model.specs.declared.edge.Edge.{Edge as Triple};
@@ -19,7 +18,7 @@ ghost use Rattle.std.specs.Prelude.{◌≡◌, ◌<◌, ◌^◌, ◌++◌, ◌�
 use crate::Tables;
 use crate::tables::{connection_label, domain_label, leaf_label};
 use adl_ast::{Member, Role};
-use adl_meaning::{Connector, EndSetting, FlatConnection, FlatEnd, Leaf};
+use adl_meaning::{Connector, EndSetting, FlatConnection, FlatEnd};
 use cam_base::{List, NoMemory};
 use cap_model::{Authority, Edge, EdgeTable};
 use conn_rules::{ObjectKind, RuleRow, row};
@@ -73,21 +72,6 @@ fn opposite(role: Role) -> Role
 
 // ---- direct
 
-fn push_label(
-    tables: &Tables<'_>,
-    role: Role,
-    end: FlatEnd,
-    labels: &mut List<u32>,
-) -> Result<(), NoMemory>
-    ensures { OnOk result (labels.new ≡ labels.old ++ where_true (same_role end.role role)
-        (leaf_label (told tables.now) end.leaf)) }
-{
-    if end.role == role {
-        labels.push(leaf_label(tables, end.leaf))?;
-    }
-    Ok(())
-}
-
 /// The labels at the ends in this role.
 pub fn labels_in_role(
     alloc: Global,
@@ -99,7 +83,9 @@ pub fn labels_in_role(
 {
     let mut labels = List::new(alloc);
     for end in ends {
-        push_label(tables, role, *end, &mut labels)?;
+        if end.role == role {
+            labels.push(leaf_label(tables, end.leaf))?;
+        }
     }
     Ok(labels)
 }
@@ -112,22 +98,6 @@ fn row_gives(here: EndHere<'_>, row: RuleRow, authority: Authority) -> bool
             setting_of(here.tables.settled, here.place, here.number),
             authority,
         )
-}
-
-/// Puts the edge behind the others where the row gives its authority.
-fn push_edge(
-    here: EndHere<'_>,
-    row: RuleRow,
-    edge: Edge,
-    edges: &mut List<Edge>,
-) -> Result<(), NoMemory>
-    ensures { OnOk result (edges.new ≡ edges.old ++ where_true (row_gives (told here.entry.tables) here.entry.place
-        here.entry.number row edge.authority) edge) }
-{
-    if row_gives(here, row, edge.authority) {
-        edges.push(edge)?;
-    }
-    Ok(())
 }
 
 /// Puts the edges from the end's label to another with the authorities of the row behind the others.
@@ -143,12 +113,13 @@ fn push_given(
 {
     let authorities = AUTHORITIES;
     for authority in authorities.as_slice() {
-        let edge = Edge {
-            from,
-            authority: *authority,
-            to,
-        };
-        push_edge(here, row, edge, edges)?;
+        if row_gives(here, row, *authority) {
+            edges.push(Edge {
+                from,
+                authority: *authority,
+                to,
+            })?;
+        }
     }
     Ok(())
 }
@@ -262,27 +233,6 @@ pub fn direct_edges(alloc: Global, tables: &Tables<'_>) -> Result<List<Edge>, No
 
 // ---- of two ends of one connection
 
-/// Puts an edge with the authority from a label to that of an end, where it is a `from` end, behind the others.
-fn push_to(
-    tables: &Tables<'_>,
-    from: u32,
-    authority: Authority,
-    end: FlatEnd,
-    edges: &mut List<Edge>,
-) -> Result<(), NoMemory>
-    ensures { OnOk result (edges.new ≡ edges.old ++ where_true (same_role end.role From)
-        (edge from authority (leaf_label (told tables.now) end.leaf))) }
-{
-    if end.role == Role::From {
-        edges.push(Edge {
-            from,
-            authority,
-            to: leaf_label(tables, end.leaf),
-        })?;
-    }
-    Ok(())
-}
-
 /// Puts an edge with the authority from a label to that of each `from` end behind the others.
 fn push_to_each(
     tables: &Tables<'_>,
@@ -295,7 +245,14 @@ fn push_to_each(
         (labels_in_role (told tables.now) From ends.now)) }
 {
     for end in ends {
-        push_to(tables, from, authority, *end, edges)?;
+        if end.role == Role::From {
+            let to = leaf_label(tables, end.leaf);
+            edges.push(Edge {
+                from,
+                authority,
+                to,
+            })?;
+        }
     }
     Ok(())
 }
@@ -373,25 +330,6 @@ fn signals(connection: &FlatConnection, end: FlatEnd) -> bool
     connection.connector == Connector::Notification && end.role == Role::From
 }
 
-fn push_signal(
-    tables: &Tables<'_>,
-    place: u32,
-    connection: &FlatConnection,
-    end: FlatEnd,
-    edges: &mut List<Edge>,
-) -> Result<(), NoMemory>
-    ensures { OnOk result (edges.new ≡ edges.old ++ signals_at (told tables.now) place connection.now end) }
-{
-    if signals(connection, end) {
-        edges.push(Edge {
-            from: leaf_label(tables, end.leaf),
-            authority: Authority::AsyncSend,
-            to: connection_label(tables, place),
-        })?;
-    }
-    Ok(())
-}
-
 fn push_signals_of(
     tables: &Tables<'_>,
     place: u32,
@@ -402,7 +340,13 @@ fn push_signals_of(
         connection.now.ends) }
 {
     for end in connection.ends.as_slice() {
-        push_signal(tables, place, connection, *end, edges)?;
+        if signals(connection, *end) {
+            edges.push(Edge {
+                from: leaf_label(tables, end.leaf),
+                authority: Authority::AsyncSend,
+                to: connection_label(tables, place),
+            })?;
+        }
     }
     Ok(())
 }
@@ -446,20 +390,13 @@ fn push_own(
     }
 }
 
-fn push_lock(tables: &Tables<'_>, leaf: &Leaf, edges: &mut List<Edge>) -> Result<(), NoMemory>
-    ensures { OnOk result (edges.new ≡ edges.old ++ lock_edge (told tables.now) leaf.now.domain
-        (list_any is_lock (members_at tables.now.source.now leaf.now.component))) }
-{
-    let members = members_at(tables.source, leaf.component);
-    push_own(tables, leaf.domain, has_lock(members), edges)
-}
-
 /// Puts which domains have a lock behind the others.
 fn push_locks(tables: &Tables<'_>, edges: &mut List<Edge>) -> Result<(), NoMemory>
     ensures { OnOk result (edges.new ≡ edges.old ++ lock_edges (told tables.now)) }
 {
     for leaf in tables.flat.leaves.as_slice() {
-        push_lock(tables, leaf, edges)?;
+        let members = members_at(tables.source, leaf.component);
+        push_own(tables, leaf.domain, has_lock(members), edges)?;
     }
     Ok(())
 }

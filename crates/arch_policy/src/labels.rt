@@ -54,22 +54,6 @@ fn push_device(alloc: Global, leaf: &Leaf, texts: &mut List<(Text, usize)>) -> R
     push_text(alloc, leaf.domain.is_none(), &leaf.path, texts)
 }
 
-fn push_connection(
-    alloc: Global,
-    connection: &FlatConnection,
-    texts: &mut List<(Text, usize)>,
-) -> Result<(), NoMemory>
-    ensures { OnOk result (firsts texts.new ≡ firsts texts.old ++ where_true (has_label connection.now.connector)
-        (joined connection.now.path)) }
-{
-    push_text(
-        alloc,
-        has_label(connection.connector),
-        &connection.path,
-        texts,
-    )
-}
-
 fn push_domains(
     alloc: Global,
     domains: &[Domain],
@@ -104,7 +88,8 @@ fn push_connections(
     ensures { OnOk result (firsts texts.new ≡ firsts texts.old ++ connection_texts connections.now) }
 {
     for connection in connections {
-        push_connection(alloc, connection, texts)?;
+        let is_label = has_label(connection.connector);
+        push_text(alloc, is_label, &connection.path, texts)?;
     }
     Ok(())
 }
@@ -280,14 +265,6 @@ fn connection_numbers(
     Ok(numbers)
 }
 
-/// Where the text of a leaf's path may stand: at the next place that of a device, and any other where that of its domain stands.
-fn leaf_place(places: &mut Iter<'_, usize>, domains: &[u32], leaf: &Leaf) -> usize {
-    match leaf.domain {
-        None => next_place(places),
-        Some(domain) => domains.get(domain as usize).copied().unwrap_or(0) as usize,
-    }
-}
-
 fn device_numbers(
     alloc: Global,
     texts: &[Text],
@@ -301,7 +278,11 @@ fn device_numbers(
 {
     let mut numbers = List::from_vec(Vec::with_capacity(alloc, leaves.len())?);
     for leaf in leaves {
-        let place = leaf_place(places, domains, leaf);
+        // At the next place that of a device, and any other where that of its domain stands.
+        let place = match leaf.domain {
+            None => next_place(places),
+            Some(domain) => domains.get(domain as usize).copied().unwrap_or(0) as usize,
+        };
         push_number(alloc, texts, place, &leaf.path, &mut numbers)?;
     }
     Ok(numbers)

@@ -23,4 +23,4 @@ pub use laws::triples_are_the_policy;
 pub use numbers::LabelNumbers;
 pub use owner::Owner;
 pub use policy::{Assigned, policy_of};
-pub use tables::{Tables, connection_label, domain_label, leaf_label};
+pub use tables::{Tables, connection_label, domain_label, leaf_label, number_at};

@@ -3,12 +3,11 @@ ghost use Rattle.adl_meaning.specs.declared.flat.FlatConnection.{FlatConnection 
 ghost use Rattle.arch_policy.specs.Labels.{label_lines, label_numbers};
 ghost use Rattle.arch_policy.specs.Policies.{IsPolicyOf, edge_count, first_edge_fault};
 ghost use Rattle.arch_policy.specs.Tables.{tables_of, told};
-ghost use Rattle.arch_policy.specs.Triples.{handle_edges, leads_out, lock_edges, reasoned_edges, signal_edges, triples};
+ghost use Rattle.arch_policy.specs.Triples.{handle_edges, lock_edges, reasoned_edges, signal_edges, triples};
 ghost use Rattle.cap_model.specs.Tables.{IsSorted, has};
 ghost use Rattle.cap_model.specs.declared.edge.Edge.{Edge as Triple};
 ghost use Rattle.cspace_layout.specs.Limit.{limit_fault};
 ghost use Rattle.cspace_layout.specs.Within.{IsWithin};
-ghost use Rattle.std.specs.List.{filter};
 ghost use Rattle.std.specs.Prelude.{◌≡◌, ◌+◌, ◌<◌, ◌^◌, ◌++◌, [], if◌then◌else◌, nat_lt, codes, length, slice_get, IfOk, None, Some, ℕ};
 
 use crate::bound::push_bound;
@@ -48,26 +47,7 @@ fn signallers(
     EdgeTable::from_list(alloc, edges.as_slice())
 }
 
-/// The edges that have a reason, those within a label too, with the bound ones of these tables.
-fn reasoned_with(
-    alloc: Global,
-    tables: &Tables<'_>,
-    handlers: &EdgeTable,
-    signallers: &EdgeTable,
-) -> Result<List<Edge>, NoMemory>
-    requires few { length tables.now.flat.now.connections < 2 ^ 32 }
-    requires short { (k : ℕ) (c : Line) → slice_get tables.now.flat.now.connections k ≡ Some c → length c.ends < 2 ^ 32 }
-    requires handlers { (e : Triple) → has handlers.now e ≡ has (handle_edges (told tables.now)) e }
-    requires signallers { 0 < length handlers.now → (e : Triple)
-        → has signallers.now e ≡ has (signal_edges (told tables.now) ++ lock_edges (told tables.now)) e }
-    ensures { IfOk result (λ edges. (e : Triple) → has edges e ≡ has (reasoned_edges (told tables.now)) e) }
-{
-    let mut edges = direct_edges(alloc, tables)?;
-    push_crossed_edges(tables, Connector::Rpc, Authority::Reply, &mut edges)?;
-    push_bound(handlers, signallers, &mut edges)?;
-    Ok(edges)
-}
-
+/// The edges that have a reason, those within a label too.
 fn reasoned_edges(alloc: Global, tables: &Tables<'_>) -> Result<List<Edge>, NoMemory>
     requires few { length tables.now.flat.now.connections < 2 ^ 32 }
     requires short { (k : ℕ) (c : Line) → slice_get tables.now.flat.now.connections k ≡ Some c → length c.ends < 2 ^ 32 }
@@ -75,16 +55,10 @@ fn reasoned_edges(alloc: Global, tables: &Tables<'_>) -> Result<List<Edge>, NoMe
 {
     let handlers = handlers(alloc, tables)?;
     let signallers = signallers(alloc, tables, &handlers)?;
-    reasoned_with(alloc, tables, &handlers, &signallers)
-}
-
-/// The edges that lead out of their labels.
-fn leading_out(edges: List<Edge>) -> Vec<Edge>
-    ensures { result.items ≡ filter leads_out edges }
-{
-    let mut kept = edges.into_vec();
-    kept.retain(|edge| edge.from != edge.to);
-    kept
+    let mut edges = direct_edges(alloc, tables)?;
+    push_crossed_edges(tables, Connector::Rpc, Authority::Reply, &mut edges)?;
+    push_bound(&handlers, &signallers, &mut edges)?;
+    Ok(edges)
 }
 
 /// The table of the assigned edges.
@@ -95,7 +69,8 @@ fn assigned_edges(alloc: Global, tables: &Tables<'_>) -> Result<EdgeTable, NoMem
     ensures same { IfOk result (λ table. (e : Triple) → has table e ≡ has (triples (told tables.now)) e) }
 {
     let edges = reasoned_edges(alloc, tables)?;
-    let kept = leading_out(edges);
+    let mut kept = edges.into_vec();
+    kept.retain(|edge| edge.from != edge.to);
     let table = EdgeTable::from_list(alloc, kept.as_slice())?;
     Ok(table)
 }

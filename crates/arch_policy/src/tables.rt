@@ -1,4 +1,4 @@
-ghost use Rattle.arch_policy.specs.Owners.{leaf_owner, owner_in};
+ghost use Rattle.arch_policy.specs.Owners.{leaf_owner};
 ghost use Rattle.arch_policy.specs.Tables.{connection_label, domain_label, leaf_label, number_of, told};
 ghost use Rattle.std.specs.Prelude.{◌≡◌, slice_index};
 
@@ -15,8 +15,8 @@ pub struct Tables<'a> {
     pub numbers: &'a LabelNumbers,
 }
 
-/// The number at a place, 0 where there is none.
-fn number_at(numbers: &[u32], place: u32) -> u32
+/// The number at a place, 0 where there is none. Takes no memory.
+pub fn number_at(numbers: &[u32], place: u32) -> u32
     ensures { result ≡ slice_index numbers.now place }
 {
     match numbers.get(place as usize) {
@@ -38,21 +38,15 @@ impl LabelNumbers {
     }
 }
 
-fn owner_in(leaf: u32, domain: Option<u32>) -> Owner
-    ensures { result ≡ owner_in leaf domain }
-{
-    match domain {
-        None => Owner::OfLeaf(leaf),
-        Some(domain) => Owner::OfDomain(domain),
-    }
-}
-
 /// Whose a leaf is: its domain's, or as a device its own.
 pub fn leaf_owner(flat: &Flat, leaf: u32) -> Owner
     ensures { result ≡ leaf_owner flat.now leaf }
 {
     match flat.leaves.as_slice().get(leaf as usize) {
-        Some(found) => owner_in(leaf, found.domain),
+        Some(found) => match found.domain {
+            Some(domain) => Owner::OfDomain(domain),
+            None => Owner::OfLeaf(leaf),
+        },
         None => Owner::OfLeaf(leaf),
     }
 }

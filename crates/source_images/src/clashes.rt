@@ -23,20 +23,13 @@ fn region_of(placed: &Placed<'_>) -> Region
     }
 }
 
-fn regions(alloc: Global, sections: &[Placed<'_>]) -> Result<Vec<Region>, NoMemory>
-    ensures { IfOk result (λ v. v.items ≡ map region_of (sections_told sections.now)) }
+fn index_of(alloc: Global, sections: &[Placed<'_>]) -> Result<PageIndex, NoMemory>
+    ensures { IfOk result (λ index. IsPermutation (map region_of (sections_told sections.now)) index) }
 {
     let mut regions = Vec::with_capacity(alloc, sections.len())?;
     for placed in sections {
         regions.push(region_of(placed))?;
     }
-    Ok(regions)
-}
-
-fn index_of(alloc: Global, sections: &[Placed<'_>]) -> Result<PageIndex, NoMemory>
-    ensures { IfOk result (λ index. IsPermutation (map region_of (sections_told sections.now)) index) }
-{
-    let regions = regions(alloc, sections)?;
     PageIndex::new(alloc, &regions)
 }
 

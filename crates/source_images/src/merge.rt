@@ -1,6 +1,6 @@
 //! What comes of all that is read: the first fault of the lines of tables, or their images.
 
-ghost use Rattle.source_images.specs.Archs.{differs, is_other};
+ghost use Rattle.source_images.specs.Archs.{is_other};
 ghost use Rattle.source_images.specs.Told.{merged, merged_with, none_merged, with_image};
 ghost use Rattle.std.specs.Prelude.{◌≡◌, IfOk, OnOk};
 
@@ -18,21 +18,14 @@ pub struct Merged {
     pub images: List<Image>,
 }
 
-fn differs(a: Arch, b: Arch) -> bool
-    ensures { result ≡ differs a b }
-{
-    match (a, b) {
-        (Arch::Arm11, Arch::Arm11) | (Arch::Aarch64, Arch::Aarch64) => false,
-        (Arch::Arm11, Arch::Aarch64) | (Arch::Aarch64, Arch::Arm11) => true,
-    }
-}
-
+/// Whether an architecture is another one than the first, where there is one.
 fn is_other(first: Option<Arch>, arch: Arch) -> bool
     ensures { result ≡ is_other first arch }
 {
-    match first {
-        Some(first) => differs(first, arch),
-        None => false,
+    match (first, arch) {
+        (Some(Arch::Arm11), Arch::Aarch64) | (Some(Arch::Aarch64), Arch::Arm11) => true,
+        (Some(Arch::Arm11), Arch::Arm11) | (Some(Arch::Aarch64), Arch::Aarch64) | (None, _) =>
+            false,
     }
 }
 

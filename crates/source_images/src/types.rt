@@ -2,13 +2,13 @@
 
 ghost use Rattle.name_tables.specs.ByName.{found};
 ghost use Rattle.source_images.specs.Told.{names_told, with_type};
-ghost use Rattle.source_images.specs.Types.{component_name, component_of, type_number, type_of, types};
+ghost use Rattle.source_images.specs.Types.{type_number, type_of, types};
 ghost use Rattle.std.specs.Option.{option_and_then, option_copied};
 ghost use Rattle.std.specs.Prelude.{◌≡◌, ◌<◌, ◌≤◌, ◌^◌, ℕ, length, map, position, List as Items, IfOk, OnOk};
 ghost use Rattle.std.specs.Str.{bytes_eq};
 
 use adl_ast::{Item, Source};
-use adl_meaning::{Flat, ItemAt, Leaf};
+use adl_meaning::{Flat, Leaf};
 use cam_base::{List, Name, NoMemory};
 use name_tables::NameTable;
 use std::alloc::Global;
@@ -20,34 +20,20 @@ pub struct Types<'a> {
     pub numbers: NameTable<'a, u32>,
 }
 
-fn component_of(item: &Item) -> Option<&Name>
-    ensures { option_copied result ≡ component_of item.now }
-{
-    match item {
-        Item::Import(_) => None,
-        Item::Procedure(_) => None,
-        Item::Component(component) => Some(&component.id.name),
-        Item::Assembly(_) => None,
-    }
-}
-
-/// The name of the component that stands there.
-fn component_name(source: &Source, at: ItemAt) -> Option<&Name>
-    ensures { option_copied result ≡ component_name source.now at }
-{
-    let file = source.files.as_slice().get(at.file as usize)?;
-    let ended = file.tree.items.as_slice().get(at.item as usize)?;
-    component_of(&ended.item)
-}
-
-/// The type of a leaf; a device has none.
+/// The type of a leaf, the name of its component; a device has none.
 fn type_of<'a>(source: &'a Source, leaf: &Leaf) -> Option<&'a Name>
     ensures { option_copied result ≡ type_of source.entry.now leaf.now }
 {
     if leaf.hardware {
         return None;
     }
-    component_name(source, leaf.component)
+    let at = leaf.component;
+    let file = source.files.as_slice().get(at.file as usize)?;
+    let ended = file.tree.items.as_slice().get(at.item as usize)?;
+    match &ended.item {
+        Item::Component(component) => Some(&component.id.name),
+        Item::Import(_) | Item::Procedure(_) | Item::Assembly(_) => None,
+    }
 }
 
 impl<'a> Types<'a> {

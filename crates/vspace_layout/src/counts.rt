@@ -3,7 +3,7 @@
 ghost use Rattle.source_images.specs.Numbered.{AreCounted};
 ghost use Rattle.std.specs.Prelude.{◌≡◌, map, sum, IfOk};
 ghost use Rattle.vspace_layout.specs.Counted.{capped, tables_of};
-ghost use Rattle.vspace_layout.specs.FrameNumbers.{all_own, is_own};
+ghost use Rattle.vspace_layout.specs.FrameNumbers.{all_own};
 ghost use Rattle.vspace_layout.specs.Outlines.{counted_by};
 ghost use Rattle.vspace_layout.specs.Regions.{pages_in};
 
@@ -60,19 +60,17 @@ pub fn all_tables(arch: Arch, spaces: &[List<MappedPage>]) -> u64
     count
 }
 
-fn is_own(page: &MappedPage) -> bool
-    ensures { result ≡ is_own page.now }
-{
-    matches!(page.shown, Shown::Own(_))
-}
-
 /// How many frames of their own domains with these pages have.
 pub fn all_own(spaces: &[List<MappedPage>]) -> u64
     ensures { result ≡ capped (all_own spaces.now) }
 {
     let mut count: u64 = 0;
     for pages in spaces {
-        let own = pages.as_slice().iter().filter(|page| is_own(page)).count();
+        let own = pages
+            .as_slice()
+            .iter()
+            .filter(|page| matches!(page.shown, Shown::Own(_)))
+            .count();
         count = count.saturating_add(own as u64);
     }
     count

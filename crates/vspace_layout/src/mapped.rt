@@ -1,9 +1,8 @@
 //! The pages of domains, before their frames have numbers.
 
 ghost use Rattle.cam_base.specs.Gather.{gather};
-ghost use Rattle.std.specs.Prelude.{◌≡◌, ◌<◌, ◌+◌, ◌*◌, ◌^◌, ◌++◌, length, map, IfOk, OnOk};
-ghost use Rattle.vspace_layout.specs.MappedPages.{may_read, may_write, window_page, zero_page};
-ghost use Rattle.vspace_layout.specs.MappedPages.{pages_from, region_page, section_page};
+ghost use Rattle.std.specs.Prelude.{◌≡◌, ◌<◌, ◌+◌, ◌*◌, ◌^◌, ◌++◌, length, map, OnOk};
+ghost use Rattle.vspace_layout.specs.MappedPages.{may_read, may_write, pages_from, region_page, section_page};
 ghost use Rattle.vspace_layout.specs.Outlines.{RegionsFit, starting};
 
 use crate::region::{Content, Region};
@@ -13,7 +12,6 @@ use cap_model::Fill;
 use cspace_layout::Wiring;
 use page_tables::Addressed;
 use source_images::SectionPage;
-use std::alloc::Global;
 
 /// What a page shows: a frame of the domain's own, or a page of a connection's memory.
 #[derive(Drop)]
@@ -67,52 +65,36 @@ pub fn push_sections(
 fn may_read(setting: Option<EndSetting>) -> bool
     ensures { result ≡ may_read setting }
 {
-    match setting {
-        Some(setting) => setting.read,
-        None => false,
-    }
+    setting.is_some_and(|setting| setting.read)
 }
 
 fn may_write(setting: Option<EndSetting>) -> bool
     ensures { result ≡ may_write setting }
 {
-    match setting {
-        Some(setting) => setting.write,
-        None => false,
-    }
+    setting.is_some_and(|setting| setting.write)
 }
 
-/// Page `page` of a connection's memory, seen from an end with this setting.
-fn window_page(setting: Option<EndSetting>, connection: u32, at: u64, page: u64) -> MappedPage
-    ensures { result ≡ window_page setting connection at page }
-{
-    MappedPage {
-        at,
-        read: may_read(setting),
-        write: may_write(setting),
-        shown: Shown::Memory { connection, page },
-    }
-}
-
-/// A page of the domain's own that is zeros.
-fn zero_page(at: u64) -> MappedPage
-    ensures { result ≡ zero_page at }
-{
-    MappedPage {
-        at,
-        read: true,
-        write: true,
-        shown: Shown::Own(None),
-    }
-}
-
-/// Page `page` of a region, at its address.
+/// Page `page` of a region, at its address: zeros of the domain's own, or a page of the connection's memory.
 fn region_page(wiring: &Wiring<'_>, content: Content, at: u64, page: u64) -> MappedPage
     ensures { result ≡ region_page wiring.now.settled content at page }
 {
     match content {
-        Content::Stack | Content::Buffer => zero_page(at),
-        Content::Window(end) => window_page(wiring.setting(end), end.connection, at, page),
+        Content::Stack | Content::Buffer => MappedPage {
+            at,
+            read: true,
+            write: true,
+            shown: Shown::Own(None),
+        },
+        Content::Window(end) => {
+            let setting = wiring.setting(end);
+            let connection = end.connection;
+            MappedPage {
+                at,
+                read: may_read(setting),
+                write: may_write(setting),
+                shown: Shown::Memory { connection, page },
+            }
+        }
     }
 }
 

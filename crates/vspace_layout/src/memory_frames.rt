@@ -10,11 +10,11 @@ ghost use Rattle.vspace_layout.specs.Frames.{memory_part, register_part, shared_
 ghost use Rattle.vspace_layout.specs.Memory.{memory_paddr, memory_pages};
 ghost use Rattle.vspace_layout.specs.Ports.{first_numbers};
 
-use crate::memory::{is_shared, memory_paddr, memory_pages, registers};
+use crate::memory::{memory_paddr, memory_pages, registers};
 use crate::owner::Owner;
 use crate::ports::first_numbers;
 use crate::spaces::FrameInfo;
-use adl_meaning::FlatConnection;
+use adl_meaning::{Connector, FlatConnection};
 use cam_base::{List, NoMemory};
 use cspace_layout::Wiring;
 use std::alloc::Global;
@@ -49,10 +49,12 @@ fn push_shared(
 ) -> Result<(), NoMemory>
     ensures { OnOk result (frames.new ≡ frames.old ++ shared_frames wiring.now.settled number connection.now) }
 {
-    if is_shared(connection.connector) {
-        push_pages(number, memory_pages(wiring, number, connection), frames)?;
+    match connection.connector {
+        Connector::SharedMemory => {
+            push_pages(number, memory_pages(wiring, number, connection), frames)
+        }
+        _ => Ok(()),
     }
-    Ok(())
 }
 
 /// Adds the frames of shared memory, and tells how many stand before those of each connection.
@@ -98,10 +100,7 @@ fn push_device_pages(
 fn is_that(first: Option<u32>, number: u32) -> bool
     ensures { result ≡ is_that first number }
 {
-    match first {
-        Some(first) => first == number,
-        None => false,
-    }
+    first.is_some_and(|first| first == number)
 }
 
 /// Adds the frames of a connection's registers, if `first`, the first connection to them, is this one.

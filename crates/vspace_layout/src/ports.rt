@@ -2,10 +2,10 @@
 
 ghost use Rattle.std.specs.Option.{option_or};
 ghost use Rattle.std.specs.Prelude.{◌≡◌, ◌≤◌, None, Some, length, IfOk, OnOk, if◌then◌else◌};
-ghost use Rattle.vspace_layout.specs.Ports.{first_at, first_noted, first_numbers, key_of, leads_by, same_key};
+ghost use Rattle.vspace_layout.specs.Ports.{first_at, first_noted, first_numbers, leads_by};
 
 use crate::memory::registers;
-use adl_meaning::{FlatConnection, FlatEnd};
+use adl_meaning::FlatConnection;
 use cam_base::NoMemory;
 use indexmap::IndexMap;
 use std::alloc::Global;
@@ -33,34 +33,25 @@ impl Ports {
         }
     }
 
-    /// Notes a connection to the registers of an end, and tells which was the first.
-    fn note_end(&mut self, end: FlatEnd, number: u32) -> Result<u32, NoMemory>
-        ensures first { IfOk result (λ n. first_at self.new (key_of end) ≡ Some n) }
-        ensures ports { OnOk result ((k : PortKey) → first_at self.new k
-            ≡ option_or (first_at self.old k) (if same_key (key_of end) k then Some number else None)) }
-    {
-        let key = PortKey {
-            leaf: end.leaf,
-            member: end.member,
-        };
-        match self.firsts.get(&key).copied() {
-            Some(first) => Ok(first),
-            None => {
-                self.firsts.insert(key, number)?;
-                Ok(number)
-            }
-        }
-    }
-
     /// Notes a connection, and tells which was the first to its registers; none where it leads to none.
     fn note(&mut self, connection: &FlatConnection, number: u32) -> Result<Option<u32>, NoMemory>
         ensures first { IfOk result (λ first. first ≡ first_noted self.new connection.now) }
         ensures ports { OnOk result ((k : PortKey) → first_at self.new k
             ≡ option_or (first_at self.old k) (if leads_by k connection.now then Some number else None)) }
     {
-        match registers(connection) {
-            Some(end) => Ok(Some(self.note_end(end, number)?)),
-            None => Ok(None),
+        let Some(end) = registers(connection) else {
+            return Ok(None);
+        };
+        let key = PortKey {
+            leaf: end.leaf,
+            member: end.member,
+        };
+        match self.firsts.get(&key).copied() {
+            Some(first) => Ok(Some(first)),
+            None => {
+                self.firsts.insert(key, number)?;
+                Ok(Some(number))
+            }
         }
     }
 }

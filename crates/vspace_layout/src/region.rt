@@ -3,7 +3,7 @@
 ghost use Rattle.cspace_layout.specs.System.{all_ends};
 ghost use Rattle.std.specs.List.{flat_map};
 ghost use Rattle.std.specs.Prelude.{◌≡◌, ◌++◌, map, IfOk, OnOk};
-ghost use Rattle.vspace_layout.specs.Regions.{domain_windows, end_window, is_window, leaf_windows, regions_in, sees_memory};
+ghost use Rattle.vspace_layout.specs.Regions.{domain_windows, leaf_windows, regions_in, sees_memory};
 ghost use Rattle.vspace_layout.specs.Regions.{stack_pages, thread_regions, window_pages, window_region};
 
 use crate::memory::memory_pages;
@@ -31,40 +31,27 @@ pub struct Region {
 
 // ---- windows
 
-fn is_window(connector: Connector, role: Role) -> bool
-    ensures { result ≡ is_window connector role }
-{
-    match connector {
-        Connector::SharedMemory => true,
-        Connector::Mmio => matches!(role, Role::From),
-        _ => false,
-    }
-}
-
-/// Whether the end sees memory.
+/// Whether the end sees memory: an end of shared memory, or the one of software at a device's registers.
 fn sees_memory(wiring: &Wiring<'_>, end: EndAt) -> bool
     ensures { result ≡ sees_memory wiring.now.flat end }
 {
     match wiring.end(end) {
-        Some((connector, end)) => is_window(connector, end.role),
+        Some((connector, end)) => match connector {
+            Connector::SharedMemory => true,
+            Connector::Mmio => matches!(end.role, Role::From),
+            _ => false,
+        },
         None => false,
     }
-}
-
-fn push_window(wiring: &Wiring<'_>, end: EndAt, windows: &mut List<EndAt>) -> Result<(), NoMemory>
-    ensures { OnOk result (windows.new ≡ windows.old ++ end_window wiring.now.flat end) }
-{
-    if sees_memory(wiring, end) {
-        windows.push(end)?;
-    }
-    Ok(())
 }
 
 fn push_windows(wiring: &Wiring<'_>, leaf: u32, windows: &mut List<EndAt>) -> Result<(), NoMemory>
     ensures { OnOk result (windows.new ≡ windows.old ++ leaf_windows wiring.now.flat (all_ends wiring.now) leaf) }
 {
     for end in wiring.ends(leaf) {
-        push_window(wiring, *end, windows)?;
+        if sees_memory(wiring, *end) {
+            windows.push(*end)?;
+        }
     }
     Ok(())
 }
@@ -106,23 +93,6 @@ pub fn stack_pages(wiring: &Wiring<'_>, leaf: u32) -> u64
     }
 }
 
-fn push_thread(
-    wiring: &Wiring<'_>,
-    thread: ThreadOf,
-    regions: &mut List<Region>,
-) -> Result<(), NoMemory>
-    ensures { OnOk result (regions.new ≡ regions.old ++ thread_regions wiring.now.settled thread) }
-{
-    regions.push(Region {
-        content: Content::Stack,
-        pages: stack_pages(wiring, thread.leaf),
-    })?;
-    regions.push(Region {
-        content: Content::Buffer,
-        pages: 1,
-    })
-}
-
 fn push_thread_regions(
     wiring: &Wiring<'_>,
     threads: &[ThreadOf],
@@ -131,7 +101,14 @@ fn push_thread_regions(
     ensures { OnOk result (regions.new ≡ regions.old ++ flat_map (thread_regions wiring.now.settled) threads.now) }
 {
     for thread in threads {
-        push_thread(wiring, *thread, regions)?;
+        regions.push(Region {
+            content: Content::Stack,
+            pages: stack_pages(wiring, thread.leaf),
+        })?;
+        regions.push(Region {
+            content: Content::Buffer,
+            pages: 1,
+        })?;
     }
     Ok(())
 }

@@ -2,7 +2,7 @@
 
 ghost use Rattle.cspace_layout.specs.System.{all_ends};
 ghost use Rattle.std.specs.Prelude.{◌≡◌, ◌++◌, IfOk, OnOk};
-ghost use Rattle.vspace_layout.specs.Threads.{domain_threads, is_called, leaf_threads, server, serves};
+ghost use Rattle.vspace_layout.specs.Threads.{domain_threads, leaf_threads, serves};
 
 use adl_ast::Role;
 use adl_meaning::Connector;
@@ -17,37 +17,14 @@ pub struct ThreadOf {
     pub end: Option<EndAt>,
 }
 
-fn is_called(connector: Connector, role: Role) -> bool
-    ensures { result ≡ is_called connector role }
-{
-    matches!((connector, role), (Connector::Rpc, Role::To))
-}
-
 /// Whether calls come in by the end.
 fn serves(wiring: &Wiring<'_>, end: EndAt) -> bool
     ensures { result ≡ serves wiring.now.flat end }
 {
     match wiring.end(end) {
-        Some((connector, end)) => is_called(connector, end.role),
+        Some((connector, end)) => matches!((connector, end.role), (Connector::Rpc, Role::To)),
         None => false,
     }
-}
-
-fn push_server(
-    wiring: &Wiring<'_>,
-    leaf: u32,
-    end: EndAt,
-    threads: &mut List<ThreadOf>,
-) -> Result<(), NoMemory>
-    ensures { OnOk result (threads.new ≡ threads.old ++ server wiring.now.flat leaf end) }
-{
-    if serves(wiring, end) {
-        threads.push(ThreadOf {
-            leaf,
-            end: Some(end),
-        })?;
-    }
-    Ok(())
 }
 
 fn push_threads(
@@ -59,7 +36,12 @@ fn push_threads(
 {
     threads.push(ThreadOf { leaf, end: None })?;
     for end in wiring.ends(leaf) {
-        push_server(wiring, leaf, *end, threads)?;
+        if serves(wiring, *end) {
+            threads.push(ThreadOf {
+                leaf,
+                end: Some(*end),
+            })?;
+        }
     }
     Ok(())
 }

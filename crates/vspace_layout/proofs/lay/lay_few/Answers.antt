@@ -26,8 +26,8 @@ lay-requires-clause-outlined c =
 pub returns-in-Some-clause-faults : goal.returns-in-Some-clause-faults
 returns-in-Some-clause-faults c =
     let t = given_by c.args.wiring.now c.args.images.now in
-    let mapped = c.deref.ensures.value ∙ c.in_ok-mapped.ensures ∙ ap (mapped_by t.flat t.settled t.images) c.requires.outlines
-    ∙ mapped_same t in
+    let mapped = c.deref.ensures.value ∙ c.in_ok-mapped.ensures
+    ∙ ap (mapped_by t.flat t.settled t.images) c.requires.outlines ∙ mapped_same t in
     let tables =
     c.all_tables-tables.ensures
     ∙ ap (λ a. capped (sum (map (tables_of a) c.deref.result.now))) c.arch.ensures
@@ -35,14 +35,15 @@ returns-in-Some-clause-faults c =
     ∙ ap capped (sym (tables_counted t)) in
     tables_over t.source (sum (page_counts t)) (sum (table_counts t)) c.in-Some.fault c.source-source.ensures.within.assembly
     c.requires.few (sym (ap (λ n. limit_over t.source n (codes "tables")) tables)
-    ∙ sym (c.in_ok-fault.ensures ∙ ap (λ s. limit_over s c.all_tables-tables.result (codes "tables")) c.source-source.ensures.source)
+    ∙ sym (c.in_ok-fault.ensures
+    ∙ ap (λ s. limit_over s c.all_tables-tables.result (codes "tables")) c.source-source.ensures.source)
     ∙ c.in-Some.is)
 
 pub returns-clause-faults : goal.returns-clause-faults
 returns-clause-faults c =
     let t = given_by c.args.wiring.now c.args.images.now in
-    let mapped = c.deref.ensures.value ∙ c.in_ok-mapped.ensures ∙ ap (mapped_by t.flat t.settled t.images) c.requires.outlines
-    ∙ mapped_same t in
+    let mapped = c.deref.ensures.value ∙ c.in_ok-mapped.ensures
+    ∙ ap (mapped_by t.flat t.settled t.images) c.requires.outlines ∙ mapped_same t in
     let tables =
     c.all_tables-tables.ensures
     ∙ ap (λ a. capped (sum (map (tables_of a) c.deref.result.now))) c.arch.ensures
@@ -50,7 +51,8 @@ returns-clause-faults c =
     ∙ ap capped (sym (tables_counted t)) in
     none_over t.source (sum (page_counts t)) (sum (table_counts t)) c.source-source.ensures.within.assembly c.requires.few
     (sym (ap (λ n. limit_over t.source n (codes "tables")) tables)
-    ∙ sym (c.in_ok-fault.ensures ∙ ap (λ s. limit_over s c.all_tables-tables.result (codes "tables")) c.source-source.ensures.source)
+    ∙ sym (c.in_ok-fault.ensures
+    ∙ ap (λ s. limit_over s c.all_tables-tables.result (codes "tables")) c.source-source.ensures.source)
     ∙ c.in_default.is)
 
 pub returns-clause-spaces : goal.returns-clause-spaces
