@@ -3,12 +3,10 @@
 ghost use Rattle.adl_meaning.specs.Faults.{Refuses};
 ghost use Rattle.arch_compile.specs.Steps.{IsImaged, IsLaid, first_laid_fault};
 ghost use Rattle.front_end.specs.Steps.{HasMeaning};
-ghost use Rattle.source_images.specs.Numbered.{AreNumbered};
 ghost use Rattle.source_images.specs.SpaceFaults.{first_space_fault};
 ghost use Rattle.std.specs.Prelude.{◌≡◌, IfOk, None};
 ghost use Rattle.vspace_layout.specs.Given.{given, given_by};
 
-use adl_meaning::Flat;
 use cam_base::{Fault, Refused};
 use cspace_layout::{Slots, Wiring, lay_slots};
 use front_end::Meaning;
@@ -21,17 +19,6 @@ use vspace_layout::{Spaces, lay_apart};
 pub struct Layout {
     pub slots: Slots,
     pub spaces: Spaces,
-}
-
-/// Refused exactly where a fault of sections stands.
-fn check_sections(alloc: Global, flat: &Flat, images: &Images) -> Result<(), Refused<Fault>>
-    requires { AreNumbered flat.now images.now }
-    ensures { Refuses result (first_space_fault flat.now images.now) }
-{
-    match first_space_fault(alloc, flat, images)? {
-        Some(fault) => Err(Refused::Fault(fault)),
-        None => Ok(()),
-    }
 }
 
 /// The slots and the spaces of what is wired, with these images, where no fault of sections stands; refused exactly where a limit
@@ -56,7 +43,9 @@ pub fn lay_out(alloc: Global, meaning: &Meaning, images: &Images) -> Result<Layo
     ensures fault { Refuses result (first_laid_fault (given meaning.now.source meaning.now.flat meaning.now.settled images.now)) }
     ensures laid { IfOk result (IsLaid meaning.now.source meaning.now.flat meaning.now.settled images.now) }
 {
-    check_sections(alloc, &meaning.flat, images)?;
+    if let Some(fault) = first_space_fault(alloc, &meaning.flat, images)? {
+        return Err(Refused::Fault(fault));
+    }
     let wiring = Wiring::new(alloc, &meaning.source, &meaning.flat, &meaning.settled)?;
     lay_wired(alloc, &wiring, images)
 }

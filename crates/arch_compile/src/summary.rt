@@ -1,8 +1,8 @@
-ghost use Rattle.arch_compile.specs.Summary.{cap_count, capped, caps_in, is_thread, one_if, tcb_caps, thread_count};
+ghost use Rattle.arch_compile.specs.Summary.{cap_count, capped, caps_in, one_if, thread_count};
 ghost use Rattle.std.specs.Prelude.{◌≡◌};
 
 use adl_meaning::Flat;
-use cap_model::{EdgeTable, Entry, Object, Spec, Tcb};
+use cap_model::{EdgeTable, Entry, Object, Spec};
 
 /// How many domains, threads, connections, objects, capabilities and edges a system has.
 #[derive(Clone, Copy)]
@@ -34,18 +34,12 @@ impl Summary {
     }
 }
 
-fn is_thread(object: &Object) -> bool
-    ensures { result ≡ is_thread object.now }
-{
-    matches!(object, Object::Thread(_))
-}
-
 fn thread_count(entries: &[Entry]) -> usize
     ensures { result ≡ thread_count entries.now }
 {
     entries
         .iter()
-        .filter(|entry| is_thread(&entry.object))
+        .filter(|entry| matches!(entry.object, Object::Thread(_)))
         .count()
 }
 
@@ -58,19 +52,16 @@ fn one_if<T>(option: &Option<T>) -> u64
     }
 }
 
-fn tcb_caps(tcb: &Tcb) -> u64
-    ensures { result ≡ tcb_caps tcb.now }
-{
-    one_if(&tcb.cspace) + one_if(&tcb.vspace) + one_if(&tcb.buffer)
-}
-
 /// How many capabilities an object has.
 fn caps_in(object: &Object) -> u64
     ensures { result ≡ caps_in object.now }
 {
     match object {
         Object::CNode { slots, .. } | Object::Pages { slots, .. } => slots.len() as u64,
-        Object::Thread(tcb) => tcb_caps(tcb.get()),
+        Object::Thread(tcb) => {
+            let tcb = tcb.get();
+            one_if(&tcb.cspace) + one_if(&tcb.vspace) + one_if(&tcb.buffer)
+        }
         Object::Irq { notification } => one_if(notification),
         _ => 0,
     }

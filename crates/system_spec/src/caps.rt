@@ -2,7 +2,7 @@
 
 ghost use Rattle.conn_rules.specs.Row.{RW};
 ghost use Rattle.cam_base.specs.Gather.{gather};
-ghost use Rattle.std.specs.Prelude.{◌≡◌, ◌+◌, ◌<◌, ◌^◌, length, slice_index, IfOk};
+ghost use Rattle.std.specs.Prelude.{◌≡◌, ◌+◌, ◌<◌, ◌^◌, length, IfOk};
 ghost use Rattle.system_spec.specs.Objects.{joint, slots_at, use_cap_at};
 ghost use Rattle.system_spec.specs.Parts.{lock, place};
 ghost use Rattle.system_spec.specs.Places.{ArePlaces, holds_lock, one};
@@ -15,6 +15,7 @@ use crate::ends::{badge_at, rights_at};
 use crate::places::Places;
 use crate::tables::Tables;
 use adl_meaning::Connector;
+use arch_policy::number_at;
 use cam_base::{List, NoMemory};
 use cap_model::{Cap, Rights};
 use cspace_layout::SlotUse;
@@ -28,16 +29,6 @@ pub fn lock_rights() -> Rights
         read: true,
         write: true,
         ..Rights::none()
-    }
-}
-
-/// The number at a place, 0 where there is none.
-pub fn number_at(numbers: &[u32], place: u32) -> u32
-    ensures { result ≡ slice_index numbers.now place }
-{
-    match numbers.get(place as usize) {
-        Some(number) => *number,
-        None => 0,
     }
 }
 

@@ -1,28 +1,18 @@
 //! The interrupt lines.
 
-ghost use Rattle.cspace_layout.specs.Lookups.{setting_of};
 ghost use Rattle.cam_base.specs.Gather.{gather};
 ghost use Rattle.std.specs.Prelude.{◌≡◌, ◌++◌, IfOk, OnOk};
 ghost use Rattle.system_spec.specs.Few.{AreFew};
-ghost use Rattle.system_spec.specs.Objects.{line, line_by, lines};
+ghost use Rattle.system_spec.specs.Objects.{line, lines};
 ghost use Rattle.system_spec.specs.Parts.{first_of, place};
 ghost use Rattle.system_spec.specs.Tables.{irq_number};
 ghost use Rattle.system_spec.specs.declared.part.What.TheVariants.{IrqOf};
 ghost use Rattle.system_spec.specs.Told.{told};
 
 use crate::tables::{Tables, device_place};
-use adl_meaning::{Connector, EndSetting, FlatConnection, Settled};
+use adl_meaning::{Connector, FlatConnection, Settled};
 use cam_base::{List, NoMemory};
 use std::alloc::Global;
-
-/// The settings of an end by its place.
-fn setting_at(settled: &Settled, number: u32, place: usize) -> Option<EndSetting>
-    ensures { result ≡ setting_of settled.now number place }
-{
-    let settings = settled.connections.as_slice().get(number as usize)?;
-    let setting = settings.ends.as_slice().get(place)?;
-    Some(*setting)
-}
 
 /// The settled number of the interrupt of a connection.
 fn irq_number(settled: &Settled, number: u32, connection: &FlatConnection) -> u64
@@ -31,7 +21,10 @@ fn irq_number(settled: &Settled, number: u32, connection: &FlatConnection) -> u6
     let Some(place) = device_place(connection.connector, connection.ends.as_slice()) else {
         return 0;
     };
-    match setting_at(settled, number, place) {
+    let Some(settings) = settled.connections.as_slice().get(number as usize) else {
+        return 0;
+    };
+    match settings.ends.as_slice().get(place) {
         Some(setting) => setting.irq,
         None => 0,
     }

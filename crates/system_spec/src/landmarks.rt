@@ -1,18 +1,18 @@
 //! Where the objects stand that others name.
 
 ghost use Rattle.cam_base.specs.Gather.{gather};
-ghost use Rattle.std.specs.Prelude.{◌≡◌, ◌<◌, ◌≤◌, ◌^◌, length, take, IfOk};
+ghost use Rattle.std.specs.Prelude.{◌≡◌, ◌<◌, ◌^◌, length, IfOk};
 ghost use Rattle.system_spec.specs.Buildable.{IsBuildable};
 ghost use Rattle.system_spec.specs.Landmarks.{AreLandmarks, IsPlan, all_spaces, first_locks, roots as roots_of};
 ghost use Rattle.system_spec.specs.Grouped.{but_frames};
-ghost use Rattle.system_spec.specs.Parts.{first_of, lock, together};
+ghost use Rattle.system_spec.specs.Parts.{first_of, lock};
 ghost use Rattle.system_spec.specs.Told.{told};
 
 use crate::Part;
 use crate::caps::lock_number;
 use crate::levels::push_tables_at;
 use crate::listing::{first_of, sections};
-use crate::places::{Firsts, Places, places_of};
+use crate::places::{Places, places_of};
 use crate::tables::{Tables, uses_at};
 use cam_base::{List, NoMemory};
 use cap_model::Object;
@@ -95,21 +95,6 @@ fn all_spaces(
     Ok(SpaceTables { roots, objects })
 }
 
-/// Where the sections of the objects of connections begin.
-fn firsts(sections: &[List<Part>]) -> Firsts
-    requires few { length (together sections.now) < 2 ^ 32 }
-    requires all { 7 ≤ length sections.now }
-    ensures endpoint { result.endpoint ≡ length (together (take 2 sections.now)) }
-    ensures notification { result.notification ≡ length (together (take 3 sections.now)) }
-    ensures irq { result.irq ≡ length (together (take 5 sections.now)) }
-{
-    Firsts {
-        endpoint: first_of(sections, 2),
-        notification: first_of(sections, 3),
-        irq: first_of(sections, 5),
-    }
-}
-
 /// Where the objects of a system with these sections stand, whose space roots stand at these places.
 fn landmarks_of(
     alloc: Global,
@@ -123,7 +108,13 @@ fn landmarks_of(
     ensures { IfOk result (λ marks. AreLandmarks (told tables.now) marks) }
 {
     Ok(Landmarks {
-        connections: places_of(alloc, tables, firsts(sections))?,
+        connections: places_of(
+            alloc,
+            tables,
+            first_of(sections, 2),
+            first_of(sections, 3),
+            first_of(sections, 5),
+        )?,
         locks: first_locks(alloc, tables, first_of(sections, 4))?,
         roots,
         first_frame: first_of(sections, 7),

@@ -1,11 +1,10 @@
 //! The page tables of all domains, and their numbers.
 
 ghost use Rattle.cam_base.specs.Gather.{gather};
-ghost use Rattle.page_tables.specs.Levels.{level_of};
 ghost use Rattle.std.specs.Prelude.{◌≡◌, ◌<◌, ◌+◌, ◌^◌, ◌++◌, ◌∷◌, [], map, length, IfOk, OnOk};
 ghost use Rattle.system_spec.specs.Few.{AreFew, AreShown, IsShown, table_count};
-ghost use Rattle.system_spec.specs.LevelNumbers.{counted, counts, one_more};
-ghost use Rattle.system_spec.specs.Parts.{all_tables, page_mapping, page_rights, page_table, table_parts, tables_at};
+ghost use Rattle.system_spec.specs.LevelNumbers.{counted, one_more};
+ghost use Rattle.system_spec.specs.Parts.{all_tables, page_mapping, page_table, table_parts, tables_at};
 ghost use Rattle.system_spec.specs.Tables.{pages_at};
 ghost use Rattle.system_spec.specs.Told.{told};
 
@@ -18,17 +17,6 @@ use page_tables::{Mapping, levels_of, push_tables_of};
 use std::alloc::Global;
 use vspace_layout::Page;
 
-fn page_rights(page: Page) -> Rights
-    ensures { result ≡ page_rights page }
-{
-    Rights {
-        read: page.read,
-        write: page.write,
-        grant: false,
-        reply: false,
-    }
-}
-
 /// A page as a mapping, where frame 0 stands at this place.
 fn mapping(frames: u32, page: Page) -> Mapping
     requires { IsShown frames page }
@@ -38,7 +26,11 @@ fn mapping(frames: u32, page: Page) -> Mapping
         at: page.vaddr,
         cap: Cap {
             object: frames + page.frame,
-            rights: page_rights(page),
+            rights: Rights {
+                read: page.read,
+                write: page.write,
+                ..Rights::none()
+            },
             badge: 0,
         },
     }
@@ -74,13 +66,6 @@ pub fn push_tables_at(
     push_tables_of(alloc, tables.images.arch(), first, &mappings, objects)
 }
 
-/// The levels of the page tables of a domain.
-fn levels_at(alloc: Global, tables: &Tables<'_>, domain: u32) -> Result<List<Level>, NoMemory>
-    ensures { IfOk result (λ levels. levels ≡ map level_of (tables_at (told tables.now) 0 0 domain)) }
-{
-    levels_of(alloc, tables.images.arch(), pages_at(tables, domain))
-}
-
 /// Puts the page tables of a domain, which have these levels, behind the others.
 fn push_page_tables(
     domain: u32,
@@ -107,7 +92,7 @@ pub fn all_tables(alloc: Global, tables: &Tables<'_>) -> Result<List<PageTable>,
 {
     let mut all = List::new(alloc);
     for number in 0..tables.flat.domains.len() as u32 {
-        let levels = levels_at(alloc, tables, number)?;
+        let levels = levels_of(alloc, tables.images.arch(), pages_at(tables, number))?;
         push_page_tables(number, levels.as_slice(), &mut all)?;
     }
     Ok(all)
@@ -120,17 +105,6 @@ pub struct LevelCounts {
     pub upper: u32,
     pub directory: u32,
     pub table: u32,
-}
-
-fn no_tables() -> LevelCounts
-    ensures { result ≡ counts 0 0 0 0 }
-{
-    LevelCounts {
-        global: 0,
-        upper: 0,
-        directory: 0,
-        table: 0,
-    }
 }
 
 fn counted(counts: LevelCounts, level: Level) -> u32
@@ -164,7 +138,12 @@ pub fn table_parts(alloc: Global, tables: &[PageTable]) -> Result<List<Part>, No
     ensures { IfOk result (λ parts. parts ≡ table_parts tables.now) }
 {
     let mut parts = List::from_vec(Vec::with_capacity(alloc, tables.len())?);
-    let mut counts = no_tables();
+    let mut counts = LevelCounts {
+        global: 0,
+        upper: 0,
+        directory: 0,
+        table: 0,
+    };
     for table in tables {
         parts.push(Part {
             series: Series::of_level(table.level),

@@ -33,7 +33,7 @@ pub use laws::{
 };
 pub use made::{System, build, build_with_map, map_lines};
 pub use map_line::MapLine;
-pub use map_text::{MapNames, write_map};
+pub use map_text::{MapNames, member_name, write_map};
 pub use part::{Owned, PageTable, Part, What};
 pub use series::Series;
 pub use tables::Tables;

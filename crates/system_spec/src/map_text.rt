@@ -2,19 +2,17 @@
 
 ghost use Rattle.cam_base.specs.Paths.{joined};
 ghost use Rattle.cam_io.specs.Saying.{Says};
-ghost use Rattle.cspace_layout.specs.Members.{leaf_members};
 ghost use Rattle.std.specs.List.{flat_map};
 ghost use Rattle.std.specs.Prelude.{◌≡◌, ◌∷◌};
 ghost use Rattle.system_spec.specs.MapText.{connection_path, domain_line, domain_path, end_text, leaf_path, line_text, map_text};
 ghost use Rattle.system_spec.specs.MapText.{member_name, name_in, named, own_line, slot_line, thread_line, window_line};
-ghost use Rattle.system_spec.specs.Names.{root_series};
 
 use crate::{MapLine, Series};
 use adl_ast::{Member, Source};
 use adl_meaning::Flat;
 use cam_base::{Name, hexadecimal};
 use cam_io::{Outputs, Writer};
-use cap_model::{Arch, Spec};
+use cap_model::Spec;
 use cspace_layout::{EndAt, end_of, members_at};
 use itoa::Buffer;
 
@@ -24,15 +22,6 @@ pub struct MapNames<'a> {
     pub source: &'a Source,
     pub flat: &'a Flat,
     pub spec: &'a Spec,
-}
-
-fn root_series(arch: Arch) -> Series
-    ensures { result ≡ root_series arch }
-{
-    match arch {
-        Arch::Arm11 => Series::Pd,
-        Arch::Aarch64 => Series::Pgd,
-    }
 }
 
 fn domain_path(flat: &Flat, domain: u32) -> &[Name]
@@ -72,20 +61,14 @@ fn name_in(member: &Member) -> &[u8]
     }
 }
 
-fn leaf_members<'a>(names: &'a MapNames<'_>, leaf: u32) -> &'a [Member]
-    ensures { result.now ≡ leaf_members names.now.source.now names.now.flat.now leaf }
-{
-    match names.flat.leaves.as_slice().get(leaf as usize) {
-        Some(found) => members_at(names.source, found.component),
-        None => &[],
-    }
-}
-
-/// The name of a member of a leaf.
-fn member_name<'a>(names: &'a MapNames<'_>, leaf: u32, member: u32) -> &'a [u8]
+/// The name of a member of a leaf. Takes no memory.
+pub fn member_name<'a>(names: &'a MapNames<'_>, leaf: u32, member: u32) -> &'a [u8]
     ensures { result.now ≡ member_name (named names.now) leaf member }
 {
-    match leaf_members(names, leaf).get(member as usize) {
+    let Some(leaf) = names.flat.leaves.as_slice().get(leaf as usize) else {
+        return b"";
+    };
+    match members_at(names.source, leaf.component).get(member as usize) {
         Some(found) => name_in(found),
         None => b"",
     }
@@ -129,7 +112,7 @@ fn write_domain<O: Outputs>(names: &MapNames<'_>, domain: u32, to: &mut Writer<O
     let mut number = Buffer::new();
     let number = number.format(domain).as_bytes();
     let cnode = Series::CNode.prefix();
-    let root = root_series(names.spec.arch).prefix();
+    let root = Series::of_root(names.spec.arch).prefix();
     to.text(b"domain ");
     write_path(domain_path(names.flat, domain), to);
     to.texts(&[b" ", cnode, number, b" ", root, number, b"\n"]);

@@ -1,23 +1,22 @@
 //! The object of each part that is no page table.
 
-ghost use Rattle.cap_model.specs.declared.object.Object.TheVariants.{Irq};
-ghost use Rattle.std.specs.Prelude.{◌≡◌, ◌<◌, Some, length, slice_index, IfOk};
+ghost use Rattle.std.specs.Prelude.{◌≡◌, ◌<◌, length, IfOk};
 ghost use Rattle.system_spec.specs.Buildable.{IsBuildable};
 ghost use Rattle.system_spec.specs.Landmarks.{AreLandmarks, IsThere};
-ghost use Rattle.system_spec.specs.Objects.{frame_object, object};
+ghost use Rattle.system_spec.specs.Objects.{object};
 ghost use Rattle.system_spec.specs.Told.{told};
 ghost use Rattle.system_spec.specs.declared.part.What.TheVariants.{CNodeOf, FrameOf};
 
 use crate::What;
 use crate::bits::bits_for;
-use crate::caps::{caps_of, number_at};
+use crate::caps::caps_of;
 use crate::landmarks::Landmarks;
 use crate::tables::{Tables, uses_at};
 use crate::tcbs::thread_object;
+use arch_policy::number_at;
 use cam_base::{Boxed, NoMemory};
 use cap_model::{Fill, Object};
 use std::alloc::Global;
-use vspace_layout::FrameInfo;
 
 fn cnode(
     alloc: Global,
@@ -39,14 +38,6 @@ fn cnode(
     })
 }
 
-fn irq(marks: &Landmarks, connection: u32) -> Object
-    ensures { result ≡ Irq (Some (slice_index marks.now.connections.notifications connection)) }
-{
-    Object::Irq {
-        notification: Some(number_at(marks.connections.notifications.as_slice(), connection)),
-    }
-}
-
 fn copied_fill(alloc: Global, fill: &Option<Boxed<Fill>>) -> Result<Option<Boxed<Fill>>, NoMemory>
     ensures { IfOk result (λ made. made ≡ fill.now) }
 {
@@ -63,20 +54,14 @@ fn copied_fill(alloc: Global, fill: &Option<Boxed<Fill>>) -> Result<Option<Boxed
     Ok(Some(Boxed::new(alloc, copy)?))
 }
 
-fn frame_of(alloc: Global, frame: &FrameInfo) -> Result<Object, NoMemory>
-    ensures { IfOk result (λ made. made ≡ frame_object frame.now) }
-{
-    Ok(Object::Frame {
-        paddr: frame.paddr,
-        fill: copied_fill(alloc, &frame.fill)?,
-    })
-}
-
 fn frame_at(alloc: Global, tables: &Tables<'_>, number: u32) -> Result<Object, NoMemory>
     ensures { IfOk result (λ made. made ≡ object (told tables.now) (FrameOf number)) }
 {
     match tables.spaces.frames.as_slice().get(number as usize) {
-        Some(found) => frame_of(alloc, found),
+        Some(frame) => Ok(Object::Frame {
+            paddr: frame.paddr,
+            fill: copied_fill(alloc, &frame.fill)?,
+        }),
         None => Ok(Object::Endpoint),
     }
 }
@@ -98,7 +83,9 @@ pub fn object(
         What::ThreadOf(domain, number) => thread_object(alloc, tables, marks, domain, number),
         What::EndpointOf(_) => Ok(Object::Endpoint),
         What::NotificationOf(_) | What::LockOf(_, _) => Ok(Object::Notification),
-        What::IrqOf(connection) => Ok(irq(marks, connection)),
+        What::IrqOf(connection) => Ok(Object::Irq {
+            notification: Some(number_at(marks.connections.notifications.as_slice(), connection)),
+        }),
         What::TableOf(_, _) => unreachable!(),
         What::FrameOf(number) => frame_at(alloc, tables, number),
     }

@@ -1,10 +1,10 @@
 //! Where the objects of connections stand.
 
-ghost use Rattle.cam_base.specs.Gather.{before, gather};
-ghost use Rattle.std.specs.Prelude.{◌≡◌, ◌+◌, ◌<◌, ◌^◌, ◌∷◌, [], length, IfOk};
+ghost use Rattle.cam_base.specs.Gather.{gather};
+ghost use Rattle.std.specs.Prelude.{◌≡◌, ◌+◌, ◌<◌, ◌^◌, length, IfOk};
 ghost use Rattle.system_spec.specs.Few.{AreFew};
 ghost use Rattle.system_spec.specs.Parts.{first_of};
-ghost use Rattle.system_spec.specs.Places.{ArePlaces, has_endpoint, has_irq, has_notification, mark, one, places_from, stands};
+ghost use Rattle.system_spec.specs.Places.{ArePlaces, mark, one, places_from, stands};
 ghost use Rattle.system_spec.specs.Told.{told};
 
 use crate::tables::Tables;
@@ -20,14 +20,6 @@ pub struct Places {
     pub irqs: List<u32>,
 }
 
-/// Where the sections of the objects of connections begin.
-#[derive(Clone, Copy)]
-pub struct Firsts {
-    pub endpoint: u32,
-    pub notification: u32,
-    pub irq: u32,
-}
-
 /// What connections have an object for.
 #[derive(Clone, Copy)]
 pub enum Standing {
@@ -36,32 +28,16 @@ pub enum Standing {
     Interrupt,
 }
 
-fn has_endpoint(connector: Connector) -> bool
-    ensures { result ≡ has_endpoint connector }
-{
-    matches!(connector, Connector::Rpc)
-}
-
-fn has_notification(connector: Connector) -> bool
-    ensures { result ≡ has_notification connector }
-{
-    matches!(connector, Connector::Notification | Connector::Interrupt)
-}
-
-fn has_irq(connector: Connector) -> bool
-    ensures { result ≡ has_irq connector }
-{
-    matches!(connector, Connector::Interrupt)
-}
-
 /// Whether connections of this connector have such an object.
 fn stands(standing: Standing, connector: Connector) -> bool
     ensures { result ≡ stands standing connector }
 {
     match standing {
-        Standing::Endpoint => has_endpoint(connector),
-        Standing::Notification => has_notification(connector),
-        Standing::Interrupt => has_irq(connector),
+        Standing::Endpoint => matches!(connector, Connector::Rpc),
+        Standing::Notification => {
+            matches!(connector, Connector::Notification | Connector::Interrupt)
+        }
+        Standing::Interrupt => matches!(connector, Connector::Interrupt),
     }
 }
 
@@ -91,23 +67,24 @@ fn places_from(
     Ok(places)
 }
 
-/// Where the objects of connections stand.
-pub fn places_of(alloc: Global, tables: &Tables<'_>, firsts: Firsts) -> Result<Places, NoMemory>
+/// Where the objects of connections stand, if the first endpoint, notification and interrupt stand at these places.
+pub fn places_of(
+    alloc: Global,
+    tables: &Tables<'_>,
+    endpoint: u32,
+    notification: u32,
+    irq: u32,
+) -> Result<Places, NoMemory>
     requires few { AreFew (told tables.now) }
-    requires endpoint { firsts.endpoint ≡ first_of (told tables.now) 2 }
-    requires notification { firsts.notification ≡ first_of (told tables.now) 3 }
-    requires irq { firsts.irq ≡ first_of (told tables.now) 5 }
+    requires endpoint { endpoint ≡ first_of (told tables.now) 2 }
+    requires notification { notification ≡ first_of (told tables.now) 3 }
+    requires irq { irq ≡ first_of (told tables.now) 5 }
     ensures { IfOk result (λ places. ArePlaces (told tables.now) places) }
 {
     let connections = tables.flat.connections.as_slice();
     Ok(Places {
-        endpoints: places_from(alloc, Standing::Endpoint, firsts.endpoint, connections)?,
-        notifications: places_from(
-            alloc,
-            Standing::Notification,
-            firsts.notification,
-            connections,
-        )?,
-        irqs: places_from(alloc, Standing::Interrupt, firsts.irq, connections)?,
+        endpoints: places_from(alloc, Standing::Endpoint, endpoint, connections)?,
+        notifications: places_from(alloc, Standing::Notification, notification, connections)?,
+        irqs: places_from(alloc, Standing::Interrupt, irq, connections)?,
     })
 }

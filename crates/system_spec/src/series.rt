@@ -1,9 +1,9 @@
 ghost use Rattle.cam_base.specs.Names.{is_name};
 ghost use Rattle.std.specs.Prelude.{◌≡◌, ◌≤◌, true, length, IfOk};
-ghost use Rattle.system_spec.specs.Names.{level_series, name_of, prefix};
+ghost use Rattle.system_spec.specs.Names.{level_series, name_of, prefix, root_series};
 
 use cam_base::{Name, NoMemory};
-use cap_model::Level;
+use cap_model::{Arch, Level};
 use itoa::Buffer;
 use std::alloc::Global;
 
@@ -33,6 +33,16 @@ impl Series {
             Level::Upper => Series::Pud,
             Level::Directory => Series::Pd,
             Level::Table => Series::Pt,
+        }
+    }
+
+    /// The series of the roots of spaces. Takes no memory.
+    pub fn of_root(arch: Arch) -> Series
+        ensures { result ≡ root_series arch }
+    {
+        match arch {
+            Arch::Arm11 => Series::Pd,
+            Arch::Aarch64 => Series::Pgd,
         }
     }
 

@@ -1,7 +1,7 @@
 ghost use Rattle.std.specs.Prelude.{◌≡◌};
-ghost use Rattle.system_spec.specs.Tables.{component_name, device_end, device_place, entry_in, irq_owner};
+ghost use Rattle.system_spec.specs.Tables.{component_name, device_place, irq_owner};
 ghost use Rattle.system_spec.specs.Tables.{frame_owner, leaf_entry};
-ghost use Rattle.system_spec.specs.Tables.{leaf_name, name_of_item, pages_at, priority, threads_at, uses_at, windows_at};
+ghost use Rattle.system_spec.specs.Tables.{leaf_name, pages_at, priority, threads_at, uses_at, windows_at};
 ghost use Rattle.system_spec.specs.Told.{told};
 
 use adl_ast::{Item, Source};
@@ -73,18 +73,15 @@ pub fn device_place(connector: Connector, ends: &[FlatEnd]) -> Option<usize>
         .position(|end| EndRule::of(connector, end.role).hardware)
 }
 
-fn device_end(connector: Connector, ends: &[FlatEnd]) -> Option<FlatEnd>
-    ensures { result ≡ device_end connector ends.now }
-{
-    let place = device_place(connector, ends)?;
-    Some(*ends.get(place)?)
-}
-
 /// Whose the interrupt of the connection of this number is. Takes no memory.
 pub fn irq_owner(number: u32, connection: &FlatConnection) -> Owner
     ensures { result ≡ irq_owner number connection.now }
 {
-    match device_end(connection.connector, connection.ends.as_slice()) {
+    let ends = connection.ends.as_slice();
+    let Some(place) = device_place(connection.connector, ends) else {
+        return Owner::OfConnection(number);
+    };
+    match ends.get(place) {
         Some(end) => Owner::OfLeaf(end.leaf),
         None => Owner::OfConnection(number),
     }
@@ -101,24 +98,18 @@ pub fn frame_owner(owner: FrameOwner) -> Owner
     }
 }
 
-fn name_of_item(item: &Item) -> &[u8]
-    ensures { result.now ≡ name_of_item item.now }
-{
-    match item {
-        Item::Component(component) => component.id.name.as_bytes(),
-        _ => b"",
-    }
-}
-
 fn component_name(source: &Source, at: ItemAt) -> &[u8]
     ensures { result.now ≡ component_name source.now at }
 {
     let Some(file) = source.files.as_slice().get(at.file as usize) else {
         return b"";
     };
-    match file.tree.items.as_slice().get(at.item as usize) {
-        Some(ended) => name_of_item(&ended.item),
-        None => b"",
+    let Some(ended) = file.tree.items.as_slice().get(at.item as usize) else {
+        return b"";
+    };
+    match &ended.item {
+        Item::Component(component) => component.id.name.as_bytes(),
+        _ => b"",
     }
 }
 
@@ -142,21 +133,15 @@ pub fn priority(tables: &Tables<'_>, leaf: u32) -> u64
     }
 }
 
-fn entry_in(images: &Images, number: Option<u32>) -> u64
-    ensures { result ≡ entry_in images.now number }
-{
-    let Some(number) = number else {
-        return 0;
-    };
-    match images.images.as_slice().get(number as usize) {
-        Some(image) => image.entry,
-        None => 0,
-    }
-}
-
 /// Where the program of a leaf begins. Takes no memory.
 pub fn leaf_entry(tables: &Tables<'_>, leaf: u32) -> u64
     ensures { result ≡ leaf_entry (told tables.now) leaf }
 {
-    entry_in(tables.images, tables.images.number_of(leaf))
+    let Some(number) = tables.images.number_of(leaf) else {
+        return 0;
+    };
+    match tables.images.images.as_slice().get(number as usize) {
+        Some(image) => image.entry,
+        None => 0,
+    }
 }

@@ -12,9 +12,10 @@ ghost use Rattle.system_spec.specs.Told.{told};
 ghost use Rattle.system_spec.specs.declared.part.What.TheVariants.{ThreadOf};
 ghost use Rattle.vspace_layout.specs.declared.spaces.Page.{Page};
 
-use crate::caps::{lock_rights, number_at};
+use crate::caps::lock_rights;
 use crate::landmarks::Landmarks;
 use crate::tables::{Tables, leaf_entry, leaf_name, pages_at, priority, threads_at};
+use arch_policy::number_at;
 use cam_base::{Boxed, NoMemory, Text};
 use cap_model::{Cap, Object, Tcb};
 use std::alloc::Global;

@@ -1,4 +1,4 @@
-use Rattle.system_spec.proofs.Common.{CNodeOf, FrameOf, IfOk-weaker, Irq, IsThere, NotificationOf, Some, ThreadOf, ap, object, place, subst, sym, told, ◌∙◌, ◌≡◌}
+use Rattle.system_spec.proofs.Common.{CNodeOf, FrameOf, IfOk-weaker, Irq, IsThere, NotificationOf, Some, ThreadOf, ap, object, place, slice_index, subst, sym, told, ◌∙◌, ◌≡◌}
 use Rattle.system_spec.proofs.Placing.{place_found}
 use Rattle.system_spec.proofs.object.object.Goals as goal
 
@@ -25,8 +25,9 @@ returns-in-IrqOf c =
     let t = told c.args.tables.now in
     let k = c.in-IrqOf.connection in
     let here = subst (IsThere t) c.in-IrqOf.is c.requires.there in
-    c.irq.ensures ∙ ap (λ z. Irq (Some z)) (place_found (λ j. place t (NotificationOf j)) t.flat.connections
-    c.args.marks.now.connections.notifications k c.requires.marks.connections.notifications here)
+    ap (λ z. Irq (Some z)) (c.number_at.ensures ∙ ap (λ z. slice_index z k) c.as_slice.ensures
+    ∙ place_found (λ j. place t (NotificationOf j)) t.flat.connections c.args.marks.now.connections.notifications k
+    c.requires.marks.connections.notifications here)
     ∙ ap (object t) (sym c.in-IrqOf.is)
 
 pub returns-in-FrameOf : goal.returns-in-FrameOf

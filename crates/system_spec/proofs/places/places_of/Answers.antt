@@ -27,10 +27,10 @@ returns c =
     let t = told c.args.tables.now in
     let read = c.as_slice-connections.ensures in
     record {
-      endpoints = endpoints_placed t c.args.firsts.endpoint _ c.requires.endpoint (c.in_ok-places_from.ensures
-          ∙ ap (places_from standings.Endpoint c.args.firsts.endpoint) read);
-      notifications = notifications_placed t c.args.firsts.notification _ c.requires.notification (c.in_ok-places_from-2.ensures
-          ∙ ap (places_from standings.Notification c.args.firsts.notification) read);
-      irqs = irqs_placed t c.args.firsts.irq _ c.requires.irq (c.in_ok-places_from-3.ensures
-          ∙ ap (places_from standings.Interrupt c.args.firsts.irq) read);
+      endpoints = endpoints_placed t c.args.endpoint _ c.requires.endpoint (c.in_ok-places_from.ensures
+          ∙ ap (places_from standings.Endpoint c.args.endpoint) read);
+      notifications = notifications_placed t c.args.notification _ c.requires.notification (c.in_ok-places_from-2.ensures
+          ∙ ap (places_from standings.Notification c.args.notification) read);
+      irqs = irqs_placed t c.args.irq _ c.requires.irq (c.in_ok-places_from-3.ensures
+          ∙ ap (places_from standings.Interrupt c.args.irq) read);
     }
