@@ -1,9 +1,7 @@
 //! What is inside a domain.
 
 ghost use Rattle.domain_table.specs.Tables.{domain_called, domain_labels, has_end, has_leaf};
-ghost use Rattle.std.specs.List.{position};
 ghost use Rattle.std.specs.Prelude.{◌≡◌, ◌<◌, length, IfOk, IfSome};
-ghost use Rattle.std.specs.Str.{bytes_eq};
 
 use adl_meaning::Flat;
 use cam_base::{List, NoMemory, Text};
@@ -41,18 +39,16 @@ pub fn domain_labels(alloc: Global, flat: &Flat) -> Result<List<Text>, NoMemory>
     Ok(labels)
 }
 
-fn place_of(labels: &[Text], label: &[u8]) -> Option<usize>
-    ensures place { result ≡ position (λ t. bytes_eq t label.now) labels.now }
-    ensures below { IfSome result (λ place. place < length labels.now) }
-{
-    labels.iter().position(|text| text.as_bytes() == label)
-}
-
 /// The number of the domain with this label, `None` exactly where no domain has it.
 pub fn domain_called(alloc: Global, flat: &Flat, label: &[u8]) -> Result<Option<usize>, NoMemory>
     ensures called { IfOk result (λ domain. domain ≡ domain_called flat.now label.now) }
     ensures below { IfOk result (λ domain. IfSome domain (λ number. number < length flat.now.domains)) }
 {
     let labels = domain_labels(alloc, flat)?;
-    Ok(place_of(labels.as_slice(), label))
+    Ok(
+        labels
+            .as_slice()
+            .iter()
+            .position(|text| text.as_bytes() == label),
+    )
 }

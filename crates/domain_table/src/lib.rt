@@ -13,5 +13,6 @@ mod words;
 
 pub use domain::{domain_called, domain_labels};
 pub use row::push_row;
+pub use system_spec::member_name;
 pub use table::{DomainTables, heading, tables_in, tables_of};
-pub use words::{leaf_text, member_name};
+pub use words::leaf_text;

@@ -32,20 +32,14 @@ fn add_cells(text: &mut List<u8>, cells: &[Text]) -> Result<(), NoMemory>
     Ok(())
 }
 
-fn add_row(text: &mut List<u8>, cells: &[Text]) -> Result<(), NoMemory>
-    ensures { OnOk result (text.new ≡ text.old ++ row_line cells.now) }
-{
-    text.extend(b"|")?;
-    add_cells(text, cells)?;
-    text.extend(b"\n")
-}
-
 /// Puts rows behind a text, as Markdown has them.
 pub(crate) fn add_rows(text: &mut List<u8>, rows: &[List<Text>]) -> Result<(), NoMemory>
     ensures { OnOk result (text.new ≡ text.old ++ flat_map row_line rows.now) }
 {
     for row in rows {
-        add_row(text, row.as_slice())?;
+        text.extend(b"|")?;
+        add_cells(text, row.as_slice())?;
+        text.extend(b"\n")?;
     }
     Ok(())
 }

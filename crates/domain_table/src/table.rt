@@ -1,35 +1,25 @@
 //! The tables, one below another.
 
-ghost use Rattle.domain_table.specs.Tables.{heading, page_head, root_name, slot_head, slot_line, table_text, tables_in, tables_of, tables_text, thread_head, thread_line, window_head, window_line};
 ghost use Rattle.domain_table.specs.Pages.{rows_of_space};
+ghost use Rattle.domain_table.specs.Tables.{heading, page_head, root_name, slot_head, slot_line, table_text, tables_in, tables_of, tables_text, thread_head, thread_line, window_head, window_line};
 ghost use Rattle.std.specs.List.{flat_map};
 ghost use Rattle.std.specs.Prelude.{◌≡◌, ◌++◌, IfOk, OnOk};
 ghost use Rattle.system_spec.specs.MapText.{named};
-ghost use Rattle.system_spec.specs.Names.{root_series};
 
 use crate::page::pages_of;
 use crate::row::add_rows;
 use crate::rows::{push_slot_line, push_thread_line, push_window_line};
 use cam_base::{List, Name, NoMemory, Text};
-use cap_model::{Arch, Spec};
+use cap_model::Spec;
 use std::alloc::Global;
 use system_spec::{MapLine, MapNames, Series};
 use view_text::join;
-
-fn root_series(arch: Arch) -> Series
-    ensures { result ≡ root_series arch }
-{
-    match arch {
-        Arch::Arm11 => Series::Pd,
-        Arch::Aarch64 => Series::Pgd,
-    }
-}
 
 /// The name of the root of a domain's space.
 fn root_name(alloc: Global, spec: &Spec, domain: u32) -> Result<Name, NoMemory>
     ensures { IfOk result (λ name. name ≡ root_name spec.now domain) }
 {
-    root_series(spec.arch).name(alloc, domain as u64)
+    Series::of_root(spec.arch).name(alloc, domain as u64)
 }
 
 /// The line above the tables of a domain: its label, its CNode and the root of its space.

@@ -1,17 +1,15 @@
 //! What lines of a map are of.
 
-ghost use Rattle.domain_table.specs.Tables.{end_text, joined_text, leaf_text, lock_text, thread_text};
-ghost use Rattle.cspace_layout.specs.Members.{leaf_members};
+ghost use Rattle.domain_table.specs.Tables.{end_text, leaf_text, lock_text, thread_text};
 ghost use Rattle.std.specs.Prelude.{◌≡◌, IfOk};
 ghost use Rattle.cam_base.specs.Paths.{joined};
-ghost use Rattle.system_spec.specs.MapText.{connection_path, member_name, name_in, named};
+ghost use Rattle.system_spec.specs.MapText.{connection_path, named};
 
-use adl_ast::Member;
-use adl_meaning::{Flat, FlatEnd};
+use adl_meaning::Flat;
 use cam_base::{List, NoMemory, Text};
-use cspace_layout::{EndAt, end_of, members_at};
+use cspace_layout::{EndAt, end_of};
 use std::alloc::Global;
-use system_spec::MapNames;
+use system_spec::{MapNames, member_name};
 use view_text::join;
 
 /// The text of the path of a leaf.
@@ -33,52 +31,6 @@ fn connection_text(alloc: Global, flat: &Flat, connection: u32) -> Result<Text, 
     }
 }
 
-fn name_in(member: &Member) -> &[u8]
-    ensures { result.now ≡ name_in member.now }
-{
-    match member {
-        Member::Interface(interface) => interface.id.name.as_bytes(),
-        Member::Lock(lock) => lock.id.name.as_bytes(),
-        _ => b"",
-    }
-}
-
-fn leaf_members<'a>(names: &'a MapNames<'_>, leaf: u32) -> &'a [Member]
-    ensures { result.now ≡ leaf_members names.now.source.now names.now.flat.now leaf }
-{
-    match names.flat.leaves.as_slice().get(leaf as usize) {
-        Some(leaf) => members_at(names.source, leaf.component),
-        None => &[],
-    }
-}
-
-/// The name of a member of a leaf.
-pub fn member_name<'a>(names: &'a MapNames<'_>, leaf: u32, member: u32) -> &'a [u8]
-    ensures { result.now ≡ member_name (named names.now) leaf member }
-{
-    match leaf_members(names, leaf).get(member as usize) {
-        Some(member) => name_in(member),
-        None => b"",
-    }
-}
-
-fn joined_text(
-    alloc: Global,
-    names: &MapNames<'_>,
-    connection: u32,
-    end: FlatEnd,
-) -> Result<List<u8>, NoMemory>
-    ensures { IfOk result (λ text. text ≡ joined_text (named names.now) connection end) }
-{
-    let leaf = leaf_text(alloc, names.flat, end.leaf)?;
-    let connection = connection_text(alloc, names.flat, connection)?;
-    let member = member_name(names, end.leaf, end.member);
-    join(
-        alloc,
-        &[leaf.as_bytes(), b".", member, b" ", connection.as_bytes()],
-    )
-}
-
 /// An end with its connection.
 pub(crate) fn end_text(
     alloc: Global,
@@ -88,10 +40,16 @@ pub(crate) fn end_text(
 ) -> Result<List<u8>, NoMemory>
     ensures { IfOk result (λ text. text ≡ end_text (named names.now) connection end) }
 {
-    match end_of(names.flat, connection, end) {
-        Some((_, end)) => joined_text(alloc, names, connection, end),
-        None => Ok(List::new(alloc)),
-    }
+    let Some((_, end)) = end_of(names.flat, connection, end) else {
+        return Ok(List::new(alloc));
+    };
+    let leaf = leaf_text(alloc, names.flat, end.leaf)?;
+    let connection = connection_text(alloc, names.flat, connection)?;
+    let member = member_name(names, end.leaf, end.member);
+    join(
+        alloc,
+        &[leaf.as_bytes(), b".", member, b" ", connection.as_bytes()],
+    )
 }
 
 /// A lock of a leaf.

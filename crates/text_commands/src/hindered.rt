@@ -1,6 +1,5 @@
 //! Refusals of what is asked of a system, told as faults of files: `specs/Decisions.antt`.
 
-ghost use Rattle.cam_base.specs.Hex.{hex_text};
 ghost use Rattle.std.specs.Prelude.{◌≡◌, IfErr, IfOk, decimal};
 ghost use Rattle.text_commands.specs.Decisions.{hindered, tell_audit, tell_close, tell_plan, words};
 ghost use Rattle.text_commands.specs.Inputs.{IsErrorFor, IsErrorOf};
@@ -45,14 +44,6 @@ fn three_numbers(alloc: Global, first: u8, second: u64, third: u64) -> Result<Te
     let rest = numbers(alloc, second, third)?;
     let mut front = Buffer::new();
     words(alloc, front.format(first).as_bytes(), rest.as_bytes())
-}
-
-/// A name and a number in hexadecimal, with a space between them.
-fn name_and_number(alloc: Global, name: &[u8], number: u64) -> Result<Text, NoMemory>
-    ensures { IfOk result (λ text. text ≡ words name.now (hex_text number)) }
-{
-    let mut digits = [0; 18];
-    words(alloc, name, hexadecimal(number, &mut digits))
 }
 
 /// What hinders, told of a whole file.
@@ -124,12 +115,12 @@ pub fn refuse_audit(alloc: Global, cdl: &str, spec: &Spec, refusal: AuditRefusal
     ensures { IsErrorFor (tell_audit cdl.now spec.now) refusal result }
 {
     match refusal {
-        AuditRefusal::HoldsTcb { cnode, slot } => hindered(
-            alloc,
-            cdl,
-            Hindrance::HoldsTcb,
-            name_and_number(alloc, spec.name(cnode), slot),
-        ),
+        AuditRefusal::HoldsTcb { cnode, slot } => {
+            let mut digits = [0; 18];
+            let slot = hexadecimal(slot, &mut digits);
+            let name = words(alloc, spec.name(cnode), slot);
+            hindered(alloc, cdl, Hindrance::HoldsTcb, name)
+        }
         AuditRefusal::Limit { cnodes, caps } => hindered(
             alloc,
             cdl,

@@ -1,6 +1,6 @@
 ghost use Rattle.cam_io.specs.Sinks.{IsOpen, Writes};
 ghost use Rattle.std.specs.Prelude.{◌≡◌};
-ghost use Rattle.text_commands.specs.Outcomes.{is_well, text_of, replay_text, verdict_text};
+ghost use Rattle.text_commands.specs.Outcomes.{is_well, text_of};
 
 use crate::Replayed;
 use crate::kept::KeptSpec;
@@ -69,8 +69,16 @@ impl Outcome {
             (O.faults out.new) }
     {
         match self {
-            Outcome::Checked { verdict, names } => write_verdict(verdict, names, out, channel),
-            Outcome::Ran { replayed, names } => write_replayed(replayed, names, out, channel),
+            Outcome::Checked { verdict, names } => match verdict {
+                Verdict::Yes => write_all(out, channel, b"yes\n"),
+                Verdict::No { rule, have, lack } => {
+                    write_refusal(*rule, have, lack, names, out, channel)
+                }
+            },
+            Outcome::Ran { replayed, names } => match replayed {
+                Replayed::Done { count, edges } => write_run(*count, edges, names, out, channel),
+                Replayed::Illegal { number, why } => write_illegal(*number, *why, out, channel),
+            },
             Outcome::Tabled { image } => write_sections(image, out, channel),
             Outcome::Audited {
                 report,
@@ -80,37 +88,5 @@ impl Outcome {
             Outcome::Certified { cert } => write_cert(cert, out, channel),
             Outcome::Planned { plan, spec } => write_plan(spec.spec(), plan, out, channel),
         }
-    }
-}
-
-fn write_verdict<O: Outputs>(
-    verdict: &Verdict,
-    names: &Names,
-    out: &mut O,
-    channel: u8,
-) -> Result<(), Failed>
-    requires { IsOpen (O.sink out.old) channel }
-    ensures { Writes result channel (verdict_text names.now verdict.now) (O.sink out.old) (O.sink out.new) (O.faults out.old)
-        (O.faults out.new) }
-{
-    match verdict {
-        Verdict::Yes => write_all(out, channel, b"yes\n"),
-        Verdict::No { rule, have, lack } => write_refusal(*rule, have, lack, names, out, channel),
-    }
-}
-
-fn write_replayed<O: Outputs>(
-    replayed: &Replayed,
-    names: &Names,
-    out: &mut O,
-    channel: u8,
-) -> Result<(), Failed>
-    requires { IsOpen (O.sink out.old) channel }
-    ensures { Writes result channel (replay_text names.now replayed.now) (O.sink out.old) (O.sink out.new) (O.faults out.old)
-        (O.faults out.new) }
-{
-    match replayed {
-        Replayed::Done { count, edges } => write_run(*count, edges, names, out, channel),
-        Replayed::Illegal { number, why } => write_illegal(*number, *why, out, channel),
     }
 }

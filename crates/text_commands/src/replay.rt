@@ -1,12 +1,11 @@
 //! Steps, applied one after another.
 
-ghost use Rattle.cap_model.specs.FitsSpec.{FitsSpec};
 ghost use Rattle.cap_model.specs.Kept.{IsKept};
 ghost use Rattle.std.specs.Prelude.{◌≡◌, ◌<◌, ◌-◌, ◌^◌, IfOk, length};
-ghost use Rattle.text_commands.specs.Replays.{AreEdgesOf, IsReplayed};
+ghost use Rattle.text_commands.specs.Replays.{IsReplayed};
 
 use cam_base::NoMemory;
-use cap_machine::{State, Step, StepError, Why, authorities, boot};
+use cap_machine::{Step, StepError, Why, authorities, boot};
 use cap_model::{EdgeTable, Labels, Spec};
 use std::alloc::Global;
 
@@ -44,25 +43,11 @@ pub fn replay(
             Err(StepError::NoMemory) => return Err(NoMemory),
         }
     }
-    Ok(Replayed::Done {
-        count: steps.len(),
-        edges: edges_of(alloc, spec, &state, labels)?,
-    })
-}
-
-/// The edges of a state, in their order.
-fn edges_of(
-    alloc: Global,
-    spec: &Spec,
-    state: &State,
-    labels: &Labels,
-) -> Result<EdgeTable, NoMemory>
-    requires fits { FitsSpec spec.now state.now.state }
-    requires labelled { length labels.now.by_object ≡ length spec.now.entries }
-    ensures { IfOk result (AreEdgesOf spec.now labels.now.by_object state.now.state) }
-{
-    let edges = authorities(alloc, spec, state, labels)?;
+    let edges = authorities(alloc, spec, &state, labels)?;
     // A look at the table shows that it is sorted.
     let _count = edges.len();
-    Ok(edges)
+    Ok(Replayed::Done {
+        count: steps.len(),
+        edges,
+    })
 }

@@ -73,7 +73,7 @@ theorem = together (
     ∷ codes "source; and for any texts <code>check</code> says yes only if everything reachable between labels lies in the\n"
     ∷ codes "policy.</blockquote>\n<p>This page is of what <code>camkes compile</code> makes of the source. What stands in\n"
     ∷ codes "each of its tables is a definition, and proved. Proved with "
-    ∷ codes "<code>rattle-kit-13b logic dac8208d650f15bf</code>.</p>\n"
+    ∷ codes "<code>rattle-kit-13f logic dac8208d650f15bf</code>.</p>\n"
     ∷ [])
 
 -- ---- the source's files, and the summary

@@ -2,7 +2,7 @@
 
 ghost use Rattle.cap_model.specs.Policies.{NumbersDiffer};
 ghost use Rattle.cam_io.specs.Reading.{InAll, KeepsFiles};
-ghost use Rattle.view_tool.specs.Answers.{AnswersFlow, AnswersFlows, IsFlow, IsFlows, OfFile};
+ghost use Rattle.view_tool.specs.Answers.{AnswersFlow, IsFlow, IsFlows, OfFile};
 
 use crate::answer::Answer;
 use crate::fault::hindered;
@@ -29,16 +29,6 @@ fn answer_flow(alloc: Global, policy: &Policy, from: &str, to: &str) -> Answer
     }
 }
 
-/// What flows to each label.
-fn answer_flows(alloc: Global, policy: &Policy) -> Answer
-    ensures { AnswersFlows policy.now result }
-{
-    match flows_text(alloc, policy) {
-        Ok(text) => Answer::Shown(text),
-        Err(NoMemory) => Answer::NoMemory,
-    }
-}
-
 fn tell(alloc: Global, file: &str, bytes: &[u8], from: &str, to: &str) -> Answer
     ensures { IsFlow file.now from.now to.now bytes.now result }
 {
@@ -53,7 +43,7 @@ fn tell_all(alloc: Global, file: &str, bytes: &[u8]) -> Answer
     ensures { IsFlows file.now bytes.now result }
 {
     match read_policy(alloc, bytes) {
-        Ok(policy) => answer_flows(alloc, &policy),
+        Ok(policy) => Answer::shown(flows_text(alloc, &policy)),
         Err(Refused::Fault(fault)) => Answer::refused(text_fault_line(alloc, file, &fault)),
         Err(Refused::NoMemory) => Answer::NoMemory,
     }

@@ -1,9 +1,8 @@
 //! Who may do what to whom.
 
-ghost use Rattle.arch_policy.specs.Where.{where_true};
-ghost use Rattle.view_tool.specs.Matrix.{authority_text, cell_text, is_target, label_row, mark_in, mark_text, marked, marks_from, marks_of, matrix_by, matrix_of, row_text, some_row, targets};
+ghost use Rattle.view_tool.specs.Matrix.{authority_text, cell_text, is_target, label_row, mark_text, marked, marks_from, marks_of, matrix_by, matrix_of, some_row, targets};
 ghost use Rattle.std.specs.List.{flat_map};
-ghost use Rattle.std.specs.Prelude.{◌≡◌, ◌==◌, ◌++◌, ◌∷◌, [], codes, IfOk, OnOk};
+ghost use Rattle.std.specs.Prelude.{◌≡◌, ◌++◌, ◌∷◌, [], codes, IfOk, OnOk};
 ghost use Rattle.view_text.specs.Html.{tagged};
 
 use cam_base::{List, NoMemory, Text};
@@ -53,22 +52,14 @@ fn add_mark(text: &mut List<u8>, mark: &Mark) -> Result<(), NoMemory>
     add_authority(text, mark.edge.authority)
 }
 
-fn add_mark_in(text: &mut List<u8>, to: u32, mark: &Mark) -> Result<(), NoMemory>
-    ensures { OnOk result (text.new ≡ text.old ++ mark_in to mark.now) }
-{
-    if mark.edge.to == to {
-        add_mark(text, mark)
-    } else {
-        Ok(())
-    }
-}
-
 fn add_cell(text: &mut List<u8>, row: &[Mark], column: &(u32, Text)) -> Result<(), NoMemory>
     ensures { OnOk result (text.new ≡ text.old ++ cell_text row.now column.now) }
 {
     text.extend(b"<td>")?;
     for mark in row {
-        add_mark_in(text, column.0, mark)?;
+        if mark.edge.to == column.0 {
+            add_mark(text, mark)?;
+        }
     }
     Ok(())
 }
@@ -82,20 +73,6 @@ fn add_cells(text: &mut List<u8>, row: &[Mark], columns: &[(u32, Text)]) -> Resu
     Ok(())
 }
 
-fn add_row(
-    text: &mut List<u8>,
-    row: &[Mark],
-    columns: &[(u32, Text)],
-    name: &[u8],
-) -> Result<(), NoMemory>
-    ensures { OnOk result (text.new ≡ text.old ++ row_text row.now columns.now name.now) }
-{
-    text.extend(b"<tr>")?;
-    add_tagged(text, b"th", name)?;
-    add_cells(text, row, columns)?;
-    text.extend(b"</tr>\n")
-}
-
 fn add_some_row(
     text: &mut List<u8>,
     row: &[Mark],
@@ -106,22 +83,13 @@ fn add_some_row(
 {
     match row {
         [] => Ok(()),
-        [..] => add_row(text, row, columns, name),
+        [..] => {
+            text.extend(b"<tr>")?;
+            add_tagged(text, b"th", name)?;
+            add_cells(text, row, columns)?;
+            text.extend(b"</tr>\n")
+        }
     }
-}
-
-fn push_if_from(
-    alloc: Global,
-    found: &mut List<Mark>,
-    mark: &Mark,
-    from: u32,
-) -> Result<(), NoMemory>
-    ensures { OnOk result (found.new ≡ found.old ++ where_true (mark.now.edge.from == from) mark.now) }
-{
-    if mark.edge.from == from {
-        push_mark(alloc, found, mark.edge, mark.note.as_bytes())?;
-    }
-    Ok(())
 }
 
 fn marks_from(alloc: Global, marks: &[Mark], from: u32) -> Result<List<Mark>, NoMemory>
@@ -129,43 +97,17 @@ fn marks_from(alloc: Global, marks: &[Mark], from: u32) -> Result<List<Mark>, No
 {
     let mut found = List::new(alloc);
     for mark in marks {
-        push_if_from(alloc, &mut found, mark, from)?;
+        if mark.edge.from == from {
+            push_mark(alloc, &mut found, mark.edge, mark.note.as_bytes())?;
+        }
     }
     Ok(found)
-}
-
-fn add_label_row(
-    alloc: Global,
-    text: &mut List<u8>,
-    marks: &[Mark],
-    columns: &[(u32, Text)],
-    label: &(u32, Text),
-) -> Result<(), NoMemory>
-    ensures { OnOk result (text.new ≡ text.old ++ label_row marks.now columns.now label.now) }
-{
-    let row = marks_from(alloc, marks, label.0)?;
-    add_some_row(text, row.as_slice(), columns, label.1.as_bytes())
 }
 
 fn is_target(marks: &[Mark], label: u32) -> bool
     ensures { result ≡ is_target marks.now label }
 {
     marks.iter().any(|mark| mark.edge.to == label)
-}
-
-fn push_target(
-    alloc: Global,
-    found: &mut List<(u32, Text)>,
-    marks: &[Mark],
-    label: &(u32, Text),
-) -> Result<(), NoMemory>
-    ensures { OnOk result (found.new ≡ found.old ++ where_true (is_target marks.now label.now.0) label.now) }
-{
-    let (number, name) = label;
-    if is_target(marks, *number) {
-        found.push((*number, name.copy(alloc)?))?;
-    }
-    Ok(())
 }
 
 fn targets(
@@ -177,7 +119,10 @@ fn targets(
 {
     let mut found = List::new(alloc);
     for label in labels {
-        push_target(alloc, &mut found, marks, label)?;
+        let (number, name) = label;
+        if is_target(marks, *number) {
+            found.push((*number, name.copy(alloc)?))?;
+        }
     }
     Ok(found)
 }
@@ -201,7 +146,8 @@ fn add_label_rows(
     ensures { OnOk result (text.new ≡ text.old ++ flat_map (label_row marks.now columns.now) labels.now) }
 {
     for label in labels {
-        add_label_row(alloc, text, marks, columns, label)?;
+        let row = marks_from(alloc, marks, label.0)?;
+        add_some_row(text, row.as_slice(), columns, label.1.as_bytes())?;
     }
     Ok(())
 }

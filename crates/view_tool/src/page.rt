@@ -1,12 +1,12 @@
 //! The page.
 
-ghost use Rattle.view_tool.specs.Pages.{domain_part, domain_parts, devices_part, file_row, files_part, matrix_part, page_head, page_text, style, summary_part, summary_row, tables_part, theorem, told};
-ghost use Rattle.std.specs.Prelude.{◌≡◌, ◌<◌, ◌^◌, ◌++◌, ◌∷◌, [], length, map, IfOk, OnOk};
+ghost use Rattle.view_tool.specs.Pages.{domain_part, domain_parts, devices_part, file_row, files_part, matrix_part, page_head, page_text, style, summary_part, tables_part, theorem, told};
+ghost use Rattle.std.specs.Prelude.{◌≡◌, ◌<◌, ◌^◌, ◌++◌, length, map, IfOk, OnOk};
 ghost use Rattle.system_spec.specs.MapText.{named};
 
 use crate::devices::device_rows;
 use crate::matrix::add_matrix;
-use adl_ast::{Source, SourceFile};
+use adl_ast::Source;
 use adl_meaning::{Domain, Settled};
 use arch_compile::Summary;
 use cam_base::{List, NoMemory, Text};
@@ -72,17 +72,9 @@ fn add_theorem(text: &mut List<u8>) -> Result<(), NoMemory>
             b"source; and for any texts <code>check</code> says yes only if everything reachable between labels lies in the\n",
             b"policy.</blockquote>\n<p>This page is of what <code>camkes compile</code> makes of the source. What stands in\n",
             b"each of its tables is a definition, and proved. Proved with ",
-            b"<code>rattle-kit-13b logic dac8208d650f15bf</code>.</p>\n",
+            b"<code>rattle-kit-13f logic dac8208d650f15bf</code>.</p>\n",
         ],
     )
-}
-
-fn push_file(alloc: Global, rows: &mut List<List<Text>>, file: &SourceFile) -> Result<(), NoMemory>
-    ensures { OnOk result (rows.new ≡ rows.old ++ file_row file.now ∷ []) }
-{
-    let mut digits = Buffer::new();
-    let bytes = digits.format(file.bytes.len()).as_bytes();
-    push_row(alloc, rows, &[file.name.as_bytes(), bytes])
 }
 
 fn file_rows(alloc: Global, source: &Source) -> Result<List<List<Text>>, NoMemory>
@@ -90,7 +82,9 @@ fn file_rows(alloc: Global, source: &Source) -> Result<List<List<Text>>, NoMemor
 {
     let mut rows = List::new(alloc);
     for file in source.files.as_slice() {
-        push_file(alloc, &mut rows, file)?;
+        let mut digits = Buffer::new();
+        let bytes = digits.format(file.bytes.len()).as_bytes();
+        push_row(alloc, &mut rows, &[file.name.as_bytes(), bytes])?;
     }
     Ok(rows)
 }
@@ -102,8 +96,8 @@ fn add_files(alloc: Global, text: &mut List<u8>, source: &Source) -> Result<(), 
     add_table(text, b"Files", &[b"file", b"bytes"], rows.as_slice())
 }
 
-fn summary_rows(alloc: Global, summary: Summary) -> Result<List<List<Text>>, NoMemory>
-    ensures { IfOk result (λ rows. rows ≡ summary_row summary ∷ []) }
+fn add_summary(alloc: Global, text: &mut List<u8>, summary: Summary) -> Result<(), NoMemory>
+    ensures { OnOk result (text.new ≡ text.old ++ summary_part summary) }
 {
     let mut rows = List::new(alloc);
     push_row(
@@ -118,13 +112,6 @@ fn summary_rows(alloc: Global, summary: Summary) -> Result<List<List<Text>>, NoM
             Buffer::new().format(summary.edges).as_bytes(),
         ],
     )?;
-    Ok(rows)
-}
-
-fn add_summary(alloc: Global, text: &mut List<u8>, summary: Summary) -> Result<(), NoMemory>
-    ensures { OnOk result (text.new ≡ text.old ++ summary_part summary) }
-{
-    let rows = summary_rows(alloc, summary)?;
     add_table(
         text,
         b"Summary",

@@ -1,31 +1,23 @@
 //! The shapes of a source's labels.
 
-ghost use Rattle.cam_base.specs.Gather.{gather};
-ghost use Rattle.view_tool.specs.Shapes.{device_label, device_labels, differ, domain_at, has_other, is_domain, is_named, kept_as, overview, partner, partners, shape_of, shapes_by, shapes_of};
-ghost use Rattle.std.specs.Prelude.{◌≡◌, ◌++◌, ◌∷◌, [], IfOk, OnOk};
+ghost use Rattle.view_tool.specs.Shapes.{device_labels, differ, domain_at, has_other, is_domain, is_named, kept_as, overview, partners, shape_of, shapes_by, shapes_of};
+ghost use Rattle.std.specs.Prelude.{◌≡◌, ◌++◌, [], IfOk, OnOk};
 
-use adl_meaning::{Flat, Leaf};
+use adl_meaning::Flat;
 use cam_base::{List, NoMemory, Text};
-use cap_model::{Edge, EdgeTable};
+use cap_model::EdgeTable;
 use domain_table::domain_labels;
 use std::alloc::Global;
 use view_text::{Shape, shape_at};
-
-fn push_device(alloc: Global, texts: &mut List<Text>, leaf: &Leaf) -> Result<(), NoMemory>
-    ensures { OnOk result (texts.new ≡ texts.old ++ device_label leaf.now) }
-{
-    if leaf.domain.is_none() {
-        texts.push(leaf.path.text(alloc)?)?;
-    }
-    Ok(())
-}
 
 fn device_labels(alloc: Global, flat: &Flat) -> Result<List<Text>, NoMemory>
     ensures { IfOk result (λ texts. texts ≡ device_labels flat.now) }
 {
     let mut texts = List::new(alloc);
     for leaf in flat.leaves.as_slice() {
-        push_device(alloc, &mut texts, leaf)?;
+        if leaf.domain.is_none() {
+            texts.push(leaf.path.text(alloc)?)?;
+        }
     }
     Ok(texts)
 }
@@ -91,23 +83,6 @@ fn push_domain(found: &mut List<u32>, shapes: &[Shape], number: u32) -> Result<(
     Ok(())
 }
 
-fn push_partner(
-    found: &mut List<u32>,
-    shapes: &[Shape],
-    label: usize,
-    edge: &Edge,
-) -> Result<(), NoMemory>
-    ensures { OnOk result (found.new ≡ found.old ++ partner shapes.now label edge.now) }
-{
-    if edge.from as usize == label {
-        push_domain(found, shapes, edge.to)
-    } else if edge.to as usize == label {
-        push_domain(found, shapes, edge.from)
-    } else {
-        Ok(())
-    }
-}
-
 fn partners(
     alloc: Global,
     shapes: &[Shape],
@@ -118,7 +93,11 @@ fn partners(
 {
     let mut found = List::new(alloc);
     for edge in edges.iter() {
-        push_partner(&mut found, shapes, label, &edge)?;
+        if edge.from as usize == label {
+            push_domain(&mut found, shapes, edge.to)?;
+        } else if edge.to as usize == label {
+            push_domain(&mut found, shapes, edge.from)?;
+        }
     }
     Ok(found)
 }
@@ -155,19 +134,6 @@ fn kept_as(
     }
 }
 
-fn push_kept(
-    alloc: Global,
-    kept: &mut List<Shape>,
-    shapes: &[Shape],
-    edges: &EdgeTable,
-    label: usize,
-    shape: Shape,
-) -> Result<(), NoMemory>
-    ensures { OnOk result (kept.new ≡ kept.old ++ kept_as shapes.now edges.now label shape ∷ []) }
-{
-    kept.push(kept_as(alloc, shapes, edges, label, shape)?)
-}
-
 /// The same shapes, where what fewer than two domains touch is left out.
 pub(crate) fn overview(
     alloc: Global,
@@ -178,7 +144,7 @@ pub(crate) fn overview(
 {
     let mut kept = List::new(alloc);
     for (label, shape) in shapes.iter().enumerate() {
-        push_kept(alloc, &mut kept, shapes, edges, label, *shape)?;
+        kept.push(kept_as(alloc, shapes, edges, label, *shape)?)?;
     }
     Ok(kept)
 }

@@ -39,8 +39,8 @@ loop-place-preserved c = record {
   fits = c.in-Ok.ensures.fits c.loop-place.invariant.fits;
 }
 
-pub edges_of-requires-clause-fits : goal.edges_of-requires-clause-fits
-edges_of-requires-clause-fits c = c.loop-place.invariant.fits
+pub authorities-requires-clause-fits : goal.authorities-requires-clause-fits
+authorities-requires-clause-fits c = c.loop-place.invariant.fits
 
 pub returns : goal.returns
 returns c = (
@@ -49,6 +49,6 @@ returns c = (
     state = c.loop-place.state.state;
     run = subst (λ zs. Run c.args.spec.now (boot c.args.spec.now) zs c.loop-place.state.state)
         (take_all c.loop-place.place c.args.steps.now (omega arith)) c.loop-place.invariant.run;
-    has = c.in_ok-edges_of.ensures;
+    has = record { sorted = c.len-count.ensures.sorted; same = c.in_ok-edges.ensures };
   },
 )
