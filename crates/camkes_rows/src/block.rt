@@ -24,27 +24,21 @@ fn head_of(line: &str) -> Option<(&str, &str)> {
     }
 }
 
-fn add_line<'a>(blocks: &mut Vec<Block<'a>>, line: &'a str) -> Result<(), AllocError> {
-    match blocks.last_mut() {
-        Some(block) => Ok(block.body.push(line)?),
-        None => Ok(()),
-    }
-}
-
 /// The blocks of a text. Lines in front of the first head line are passed over.
 pub(crate) fn blocks<'a>(alloc: Global, text: &'a str) -> Result<Vec<Block<'a>>, AllocError> {
     let mut blocks = Vec::new(alloc);
     let mut number: u64 = 0;
     for line in text.lines() {
         number = number.saturating_add(1);
-        match head_of(line) {
-            Some((word, rest)) => blocks.push(Block {
+        if let Some((word, rest)) = head_of(line) {
+            blocks.push(Block {
                 word,
                 rest,
                 body: Vec::new(alloc),
                 line: number,
-            })?,
-            None => add_line(&mut blocks, line)?,
+            })?;
+        } else if let Some(block) = blocks.last_mut() {
+            block.body.push(line)?;
         }
     }
     Ok(blocks)

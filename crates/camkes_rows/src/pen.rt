@@ -62,70 +62,40 @@ impl<'a> Pen<'a> {
     }
 
     fn push_number(&mut self, number: u64) -> Result<(), Why> {
-        self.escape = Escape::Nothing;
         let text = format!(in self.alloc; "{number}")?;
         Ok(self.bytes.extend_from_slice(text.as_bytes())?)
     }
 
-    fn push_place(&mut self) -> Result<(), Why> {
-        let Marked { first, end } = self.marked;
-        self.push_number(first)?;
-        self.push(b'-')?;
-        self.push_number(end)
-    }
-
-    fn await_digits(&mut self) -> Result<(), Why> {
-        self.escape = Escape::Hexadecimal;
-        Ok(())
-    }
-
-    fn mark_first(&mut self) -> Result<(), Why> {
-        self.escape = Escape::Nothing;
-        self.marked.first = self.bytes.len() as u64;
-        Ok(())
-    }
-
-    fn mark_end(&mut self) -> Result<(), Why> {
-        self.escape = Escape::Nothing;
-        self.marked.end = self.bytes.len() as u64;
-        Ok(())
-    }
-
     /// The byte behind a backslash.
     fn escaped(&mut self, byte: u8) -> Result<(), Why> {
+        self.escape = Escape::Nothing;
         match byte {
-            b'\\' => self.push(b'\\'),
-            b'x' => self.await_digits(),
-            b'<' => self.mark_first(),
-            b'>' => self.mark_end(),
-            b'@' => self.push_place(),
-            b'#' => self.push_number(self.number),
-            b'+' => self.push_number(self.number.saturating_add(1)),
-            _ => Err(Why::Escape),
+            b'\\' => self.push(b'\\')?,
+            b'x' => self.escape = Escape::Hexadecimal,
+            b'<' => self.marked.first = self.bytes.len() as u64,
+            b'>' => self.marked.end = self.bytes.len() as u64,
+            b'@' => {
+                let Marked { first, end } = self.marked;
+                self.push_number(first)?;
+                self.push(b'-')?;
+                self.push_number(end)?;
+            }
+            b'#' => self.push_number(self.number)?,
+            b'+' => self.push_number(self.number.saturating_add(1))?,
+            _ => return Err(Why::Escape),
         }
-    }
-
-    fn high_digit(&mut self, byte: u8) -> Result<(), Why> {
-        self.escape = Escape::HighDigit(digit(byte)?);
         Ok(())
-    }
-
-    fn low_digit(&mut self, high: u8, byte: u8) -> Result<(), Why> {
-        let low = digit(byte)?;
-        self.push(high.wrapping_mul(16).wrapping_add(low))
     }
 
     fn byte(&mut self, byte: u8) -> Result<(), Why> {
         match self.escape {
-            Escape::Nothing if byte == b'\\' => {
-                self.escape = Escape::Backslash;
-                Ok(())
-            }
-            Escape::Nothing => self.push(byte),
-            Escape::Backslash => self.escaped(byte),
-            Escape::Hexadecimal => self.high_digit(byte),
-            Escape::HighDigit(high) => self.low_digit(high, byte),
+            Escape::Nothing if byte == b'\\' => self.escape = Escape::Backslash,
+            Escape::Nothing => self.push(byte)?,
+            Escape::Backslash => self.escaped(byte)?,
+            Escape::Hexadecimal => self.escape = Escape::HighDigit(digit(byte)?),
+            Escape::HighDigit(high) => self.push(high.wrapping_mul(16).wrapping_add(digit(byte)?))?,
         }
+        Ok(())
     }
 
     /// Writes the text of a name, a word or a line, without a line feed.
@@ -160,43 +130,28 @@ impl<'a> Pen<'a> {
         Ok(())
     }
 
-    fn repeat_line(&mut self, rest: &str) -> Result<(), Why> {
-        let Some((count, line)) = rest.split_once(' ') else {
-            return Err(Why::Number);
-        };
-        self.repeat(number_of(count)?, line)
-    }
-
-    /// Writes the shared text of a name.
-    fn write_shared(&mut self, name: &str) -> Result<(), Why> {
-        let text = shared_text(self.shared, name)?;
-        Ok(self.bytes.extend_from_slice(text)?)
-    }
-
     /// Writes so many bytes of a shared text.
     fn write_front(&mut self, rest: &str) -> Result<(), Why> {
-        let Some((count, name)) = rest.split_once(' ') else {
-            return Err(Why::Number);
-        };
+        let (count, name) = counted(rest)?;
         let text = shared_text(self.shared, name)?;
-        let Ok(count) = usize::try_from(number_of(count)?) else {
-            return Err(Why::Number);
-        };
-        match text.get(..count) {
-            Some(front) => Ok(self.bytes.extend_from_slice(front)?),
-            None => Err(Why::Number),
-        }
+        let count = usize::try_from(number_of(count)?).ok().ok_or(Why::Number)?;
+        let front = text.get(..count).ok_or(Why::Number)?;
+        Ok(self.bytes.extend_from_slice(front)?)
     }
 
     fn any_line(&mut self, line: &str) -> Result<(), Why> {
         if let Some(rest) = line.strip_prefix("\\repeat ") {
-            return self.repeat_line(rest);
+            let (count, line) = counted(rest)?;
+            return self.repeat(number_of(count)?, line);
         }
         if let Some(rest) = line.strip_prefix("\\front ") {
             return self.write_front(rest);
         }
         match line.strip_prefix("\\use ") {
-            Some(name) => self.write_shared(name),
+            Some(name) => Ok(
+                self.bytes
+                    .extend_from_slice(shared_text(self.shared, name)?)?,
+            ),
             None => self.write_line(line),
         }
     }
@@ -224,18 +179,19 @@ impl<'a> Pen<'a> {
 
 /// The shared text of a name.
 fn shared_text<'a>(shared: &'a [NamedText], name: &str) -> Result<&'a [u8], Why> {
-    for text in shared {
-        if text.name.as_str() == name {
-            return Ok(text.bytes.as_slice());
-        }
-    }
-    Err(Why::NoText)
+    let text = shared
+        .iter()
+        .find(|text| text.name.as_str() == name)
+        .ok_or(Why::NoText)?;
+    Ok(text.bytes.as_slice())
+}
+
+/// A count, and what stands behind it and a space.
+pub(crate) fn counted(text: &str) -> Result<(&str, &str), Why> {
+    text.split_once(' ').ok_or(Why::Number)
 }
 
 /// A number in decimal.
 pub(crate) fn number_of(text: &str) -> Result<u64, Why> {
-    match text.parse::<u64>() {
-        Ok(number) => Ok(number),
-        Err(_) => Err(Why::Number),
-    }
+    text.parse::<u64>().ok().ok_or(Why::Number)
 }

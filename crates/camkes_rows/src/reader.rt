@@ -1,7 +1,7 @@
 use crate::block::{Block, blocks};
 use crate::case::{Case, NamedText, Program, Run};
 use crate::error::{RowError, Why};
-use crate::pen::{Marked, Pen, number_of};
+use crate::pen::{Marked, Pen, counted, number_of};
 use std::alloc::Global;
 
 /// The cases that are read so far, the texts that others use, and what the last case marks.
@@ -11,13 +11,6 @@ struct Reader {
     shared: Vec<NamedText>,
     cases: Vec<Case>,
     marked: Marked,
-}
-
-fn string_of(bytes: Vec<u8>) -> Result<String, Why> {
-    match String::from_utf8(bytes) {
-        Ok(text) => Ok(text),
-        Err(_) => Err(Why::NotUtf8),
-    }
 }
 
 impl Reader {
@@ -38,7 +31,7 @@ impl Reader {
         let mut pen = Pen::new(self.alloc, &[], self.marked, number);
         pen.write(text)?;
         let (bytes, _marked) = pen.finish();
-        string_of(bytes)
+        String::from_utf8(bytes).ok().ok_or(Why::NotUtf8)
     }
 
     fn words(&self, text: &str) -> Result<Vec<String>, Why> {
@@ -79,17 +72,11 @@ impl Reader {
     }
 
     fn case(&mut self) -> Result<&mut Case, Why> {
-        match self.cases.last_mut() {
-            Some(case) => Ok(case),
-            None => Err(Why::OutOfPlace),
-        }
+        self.cases.last_mut().ok_or(Why::OutOfPlace)
     }
 
     fn run(&mut self) -> Result<&mut Run, Why> {
-        match self.case()?.runs.last_mut() {
-            Some(run) => Ok(run),
-            None => Err(Why::OutOfPlace),
-        }
+        self.case()?.runs.last_mut().ok_or(Why::OutOfPlace)
     }
 
     fn begin_case(&mut self, name: &str) -> Result<(), Why> {
@@ -106,11 +93,6 @@ impl Reader {
         Ok(self.case()?.runs.push(run)?)
     }
 
-    fn add_shared(&mut self, name: &str, lines: &[&str]) -> Result<(), Why> {
-        let text = self.named_text(name, lines, 0)?;
-        Ok(self.shared.push(text)?)
-    }
-
     fn add_file(&mut self, name: &str, lines: &[&str], number: u64) -> Result<(), Why> {
         let file = self.named_text(name, lines, number)?;
         Ok(self.case()?.files.push(file)?)
@@ -118,47 +100,15 @@ impl Reader {
 
     /// So many files, numbered from 0.
     fn add_files(&mut self, rest: &str, lines: &[&str]) -> Result<(), Why> {
-        let Some((count, name)) = rest.split_once(' ') else {
-            return Err(Why::Number);
-        };
+        let (count, name) = counted(rest)?;
         for number in 0..number_of(count)? {
             self.add_file(name, lines, number)?;
         }
         Ok(())
     }
 
-    fn add_output(&mut self, name: &str, lines: &[&str]) -> Result<(), Why> {
-        let output = self.named_text(name, lines, 0)?;
-        Ok(self.run()?.outputs.push(output)?)
-    }
-
-    fn add_lines(&mut self, name: &str, lines: &[&str]) -> Result<(), Why> {
-        let output = self.named_text(name, lines, 0)?;
-        Ok(self.run()?.lines.push(output)?)
-    }
-
-    fn set_print(&mut self, lines: &[&str]) -> Result<(), Why> {
-        let text = self.text(lines, 0)?;
-        self.run()?.print = text;
-        Ok(())
-    }
-
-    fn set_error(&mut self, lines: &[&str]) -> Result<(), Why> {
-        let text = self.text(lines, 0)?;
-        self.run()?.error = text;
-        Ok(())
-    }
-
-    fn set_reads(&mut self, lines: &[&str]) -> Result<(), Why> {
-        let names = self.word_lines(lines)?;
-        self.run()?.reads = Some(names);
-        Ok(())
-    }
-
     fn set_status(&mut self, rest: &str) -> Result<(), Why> {
-        let Ok(status) = u8::try_from(number_of(rest)?) else {
-            return Err(Why::Number);
-        };
+        let status = u8::try_from(number_of(rest)?).ok().ok_or(Why::Number)?;
         self.run()?.status = status;
         Ok(())
     }
@@ -166,14 +116,30 @@ impl Reader {
     /// A line that says what a run must do.
     fn demand(&mut self, word: &str, rest: &str, lines: &[&str]) -> Result<(), Why> {
         match word {
-            "status" => self.set_status(rest),
-            "error" => self.set_error(lines),
-            "print" => self.set_print(lines),
-            "output" => self.add_output(rest, lines),
-            "lines" => self.add_lines(rest, lines),
-            "reads" => self.set_reads(lines),
-            _ => self.flag(word, rest),
+            "status" => self.set_status(rest)?,
+            "error" => {
+                let text = self.text(lines, 0)?;
+                self.run()?.error = text;
+            }
+            "print" => {
+                let text = self.text(lines, 0)?;
+                self.run()?.print = text;
+            }
+            "output" => {
+                let output = self.named_text(rest, lines, 0)?;
+                self.run()?.outputs.push(output)?;
+            }
+            "lines" => {
+                let output = self.named_text(rest, lines, 0)?;
+                self.run()?.lines.push(output)?;
+            }
+            "reads" => {
+                let names = self.word_lines(lines)?;
+                self.run()?.reads = Some(names);
+            }
+            _ => self.flag(word, rest)?,
         }
+        Ok(())
     }
 
     fn flag(&mut self, word: &str, rest: &str) -> Result<(), Why> {
@@ -193,7 +159,10 @@ impl Reader {
         let lines = block.body.as_slice();
         match block.word {
             "==" => self.begin_case(block.rest),
-            "text" => self.add_shared(block.rest, lines),
+            "text" => {
+                let text = self.named_text(block.rest, lines, 0)?;
+                Ok(self.shared.push(text)?)
+            }
             "file" => self.add_file(block.rest, lines, 0),
             "files" => self.add_files(block.rest, lines),
             "run" => self.begin_run(Program::Camkes, block.rest),

@@ -51,18 +51,16 @@ fn are_outputs(wanted: &[NamedText], out: &MemOutputs) -> bool {
     for channel in 2..6 {
         if let Some(name) = out.begun(channel) {
             match wanted.get(seen) {
-                Some(text) if is_output(text, name, out.bytes(channel)) => {
-                    seen = seen.saturating_add(1);
-                }
+                Some(text)
+                    if text.name.as_str() == name && text.bytes.as_slice() == out.bytes(channel) =>
+                    {
+                        seen = seen.saturating_add(1);
+                    }
                 _ => return false,
             }
         }
     }
     seen == wanted.len()
-}
-
-fn is_output(wanted: &NamedText, name: &str, bytes: &[u8]) -> bool {
-    wanted.name.as_str() == name && wanted.bytes.as_slice() == bytes
 }
 
 /// The bytes of the output that is begun under this name, or none.
@@ -75,40 +73,24 @@ fn output_of<'a>(out: &'a MemOutputs, name: &str) -> &'a [u8] {
     b""
 }
 
-/// What is left of lines where the first is this one, else all of them.
-fn behind<'a>(lines: &'a [u8], line: &[u8]) -> &'a [u8] {
-    match lines.iter().position(|b| *b == b'\n') {
-        Some(end) if &lines[..end] == line => &lines[end + 1..],
-        _ => lines,
-    }
-}
-
 /// Whether all lines stand in a text, in their order.
 fn stand_in(lines: &[u8], text: &[u8]) -> bool {
     let mut rest = lines;
     for line in text.split(|b| *b == b'\n') {
-        rest = behind(rest, line);
+        if let Some([b'\n', behind @ ..]) = rest.strip_prefix(line) {
+            rest = behind;
+        }
     }
     rest.is_empty()
-}
-
-fn are_lines(wanted: &[NamedText], out: &MemOutputs) -> bool {
-    wanted.iter().all(|text| stand_in(text.bytes.as_slice(), output_of(out, text.name.as_str())))
 }
 
 /// Whether the outputs are what a run must write.
 fn is_written(wanted: &Run, out: &MemOutputs) -> bool {
     if wanted.lines.is_empty() {
-        are_outputs(wanted.outputs.as_slice(), out)
-    } else {
-        are_lines(wanted.lines.as_slice(), out)
+        return are_outputs(wanted.outputs.as_slice(), out);
     }
-}
-
-/// Whether these bytes are what standard output must be.
-fn is_print(wanted: &Run, bytes: &[u8]) -> bool {
-    let print = wanted.print.as_slice();
-    bytes == print || (wanted.front && bytes.starts_with(print))
+    let mut texts = wanted.lines.as_slice().iter();
+    texts.all(|text| stand_in(text.bytes.as_slice(), output_of(out, text.name.as_str())))
 }
 
 /// In what a run differs from what it must do, if it does.
@@ -122,7 +104,9 @@ fn difference(wanted: &Run, done: &Done) -> Option<Part> {
     if wanted.any {
         return None;
     }
-    if !is_print(wanted, done.out.bytes(0)) {
+    let print = wanted.print.as_slice();
+    let is_front = wanted.front && done.out.bytes(0).starts_with(print);
+    if !is_front && done.out.bytes(0) != print {
         return Some(Part::Print);
     }
     if is_written(wanted, &done.out) {

@@ -1,18 +1,11 @@
--- The answer that a build gives under a base, that of a command over texts, and that of a refusal.
-use Rattle.std.specs.Prelude.{◌≡◌, ℕ, List, Result, Ok, Err}
-use Rattle.arch_compile.specs.declared.building.Build.{Build}
-use Rattle.arch_compile.specs.BuildTexts.{AreNamedBy}
+-- The answer that a command over texts gives, and that of a refusal.
+use Rattle.std.specs.Prelude.{Result, Ok, Err}
 use Rattle.cam_base.specs.Unread.{SourceError}
 use Rattle.cam_base.specs.declared.error.Unread.TheVariants as unread
 use Rattle.text_commands.specs.InputErrors.{InputError}
 use Rattle.text_commands.specs.declared.outcome.Outcome.{Outcome}
 use Rattle.camkes_tool.specs.declared.answer.Answer.{Answer}
-use Rattle.camkes_tool.specs.declared.answer.Answer.TheVariants.{Compiled, Told, Faulted, Refused, ReadFault, NoMemory}
-
-abbrev pub IsWrittenAs : List ℕ → Build → Answer → Type 0
-IsWrittenAs base made (Compiled names b) = AreNamedBy base names × (b ≡ made)
-IsWrittenAs base made NoMemory = Unit {0}
-IsWrittenAs base made _ = ⊥
+use Rattle.camkes_tool.specs.declared.answer.Answer.TheVariants.{Told, Faulted, Refused, ReadFault, NoMemory}
 
 abbrev pub told : Result Outcome InputError → Answer
 told (Ok outcome) = Told outcome

@@ -1,7 +1,6 @@
 ghost use Rattle.arch_compile.specs.Compiled.{AlikeInBuild};
 ghost use Rattle.cam_io.specs.Reading.{InAll, KeepsFiles, LearnsOnly};
 ghost use Rattle.camkes_tool.specs.Answers.{Fits, FitsCompiled, command_of};
-ghost use Rattle.camkes_tool.specs.Deciding.{IsWrittenAs};
 ghost use Rattle.camkes_tool.specs.Learning.{AlikeInCommand};
 ghost use Rattle.command_words.specs.Words.{AreUtf8};
 ghost use Rattle.std.specs.Prelude.{Some};
@@ -10,7 +9,7 @@ use crate::Answer;
 use crate::asking::{
     audited, certified, checked, explained, generated, listed, planned, refused, replayed, tabled,
 };
-use arch_compile::{Build, TextNames, compile};
+use arch_compile::{TextNames, compile};
 use cam_base::NoMemory;
 use cam_io::Files;
 use command_words::{Command, WordsError, as_name, read_words};
@@ -87,16 +86,10 @@ fn answer<F: Files>(alloc: Global, root: &str, base: &str, files: &mut F) -> Ans
         m (F.faults files.old) (F.faults files.new) result) }
 {
     match compile(alloc, files, root) {
-        Ok(build) => written_as(alloc, base, build),
+        Ok(build) => match TextNames::of(alloc, base) {
+            Ok(names) => Answer::Compiled { names, build },
+            Err(NoMemory) => Answer::NoMemory,
+        },
         Err(error) => refused(error),
-    }
-}
-
-fn written_as(alloc: Global, base: &str, build: Build) -> Answer
-    ensures { IsWrittenAs base.now build result }
-{
-    match TextNames::of(alloc, base) {
-        Ok(names) => Answer::Compiled { names, build },
-        Err(NoMemory) => Answer::NoMemory,
     }
 }

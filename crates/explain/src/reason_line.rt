@@ -4,48 +4,40 @@ ghost use Rattle.explain.specs.Lines.{end_line, lock_line, reason_text, rule_tex
 ghost use Rattle.std.specs.Option.{option_map_or};
 ghost use Rattle.std.specs.Prelude.{◌≡◌, [], IfOk};
 
-use crate::lines::{end_line, lock_line, rule_line};
+use crate::lines::Teller;
 use crate::{Reason, Rule, together};
 use adl_ast::Source;
 use adl_meaning::Flat;
 use cam_base::{NoMemory, Text};
 use std::alloc::Global;
 
-fn rule_text(alloc: Global, flat: &Flat, rule: Rule, end: (u32, u32)) -> Result<Text, NoMemory>
-    ensures { IfOk result (λ text. text ≡ rule_text flat.now rule end) }
-{
-    match rule {
-        Rule::Direct => rule_line(alloc, flat, end),
-        Rule::ByCall => Text::new(alloc, b"rule Call\n"),
-        Rule::ByBind => Text::new(alloc, b"rule Bind\n"),
+impl Teller<'_> {
+    fn rule_text(self, alloc: Global, rule: Rule, end: (u32, u32)) -> Result<Text, NoMemory>
+        ensures { IfOk result (λ text. text ≡ rule_text self.entry.flat.now rule end) }
+    {
+        match rule {
+            Rule::Direct => self.rule_line(alloc, end),
+            Rule::ByCall => Text::new(alloc, b"rule Call\n"),
+            Rule::ByBind => Text::new(alloc, b"rule Bind\n"),
+        }
     }
-}
 
-fn second_line(
-    alloc: Global,
-    source: &Source,
-    flat: &Flat,
-    end: Option<(u32, u32)>,
-) -> Result<Text, NoMemory>
-    ensures { IfOk result (λ text. text ≡ option_map_or (end_line source.now flat.now) end []) }
-{
-    match end {
-        Some(end) => end_line(alloc, source, flat, end),
-        None => Ok(Text::empty(alloc)),
+    fn second_line(self, alloc: Global, end: Option<(u32, u32)>) -> Result<Text, NoMemory>
+        ensures { IfOk result (λ text. text ≡ option_map_or (end_line self.entry.source.now self.entry.flat.now) end []) }
+    {
+        match end {
+            Some(end) => self.end_line(alloc, end),
+            None => Ok(Text::empty(alloc)),
+        }
     }
-}
 
-fn last_line(
-    alloc: Global,
-    source: &Source,
-    flat: &Flat,
-    lock: Option<(u32, u32)>,
-) -> Result<Text, NoMemory>
-    ensures { IfOk result (λ text. text ≡ option_map_or (lock_line source.now flat.now) lock []) }
-{
-    match lock {
-        Some(lock) => lock_line(alloc, source, flat, lock),
-        None => Ok(Text::empty(alloc)),
+    fn last_line(self, alloc: Global, lock: Option<(u32, u32)>) -> Result<Text, NoMemory>
+        ensures { IfOk result (λ text. text ≡ option_map_or (lock_line self.entry.source.now self.entry.flat.now) lock []) }
+    {
+        match lock {
+            Some(lock) => self.lock_line(alloc, lock),
+            None => Ok(Text::empty(alloc)),
+        }
     }
 }
 
@@ -58,10 +50,11 @@ pub fn reason_text(
 ) -> Result<Text, NoMemory>
     ensures { IfOk result (λ text. text ≡ reason_text source.now flat.now reason) }
 {
-    let rule = rule_text(alloc, flat, reason.rule, reason.first)?;
-    let first = end_line(alloc, source, flat, reason.first)?;
-    let second = second_line(alloc, source, flat, reason.second)?;
-    let last = last_line(alloc, source, flat, reason.lock)?;
+    let teller = Teller { source, flat };
+    let rule = teller.rule_text(alloc, reason.rule, reason.first)?;
+    let first = teller.end_line(alloc, reason.first)?;
+    let second = teller.second_line(alloc, reason.second)?;
+    let last = teller.last_line(alloc, reason.lock)?;
     together(
         alloc,
         &[

@@ -4,7 +4,7 @@ ghost use Rattle.adl_meaning.specs.declared.flat.Leaf.{Leaf as Place};
 ghost use Rattle.arch_policy.specs.Tables.{told};
 ghost use Rattle.arch_policy.specs.Triples.{signal_edges};
 ghost use Rattle.cap_model.specs.Tables.{has};
-ghost use Rattle.explain.specs.Sought.{CanSearch, IsFirstAt, IsFirstEnd, IsFirstLock, IsFirstMember, IsFirstOfLeaf, IsFirstOn, fits, found, has_side, is_async, is_reply, is_side, opens};
+ghost use Rattle.explain.specs.Sought.{CanSearch, IsFirstAt, IsFirstEnd, IsFirstLock, IsFirstMember, IsFirstOfLeaf, fits, found, has_side, is_async, is_reply, is_side, opens};
 ghost use Rattle.cspace_layout.specs.Members.{members_at};
 ghost use Rattle.std.specs.Prelude.{◌≡◌, ◌<◌, ◌^◌, length, slice_get, IfOk, Some, ℕ};
 
@@ -134,8 +134,8 @@ impl<'a> Search<'a> {
         })
     }
 
-    /// The first end that fits among those of a connection.
-    fn first_on(
+    /// The first end that fits among those of a connection at which one may stand.
+    fn first_at(
         &self,
         alloc: Global,
         sought: Sought,
@@ -144,8 +144,11 @@ impl<'a> Search<'a> {
     ) -> Result<Option<Found>, NoMemory>
         requires few { length connection.now.ends < 2 ^ 32 }
         requires ready { CanSearch (told self.now.tables) self.now.signals.now }
-        ensures { IfOk result (IsFirstOn (told self.now.tables) self.now.edge sought place connection.now) }
+        ensures { IfOk result (IsFirstAt (told self.now.tables) self.now.edge sought place connection.now) }
     {
+        if !self.opens(sought, place, connection) {
+            return Ok(None);
+        }
         for (number, end) in connection.ends.as_slice().iter().enumerate() {
             let here = EndHere {
                 tables: self.tables,
@@ -163,24 +166,6 @@ impl<'a> Search<'a> {
             }
         }
         Ok(None)
-    }
-
-    fn first_at(
-        &self,
-        alloc: Global,
-        sought: Sought,
-        place: u32,
-        connection: &'a FlatConnection,
-    ) -> Result<Option<Found>, NoMemory>
-        requires few { length connection.now.ends < 2 ^ 32 }
-        requires ready { CanSearch (told self.now.tables) self.now.signals.now }
-        ensures { IfOk result (IsFirstAt (told self.now.tables) self.now.edge sought place connection.now) }
-    {
-        if self.opens(sought, place, connection) {
-            self.first_on(alloc, sought, place, connection)
-        } else {
-            Ok(None)
-        }
     }
 
     /// The first of all ends that is one of those that are looked for.
