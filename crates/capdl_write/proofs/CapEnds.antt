@@ -1,4 +1,5 @@
 -- Lines that end with a capability, and lines of bare frames, written in one piece
+use Rattle.std.proofs.Common.{rules}
 use Rattle.capdl_write.proofs.Common.{Bool, List, None, Rights, Some, [], ap, append_assoc, false, frame_line, has_rights, hex_text, params, refl, rights_word, sym, true, ℕ, ◌++◌, ◌∙◌, ◌∷◌, ◌≡◌}
 use Rattle.std.proofs.Common.{codes, append-nil}
 use Rattle.cam_base.specs.Texts.{◌⊹◌, together}
@@ -7,10 +8,7 @@ use Rattle.cam_base.specs.Texts.{◌⊹◌, together}
 in_line : (word mark name rest : List ℕ) → word ++ (mark ++ (name ++ (rest ++ codes "\n"))) ≡ together (word ∷ mark ∷ [])
     ⊹ (name ⊹ rest ⊹ codes "\n")
 unfolding together ◌⊹◌
-in_line word mark name rest =
-    ap (λ z. word ++ (mark ++ z)) (sym (append_assoc name rest (codes "\n")))
-    ∙ ap (λ z. word ++ (z ++ ((name ++ rest) ++ codes "\n"))) (sym (append-nil mark))
-    ∙ sym (append_assoc word (mark ++ []) ((name ++ rest) ++ codes "\n"))
+in_line word mark name rest = search (rules, append_assoc, append-nil)
 
 pub without_badge : (word mark name rest : List ℕ) → together (word ∷ mark ∷ name ∷ (rest ⊹ codes "\n") ∷ [])
     ≡ together (word ∷ mark ∷ []) ⊹ (name ⊹ rest ⊹ codes "\n")
@@ -41,11 +39,7 @@ plain_end false false false false = refl
 
 pub end_is : (r : Rights) (a b c d : Bool) → r.read ≡ a → r.write ≡ b → r.grant ≡ c → r.reply ≡ d
     → bare_end (rights_word (rights a b c d)) ≡ params (has_rights r) false r 0 ⊹ codes "\n"
-end_is r a b c d p q s t =
-    ap (λ z. bare_end (rights_word (rights z b c d))) (sym p) ∙ ap (λ z. bare_end (rights_word (rights r.read z c d))) (sym q)
-    ∙ ap (λ z. bare_end (rights_word (rights r.read r.write z d))) (sym s)
-    ∙ ap (λ z. bare_end (rights_word (rights r.read r.write r.grant z))) (sym t)
-    ∙ plain_end r.read r.write r.grant r.reply
+end_is r a b c d p q s t = search (rules, plain_end)
 
 pub with_badge : (word mark name badge : List ℕ) → together (word ∷ mark ∷ name ∷ codes " (badge: " ∷ badge ∷ codes ")\n" ∷ [])
     ≡ together (word ∷ mark ∷ []) ⊹ (name ⊹ together (codes " (badge: " ∷ badge ∷ codes ")" ∷ []) ⊹ codes "\n")
@@ -61,30 +55,18 @@ pub with_both : (word mark name rights badge : List ℕ) → together (word ∷ 
 unfolding together
 with_both word mark name rights badge =
     ap (λ z. word ++ (mark ++ (name ++ (codes " (" ++ (rights ++ (codes ", badge: " ++ z))))))
-    (sym (append_assoc badge (codes ")") (codes "\n")))
-    ∙ ap (λ z. word ++ (mark ++ (name ++ (codes " (" ++ z))))
+    (sym (append_assoc badge (codes ")") (codes "\n"))) ∙ ap (λ z. word ++ (mark ++ (name ++ (codes " (" ++ z))))
     (sym (append_assoc rights (codes ", badge: " ++ (badge ++ codes ")")) (codes "\n")))
     ∙ in_line word mark name (together (codes " (" ∷ rights ∷ codes ", badge: " ∷ badge ∷ codes ")" ∷ []))
 
 pub bare_frame : (name : List ℕ) → together (name ∷ codes " = frame (4k)\n" ∷ []) ≡ frame_line name None None
 unfolding together ◌⊹◌
-bare_frame name =
-    sym (append_assoc name (codes " = frame (4k") (codes ")\n"))
-    ∙ ap (λ z. z ++ codes ")\n") (sym (append-nil (name ++ codes " = frame (4k"))
-    ∙ sym (append-nil ((name ++ codes " = frame (4k") ++ [])))
+bare_frame name = search (rules, append_assoc, append-nil)
 
 pub device_frame : (name : List ℕ) (paddr : ℕ) → together (name ∷ codes " = frame (4k, paddr: " ∷ hex_text paddr ∷ codes ")\n"
     ∷ []) ≡ frame_line name (Some paddr) None
 unfolding together ◌⊹◌
-device_frame name paddr =
-    let digits = hex_text paddr in
-    let address = codes ", paddr: " ++ (digits ++ []) in
-    let front = name ++ codes " = frame (4k" in
-    ap (λ z. name ++ (codes " = frame (4k, paddr: " ++ (z ++ codes ")\n"))) (sym (append-nil digits))
-    ∙ ap (λ z. name ++ (codes " = frame (4k, paddr: " ++ z)) refl
-    ∙ sym (append_assoc name (codes " = frame (4k") (address ++ codes ")\n"))
-    ∙ sym (append_assoc front address (codes ")\n"))
-    ∙ ap (λ z. z ++ codes ")\n") (sym (append-nil (front ++ address)))
+device_frame name paddr = search (rules, append-nil, append_assoc)
 
 pub buffer_word : together (codes "ipc_buffer_slot" ∷ codes ": " ∷ []) ≡ codes "ipc_buffer_slot: "
 unfolding together

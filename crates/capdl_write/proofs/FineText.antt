@@ -1,4 +1,5 @@
 -- The pieces of a canonical text are fine, line by line.
+use Rattle.std.proofs.Common.{rules}
 use Rattle.capdl_write.proofs.Common.{Aarch64, Arch, Arm11, Bool, CNode, Cap, Directory, Endpoint, Entry, Fill, Fine, Frame, Global, Irq, IsWritable, List, None, Notification, Object, Option, Pages, Piece, Rights, Some, Spec, Table, Tcb, Thread}
 use Rattle.capdl_write.proofs.Common.{Upper, [], all_blank, and_parts, arch_word, arith, brace_l, brace_r, buffer_pieces, cap_pieces, caps_pieces, codes, colon, drop, false, fill_pieces, goes_on, has_rights, has_slot, held_irq, held_pieces}
 use Rattle.capdl_write.proofs.Common.{held_slots, held_tcb, hex, holder_pieces, holders_pieces, if_any, irqs_pieces, is_fill, is_laid, is_number, is_plain, is_word, keeps, keeps_fill, laid, last_pieces, leb, list_all, ltb-true, name_at, named_pieces}
@@ -30,8 +31,7 @@ fine_fill None more k h f = f
 fine_fill (Some fill) more k h f =
     let s = small fill.offset fill.length k in
     let l = and_parts (is_plain fill.file) (is_number fill.at) h in
-    let offset = decimal_fine fill.offset s.0 in
-    let length = decimal_fine fill.length s.1 in
+    let offset = decimal_fine fill.offset s.0 in let length = decimal_fine fill.length s.1 in
     let file = text_fine fill.file l.0 in
     let at = hex_fine fill.at (ltb-true fill.at (2 ^ 64) l.1) in (
       refl,
@@ -73,13 +73,7 @@ fine_fill (Some fill) more k h f =
                     refl,
                     refl,
                     refl,
-                    (
-                      file.0,
-                      file.1,
-                      refl,
-                      refl,
-                      (at.0, at.1, refl, refl, (refl, refl, refl, refl, (refl, refl, refl, refl, f))),
-                    ),
+                    (file.0, file.1, refl, refl, (at.0, at.1, refl, refl, (refl, refl, refl, refl, (refl, refl, refl, refl, f)))),
                   ),
                 ),
               ),
@@ -163,41 +157,12 @@ fine_object spec name (Thread tcb) more w k l f =
     fine_tcb name tcb more w l (prio_small tcb.prio (and_parts (leb tcb.prio 255) _ (and_parts (leb tcb.prio 255 && _) _ k).0).0)
     f
 fine_object spec name (Frame paddr fill) more w k l f =
-    let a = and_parts (if_any (λ p. p % 4096 == 0) paddr) (if_any keeps_fill fill) k in
     let b = and_parts (if_any is_number paddr) (if_any is_fill fill) l in
-    fine_frame name paddr fill more w a.1 b.0 b.1 f
-fine_object spec name (Pages Global slots) more w k l f =
-    fine_word name (codes " ") (drop 1 (object_pieces name (Pages Global slots) more)) w refl refl (
-      refl,
-      refl,
-      refl,
-      refl,
-      (refl, refl, refl, refl, f),
-    )
-fine_object spec name (Pages Upper slots) more w k l f =
-    fine_word name (codes " ") (drop 1 (object_pieces name (Pages Upper slots) more)) w refl refl (
-      refl,
-      refl,
-      refl,
-      refl,
-      (refl, refl, refl, refl, f),
-    )
-fine_object spec name (Pages Directory slots) more w k l f =
-    fine_word name (codes " ") (drop 1 (object_pieces name (Pages Directory slots) more)) w refl refl (
-      refl,
-      refl,
-      refl,
-      refl,
-      (refl, refl, refl, refl, f),
-    )
-fine_object spec name (Pages Table slots) more w k l f =
-    fine_word name (codes " ") (drop 1 (object_pieces name (Pages Table slots) more)) w refl refl (
-      refl,
-      refl,
-      refl,
-      refl,
-      (refl, refl, refl, refl, f),
-    )
+    fine_frame name paddr fill more w (and_parts (if_any (λ p. p % 4096 == 0) paddr) (if_any keeps_fill fill) k).1 b.0 b.1 f
+fine_object spec name (Pages Global slots) more w k l f = search (rules, fine_word)
+fine_object spec name (Pages Upper slots) more w k l f = search (rules, fine_word)
+fine_object spec name (Pages Directory slots) more w k l f = search (rules, fine_word)
+fine_object spec name (Pages Table slots) more w k l f = search (rules, fine_word)
 fine_object spec name (Irq n) more w k l f = fine_word name (codes " ") (drop 1 (object_pieces name (Irq n) more)) w refl refl
     (refl, refl, refl, refl, (refl, refl, refl, refl, f))
 
@@ -253,10 +218,7 @@ fine_target name true true rights badge more w h l f =
     )
 
 fine_cap : (spec : Spec) (cap : Cap) (more : List Piece) → is_target spec cap ≡ true → Fine more → Fine (cap_pieces spec cap more)
-fine_cap spec cap more h f =
-    let k = and_parts (is_named spec cap.object) (is_number cap.badge) h in
-    fine_target (name_at spec cap.object) (has_rights cap.rights) (not (cap.badge == 0)) cap.rights cap.badge more k.0 (λ e. e)
-    (ltb-true cap.badge (2 ^ 64) k.1) f
+fine_cap spec cap more h f = search (rules, and_parts, is_named, fine_target, ltb-true)
 
 fine_slots : (spec : Spec) (ss : List (ℕ × Cap)) (more : List Piece) → list_all (is_slot spec) ss ≡ true → Fine more
     → Fine (slots_pieces spec ss more)
@@ -270,14 +232,7 @@ fine_slots spec (s ∷ ss) more h f =
       n.1,
       refl,
       refl,
-      (
-        refl,
-        refl,
-        refl,
-        refl,
-        fine_cap spec s.1 (slots_pieces spec ss more) g.1
-            (fine_slots spec ss more k.1 f),
-      ),
+      (refl, refl, refl, refl, fine_cap spec s.1 (slots_pieces spec ss more) g.1 (fine_slots spec ss more k.1 f)),
     )
 
 -- the end of a holder
@@ -352,13 +307,11 @@ fine_held_irq spec name (Some p) more w h f =
 
 fine_held : (spec : Spec) (name : List ℕ) (o : Object) (more : List Piece) → is_word name ≡ true → has_named spec o ≡ true
     → Fine more → Fine (held_pieces spec name o more)
-fine_held spec name Endpoint more w h f = f
-fine_held spec name Notification more w h f = f
 fine_held spec name (CNode bits slots) more w h f = fine_held_slots spec name slots more w h f
 fine_held spec name (Thread tcb) more w h f = fine_held_tcb spec name tcb (has_slot tcb) more w h f
-fine_held spec name (Frame paddr fill) more w h f = f
 fine_held spec name (Pages level slots) more w h f = fine_held_slots spec name slots more w h f
 fine_held spec name (Irq o) more w h f = fine_held_irq spec name o more w h f
+fine_held spec name _ more w h f = f
 
 fine_holders : (spec : Spec) (es : List Entry) (more : List Piece) → are_words es ≡ true
     → list_all (λ e. has_named spec e.object) es ≡ true → Fine more → Fine (holders_pieces spec es more)
@@ -414,14 +367,7 @@ fine_last spec h = (
       refl,
       refl,
       refl,
-      (
-        refl,
-        refl,
-        refl,
-        refl,
-        fine_irqs spec spec.irqs (brace_r (codes "\n") ∷ []) h
-            (fine_end (codes "\n") [] refl tt),
-      ),
+      (refl, refl, refl, refl, fine_irqs spec spec.irqs (brace_r (codes "\n") ∷ []) h (fine_end (codes "\n") [] refl tt)),
     ),
   ),
 )
@@ -429,30 +375,16 @@ fine_last spec h = (
 fine_caps : (spec : Spec) → are_words spec.entries ≡ true → list_all (λ e. has_named spec e.object) spec.entries ≡ true
     → Fine (last_pieces spec) → Fine (caps_pieces spec)
 unfolding kind_of fault_at mark_of is_left_out_word
-fine_caps spec w h f = (
-  refl,
-  refl,
-  refl,
-  refl,
-  (refl, refl, refl, refl, (refl, refl, refl, refl, fine_holders spec spec.entries (last_pieces spec) w h f)),
-)
+fine_caps spec w h f = search (rules, fine_holders)
 
 fine_front : (spec : Spec) (more : List Piece) → Fine more
     → Fine (word (codes "arch") (codes " ") ∷ word (arch_word spec.arch) (codes "\n\n") ∷ word (codes "objects") (codes " ")
     ∷ brace_l (codes "\n") ∷ more)
 unfolding kind_of fault_at mark_of is_left_out_word
-fine_front spec more f = (
-  refl,
-  refl,
-  refl,
-  refl,
-  fine_arch spec.arch (word (codes "objects") (codes " ") ∷ brace_l (codes "\n")
-      ∷ more) (refl, refl, refl, refl, (refl, refl, refl, refl, f)),
-)
+fine_front spec more f = search (rules, fine_arch)
 
 -- the pieces of a writable spec's canonical text are fine
 pub fine_pieces : (spec : Spec) → IsWritable spec → Fine (pieces spec)
 fine_pieces spec w =
-    fine_front spec (objects_pieces spec.entries (caps_pieces spec))
-    (fine_objects spec spec.entries (caps_pieces spec) w.names w.kept.objects w.objects (fine_caps spec w.names (all_named spec w)
-    (fine_last spec (lines_named spec w))))
+    fine_front spec (objects_pieces spec.entries (caps_pieces spec)) (fine_objects spec spec.entries (caps_pieces spec) w.names
+    w.kept.objects w.objects (fine_caps spec w.names (all_named spec w) (fine_last spec (lines_named spec w))))

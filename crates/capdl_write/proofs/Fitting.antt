@@ -26,8 +26,7 @@ word_fine (b ∷ bs) h =
     let all : list_all is_word_byte (b ∷ bs) ≡ true = rw (word_or b l.0, l.1) refl in
     let found : fault_at (b ∷ bs) ≡ word_fault (run is_word_byte (b ∷ bs)) = rw l.0 refl in (
       rw (l.0, l.1) refl,
-      found ∙ ap word_fault (run_all (b ∷ bs) all)
-          ∙ rw (word_long b bs g.0, not-true (is_left_out_word (b ∷ bs)) k.1) refl,
+      found ∙ ap word_fault (run_all (b ∷ bs) all) ∙ rw (word_long b bs g.0, not-true (is_left_out_word (b ∷ bs)) k.1) refl,
     )
 
 -- a word piece in front of fine ones
@@ -42,10 +41,8 @@ plain_ends : (text : List ℕ) → is_plain text ≡ true → (ends_text (text +
 plain_ends [] h = (refl, refl)
 plain_ends (b ∷ text) h =
     let k = and_parts (not (b == 34) && not (b == 10)) (is_plain text) h in
-    let g = and_parts (not (b == 34)) (not (b == 10)) k.0 in
-    let r = plain_ends text k.1 in
-    let q = not-true (b == 34) g.0 in
-    let l = not-true (b == 10) g.1 in
+    let g = and_parts (not (b == 34)) (not (b == 10)) k.0 in let r = plain_ends text k.1 in
+    let q = not-true (b == 34) g.0 in let l = not-true (b == 10) g.1 in
     (rw (q, l, r.0) refl, rw (q, l, r.1) refl)
 
 pub text_fine : (text : List ℕ) → is_plain text ≡ true → (kind_of (34 ∷ text ++ 34 ∷ []) ≡ Some kinds.Text)
@@ -92,11 +89,9 @@ fine_tcb name tcb more w h p f =
     let a = and_parts (is_number tcb.addr && is_number tcb.ip) _ h in
     let b = and_parts (is_number tcb.addr) (is_number tcb.ip) a.0 in
     let c = and_parts (is_number tcb.sp) _ a.1 in
-    let d = and_parts (if_any is_plain tcb.elf) _ c.1 in
     let addr = hex_fine tcb.addr (ltb-true tcb.addr (2 ^ 64) b.0) in
     let ip = hex_fine tcb.ip (ltb-true tcb.ip (2 ^ 64) b.1) in
-    let sp = hex_fine tcb.sp (ltb-true tcb.sp (2 ^ 64) c.0) in
-    let prio = decimal_fine tcb.prio p in
+    let sp = hex_fine tcb.sp (ltb-true tcb.sp (2 ^ 64) c.0) in let prio = decimal_fine tcb.prio p in
     fine_word name (codes " ") (drop 1 (tcb_pieces name tcb more)) w refl refl (
       refl,
       refl,
@@ -167,7 +162,7 @@ fine_tcb name tcb more w h p f =
                                 sp.1,
                                 refl,
                                 sp_ends tcb.elf,
-                                fine_elf tcb.elf _ d.0 (
+                                fine_elf tcb.elf _ (and_parts (if_any is_plain tcb.elf) _ c.1).0 (
                                   refl,
                                   refl,
                                   refl,
@@ -195,8 +190,7 @@ fine_tcb name tcb more w h p f =
       ),
     )
   where
-    sp_ends : (elf : Option (List ℕ))
-        → (false
+    sp_ends : (elf : Option (List ℕ)) → (false
         || not
         (goes_on (laid (elf_pieces elf (comma ∷ word (codes "prio") [] ∷ colon ∷ dec tcb.prio [] ∷ paren_r (codes "\n")
         ∷ more))))) ≡ true

@@ -1,18 +1,15 @@
 -- What the names of a canonical text stand for: each for the object that has it.
-use Rattle.capdl_write.proofs.Common.{Arch, Bool, CNode, Endpoint, Entry, Frame, Irq, Known, Knows, List, None, Notification, Object, Option, Pages, Piece, Some, Span, Spec, Thread, [], and_parts, ap, arith, bytes_eq, bytes_eq-Decides, entry_name}
-use Rattle.capdl_write.proofs.Common.{entry_object, false, kind_of_object, known_as, known_from, list_all, list_any, map, name_at, names_differ, node_size, not, not-true, object_at, objects_pieces, refl, size, slice_get, suc, true, zero, ℕ, ◌&&◌}
+use Rattle.capdl_write.proofs.Common.{Arch, Bool, CNode, Entry, Irq, Known, Knows, List, None, Object, Option, Pages, Piece, Some, Span, Spec, [], and_parts, ap, arith, bytes_eq, bytes_eq-Decides, entry_name}
+use Rattle.capdl_write.proofs.Common.{entry_object, false, kind_of_object, known_as, known_from, list_all, list_any, map, name_at, names_differ, node_size, not, not-true, object_at, refl, size, slice_get, suc, true, zero, ℕ, ◌&&◌}
 use Rattle.capdl_write.proofs.Common.{◌+◌, ◌||◌, ◌∙◌, ◌∷◌, ◌≡◌}
 use Rattle.capdl_write.proofs.ReadBack.{object_at as line_at, objects_at}
 
 -- how many numbered slots an object has
 abbrev pub entry_size : Arch → Object → Option ℕ
-entry_size arch Endpoint = None
-entry_size arch Notification = None
 entry_size arch (CNode bits slots) = node_size bits
-entry_size arch (Thread tcb) = None
-entry_size arch (Frame paddr fill) = None
 entry_size arch (Pages level slots) = size arch level
 entry_size arch (Irq notification) = Some 1
+entry_size arch _ = None
 
 abbrev pub known_object : Arch → ℕ → Object → Known
 known_object arch place o = record { place = place; kind = kind_of_object o; size = entry_size arch o }
@@ -47,31 +44,19 @@ other_at name (q ∷ es) (suc j) e h g = other_at name es j e (and_parts (not (b
 module _ (pl : List Piece → Span) where
   line_known : (arch : Arch) (place : ℕ) (name : List ℕ) (o : Object) (more : List Piece)
       → known_as arch place (line_at pl name o more) ≡ known_object arch place o
-  line_known arch place name Endpoint more = refl
-  line_known arch place name Notification more = refl
-  line_known arch place name (CNode bits slots) more = refl
-  line_known arch place name (Thread tcb) more = refl
-  line_known arch place name (Frame paddr fill) more = refl
   line_known arch place name (Pages level slots) more = refl
-  line_known arch place name (Irq o) more = refl
+  line_known arch place name _ more = refl
 
   -- each name stands for the object that has it
   pub found_at : (arch : Arch) (place : ℕ) (es : List Entry) (more : List Piece) (j : ℕ) (e : Entry) → names_differ es ≡ true
       → slice_get es j ≡ Some e → known_from arch place (objects_at pl es more) e.name ≡ Some
       (known_object arch (place + j) e.object)
   found_at arch place [] more j e d g = absurd cc
-  found_at arch place (q ∷ es) more zero e d g =
-      let s : q ≡ e = cc in
-      let t : bytes_eq q.name q.name ≡ true = (bytes_eq-Decides q.name q.name).1 refl in
-      let here : known_from arch place (objects_at pl (q ∷ es) more) q.name ≡ Some (known_object arch (place + zero) q.object) =
-      rw t (ap Some (line_known arch place q.name q.object (objects_pieces es more) ∙ ap (λ p. known_object arch p q.object)
-      (let z : place ≡ place + zero = omega arith in z))) in
-      rw (← s) here
+  found_at arch place (q ∷ es) more zero e d g = grind (arith, bytes_eq-Decides, objects_at, line_known)
   found_at arch place (q ∷ es) more (suc j) e d g =
       let k = differ_parts q es d in
-      let apart : bytes_eq e.name q.name ≡ false = other_at q.name es j e k.0 g in
-      rw apart (found_at arch (place + 1) es more j e k.1 g ∙ ap (λ p. Some (known_object arch p e.object))
-      (let z : (place + 1) + j ≡ place + suc j = omega arith in z))
+      rw (other_at q.name es j e k.0 g) (found_at arch (place + 1) es more j e k.1 g
+      ∙ ap (λ p. Some (known_object arch p e.object)) (let z : (place + 1) + j ≡ place + suc j = omega arith in z))
 
 -- each name of the spec stands for its object
 abbrev pub KnowsAll : Spec → Knows → Type 0

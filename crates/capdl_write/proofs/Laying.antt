@@ -1,6 +1,7 @@
 -- A text of pieces has the tokens of its pieces.
+use Rattle.std.proofs.Common.{rules}
 use Rattle.capdl_write.proofs.Common.{Bool, Fine, Found, List, None, Option, Piece, Some, Token, [], after_run, after_text, all_blank, and_parts, ap, bytes_eq, cases_Bool, codes, cond, digits_fault, digits_kind, digits_word, ends_text, eqb-true}
-use Rattle.capdl_write.proofs.Common.{false, goes_on, inl, inr, is_digit, is_end, is_letter, is_line_byte, is_star, is_word_byte, laid, list_all, mark_fault, mark_of, not, number_value, option_map, refl, run, runs_on, same_Some, subst, sym, token_at}
+use Rattle.capdl_write.proofs.Common.{false, goes_on, inl, inr, is_digit, is_end, is_letter, is_star, is_word_byte, laid, list_all, mark_fault, mark_of, not, number_value, option_map, refl, run, runs_on, same_Some, subst, sym, token_at}
 use Rattle.capdl_write.proofs.Common.{tokens, true, unless, word_fault, word_of, word_or, ℕ, ◌&&◌, ◌++◌, ◌==◌, ◌||◌, ◌∙◌, ◌∷◌, ◌≡◌}
 use Rattle.cam_base.specs.declared.text_fault.TextCode.TheVariants.{CapdlByte}
 use Rattle.capdl_text.specs.declared.token.Kind.{Kind}
@@ -63,13 +64,12 @@ word_reads b t rest k l e f ends =
         let g : goes_on rest ≡ false = ends (ap runs_on (sym same)) in
         let all : list_all is_word_byte (b ∷ t) ≡ true = rw (word_or b l, h) refl in
         let front : run is_word_byte (b ∷ t ++ rest) ≡ b ∷ t = run_ends (b ∷ t) rest all g in
-        let back : after_run is_word_byte (b ∷ t ++ rest) ≡ rest = after_ends (b ∷ t) rest all g in
         let taken : one_token (b ∷ t ++ rest) ≡ word_taken (b ∷ t ++ rest) = rw l refl in
         let found : fault_at (b ∷ t ++ rest) ≡ word_fault (run is_word_byte (b ∷ t ++ rest)) = rw l refl in
         let alone : fault_at (b ∷ t) ≡ word_fault (run is_word_byte (b ∷ t)) = rw l refl in (
           taken ∙ ap (λ (w : List ℕ). let r : Taken = Some (kinds.Word (word_of w), after_run is_word_byte (b ∷ t ++ rest)) in
               r) front
-              ∙ ap (λ (w : List ℕ). let r : Taken = Some (kinds.Word (word_of (b ∷ t)), w) in r) back
+              ∙ ap (λ (w : List ℕ). let r : Taken = Some (kinds.Word (word_of (b ∷ t)), w) in r) (after_ends (b ∷ t) rest all g)
               ∙ ap (λ (j : Kind). let r : Taken = Some (j, rest) in r) same,
           found ∙ ap word_fault front ∙ ap word_fault (sym (run_all (b ∷ t) all)) ∙ sym alone ∙ f,
         )
@@ -95,8 +95,7 @@ digits_reads b t rest k l d e f ends =
     let found : fault_at (b ∷ t ++ rest) ≡ digits_fault (run is_word_byte (b ∷ t ++ rest)) = rw (l, d) refl in
     let alone : fault_at (b ∷ t) ≡ digits_fault (run is_word_byte (b ∷ t)) = rw (l, d) refl in (
       taken ∙ ap (λ (w : List ℕ). option_map {U = Kind × List ℕ} (λ j. (j, after_run is_word_byte (b ∷ t ++ rest)))
-          (digits_kind w)) front
-          ∙ ap (λ (w : List ℕ). option_map {U = Kind × List ℕ} (λ j. (j, w)) (digits_kind (b ∷ t))) back
+          (digits_kind w)) front ∙ ap (λ (w : List ℕ). option_map {U = Kind × List ℕ} (λ j. (j, w)) (digits_kind (b ∷ t))) back
           ∙ ap (option_map {U = Kind × List ℕ} (λ (j : Kind). (j, rest))) kind,
       found ∙ ap digits_fault front ∙ ap digits_fault (sym (run_all (b ∷ t) all)) ∙ sym alone ∙ f,
     )
@@ -107,12 +106,7 @@ quote_reads t rest k e = by_test (ends_text t) refl e
   where
     by_test : (a : Bool) → ends_text t ≡ a → cond a (Some kinds.Text) None ≡ Some k → Read (34 ∷ t ++ rest) k rest
     by_test false h q = none_is_not k q
-    by_test true h q =
-        let end : after_text (t ++ rest) ≡ Some rest = text_ends t rest h in (
-          ap (option_map {U = Kind × List ℕ} (λ (r : List ℕ). (kinds.Text, r))) end
-              ∙ ap (λ (j : Kind). let r : Taken = Some (j, rest) in r) (same_Some kinds.Text k q),
-          ap (λ (o : Option (List ℕ)). unless o (run is_line_byte (34 ∷ t ++ rest))) end,
-        )
+    by_test true h q = search (rules, text_ends, same_Some)
 
 mark_reads : (b : ℕ) (t rest : List ℕ) (k : Kind) → is_letter b ≡ false → is_digit b ≡ false → (b == 34) ≡ false
     → kind_of (b ∷ t) ≡ Some k → fault_at (b ∷ t) ≡ None → Read (b ∷ t ++ rest) k rest

@@ -1,8 +1,9 @@
 -- The canonical text of a spec is laid out of its pieces.
+use Rattle.std.proofs.Common.{rules}
 use Rattle.capdl_write.proofs.Common.{Bool, CNode, Cap, Endpoint, Entry, Fill, Frame, Irq, List, None, Notification, Object, Option, Pages, Piece, Rights, Some, Spec, Tcb, Thread, [], ap, append-nil, append_assoc, arch_word, buffer_line}
-use Rattle.capdl_write.proofs.Common.{buffer_pieces, cap_end, cap_pieces, caps_pieces, codes, decimal, elf_field, elf_pieces, entry_line, entry_text, false, fill_field, fill_pieces, flat_map, frame_line, has_rights, has_slot, held_irq, held_pieces}
-use Rattle.capdl_write.proofs.Common.{held_slots, held_tcb, holder_text, holders_pieces, irq_line, irq_text, irqs_pieces, laid, last_pieces, level_word, name_at, named_line, named_pieces, not, object_line, object_pieces, objects_pieces, paddr_field}
-use Rattle.capdl_write.proofs.Common.{paddr_pieces, params, pieces, refl, rights_word, slot_line, slots_pieces, slots_text, sym, target_pieces, tcb_line, tcb_text, true, ℕ, ◌++◌, ◌==◌, ◌∙◌, ◌∷◌, ◌≡◌}
+use Rattle.capdl_write.proofs.Common.{buffer_pieces, cap_end, cap_pieces, caps_pieces, codes, decimal, elf_field, elf_pieces, entry_line, entry_text, false, fill_field, fill_pieces, flat_map, frame_line, has_slot, held_irq, held_pieces}
+use Rattle.capdl_write.proofs.Common.{held_slots, held_tcb, holder_text, holders_pieces, irq_line, irq_text, irqs_pieces, laid, last_pieces, level_word, name_at, named_line, named_pieces, object_line, object_pieces, objects_pieces, paddr_field}
+use Rattle.capdl_write.proofs.Common.{paddr_pieces, params, pieces, refl, rights_word, slot_line, slots_pieces, slots_text, sym, target_pieces, tcb_line, tcb_text, true, ℕ, ◌++◌, ◌∙◌, ◌∷◌, ◌≡◌}
 use Rattle.cam_base.specs.Hex.{hex_digits, hex_text}
 use Rattle.cam_base.specs.Texts.{◌⊹◌, together}
 use Rattle.cap_model.specs.Canonical.{canonical}
@@ -32,19 +33,12 @@ four a b c d rest = behind (a ⊹ b ⊹ c) d rest ∙ three a b c (d ++ rest)
 elf_is : (elf : Option (List ℕ)) (more : List Piece) → laid (elf_pieces elf more) ≡ elf_field elf ++ laid more
 unfolding chain
 elf_is None more = refl
-elf_is (Some elf) more =
-    ap (λ z. codes ", elf: \"" ++ z) (append_assoc elf (codes "\"") (laid more))
-    ∙ sym (parts (codes ", elf: \"" ∷ elf ∷ codes "\"" ∷ []) (laid more))
+elf_is (Some elf) more = search (rules, append_assoc, parts)
 
 tcb_is : (name : List ℕ) (tcb : Tcb) (more : List Piece) → laid (object_pieces name (Thread tcb) more) ≡ tcb_line name
     tcb ++ laid more
 unfolding chain
-tcb_is name tcb more =
-    let head = name ∷ codes " = tcb (addr: " ∷ hex_text tcb.addr ∷ codes ", ip: " ∷ hex_text tcb.ip ∷ codes ", sp: "
-    ∷ hex_text tcb.sp ∷ [] in
-    let tail = codes ", prio: " ∷ decimal tcb.prio ∷ codes ")\n" ∷ [] in
-    ap (chain head) (elf_is tcb.elf _) ∙ ap (λ z. chain head (elf_field tcb.elf ++ z)) (sym (parts tail (laid more)))
-    ∙ sym (parts head _) ∙ sym (three (together head) (elf_field tcb.elf) (together tail) (laid more))
+tcb_is name tcb more = search (rules, chain, elf_is, parts, three)
 
 paddr_is : (paddr : Option ℕ) (more : List Piece) → laid (paddr_pieces paddr more) ≡ paddr_field paddr ++ laid more
 unfolding chain
@@ -54,20 +48,12 @@ paddr_is (Some paddr) more = sym (parts (codes ", paddr: " ∷ hex_text paddr �
 fill_is : (fill : Option Fill) (more : List Piece) → laid (fill_pieces fill more) ≡ fill_field fill ++ laid more
 unfolding chain
 fill_is None more = refl
-fill_is (Some fill) more =
-    ap (λ z. codes ", fill: [{"
-    ++ (decimal fill.offset ++ (codes " " ++ (decimal fill.length ++ (codes " CDL_FrameFill_FileData \"" ++ z)))))
-    (append_assoc fill.file (codes "\"") (codes " " ++ (hex_text fill.at ++ (codes "}]" ++ laid more))))
-    ∙ sym (parts (codes ", fill: [{" ∷ decimal fill.offset ∷ codes " " ∷ decimal fill.length ∷ codes " CDL_FrameFill_FileData \""
-    ∷ fill.file ∷ codes "\" " ∷ hex_text fill.at ∷ codes "}]" ∷ []) (laid more))
+fill_is (Some fill) more = search (rules, append_assoc, parts)
 
 frame_is : (name : List ℕ) (paddr : Option ℕ) (fill : Option Fill) (more : List Piece)
     → laid (object_pieces name (Frame paddr fill) more) ≡ frame_line name paddr fill ++ laid more
 unfolding chain
-frame_is name paddr fill more =
-    let head = name ∷ codes " = frame (4k" ∷ [] in
-    ap (chain head) (paddr_is paddr _) ∙ ap (λ z. chain head (paddr_field paddr ++ z)) (fill_is fill _) ∙ sym (parts head _)
-    ∙ sym (four (together head) (paddr_field paddr) (fill_field fill) (codes ")\n") (laid more))
+frame_is name paddr fill more = search (rules, chain, paddr_is, fill_is, parts, four)
 
 object_is : (name : List ℕ) (o : Object) (more : List Piece) → laid (object_pieces name o more) ≡ object_line name o ++ laid more
 unfolding chain
@@ -95,24 +81,16 @@ target_is name true false rights badge more =
     ap (λ z. name ++ z) (sym (parts (codes " (" ∷ rights_word rights ∷ codes ")" ∷ []) (codes "\n" ++ laid more)))
 target_is name false true rights badge more =
     ap (λ z. name ++ z) (sym (parts (codes " (badge: " ∷ decimal badge ∷ codes ")" ∷ []) (codes "\n" ++ laid more)))
-target_is name true true rights badge more =
-    ap (λ z. name ++ z) (sym (parts (codes " (" ∷ rights_word rights ∷ codes ", badge: " ∷ decimal badge ∷ codes ")" ∷ [])
-    (codes "\n" ++ laid more)))
+target_is name true true rights badge more = search (rules, parts)
 
 module _ (spec : Spec) where
   cap_is : (cap : Cap) (more : List Piece) → laid (cap_pieces spec cap more) ≡ cap_end spec cap ++ laid more
-  cap_is cap more =
-      target_is (name_at spec cap.object) (has_rights cap.rights) (not (cap.badge == 0)) cap.rights cap.badge more
-      ∙ sym (three (name_at spec cap.object) (params (has_rights cap.rights) (not (cap.badge == 0)) cap.rights cap.badge)
-      (codes "\n") (laid more))
+  cap_is cap more = search (rules, target_is, three)
 
   slot_is : (s : ℕ × Cap) (more : List Piece) → hex_text s.0 ++ (codes ": " ++ laid (cap_pieces spec s.1 more)) ≡ slot_line spec
       s ++ laid more
   unfolding chain
-  slot_is s more =
-      ap (λ z. hex_text s.0 ++ (codes ": " ++ z)) (cap_is s.1 more)
-      ∙ sym (parts (hex_text s.0 ∷ codes ": " ∷ []) (cap_end spec s.1 ++ laid more))
-      ∙ sym (behind (together (hex_text s.0 ∷ codes ": " ∷ [])) (cap_end spec s.1) (laid more))
+  slot_is s more = search (rules, cap_is, parts, behind)
 
   slots_are : (ss : List (ℕ × Cap)) (more : List Piece) → laid (slots_pieces spec ss more) ≡ flat_map (slot_line spec)
       ss ++ laid more
@@ -133,10 +111,7 @@ module _ (spec : Spec) where
       → laid (named_pieces spec key o more) ≡ named_line spec colon o ++ laid more
   unfolding chain
   named_is key colon None more e = refl
-  named_is key colon (Some object) more e =
-      sym (append_assoc key (codes ": ") (name_at spec object ++ (codes "\n" ++ laid more)))
-      ∙ ap (λ z. z ++ (name_at spec object ++ (codes "\n" ++ laid more))) (sym e)
-      ∙ sym (parts (colon ∷ name_at spec object ∷ codes "\n" ∷ []) (laid more))
+  named_is key colon (Some object) more e = search (rules, append_assoc, parts)
 
   buffer_is : (b : Option Cap) (more : List Piece) → laid (buffer_pieces spec b more) ≡ buffer_line spec b ++ laid more
   buffer_is None more = refl
@@ -147,15 +122,7 @@ module _ (spec : Spec) where
       → laid (held_tcb spec name tcb some more) ≡ tcb_text spec name tcb some ++ laid more
   unfolding chain
   held_tcb_is name tcb false more = refl
-  held_tcb_is name tcb true more =
-      let head = name ∷ codes " {\n" ∷ [] in
-      let c = named_line spec (codes "cspace: ") tcb.cspace in
-      let v = named_line spec (codes "vspace: ") tcb.vspace in
-      let b = buffer_line spec tcb.buffer in
-      ap (chain head) (named_is (codes "cspace") (codes "cspace: ") tcb.cspace _ refl) ∙ ap (λ z. chain head (c ++ z))
-      (named_is (codes "vspace") (codes "vspace: ") tcb.vspace _ refl)
-      ∙ ap (λ z. chain head (c ++ (v ++ z))) (buffer_is tcb.buffer _) ∙ sym (parts head _)
-      ∙ sym (behind (together head ⊹ c ⊹ v ⊹ b) (codes "}\n") (laid more) ∙ four (together head) c v b (codes "}\n" ++ laid more))
+  held_tcb_is name tcb true more = search (rules, chain, named_is, buffer_is, parts, behind, four)
 
   held_irq_is : (name : List ℕ) (n : Option ℕ) (more : List Piece)
       → laid (held_irq spec name n more) ≡ irq_text spec name n ++ laid more
@@ -170,13 +137,11 @@ module _ (spec : Spec) where
 
   held_is : (name : List ℕ) (o : Object) (more : List Piece) → laid (held_pieces spec name o more) ≡ holder_text spec name
       o ++ laid more
-  held_is name Endpoint more = refl
-  held_is name Notification more = refl
   held_is name (CNode bits slots) more = held_slots_are name slots more
   held_is name (Thread tcb) more = held_tcb_is name tcb (has_slot tcb) more
-  held_is name (Frame paddr fill) more = refl
   held_is name (Pages level slots) more = held_slots_are name slots more
   held_is name (Irq notification) more = held_irq_is name notification more
+  held_is name _ more = refl
 
   holders_are : (es : List Entry) (more : List Piece) → laid (holders_pieces spec es more) ≡ flat_map (entry_text spec)
       es ++ laid more
@@ -197,16 +162,14 @@ pub all_laid : (spec : Spec) → canonical spec ≡ laid (pieces spec)
 unfolding canonical chain
 all_laid spec =
     let head = codes "arch " ∷ arch_word spec.arch ∷ codes "\n\nobjects {\n" ∷ [] in
-    let a = flat_map entry_line spec.entries in
-    let b = flat_map (entry_text spec) spec.entries in
+    let a = flat_map entry_line spec.entries in let b = flat_map (entry_text spec) spec.entries in
     let c = flat_map (irq_line spec) spec.irqs in
     let mid = codes "}\n\ncaps {\n" in
     let last = codes "}\n\nirq maps {\n" in
     let end = codes "}\n" in
-    let plain : canonical spec ≡ together head ++ (a ++ (mid ++ (b ++ (last ++ (c ++ end))))) =
-    sym (append-nil (canonical spec)) ∙ behind (together head ⊹ a ⊹ mid ⊹ b ⊹ last ⊹ c) end []
-    ∙ behind (together head ⊹ a ⊹ mid ⊹ b ⊹ last) c (end ++ []) ∙ behind (together head ⊹ a ⊹ mid ⊹ b) last (c ++ (end ++ []))
-    ∙ four (together head) a mid b (last ++ (c ++ (end ++ []))) in
+    let plain : canonical spec ≡ together head ++ (a ++ (mid ++ (b ++ (last ++ (c ++ end))))) = sym (append-nil (canonical spec))
+    ∙ behind (together head ⊹ a ⊹ mid ⊹ b ⊹ last ⊹ c) end [] ∙ behind (together head ⊹ a ⊹ mid ⊹ b ⊹ last) c (end ++ [])
+    ∙ behind (together head ⊹ a ⊹ mid ⊹ b) last (c ++ (end ++ [])) ∙ four (together head) a mid b (last ++ (c ++ (end ++ []))) in
     sym (
     ap (chain head) (objects_are spec.entries (caps_pieces spec)) ∙ ap (λ z. chain head (a ++ (mid ++ z)))
     (holders_are spec spec.entries (last_pieces spec))

@@ -1,7 +1,8 @@
 -- What the slots of a writable spec hold can be named.
-use Rattle.capdl_write.proofs.Common.{Bool, CNode, Cap, Endpoint, Entry, Frame, Irq, IsWritable, Kind, Level, List, None, Notification, Object, Option, Pages, Some, Spec, Tcb, Thread, [], and_from, and_parts, are_slots, child, differ, entry_name}
+use Rattle.std.proofs.Common.{rules}
+use Rattle.capdl_write.proofs.Common.{Bool, CNode, Cap, Entry, Frame, Irq, IsWritable, Kind, Level, List, None, Notification, Object, Option, Pages, Some, Spec, Tcb, Thread, [], and_from, and_parts, are_slots, entry_name}
 use Rattle.capdl_write.proofs.Common.{entry_object, fits, fits_as, fits_kind, if_any, is_at, is_kind, is_laid, is_number, is_plain, is_some, is_space_root, is_tcb, is_word, keeps, keeps_slots, keeps_table, keeps_tcb, kind_at, kind_of_object, leb}
-use Rattle.capdl_write.proofs.Common.{list_all, map, name_at, nat_lt, none_is_root, object_at, option_map, refl, rise, size, slice_get, suc, true, zero, ℕ, ◌&&◌, ◌==◌, ◌^◌, ◌∷◌, ◌≡◌}
+use Rattle.capdl_write.proofs.Common.{list_all, name_at, none_is_root, object_at, option_map, refl, size, slice_get, suc, true, zero, ℕ, ◌&&◌, ◌^◌, ◌∷◌, ◌≡◌}
 use Rattle.cap_model.specs.declared.kind.Kind.TheVariants as kinds
 
 -- ---- tests of lists
@@ -10,8 +11,7 @@ pub all_from : {A : Type 0} (p q r : A → Bool) (xs : List A) → ((x : A) → 
     → list_all p xs ≡ true → list_all q xs ≡ true → list_all r xs ≡ true
 all_from p q r [] step a b = refl
 all_from p q r (x ∷ xs) step a b =
-    let k = and_parts (p x) (list_all p xs) a in
-    let l = and_parts (q x) (list_all q xs) b in
+    let k = and_parts (p x) (list_all p xs) a in let l = and_parts (q x) (list_all q xs) b in
     rw (step x k.0 l.0, all_from p q r xs step k.1 l.1) refl
 
 -- ---- what is there
@@ -66,24 +66,17 @@ is_slot spec s = is_number s.0 && is_target spec s.1
 
 -- what the slots of an object hold can be written
 abbrev pub has_named : Spec → Object → Bool
-has_named spec Endpoint = true
-has_named spec Notification = true
 has_named spec (CNode bits slots) = list_all (is_slot spec) slots
 has_named spec (Thread tcb) = if_any (is_named spec) tcb.cspace
     && (if_any (is_named spec) tcb.vspace && if_any (is_target spec) tcb.buffer)
-has_named spec (Frame paddr fill) = true
 has_named spec (Pages level slots) = list_all (is_slot spec) slots
 has_named spec (Irq notification) = if_any (is_named spec) notification
+has_named spec _ = true
 
 named_slots : (spec : Spec) → are_words spec.entries ≡ true → (fit : Cap → Bool)
     → ((c : Cap) → fit c ≡ true → is_some (object_at spec c.object) ≡ true) → (size : ℕ) (slots : List (ℕ × Cap))
-    → keeps_slots fit size slots ≡ true → are_slots slots ≡ true
-    → list_all (is_slot spec) slots ≡ true
-named_slots spec w fit there size slots k a =
-    all_from (λ s. nat_lt s.0 size && fit s.1) (λ s. is_number s.0 && is_number s.1.badge) (is_slot spec) slots
-    (λ s p q. let g = and_parts (nat_lt s.0 size) (fit s.1) p in let n = and_parts (is_number s.0) (is_number s.1.badge) q in
-    and_from _ _ n.0 (and_from _ _ (named_there spec s.1.object w (there s.1 g.1)) n.1))
-    (and_parts (rise slots) (list_all (λ s. nat_lt s.0 size && fit s.1) slots) k).1 a
+    → keeps_slots fit size slots ≡ true → are_slots slots ≡ true → list_all (is_slot spec) slots ≡ true
+named_slots spec w fit there size slots k a = search (rules, all_from, and_parts, and_from, named_there)
 
 named_any : {A : Type 0} (p q : A → Bool) (o : Option A) → ((x : A) → p x ≡ true → q x ≡ true) → if_any p o ≡ true
     → if_any q o ≡ true
@@ -93,9 +86,7 @@ named_any p q (Some x) step h = step x h
 named_table : (spec : Spec) → are_words spec.entries ≡ true → (level : Level) (n : Option ℕ) (slots : List (ℕ × Cap))
     → keeps_table spec level n slots ≡ true → are_slots slots ≡ true → list_all (is_slot spec) slots ≡ true
 named_table spec w level None slots k a = absurd cc
-named_table spec w level (Some n) slots k a =
-    named_slots spec w (fits_as spec (child level))
-    (λ c h. there_fits spec c (and_parts (is_at spec (child level) c.object) (fits spec c) h).1) n slots k a
+named_table spec w level (Some n) slots k a = search (rules, named_slots, there_fits, and_parts)
 
 named_tcb : (spec : Spec) → are_words spec.entries ≡ true → (tcb : Tcb) → keeps_tcb spec tcb ≡ true → is_tcb tcb ≡ true
     → has_named spec (Thread tcb) ≡ true
@@ -107,31 +98,25 @@ named_tcb spec w tcb k l =
     let d = and_parts (is_number tcb.addr && is_number tcb.ip) (is_number tcb.sp
     && (if_any is_plain tcb.elf && if_any (λ c. is_number c.badge) tcb.buffer)) l in
     let e = and_parts (is_number tcb.sp) (if_any is_plain tcb.elf && if_any (λ c. is_number c.badge) tcb.buffer) d.1 in
-    let f = and_parts (if_any is_plain tcb.elf) (if_any (λ c. is_number c.badge) tcb.buffer) e.1 in
     and_from _ _ (named_any (is_at spec kinds.CNode) (is_named spec) tcb.cspace
     (λ p h. named_there spec p w (there_is spec kinds.CNode p h)) b.1)
     (and_from _ _ (named_any (is_space_root spec) (is_named spec) tcb.vspace (λ p h. named_there spec p w (there_root spec p h))
-    c.0) (buffer_named tcb.buffer c.1 f.1))
+    c.0) (buffer_named tcb.buffer c.1 (and_parts (if_any is_plain tcb.elf) (if_any (λ c. is_number c.badge) tcb.buffer) e.1).1))
   where
     buffer_named : (o : Option Cap) → if_any (fits_as spec kinds.Frame) o ≡ true → if_any (λ c. is_number c.badge) o ≡ true
         → if_any (is_target spec) o ≡ true
     buffer_named None h n = refl
-    buffer_named (Some cap) h n =
-        and_from _ _
-        (named_there spec cap.object w (there_fits spec cap (and_parts (is_at spec kinds.Frame cap.object) (fits spec cap) h).1))
-        n
+    buffer_named (Some cap) h n = search (rules, and_from, named_there, there_fits, and_parts)
 
 named_object : (spec : Spec) → are_words spec.entries ≡ true → (o : Object) → keeps spec o ≡ true → is_laid o ≡ true
     → has_named spec o ≡ true
-named_object spec w Endpoint k l = refl
-named_object spec w Notification k l = refl
 named_object spec w (CNode bits slots) k l = named_slots spec w (fits spec) (λ c h. there_fits spec c h) (2 ^ bits) slots
     (and_parts _ _ k).1 l
 named_object spec w (Thread tcb) k l = named_tcb spec w tcb k l
-named_object spec w (Frame paddr fill) k l = refl
 named_object spec w (Pages level slots) k l = named_table spec w level (size spec.arch level) slots k l
 named_object spec w (Irq o) k l = named_any (is_at spec kinds.Notification) (is_named spec) o
     (λ p h. named_there spec p w (there_is spec kinds.Notification p h)) k
+named_object spec w _ k l = refl
 
 pub all_named : (spec : Spec) → IsWritable spec → list_all (λ e. has_named spec e.object) spec.entries ≡ true
 all_named spec w = all_from (λ e. keeps spec e.object) (λ e. is_laid e.object) (λ e. has_named spec e.object) spec.entries
@@ -142,8 +127,4 @@ abbrev pub is_line : Spec → ℕ × ℕ → Bool
 is_line spec l = is_number l.0 && is_named spec l.1
 
 pub lines_named : (spec : Spec) → IsWritable spec → list_all (is_line spec) spec.irqs ≡ true
-lines_named spec w =
-    let k = and_parts (rise spec.irqs && differ (λ a b. a == b) (map (λ l. l.1) spec.irqs))
-    (list_all (λ l. is_at spec kinds.Irq l.1) spec.irqs) w.kept.lines in
-    all_from (λ l. is_at spec kinds.Irq l.1) (λ l. is_number l.0) (is_line spec) spec.irqs
-    (λ l p q. and_from _ _ q (named_there spec l.1 w.names (there_is spec kinds.Irq l.1 p))) k.1 w.lines
+lines_named spec w = search (rules, and_parts, all_from, and_from, named_there, there_is)

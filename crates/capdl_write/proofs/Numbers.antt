@@ -18,9 +18,8 @@ unfolding kind_of fault_at
 number_fine b bs n d v k =
     let l : is_letter b ≡ false = digit_no_letter b d in
     let kind : digits_kind (b ∷ bs) ≡ Some (kinds.Number n) = rw (k, v) refl in
-    let all : run is_word_byte (b ∷ bs) ≡ b ∷ bs = run_all (b ∷ bs) (number_word (b ∷ bs) n v) in
     let found : fault_at (b ∷ bs) ≡ digits_fault (run is_word_byte (b ∷ bs)) = rw (l, d) refl in
-    (rw (l, d) kind, found ∙ ap digits_fault all ∙ rw kind refl)
+    (rw (l, d) kind, found ∙ ap digits_fault (run_all (b ∷ bs) (number_word (b ∷ bs) n v)) ∙ rw kind refl)
   where
     digit_no_letter : (b : ℕ) → is_digit b ≡ true → is_letter b ≡ false
     digit_no_letter b d = grind (arith, nat_tests)

@@ -1,5 +1,5 @@
 -- Reading the tokens of a canonical text gives its tree.
-use Rattle.capdl_write.proofs.Common.{Aarch64, Arm11, CNode, Cap, Directory, Eats, Endpoint, Entry, Fill, Frame, Global, Irq, Level, List, None, Notification, Number, Object, Ok, Option, Pages, Piece, Rights, Rule, Seen, Some, Span, Table, Tcb}
+use Rattle.capdl_write.proofs.Common.{Aarch64, Arm11, CNode, Cap, Directory, Eats, Endpoint, Entry, Fill, Frame, Global, Irq, Level, List, None, Notification, Number, Object, Ok, Option, Pages, Piece, Rule, Seen, Some, Span, Table, Tcb}
 use Rattle.capdl_write.proofs.Common.{Thread, ThreadField, Upper, [], among, and_parts, arith, behind, brace_l, brace_r, codes, colon, comma, dec, eats, elf_pieces, false, fill_pieces, hex, inner, is_name, left_out_is, left_out_line, length}
 use Rattle.capdl_write.proofs.Common.{length-append, level_word, list_all, many, many_more, many_none, mark_code, name_codes, next_frame_field, next_frame_field_eats, object_eats, object_form, object_pieces, objects_pieces, opens, paddr_pieces}
 use Rattle.capdl_write.proofs.Common.{paren_r, quoted, reads, refl, square_l, square_r, starts, take_at, thread_field_form, token_code, true, word, word_code, ℕ, ◌++◌, ◌+◌, ◌-◌, ◌∙◌, ◌∷◌, ◌≡◌}
@@ -22,38 +22,9 @@ use Rattle.cam_base.specs.Deciding.{decides}
 
 -- every word may name an object
 pub any : (w : Word) → among name_codes (word_code w) ≡ true
-any words.Plain = refl
-any words.Arch = refl
-any words.Arm11 = refl
-any words.Aarch64 = refl
-any words.Objects = refl
-any words.Caps = refl
-any words.Irq = refl
-any words.Maps = refl
-any words.Endpoint = refl
-any words.Notification = refl
-any words.CNode = refl
-any words.Bits = refl
-any words.Thread = refl
-any words.Frame = refl
 any (words.Pages Global) = refl
-any (words.Pages Upper) = refl
-any (words.Pages Directory) = refl
-any (words.Pages Table) = refl
 any (words.Field fields.Addr) = refl
-any (words.Field fields.Ip) = refl
-any (words.Field fields.Sp) = refl
-any (words.Field fields.Prio) = refl
-any (words.Field fields.Elf) = refl
-any (words.Field fields.Paddr) = refl
-any (words.Field fields.Fill) = refl
-any words.FileData = refl
-any words.Cspace = refl
-any words.Vspace = refl
-any words.Buffer = refl
-any words.Badge = refl
-any words.Rights = refl
-any words.LeftOutRights = refl
+any _ = refl
 
 -- ---- the words of the grammar
 
@@ -292,8 +263,7 @@ module _ (pl : List Piece → Span) where
   abbrev pub more_fields : Tcb → List Piece → List ThreadField
   more_fields tcb more =
       field_at (codes "ip") thread.Ip tcb.ip (hex tcb.ip []) (ip_tail tcb more) ∷ field_at (codes "sp") thread.Sp tcb.sp
-      (hex tcb.sp []) (sp_tail tcb more)
-      ∷ with_elf tcb.elf (prio_tail tcb.prio more) (last_fields tcb.prio more)
+      (hex tcb.sp []) (sp_tail tcb more) ∷ with_elf tcb.elf (prio_tail tcb.prio more) (last_fields tcb.prio more)
 
   abbrev pub fields_at : Tcb → List Piece → List ThreadField
   fields_at tcb more = field_at (codes "addr") thread.Addr tcb.addr (hex tcb.addr []) (addr_tail tcb more) ∷ more_fields tcb more
@@ -313,8 +283,7 @@ module _ (pl : List Piece → Span) where
 
   -- one more field behind a comma
   one_field : (ps : List Piece) (x : ThreadField) (us : List Seen) (xs : List ThreadField) (rest : List Seen)
-      → reads thread_field_form (shown pl ps) ≡ Ok (x, us)
-      → many token_code comma_code (reads next_field) us ≡ Ok (xs, rest)
+      → reads thread_field_form (shown pl ps) ≡ Ok (x, us) → many token_code comma_code (reads next_field) us ≡ Ok (xs, rest)
       → many token_code comma_code (reads next_field) (shown pl (comma ∷ ps)) ≡ Ok (x ∷ xs, rest)
   one_field ps x us xs rest e m = one_more comma_code next_field next_eats (shown pl (comma ∷ ps)) x us xs rest refl (rw e refl) m
 
@@ -455,13 +424,8 @@ module _ (pl : List Piece → Span) where
 
   object_starts : (name : List ℕ) (o : Object) (more : List Piece)
       → starts token_code name_codes (shown pl (object_pieces name o more)) ≡ true
-  object_starts name Endpoint more = any (word_of name)
-  object_starts name Notification more = any (word_of name)
-  object_starts name (CNode bits slots) more = any (word_of name)
-  object_starts name (Thread tcb) more = any (word_of name)
-  object_starts name (Frame paddr fill) more = any (word_of name)
   object_starts name (Pages level slots) more = any (word_of name)
-  object_starts name (Irq notification) more = any (word_of name)
+  object_starts name _ more = any (word_of name)
 
   abbrev pub objects_at : List Entry → List Piece → List ObjectLine
   objects_at [] more = []

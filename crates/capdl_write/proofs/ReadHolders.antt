@@ -1,4 +1,5 @@
 -- Reading the holders, the interrupt lines and the whole of a canonical text.
+use Rattle.std.proofs.Common.{rules}
 use Rattle.capdl_write.proofs.Common.{Bool, Eats, List, Number, Ok, Param, Piece, Rights, Rule, Seen, SlotKey, SlotLine, Span, [], behind, behind_eats, codes, colon, comma, dec, false, has_rights, hex, is_name, letter, many, many_none, mark_code}
 use Rattle.capdl_write.proofs.Common.{param_eats, param_form, paren_r, reads, refl, rights_of, rights_word, slot_form, starts, target_pieces, token_code, true, word, ℕ, ◌||◌, ◌∷◌, ◌≡◌}
 use Rattle.capdl_text.specs.declared.token.Mark.TheVariants as marks
@@ -85,8 +86,7 @@ module _ (pl : List Piece → Span) where
   no_more more = many_none token_code comma_code (reads next_param) (shown pl (paren_r (codes "\n") ∷ more)) refl
 
   one_param : (ps : List Piece) (x : Param) (us : List Seen) (xs : List Param) (rest : List Seen)
-      → reads param_form (shown pl ps) ≡ Ok (x, us)
-      → many token_code comma_code (reads next_param) us ≡ Ok (xs, rest)
+      → reads param_form (shown pl ps) ≡ Ok (x, us) → many token_code comma_code (reads next_param) us ≡ Ok (xs, rest)
       → many token_code comma_code (reads next_param) (shown pl (comma ∷ ps)) ≡ Ok (x ∷ xs, rest)
   one_param ps x us xs rest e m = one_more comma_code next_param next_param_eats (shown pl (comma ∷ ps)) x us xs rest refl
       (rw e refl) m
@@ -101,8 +101,7 @@ module _ (pl : List Piece → Span) where
   last_param badge more =
       one_param (word (codes "badge") [] ∷ colon ∷ dec badge [] ∷ paren_r (codes "\n") ∷ more)
       (badge_at badge (paren_r (codes "\n") ∷ more)) (shown pl (paren_r (codes "\n") ∷ more)) []
-      (shown pl (paren_r (codes "\n") ∷ more))
-      (read_badge badge (paren_r (codes "\n") ∷ more)) (no_more more)
+      (shown pl (paren_r (codes "\n") ∷ more)) (read_badge badge (paren_r (codes "\n") ∷ more)) (no_more more)
 
   -- a slot, by its key's piece
   abbrev pub slot_at : SlotKey → Piece → List ℕ → Bool → Bool → Rights → ℕ → List Piece → SlotLine
@@ -121,20 +120,8 @@ module _ (pl : List Piece → Span) where
   read_slot n name false false rights badge more w h s = rw (any (word_of name), w, s) refl
   read_slot n name true false rights badge more w h s =
       rw (any (word_of name), w, read_rights rights (paren_r (codes "\n") ∷ more) (h refl), no_more more) refl
-  read_slot n name false true rights badge more w h s = rw (
-    any (word_of name),
-    w,
-    read_badge badge (paren_r (codes "\n") ∷ more),
-    no_more more,
-  ) refl
-  read_slot n name true true rights badge more w h s =
-      rw (
-        any (word_of name),
-        w,
-        read_rights rights (comma ∷ word (codes "badge") [] ∷ colon ∷ dec badge [] ∷ paren_r (codes "\n")
-            ∷ more) (h refl),
-        last_param badge more,
-      ) refl
+  read_slot n name false true rights badge more w h s = search (rules, any, read_badge, no_more)
+  read_slot n name true true rights badge more w h s = search (rules, any, read_rights, last_param)
 
   pub read_buffer : (name : List ℕ) (r b : Bool) (rights : Rights) (badge : ℕ) (more : List Piece) → is_name name ≡ true
       → (r ≡ true → has_rights rights ≡ true) → starts token_code paren_code (shown pl more) ≡ false

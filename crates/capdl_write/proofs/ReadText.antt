@@ -1,5 +1,5 @@
 -- Reading the tokens of a whole canonical text gives its tree: the lists of slots, holders and interrupt lines, and the whole.
-use Rattle.capdl_write.proofs.Common.{Aarch64, Arch, Arm11, CNode, Cap, Endpoint, Entry, Frame, Holder, Irq, IsSpecSpelled, IsWritable, List, None, Notification, Object, Ok, Option, Pages, Piece, Seen, SlotKey, SlotLine, Some, Span, Spec, Tcb}
+use Rattle.capdl_write.proofs.Common.{Aarch64, Arch, Arm11, CNode, Cap, Entry, Holder, Irq, IsSpecSpelled, IsWritable, List, None, Object, Ok, Option, Pages, Piece, Seen, SlotKey, SlotLine, Some, Span, Spec, Tcb}
 use Rattle.capdl_write.proofs.Common.{Thread, [], and_parts, arch_form, arch_word, brace_l, brace_r, buffer_pieces, caps_pieces, codes, colon, dec, false, has_rights, has_slot, held_irq, held_pieces, held_slots, held_tcb, hex, holder_eats}
 use Rattle.capdl_write.proofs.Common.{holder_form, holder_pieces, holders_pieces, if_any, irq_eats, irq_form, irqs_pieces, is_left_out_word, is_name, is_number, is_word, key_codes, last_pieces, left_out_is, left_out_line, list_all, many, many_none}
 use Rattle.capdl_write.proofs.Common.{mark_code, name_at, name_codes, named_pieces, not, number_code, objects_pieces, opens, pieces, reads, refl, slot_eats, slot_form, slots_pieces, spec_decides, starts, tcb_slots, token_code, true, whole, word}
@@ -51,9 +51,8 @@ module _ (pl : List Piece → Span) where
   read_slots spec (x ∷ ss) more h s q =
       let k = and_parts (is_slot spec x) (list_all (is_slot spec) ss) h in
       let n = target_name spec x.1 (and_parts (is_number x.0) (is_target spec x.1) k.0).1 in
-      one_more key_codes slot_form slot_eats _ _ _ _ _ refl
-      (read_slot pl x.0 (name_at spec x.1.object) (has_rights x.1.rights) (not (x.1.badge == 0)) x.1.rights x.1.badge
-      (slots_pieces spec ss more) n (λ e. e) (slots_paren spec ss more q))
+      one_more key_codes slot_form slot_eats _ _ _ _ _ refl (read_slot pl x.0 (name_at spec x.1.object) (has_rights x.1.rights)
+      (not (x.1.badge == 0)) x.1.rights x.1.badge (slots_pieces spec ss more) n (λ e. e) (slots_paren spec ss more q))
       (read_slots spec ss more k.1 s q)
 
   -- ---- the slots of a thread
@@ -81,9 +80,8 @@ module _ (pl : List Piece → Span) where
       )
   read_buffers spec None more h s q = many_none token_code key_codes (reads slot_form) (shown pl more) s
   read_buffers spec (Some cap) more h s q =
-      one_more key_codes slot_form slot_eats _ _ _ _ _ (rw word-buffer refl)
-      (read_buffer pl (name_at spec cap.object) (has_rights cap.rights) (not (cap.badge == 0)) cap.rights cap.badge more
-      (target_name spec cap h) (λ e. e) q)
+      one_more key_codes slot_form slot_eats _ _ _ _ _ (rw word-buffer refl) (read_buffer pl (name_at spec cap.object)
+      (has_rights cap.rights) (not (cap.badge == 0)) cap.rights cap.badge more (target_name spec cap h) (λ e. e) q)
       (many_none token_code key_codes (reads slot_form) (shown pl more) s)
 
   buffer_paren : (spec : Spec) (b : Option Cap) (more : List Piece) → starts token_code paren_code (shown pl more) ≡ false
@@ -110,8 +108,7 @@ module _ (pl : List Piece → Span) where
 
   read_cspaces : (spec : Spec) (c v : Option ℕ) (b : Option Cap) (more : List Piece) → if_any (is_named spec) c ≡ true
       → if_any (is_named spec) v ≡ true → if_any (is_target spec) b ≡ true → starts token_code key_codes (shown pl more) ≡ false
-      → starts token_code paren_code (shown pl more) ≡ false
-      → many token_code key_codes (reads slot_form)
+      → starts token_code paren_code (shown pl more) ≡ false → many token_code key_codes (reads slot_form)
       (shown pl (named_pieces spec (codes "cspace") c (named_pieces spec (codes "vspace") v (buffer_pieces spec b more))))
       ≡ Ok (cspace_at spec c v b more, shown pl more)
   read_cspaces spec None v b more f g h s q = read_vspaces spec v b more g h s q
@@ -129,13 +126,11 @@ module _ (pl : List Piece → Span) where
       (no_rights_at pl) 0 more ∷ []
 
   abbrev pub lines_at : Spec → Object → List Piece → List SlotLine
-  lines_at spec Endpoint more = []
-  lines_at spec Notification more = []
   lines_at spec (CNode bits slots) more = slots_at spec slots (brace_r (codes "\n") ∷ more)
   lines_at spec (Thread tcb) more = cspace_at spec tcb.cspace tcb.vspace tcb.buffer (brace_r (codes "\n") ∷ more)
-  lines_at spec (Frame paddr fill) more = []
   lines_at spec (Pages level slots) more = slots_at spec slots (brace_r (codes "\n") ∷ more)
   lines_at spec (Irq notification) more = irq_slot_at spec notification (brace_r (codes "\n") ∷ more)
+  lines_at spec _ more = []
 
   -- a holder in front of others, where there are slot lines
   abbrev pub held_at : List ℕ → Span → List SlotLine → List Holder → List Holder
@@ -149,10 +144,8 @@ module _ (pl : List Piece → Span) where
       (lines_at spec e.object (holders_pieces spec es more)) (holders_at spec es more)
 
   read_holder : (name : List ℕ) (slots : List Piece → List Piece) (lines : List SlotLine) (more : List Piece)
-      → is_name name ≡ true
-      → many token_code key_codes (reads slot_form) (shown pl (slots (brace_r (codes "\n") ∷ more))) ≡ Ok
-      (lines, shown pl (brace_r (codes "\n") ∷ more))
-      → reads holder_form (shown pl (holder_pieces name slots more)) ≡ Ok
+      → is_name name ≡ true → many token_code key_codes (reads slot_form) (shown pl (slots (brace_r (codes "\n") ∷ more))) ≡ Ok
+      (lines, shown pl (brace_r (codes "\n") ∷ more)) → reads holder_form (shown pl (holder_pieces name slots more)) ≡ Ok
       (record { id = record { name = name; place = pl (holder_pieces name slots more) }; slots = lines }, shown pl more)
   unfolding holder_line
   read_holder name slots lines more n m = rw (any (word_of name), n, m) refl
@@ -194,8 +187,7 @@ module _ (pl : List Piece → Span) where
       go tcb.cspace tcb.vspace tcb.buffer (read_cspaces spec tcb.cspace tcb.vspace tcb.buffer (brace_r (codes "\n") ∷ more) k.0
       g.0 g.1 refl refl)
     where
-      go : (c v : Option ℕ) (b : Option Cap)
-          → many token_code key_codes (reads slot_form)
+      go : (c v : Option ℕ) (b : Option Cap) → many token_code key_codes (reads slot_form)
           (shown pl (tcb_slots spec (with_slots tcb c v b) (brace_r (codes "\n") ∷ more))) ≡ Ok
           (cspace_at spec c v b (brace_r (codes "\n") ∷ more), shown pl (brace_r (codes "\n") ∷ more))
           → many token_code name_codes (reads holder_form)
@@ -226,13 +218,11 @@ module _ (pl : List Piece → Span) where
       → many token_code name_codes (reads holder_form) (shown pl more) ≡ Ok (hs, rest)
       → many token_code name_codes (reads holder_form) (shown pl (held_pieces spec name o more)) ≡ Ok
       (held_at name (pl (held_pieces spec name o more)) (lines_at spec o more) hs, rest)
-  read_held spec name Endpoint more hs rest n h r = r
-  read_held spec name Notification more hs rest n h r = r
   read_held spec name (CNode bits slots) more hs rest n h r = read_held_slots spec name slots more hs rest n h r
   read_held spec name (Thread tcb) more hs rest n h r = read_held_tcb spec name tcb more hs rest n h r
-  read_held spec name (Frame paddr fill) more hs rest n h r = r
   read_held spec name (Pages level slots) more hs rest n h r = read_held_slots spec name slots more hs rest n h r
   read_held spec name (Irq o) more hs rest n h r = read_held_irq spec name o more hs rest n h r
+  read_held spec name _ more hs rest n h r = r
 
   read_holders : (spec : Spec) (es : List Entry) (more : List Piece) → are_words es ≡ true
       → list_all (λ e. has_named spec e.object) es ≡ true → starts token_code name_codes (shown pl more) ≡ false
@@ -273,9 +263,8 @@ module _ (pl : List Piece → Span) where
   read_irqs spec [] more h s = many_none token_code (number_code ∷ []) (reads irq_form) (shown pl more) s
   read_irqs spec (l ∷ ls) more h s =
       let k = and_parts (is_line spec l) (list_all (is_line spec) ls) h in
-      let g = and_parts (is_number l.0) (is_named spec l.1) k.0 in
       one_more (number_code ∷ []) irq_form irq_eats _ _ _ _ _ refl (read_irq l.0 (name_at spec l.1) (irqs_pieces spec ls more)
-      (word_name (name_at spec l.1) g.1)) (read_irqs spec ls more k.1 s)
+      (word_name (name_at spec l.1) (and_parts (is_number l.0) (is_named spec l.1) k.0).1)) (read_irqs spec ls more k.1 s)
 
   -- ---- the whole
 
@@ -304,7 +293,6 @@ module _ (pl : List Piece → Span) where
   read_tree spec w =
       let objects = read_objects pl spec.entries (caps_pieces spec) (all_from (λ e. is_word e.name) (λ e. is_word e.name)
       (λ e. is_name e.name) spec.entries (λ e h g. word_name e.name h) w.names w.names) refl in
-      let holders = read_holders spec spec.entries (last_pieces spec) w.names (all_named spec w) refl in
       rw (
         word-arch,
         read_arch spec.arch (word (codes "objects") (codes " ") ∷ brace_l (codes "\n") ∷ objects_pieces spec.entries
@@ -312,7 +300,7 @@ module _ (pl : List Piece → Span) where
         word-objects,
         objects,
         word-caps,
-        holders,
+        (read_holders spec spec.entries (last_pieces spec) w.names (all_named spec w) refl),
         read_last spec (lines_named spec w),
       ) refl
 

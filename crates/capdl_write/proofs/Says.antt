@@ -1,5 +1,5 @@
 -- The tree of a canonical text says its spec.
-use Rattle.capdl_write.proofs.Common.{Bool, CNode, Cap, Endpoint, Entry, Fill, Frame, Holder, Irq, IsKept, Knows, Level, List, None, Notification, Object, Option, Pages, Piece, Rights, SlotKey, SlotLine, Some, Span, Spec, Tcb, Thread, ThreadField}
+use Rattle.capdl_write.proofs.Common.{Bool, CNode, Cap, Entry, Fill, Frame, Holder, Irq, IsKept, Knows, Level, List, None, Notification, Object, Option, Pages, Piece, Rights, SlotKey, SlotLine, Some, Span, Spec, Tcb, Thread, ThreadField}
 use Rattle.capdl_write.proofs.Common.{[], and_from, and_parts, ap, append-nil, append_assoc, arith, badge_said, brace_r, bytes_eq, bytes_eq-Decides, cap_said, child, codes, entry_said, eqb-true, false, fields_from, fill_said, fits, fits_as}
 use Rattle.capdl_write.proofs.Common.{has_rights, held, held_pieces, hex, holders_pieces, if_any, is_at, is_space_root, keeps, keeps_slots, keeps_table, keeps_tcb, leb, lines_from, list_all, map, name_at, named_from, names_differ, nat_lt, nat_tests}
 use Rattle.capdl_write.proofs.Common.{no_tcb, not, not-true, notification_said, object_at, object_said, objects_pieces, paddr_said, paren_r, place_or, refl, rights_said, rise, size, slots_from, slots_pieces, sym, thread_said, true, word, ℕ, ◌&&◌}
@@ -15,6 +15,7 @@ use Rattle.capdl_write.proofs.ReadBack.{kind_at as kind_line_at, objects_at, add
 use Rattle.capdl_write.proofs.ReadHolders.{no_rights_at, params_at}
 use Rattle.capdl_write.proofs.ReadText.{cap_at, slots_at, buffer_at, vspace_at, cspace_at, irq_slot_at, lines_at, held_at, holders_at, irqs_at}
 use Rattle.capdl_write.proofs.Sound.{fits_object, is_object, root_object}
+use Rattle.std.proofs.Common.{rules}
 
 -- ---- putting in by number
 
@@ -24,9 +25,7 @@ insert_end : {A : Type 0} (xs : List (ℕ × A)) (n : ℕ) (v : A) → list_all 
 insert_end [] n v h = refl
 insert_end (x ∷ xs) n v h =
     let k = and_parts (nat_lt x.0 n) (list_all (λ x. nat_lt x.0 n) xs) h in
-    let less = not_less x.0 n k.0 in
-    let other = not_same x.0 n k.0 in
-    rw (less, other) (ap (λ z. x ∷ z) (insert_end xs n v k.1))
+    rw (not_less x.0 n k.0, not_same x.0 n k.0) (ap (λ z. x ∷ z) (insert_end xs n v k.1))
   where
     not_less : (a b : ℕ) → nat_lt a b ≡ true → nat_lt b a ≡ false
     not_less a b h = grind (arith, nat_tests)
@@ -91,11 +90,7 @@ module _ (pl : List Piece → Span) (spec : Spec) (known : Knows) (all : KnowsAl
 
   cap_back : (key : SlotKey) (p : Piece) (cap : Cap) (more : List Piece) → fits spec cap ≡ true
       → cap_said known (cap_at pl spec key p cap more) ≡ cap
-  cap_back key p cap more f =
-      let o = fits_object spec cap f in
-      cap_of _ _ _ cap (place_back cap.object o.0 o.1)
-      (rights_back pl (has_rights cap.rights) (not (cap.badge == 0)) cap.rights cap.badge more (no_rights_is pl cap.rights))
-      (badge_back pl (has_rights cap.rights) (not (cap.badge == 0)) cap.rights cap.badge more (zero_badge cap.badge))
+  cap_back key p cap more f = search (rules, fits_object, cap_of, place_back, rights_back, no_rights_is, badge_back, zero_badge)
 
   slots_back : (done ss : List (ℕ × Cap)) (more : List Piece) → rise (done ++ ss) ≡ true → list_all (λ s. fits spec s.1) ss ≡ true
       → slots_from known done (slots_at pl spec ss more) ≡ done ++ ss
@@ -103,11 +98,9 @@ module _ (pl : List Piece → Span) (spec : Spec) (known : Knows) (all : KnowsAl
   slots_back done (s ∷ ss) more r f =
       let k = and_parts (fits spec s.1) (list_all (λ s. fits spec s.1) ss) f in
       let c = cap_back (keys.Number s.0) (hex s.0 []) s.1 (slots_pieces spec ss more) k.0 in
-      let put : insert_entry nat_cmp done s.0
-      (cap_said known (cap_at pl spec (keys.Number s.0) (hex s.0 []) s.1 (slots_pieces spec ss more))) ≡ done ++ s ∷ [] =
-      ap (λ x. insert_entry nat_cmp done s.0 x) c ∙ insert_end done s.0 s.1 (rise_below done s ss r) in
       let same : (done ++ s ∷ []) ++ ss ≡ done ++ s ∷ ss = append_assoc done (s ∷ []) ss in
-      ap (λ d. slots_from known d (slots_at pl spec ss more)) put ∙ slots_back (done ++ s ∷ []) ss more (rw same r) k.1 ∙ same
+      ap (λ d. slots_from known d (slots_at pl spec ss more)) (ap (λ x. insert_entry nat_cmp done s.0 x) c
+      ∙ insert_end done s.0 s.1 (rise_below done s ss r)) ∙ slots_back (done ++ s ∷ []) ss more (rw same r) k.1 ∙ same
 
   -- ---- threads
 
@@ -120,8 +113,7 @@ module _ (pl : List Piece → Span) (spec : Spec) (known : Knows) (all : KnowsAl
   fields_back a i s t u v (Some elf) tail prio more = refl
 
   tcb_back : (tcb : Tcb) (c v : Option ℕ) (b : Option Cap) (more : List Piece) → tcb.cspace ≡ None → tcb.vspace ≡ None
-      → tcb.buffer ≡ None
-      → if_any (is_at spec kinds.CNode) c ≡ true → if_any (is_space_root spec) v ≡ true
+      → tcb.buffer ≡ None → if_any (is_at spec kinds.CNode) c ≡ true → if_any (is_space_root spec) v ≡ true
       → if_any (fits_as spec kinds.Frame) b ≡ true
       → named_from known tcb (cspace_at pl spec c v b more) ≡ record tcb { cspace = c; vspace = v; buffer = b }
   tcb_back tcb c v b more nc nv nb p q r = with_cspace c p
@@ -153,16 +145,14 @@ module _ (pl : List Piece → Span) (spec : Spec) (known : Knows) (all : KnowsAl
     cspace = None;
     vspace = None;
     buffer = None;
-  } → keeps_tcb spec tcb ≡ true
-      → thread_said known fs (cspace_at pl spec tcb.cspace tcb.vspace tcb.buffer more) ≡ tcb
+  } → keeps_tcb spec tcb ≡ true → thread_said known fs (cspace_at pl spec tcb.cspace tcb.vspace tcb.buffer more) ≡ tcb
   thread_back tcb fs more e k =
       let a = and_parts (leb tcb.prio 255 && if_any (is_at spec kinds.CNode) tcb.cspace) (if_any (is_space_root spec) tcb.vspace
       && if_any (fits_as spec kinds.Frame) tcb.buffer) k in
-      let b = and_parts (leb tcb.prio 255) (if_any (is_at spec kinds.CNode) tcb.cspace) a.0 in
       let c = and_parts (if_any (is_space_root spec) tcb.vspace) (if_any (fits_as spec kinds.Frame) tcb.buffer) a.1 in
       ap (λ (t : Tcb). named_from known t (cspace_at pl spec tcb.cspace tcb.vspace tcb.buffer more)) e
       ∙ tcb_back (record tcb { cspace = None; vspace = None; buffer = None }) tcb.cspace tcb.vspace tcb.buffer more refl refl
-      refl b.1 c.0 c.1
+      refl (and_parts (leb tcb.prio 255) (if_any (is_at spec kinds.CNode) tcb.cspace) a.0).1 c.0 c.1
 
   -- ---- objects
 
@@ -175,12 +165,7 @@ module _ (pl : List Piece → Span) (spec : Spec) (known : Knows) (all : KnowsAl
 
   fit_slots : (fit : Cap → Bool) (n : ℕ) (slots : List (ℕ × Cap)) → ((c : Cap) → fit c ≡ true → fits spec c ≡ true)
       → keeps_slots fit n slots ≡ true → (rise slots ≡ true) × (list_all (λ s. fits spec s.1) slots ≡ true)
-  fit_slots fit n slots f k =
-      let a = and_parts (rise slots) (list_all (λ s. nat_lt s.0 n && fit s.1) slots) k in (
-        a.0,
-        all_from (λ s. nat_lt s.0 n && fit s.1) (λ s. nat_lt s.0 n && fit s.1) (λ s. fits spec s.1) slots
-            (λ s p q. f s.1 (and_parts (nat_lt s.0 n) (fit s.1) p).1) a.1 a.1,
-      )
+  fit_slots fit n slots f k = search (rules, and_parts, all_from)
 
   table_slots : (level : Level) (n : Option ℕ) (slots : List (ℕ × Cap)) → keeps_table spec level n slots ≡ true
       → (rise slots ≡ true) × (list_all (λ s. fits spec s.1) slots ≡ true)
@@ -195,8 +180,6 @@ module _ (pl : List Piece → Span) (spec : Spec) (known : Knows) (all : KnowsAl
 
   object_back : (o : Object) (more tail : List Piece) → keeps spec o ≡ true
       → object_said known (kind_line_at pl o more) (lines_at pl spec o tail) ≡ o
-  object_back Endpoint more tail k = refl
-  object_back Notification more tail k = refl
   object_back (CNode bits slots) more tail k =
       let f = fit_slots (fits spec) (2 ^ bits) slots (λ c f. f) (and_parts (nat_lt 0 bits && leb bits 16)
       (keeps_slots (fits spec) (2 ^ bits) slots) k).1 in
@@ -213,6 +196,7 @@ module _ (pl : List Piece → Span) (spec : Spec) (known : Knows) (all : KnowsAl
       let f = table_slots level (size spec.arch level) slots k in
       ap (λ (x : List (ℕ × Cap)). Pages level x) (slots_back [] slots (brace_r (codes "\n") ∷ tail) f.0 f.1)
   object_back (Irq n) more tail k = ap Irq (irq_back n (brace_r (codes "\n") ∷ tail) k)
+  object_back _ more tail k = refl
 
   -- ---- what is held under which name
 
@@ -254,8 +238,7 @@ module _ (pl : List Piece → Span) (spec : Spec) (known : Knows) (all : KnowsAl
   held_later name place (s ∷ ss) hs [] more o h = tt
   held_later name place (s ∷ ss) hs (e ∷ es) more o h =
       let k = and_parts (not (bytes_eq e.name name)) (is_other name es) o in
-      let n = not-true _ k.0 in
-      (rw n h.0, held_later name place (s ∷ ss) hs es more k.1 h.1)
+      (rw (not-true _ k.0) h.0, held_later name place (s ∷ ss) hs es more k.1 h.1)
 
   all_held : (es : List Entry) (more : List Piece) → names_differ es ≡ true → IsHeld (holders_at pl spec es more) es more
   all_held [] more d = tt

@@ -22,9 +22,11 @@ seen_from whole front (p ∷ ps) e =
     let at : Span = record { first = length whole - length (p.text ++ rest); end = length whole - length rest } in
     let t : text_at whole at ≡ p.text = subst (λ (w : List ℕ). text_at w at ≡ p.text) (sym e)
     (text_there front p.text rest (length whole) (ap length e)) in
-    let e' : whole ≡ ((front ++ p.text) ++ p.blanks) ++ laid ps = e ∙ sym (append_assoc front p.text rest)
-    ∙ sym (append_assoc (front ++ p.text) p.blanks (laid ps)) in
-    rw (t, seen_from whole ((front ++ p.text) ++ p.blanks) ps e') refl
+    rw (
+      t,
+      seen_from whole ((front ++ p.text) ++ p.blanks) ps (e ∙ sym (append_assoc front p.text rest)
+          ∙ sym (append_assoc (front ++ p.text) p.blanks (laid ps))),
+    ) refl
 
 pub seen_tokens : (ps : List Piece) → see (laid ps) (tokens (length (laid ps)) ps) ≡ shown (placed (length (laid ps))) ps
 seen_tokens ps = seen_from (laid ps) [] ps refl

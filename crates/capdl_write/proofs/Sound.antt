@@ -1,6 +1,6 @@
 -- No fault stands in the tree of a canonical text.
-use Rattle.capdl_write.proofs.Common.{Arch, Bool, CNode, Cap, Directory, Each, Endpoint, Entry, Frame, Global, Holder, Id, Irq, IsKept, Kind, Known, Knows, Level, List, None, Notification, Object, Option, Pages, Param, Piece, Rights, SlotKey}
-use Rattle.capdl_write.proofs.Common.{SlotLine, Some, Span, Spec, Table, Thread, ThreadField, Upper, [], and_from, and_parts, ap, arith, brace_r, bytes_eq, bytes_eq-Decides, child, codes, differ, each_then, false, fields_twice, fits, fits_as}
+use Rattle.capdl_write.proofs.Common.{Arch, Bool, CNode, Cap, Directory, Each, Endpoint, Entry, Frame, Holder, Id, Irq, IsKept, Kind, Known, Knows, Level, List, None, Notification, Object, Option, Pages, Param, Piece, Rights, SlotKey}
+use Rattle.capdl_write.proofs.Common.{SlotLine, Some, Span, Spec, Thread, ThreadField, [], and_from, and_parts, ap, arith, brace_r, bytes_eq, bytes_eq-Decides, child, codes, differ, each_then, false, fields_twice, fits, fits_as}
 use Rattle.capdl_write.proofs.Common.{fits_kind, flat_map, has_badge, has_key, has_rights, hex, holders_pieces, holds, if_any, inl, inr, irq_keyed, irq_off, is_at, is_kind, is_root_object, is_some, is_space_root, keeps, keeps_fill, keeps_slots}
 use Rattle.capdl_write.proofs.Common.{keeps_table, key_past, keys_after, keys_twice, kind_of_object, kind_off, kind_rights, kind_takes, leb, list_all, list_any, map, name_at, names_after, names_differ, nat_lt, nat_tests, not, not-true, object_at}
 use Rattle.capdl_write.proofs.Common.{objects_pieces, off_in, option_map, param_off, params_twice, past_in, refl, rise, rise_tail, same_Some, same_kind, size, slice_get, slot_keyed, slot_off, slots_past, suc, sym, takes, thread_keyed}
@@ -16,6 +16,7 @@ use Rattle.capdl_write.proofs.ReadBack.{kind_at as kind_line_at, objects_at, add
 use Rattle.capdl_write.proofs.ReadHolders.{no_rights_at, params_at, slot_at}
 use Rattle.capdl_write.proofs.ReadText.{cap_at, slots_at, buffer_at, vspace_at, cspace_at, irq_slot_at, lines_at, held_at, holders_at, irqs_at}
 use Rattle.capdl_text.proofs.Below.{IsBelow}
+use Rattle.std.proofs.Common.{rules}
 
 -- ---- lists
 
@@ -30,8 +31,7 @@ flat_none f p (x ∷ xs) step e = nil_both (f x) (flat_map f xs) (step x e.0) (f
 pub rise_all : {A : Type 0} (x : ℕ × A) (xs : List (ℕ × A)) → rise (x ∷ xs) ≡ true → list_all (λ t. nat_lt x.0 t.0) xs ≡ true
 rise_all x [] r = refl
 rise_all x (y ∷ ys) r =
-    let k = and_parts (nat_lt x.0 y.0) (rise (y ∷ ys)) r in
-    let h = rise_all y ys k.1 in
+    let k = and_parts (nat_lt x.0 y.0) (rise (y ∷ ys)) r in let h = rise_all y ys k.1 in
     and_from _ _ k.0 (all_from (λ t. nat_lt y.0 t.0) (λ t. nat_lt y.0 t.0) (λ t. nat_lt x.0 t.0) ys
     (λ t p q. on x.0 y.0 t.0 k.0 p) h h)
   where
@@ -49,10 +49,7 @@ not_either false b p q = q
 numbers_unmet : {A : Type 0} (met : Key → Bool) (x : ℕ × A) (xs : List (ℕ × A)) → rise (x ∷ xs) ≡ true
     → list_all (λ t. not (met (0, t.0))) xs ≡ true
     → list_all (λ (t : ℕ × A). not (met (0, t.0) || same_key (0, t.0) (0, x.0))) xs ≡ true
-numbers_unmet {A} met x xs r u =
-    all_from (λ (t : ℕ × A). nat_lt x.0 t.0) (λ (t : ℕ × A). not (met (0, t.0)))
-    (λ (t : ℕ × A). not (met (0, t.0) || same_key (0, t.0) (0, x.0))) xs (λ t p q. not_either (met (0, t.0)) (t.0 == x.0) q
-    (apart x.0 t.0 p)) (rise_all x xs r) u
+numbers_unmet {A} met x xs r u = search (rules, all_from, not_either, apart, rise_all)
 
 -- ---- objects that are there
 
@@ -79,13 +76,8 @@ pub root_object : (spec : Spec) (place : ℕ) → is_space_root spec place ≡ t
 root_object spec place h = go (object_at spec place) refl h
   where
     as_kind : (o : Object) → is_root_object spec.arch (Some o) ≡ true → root_kind spec.arch (kind_of_object o) ≡ true
-    as_kind Endpoint k = absurd cc
-    as_kind Notification k = absurd cc
-    as_kind (CNode bits slots) k = absurd cc
-    as_kind (Thread tcb) k = absurd cc
-    as_kind (Frame paddr fill) k = absurd cc
     as_kind (Pages level slots) k = k
-    as_kind (Irq o) k = absurd cc
+    as_kind _ k = absurd cc
 
     go : (m : Option Object) → object_at spec place ≡ m → is_root_object spec.arch m ≡ true
         → (o : Object) × (object_at spec place ≡ Some o) × (root_kind spec.arch (kind_of_object o) ≡ true)
@@ -124,9 +116,7 @@ module _ (arch : Arch) (known : Knows) where
 
   below_one : (id : Id) (size : ℕ) (s : SlotLine) (key : SlotKey) → IsBelow (Some size) key → key_past id size key s ≡ []
   below_one id size s (keys.Number n) b = rw b refl
-  below_one id size s keys.Cspace b = refl
-  below_one id size s keys.Vspace b = refl
-  below_one id size s keys.Buffer b = refl
+  below_one id size s _ b = refl
 
   below_all : (id : Id) (size : Option ℕ) (ss : List SlotLine) → Each (λ (s : SlotLine). IsBelow size s.key) ss
       → slots_past id size ss ≡ []
@@ -136,12 +126,7 @@ module _ (arch : Arch) (known : Knows) where
 
   pub holder_fine : (id : Id) (h : Known) (ss : List SlotLine) → known id.name ≡ Some h → holds h.kind ≡ true → Each (IsGood h) ss
       → keys_twice id.name (map slot_keyed ss) ≡ [] → IsFine (record { id = id; slots = ss })
-  holder_fine id h ss e k g t = record {
-    found = rw e (flat_none (λ s. unknown known s.object) (IsGood h) ss (good_found h) g);
-    once = nil_both _ _ t (flat_none params_twice (IsGood h) ss (λ s q. q.once) g);
-    suits = rw (e, k) (flat_none (slot_off arch known id (Some h)) (IsGood h) ss (good_suits id h) g);
-    below = rw e (below_all id h.size ss (each_then (IsGood h) (λ (s : SlotLine). IsBelow h.size s.key) ss (λ s q. q.below) g));
-  }
+  holder_fine id h ss e k g t = search (rules, flat_none, good_found, nil_both, good_suits, below_all, each_then)
 
 -- ---- parameters
 
@@ -166,10 +151,8 @@ badge_needs false none h n = absurd (let e = not-true none n in cc)
 
 module _ (pl : List Piece → Span) (spec : Spec) (known : Knows) (all : KnowsAll spec known) where
   good_cap : (h : Known) (key : SlotKey) (p : Piece) (cap : Cap) (more : List Piece) → has_key h.kind key ≡ true
-      → IsBelow h.size key → fits spec cap ≡ true
-      → ((o : Object) (ps : List Param) → object_at spec cap.object ≡ Some o
-      → takes spec.arch (Some h) key (kind_of_object o) ps ≡ true)
-      → IsGood spec.arch known h (cap_at pl spec key p cap more)
+      → IsBelow h.size key → fits spec cap ≡ true → ((o : Object) (ps : List Param) → object_at spec cap.object ≡ Some o
+      → takes spec.arch (Some h) key (kind_of_object o) ps ≡ true) → IsGood spec.arch known h (cap_at pl spec key p cap more)
   good_cap h key p cap more k b f t =
       let o = fits_object spec cap f in
       let w = and_parts (within cap.rights (kind_rights (kind_of_object o.0))) (has_badge (kind_of_object o.0)
@@ -216,29 +199,25 @@ module _ (pl : List Piece → Span) (spec : Spec) (known : Knows) (all : KnowsAl
       )
 
   no_thread : (level : Level) → not (same_kind (kinds.Pages level) kinds.Thread) ≡ true
-  no_thread Global = refl
-  no_thread Upper = refl
   no_thread Directory = refl
-  no_thread Table = refl
+  no_thread _ = refl
 
   good_table : (place : ℕ) (level : Level) (slots : List (ℕ × Cap)) (more : List Piece) (n : Option ℕ) → size spec.arch level ≡ n
       → keeps_table spec level n slots ≡ true → Each (IsGood spec.arch known (known_object spec.arch place (Pages level slots)))
       (slots_at pl spec slots more)
   good_table place level slots more None e k = absurd cc
   good_table place level slots more (Some n) e k =
-      let a = and_parts (rise slots) (list_all (λ s. nat_lt s.0 n && fits_as spec (child level) s.1) slots) k in
       good_slots (known_object spec.arch place (Pages level slots)) (fits_as spec (child level)) n slots more (no_thread level)
       (λ m l. rw e l) (λ c f. (and_parts (is_at spec (child level) c.object) (fits spec c) f).1)
       (λ c o ps f g. same_there spec (child level) c.object o (and_parts (is_at spec (child level) c.object) (fits spec c) f).0 g)
-      a.1
+      (and_parts (rise slots) (list_all (λ s. nat_lt s.0 n && fits_as spec (child level) s.1) slots) k).1
 
   good_cnode : (place bits : ℕ) (slots : List (ℕ × Cap)) (more : List Piece) → keeps spec (CNode bits slots) ≡ true
       → Each (IsGood spec.arch known (known_object spec.arch place (CNode bits slots))) (slots_at pl spec slots more)
   good_cnode place bits slots more k =
       let a = and_parts (nat_lt 0 bits && leb bits 16) (keeps_slots (fits spec) (2 ^ bits) slots) k in
       let b = and_parts (rise slots) (list_all (λ s. nat_lt s.0 (2 ^ bits) && fits spec s.1) slots) a.1 in
-      let w = a.0 in
-      good_slots (known_object spec.arch place (CNode bits slots)) (fits spec) (2 ^ bits) slots more refl (λ m l. rw w l)
+      good_slots (known_object spec.arch place (CNode bits slots)) (fits spec) (2 ^ bits) slots more refl (λ m l. rw a.0 l)
       (λ c f. f) (λ c o ps f g. refl) b.1
 
   good_tcb : (h : Known) → same_kind h.kind kinds.Thread ≡ true → IsBelow h.size keys.Cspace → IsBelow h.size keys.Vspace
@@ -250,12 +229,7 @@ module _ (pl : List Piece → Span) (spec : Spec) (known : Knows) (all : KnowsAl
       with_buffer : (b : Option Cap) → if_any (fits_as spec kinds.Frame) b ≡ true
           → Each (IsGood spec.arch known h) (buffer_at pl spec b more)
       with_buffer None r = tt
-      with_buffer (Some cap) r =
-          let f = and_parts (is_at spec kinds.Frame cap.object) (fits spec cap) r in (
-            good_cap h keys.Buffer (word (codes "ipc_buffer_slot") []) cap more k bb f.1
-                (λ o ps g. same_there spec kinds.Frame cap.object o f.0 g),
-            tt,
-          )
+      with_buffer (Some cap) r = search (rules, and_parts, good_cap, same_there)
 
       with_vspace : (v : Option ℕ) → if_any (is_space_root spec) v ≡ true
           → Each (IsGood spec.arch known h) (vspace_at pl spec v b more)
@@ -285,21 +259,13 @@ module _ (pl : List Piece → Span) (spec : Spec) (known : Knows) (all : KnowsAl
   -- the slot lines of an object
   good_lines : (place : ℕ) (o : Object) (more : List Piece) → keeps spec o ≡ true
       → Each (IsGood spec.arch known (known_object spec.arch place o)) (lines_at pl spec o more)
-  good_lines place Endpoint more k = tt
-  good_lines place Notification more k = tt
   good_lines place (CNode bits slots) more k = good_cnode place bits slots (brace_r (codes "\n") ∷ more) k
-  good_lines place (Thread tcb) more k =
-      let a = and_parts (leb tcb.prio 255 && if_any (is_at spec kinds.CNode) tcb.cspace) (if_any (is_space_root spec) tcb.vspace
-      && if_any (fits_as spec kinds.Frame) tcb.buffer) k in
-      let b = and_parts (leb tcb.prio 255) (if_any (is_at spec kinds.CNode) tcb.cspace) a.0 in
-      let c = and_parts (if_any (is_space_root spec) tcb.vspace) (if_any (fits_as spec kinds.Frame) tcb.buffer) a.1 in
-      good_tcb (known_object spec.arch place (Thread tcb)) refl tt tt tt tcb.cspace tcb.vspace tcb.buffer (brace_r (codes "\n")
-      ∷ more) b.1 c.0 c.1
-  good_lines place (Frame paddr fill) more k = tt
+  good_lines place (Thread tcb) more k = search (rules, and_parts, good_tcb, known_object)
   good_lines place (Pages level slots) more k = good_table place level slots (brace_r (codes "\n") ∷ more)
       (size spec.arch level) refl k
   good_lines place (Irq n) more k = good_irq (known_object spec.arch place (Irq n)) refl
       (λ o. and_true (same_kind o kinds.Notification)) refl n (brace_r (codes "\n") ∷ more) k
+  good_lines place _ more k = tt
 
   -- ---- what stands once
 
@@ -317,14 +283,11 @@ module _ (pl : List Piece → Span) (spec : Spec) (known : Knows) (all : KnowsAl
 
   tcb_once : (name : List ℕ) (c v : Option ℕ) (b : Option Cap) (more : List Piece)
       → keys_twice name (map slot_keyed (cspace_at pl spec c v b more)) ≡ []
-  tcb_once name None None None more = refl
   tcb_once name None None (Some b) more = refl
-  tcb_once name None (Some v) None more = refl
   tcb_once name None (Some v) (Some b) more = refl
-  tcb_once name (Some c) None None more = refl
   tcb_once name (Some c) None (Some b) more = refl
-  tcb_once name (Some c) (Some v) None more = refl
   tcb_once name (Some c) (Some v) (Some b) more = refl
+  tcb_once name _ _ _ more = refl
 
   irq_once : (name : List ℕ) (n : Option ℕ) (more : List Piece)
       → keys_twice name (map slot_keyed (irq_slot_at pl spec n more)) ≡ []
@@ -337,17 +300,15 @@ module _ (pl : List Piece → Span) (spec : Spec) (known : Knows) (all : KnowsAl
 
   pub lines_once : (name : List ℕ) (o : Object) (more : List Piece) → keeps spec o ≡ true
       → keys_twice name (map slot_keyed (lines_at pl spec o more)) ≡ []
-  lines_once name Endpoint more k = refl
-  lines_once name Notification more k = refl
   lines_once name (CNode bits slots) more k =
       slots_once name (λ q. false) slots _
       (and_parts (rise slots) _ (and_parts (nat_lt 0 bits && leb bits 16) (keeps_slots (fits spec) (2 ^ bits) slots) k).1).0
       (unmet slots)
   lines_once name (Thread tcb) more k = tcb_once name tcb.cspace tcb.vspace tcb.buffer (brace_r (codes "\n") ∷ more)
-  lines_once name (Frame paddr fill) more k = refl
   lines_once name (Pages level slots) more k =
       slots_once name (λ q. false) slots _ (table_rise level (size spec.arch level) slots k) (unmet slots)
   lines_once name (Irq n) more k = irq_once name n (brace_r (codes "\n") ∷ more)
+  lines_once name _ more k = refl
 
   -- ---- holders
 
@@ -361,16 +322,12 @@ module _ (pl : List Piece → Span) (spec : Spec) (known : Knows) (all : KnowsAl
   holds_lines : (o : Object) (more : List Piece) → (lines_at pl spec o more ≡ []) ⊎ (holds (kind_of_object o) ≡ true)
   holds_lines Endpoint more = inl refl
   holds_lines Notification more = inl refl
-  holds_lines (CNode bits slots) more = inr refl
-  holds_lines (Thread tcb) more = inr refl
   holds_lines (Frame paddr fill) more = inl refl
-  holds_lines (Pages level slots) more = inr refl
-  holds_lines (Irq n) more = inr refl
+  holds_lines _ more = inr refl
 
   fine_held : (name : List ℕ) (place : Span) (lines : List SlotLine) (hs : List Holder) (h : Known) → known name ≡ Some h
       → (lines ≡ []) ⊎ (holds h.kind ≡ true) → Each (IsGood spec.arch known h) lines → keys_twice name (map slot_keyed lines) ≡ []
-      → Each (IsFine spec.arch known) hs
-      → Each (IsFine spec.arch known) (held_at pl name place lines hs)
+      → Each (IsFine spec.arch known) hs → Each (IsFine spec.arch known) (held_at pl name place lines hs)
   fine_held name place [] hs h e k g t f = f
   fine_held name place (s ∷ ss) hs h e (inl k) g t f = absurd cc
   fine_held name place (s ∷ ss) hs h e (inr k) g t f =
@@ -393,9 +350,7 @@ module _ (pl : List Piece → Span) (spec : Spec) (known : Knows) (all : KnowsAl
 
   names_unmet : (met : List ℕ → Bool) (e : Entry) (es : List Entry) → is_other e.name es ≡ true
       → list_all (λ d. not (met d.name)) es ≡ true → list_all (λ d. not (met d.name || bytes_eq d.name e.name)) es ≡ true
-  names_unmet met e es o u =
-      all_from (λ d. not (met d.name)) (λ d. not (bytes_eq d.name e.name)) (λ d. not (met d.name || bytes_eq d.name e.name)) es
-      (λ d p q. not_either (met d.name) (bytes_eq d.name e.name) p q) u o
+  names_unmet met e es o u = search (rules, all_from, not_either)
 
   objects_once : (met : List ℕ → Bool) (es : List Entry) (more : List Piece) → names_differ es ≡ true
       → list_all (λ e. not (met e.name)) es ≡ true → names_after met (map (λ o. o.id) (objects_at pl es more)) ≡ []
@@ -403,8 +358,7 @@ module _ (pl : List Piece → Span) (spec : Spec) (known : Knows) (all : KnowsAl
   objects_once met (e ∷ es) more d u =
       let k = and_parts (not (met e.name)) (list_all (λ e. not (met e.name)) es) u in
       let p = differ_parts e es d in
-      let n = not-true (met e.name) k.0 in
-      rw n (objects_once (λ m. met m || bytes_eq m e.name) es more p.1 (names_unmet met e es p.0 k.1))
+      rw (not-true (met e.name) k.0) (objects_once (λ m. met m || bytes_eq m e.name) es more p.1 (names_unmet met e es p.0 k.1))
 
   held_once : (met : List ℕ → Bool) (name : List ℕ) (place : Span) (lines : List SlotLine) (hs : List Holder) → met name ≡ false
       → names_after met (map (λ h. h.id) hs) ≡ [] → names_after (λ m. met m || bytes_eq m name) (map (λ h. h.id) hs) ≡ []
@@ -442,21 +396,15 @@ module _ (pl : List Piece → Span) (spec : Spec) (known : Knows) (all : KnowsAl
   some_size level (Some n) slots k = refl
 
   object_suits : (o : Object) (more : List Piece) → keeps spec o ≡ true → kind_off spec.arch (kind_line_at pl o more) ≡ []
-  object_suits Endpoint more k = refl
-  object_suits Notification more k = refl
   object_suits (CNode bits slots) more k = let b =
       (and_parts (nat_lt 0 bits && leb bits 16) (keeps_slots (fits spec) (2 ^ bits) slots) k).0 in rw b refl
-  object_suits (Thread tcb) more k =
-      let p =
-      (and_parts (leb tcb.prio 255) _ (and_parts (leb tcb.prio 255 && if_any (is_at spec kinds.CNode) tcb.cspace) _ k).0).0 in
-      elf_none tcb.elf _ (last_fields pl tcb.prio more) (rw p refl)
-  object_suits (Frame None None) more k = refl
+  object_suits (Thread tcb) more k = search (rules, and_parts, elf_none, last_fields)
   object_suits (Frame None (Some fill)) more k = rw k refl
   object_suits (Frame (Some p) None) more k = let h = (and_parts (p % 4096 == 0) true k).0 in rw h refl
   object_suits (Frame (Some p) (Some fill)) more k = let h = and_parts (p % 4096 == 0) (keeps_fill fill) k in let a = h.0 in
       let b = h.1 in rw (a, b) refl
   object_suits (Pages level slots) more k = let s = some_size level (size spec.arch level) slots k in rw s refl
-  object_suits (Irq n) more k = refl
+  object_suits _ more k = refl
 
   pub objects_suit : (es : List Entry) (more : List Piece) → list_all (λ e. keeps spec e.object) es ≡ true
       → flat_map (λ o. kind_off spec.arch o.kind) (objects_at pl es more) ≡ []
@@ -473,17 +421,11 @@ module _ (pl : List Piece → Span) (spec : Spec) (known : Knows) (all : KnowsAl
   thread_once a i s t u v (Some elf) tail prio more = refl
 
   fields_once : (o : Object) (more : List Piece) → fields_twice (kind_line_at pl o more) ≡ []
-  fields_once Endpoint more = refl
-  fields_once Notification more = refl
-  fields_once (CNode bits slots) more = refl
   fields_once (Thread tcb) more = thread_once tcb.addr tcb.ip tcb.sp (addr_tail pl tcb more) (ip_tail pl tcb more)
       (sp_tail pl tcb more) tcb.elf (prio_tail pl tcb.prio more) tcb.prio more
-  fields_once (Frame None None) more = refl
   fields_once (Frame None (Some fill)) more = refl
-  fields_once (Frame (Some p) None) more = refl
   fields_once (Frame (Some p) (Some fill)) more = refl
-  fields_once (Pages level slots) more = refl
-  fields_once (Irq n) more = refl
+  fields_once _ more = refl
 
   pub all_fields_once : (es : List Entry) (more : List Piece) → flat_map (λ o. fields_twice o.kind) (objects_at pl es more) ≡ []
   all_fields_once [] more = refl
@@ -497,8 +439,7 @@ module _ (pl : List Piece → Span) (spec : Spec) (known : Knows) (all : KnowsAl
   irqs_found (l ∷ ls) more k =
       let p = and_parts (is_at spec kinds.Irq l.1) (list_all (λ l. is_at spec kinds.Irq l.1) ls) k in
       let o = is_object spec kinds.Irq l.1 p.0 in
-      let e = known_place spec known all l.1 o.0 o.1 in
-      rw e (irqs_found ls more p.1)
+      rw (known_place spec known all l.1 o.0 o.1) (irqs_found ls more p.1)
 
   pub irqs_suit : (ls : List (ℕ × ℕ)) (more : List Piece) → list_all (λ l. is_at spec kinds.Irq l.1) ls ≡ true
       → flat_map (λ l. irq_off l.object (known l.object.name)) (irqs_at pl spec ls more) ≡ []
@@ -506,9 +447,7 @@ module _ (pl : List Piece → Span) (spec : Spec) (known : Knows) (all : KnowsAl
   irqs_suit (l ∷ ls) more k =
       let p = and_parts (is_at spec kinds.Irq l.1) (list_all (λ l. is_at spec kinds.Irq l.1) ls) k in
       let o = is_object spec kinds.Irq l.1 p.0 in
-      let e = known_place spec known all l.1 o.0 o.1 in
-      let s = o.2 in
-      rw (e, s) (irqs_suit ls more p.1)
+      rw (known_place spec known all l.1 o.0 o.1, o.2) (irqs_suit ls more p.1)
 
   pub numbers_once : (met : Key → Bool) (ls : List (ℕ × ℕ)) (more : List Piece) → rise ls ≡ true
       → list_all (λ l. not (met (0, l.0))) ls ≡ true → keys_after [] met (map irq_keyed (irqs_at pl spec ls more)) ≡ []
@@ -528,8 +467,7 @@ module _ (pl : List Piece → Span) (spec : Spec) (known : Knows) (all : KnowsAl
     where
       go : (t : Bool) → bytes_eq (name_at spec a) (name_at spec b) ≡ t → not t ≡ true
       go true e =
-          let x = is_object spec kinds.Irq a p in
-          let y = is_object spec kinds.Irq b q in
+          let x = is_object spec kinds.Irq a p in let y = is_object spec kinds.Irq b q in
           let s : a ≡ b = same_place a b x.0 y.0 (known_place spec known all a x.0 x.1) (known_place spec known all b y.0 y.1)
           ((bytes_eq-Decides (name_at spec a) (name_at spec b)).0 e) in
           absurd (let f = not-true (a == b) n in grind (arith, nat_tests, s, f))
@@ -550,8 +488,7 @@ module _ (pl : List Piece → Span) (spec : Spec) (known : Knows) (all : KnowsAl
       all_from (λ (m : ℕ × ℕ). is_at spec kinds.Irq m.1) (λ (m : ℕ × ℕ). not (m.1 == l.1))
       (λ (m : ℕ × ℕ). not (bytes_eq (name_at spec m.1) (name_at spec l.1))) ls (λ m g h. names_apart m.1 l.1 g p.0 h)
       p.1 others in
-      let n = not-true (met (name_at spec l.1)) q.0 in
-      rw n (irq_names_once (λ m. met m || bytes_eq m (name_at spec l.1)) ls more e.1 p.1
+      rw (not-true (met (name_at spec l.1)) q.0) (irq_names_once (λ m. met m || bytes_eq m (name_at spec l.1)) ls more e.1 p.1
       (all_from (λ (m : ℕ × ℕ). not (met (name_at spec m.1)))
       (λ (m : ℕ × ℕ). not (bytes_eq (name_at spec m.1) (name_at spec l.1)))
       (λ (m : ℕ × ℕ). not (met (name_at spec m.1) || bytes_eq (name_at spec m.1) (name_at spec l.1))) ls

@@ -1,10 +1,11 @@
 -- A canonical text is a text of its spec.
-use Rattle.capdl_write.proofs.Common.{CNode, Cap, Each, Endpoint, Entry, Frame, Holder, Id, Irq, IsSpecSpelled, IsWritable, List, None, Notification, Object, Option, Pages, Piece, Seen, SlotLine, Some, Span, Spec, Thread, Token, [], and_parts, ap}
+use Rattle.std.proofs.Common.{rules}
+use Rattle.capdl_write.proofs.Common.{CNode, Cap, Each, Entry, Holder, Id, Irq, IsSpecSpelled, IsWritable, List, None, Object, Option, Pages, Piece, Seen, SlotLine, Some, Span, Spec, Thread, [], and_parts, ap}
 use Rattle.capdl_write.proofs.Common.{brace_r, canonical, caps_of, caps_pieces, codes, differ, drop_all, false, flat_map, held_pieces, holders_pieces, is_at, kind_fields, knows, laid, last_pieces, length, length-append, list_all, map, off_in}
-use Rattle.capdl_write.proofs.Common.{past_in, pieces, refl, rise, slot_ranges, some, spec_of, subst, suc, sum, sym, tokens, true, twice_in, twices, unknown_in, unknowns, zero-add, ℕ, ◌&&◌, ◌+◌, ◌==◌, ◌∙◌, ◌∷◌, ◌≡◌, ◌≤◌}
+use Rattle.capdl_write.proofs.Common.{past_in, pieces, refl, rise, slot_ranges, some, spec_of, subst, suc, sum, sym, tokens, true, twice_in, twices, unknown_in, unknowns, zero-add, ℕ, ◌+◌, ◌==◌, ◌∙◌, ◌∷◌, ◌≡◌, ◌≤◌}
 use Rattle.std.proofs.lemmas.List.Sums.{sum_by-cons}
 use Rattle.cap_model.specs.declared.kind.Kind.TheVariants as kinds
-use Rattle.capdl_text.specs.Limits.{caps_named, limits, most_caps, most_objects, objects_named, past}
+use Rattle.capdl_text.specs.Limits.{limits, past}
 use Rattle.capdl_text.specs.Texts.{Text, is_long}
 use Rattle.capdl_text.specs.TreeFaults.{tree_faults}
 use Rattle.capdl_write.proofs.FineText.{fine_pieces}
@@ -35,14 +36,11 @@ slots_counted pl spec (s ∷ ss) more = ap (λ (n : ℕ). suc n) (slots_counted 
 
 tcb_counted : (pl : List Piece → Span) (spec : Spec) (c v : Option ℕ) (b : Option Cap) (more : List Piece)
     → length (map (λ (s : SlotLine). s.object) (cspace_at pl spec c v b more)) ≡ some c + some v + some b
-tcb_counted pl spec None None None more = refl
 tcb_counted pl spec None None (Some b) more = refl
-tcb_counted pl spec None (Some v) None more = refl
 tcb_counted pl spec None (Some v) (Some b) more = refl
-tcb_counted pl spec (Some c) None None more = refl
 tcb_counted pl spec (Some c) None (Some b) more = refl
-tcb_counted pl spec (Some c) (Some v) None more = refl
 tcb_counted pl spec (Some c) (Some v) (Some b) more = refl
+tcb_counted pl spec _ _ _ more = refl
 
 irq_counted : (pl : List Piece → Span) (spec : Spec) (n : Option ℕ) (more : List Piece)
     → length (map (λ (s : SlotLine). s.object) (irq_slot_at pl spec n more)) ≡ some n
@@ -51,13 +49,11 @@ irq_counted pl spec (Some n) more = refl
 
 lines_counted : (pl : List Piece → Span) (spec : Spec) (o : Object) (more : List Piece)
     → length (map (λ (s : SlotLine). s.object) (lines_at pl spec o more)) ≡ caps_of o
-lines_counted pl spec Endpoint more = refl
-lines_counted pl spec Notification more = refl
 lines_counted pl spec (CNode bits slots) more = slots_counted pl spec slots (brace_r (codes "\n") ∷ more)
 lines_counted pl spec (Thread tcb) more = tcb_counted pl spec tcb.cspace tcb.vspace tcb.buffer (brace_r (codes "\n") ∷ more)
-lines_counted pl spec (Frame paddr fill) more = refl
 lines_counted pl spec (Pages level slots) more = slots_counted pl spec slots (brace_r (codes "\n") ∷ more)
 lines_counted pl spec (Irq n) more = irq_counted pl spec n (brace_r (codes "\n") ∷ more)
+lines_counted pl spec _ more = refl
 
 abbrev caps_in : List Holder → List Id
 caps_in hs = flat_map (λ h. map (λ s. s.object) h.slots) hs
@@ -71,12 +67,10 @@ caps_counted : (pl : List Piece → Span) (spec : Spec) (es : List Entry) (more 
     → length (caps_in (holders_at pl spec es more)) ≡ sum (map (λ (e : Entry). caps_of e.object) es)
 caps_counted pl spec [] more = refl
 caps_counted pl spec (e ∷ es) more =
-    let rest = holders_pieces spec es more in
-    let a = lines_counted pl spec e.object rest in
-    let b = caps_counted pl spec es more in
+    let rest = holders_pieces spec es more in let a = lines_counted pl spec e.object rest in
     held_counted pl e.name (pl (held_pieces spec e.name e.object rest)) (lines_at pl spec e.object rest)
     (holders_at pl spec es more) ∙ ap (λ (n : ℕ). n + length (caps_in (holders_at pl spec es more))) a
-    ∙ ap (λ (n : ℕ). caps_of e.object + n) b
+    ∙ ap (λ (n : ℕ). caps_of e.object + n) (caps_counted pl spec es more)
     ∙ sym (sum_by-cons (λ (n : ℕ). n) (caps_of e.object) (map (λ (d : Entry). caps_of d.object) es))
 
 -- ---- no fault
@@ -94,11 +88,7 @@ module _ (pl : List Piece → Span) (spec : Spec) (w : IsWritable spec) where
 
   irqs_are : (rise spec.irqs ≡ true) × (differ (λ a b. a == b) (map (λ l. l.1) spec.irqs) ≡ true)
       × (list_all (λ l. is_at spec kinds.Irq l.1) spec.irqs ≡ true)
-  irqs_are =
-      let a = and_parts (rise spec.irqs && differ (λ a b. a == b) (map (λ l. l.1) spec.irqs))
-      (list_all (λ l. is_at spec kinds.Irq l.1) spec.irqs) w.kept.lines in
-      let b = and_parts (rise spec.irqs) (differ (λ a b. a == b) (map (λ l. l.1) spec.irqs)) a.0 in
-      (b.0, b.1, a.1)
+  irqs_are = search (rules, and_parts)
 
   none_unmet : {A : Type 0} (xs : List A) → list_all (λ (x : A). true) xs ≡ true
   none_unmet [] = refl
@@ -125,9 +115,8 @@ module _ (pl : List Piece → Span) (spec : Spec) (w : IsWritable spec) where
 
   all_suit : kind_fields (knows (tree_at pl spec)) (tree_at pl spec) ≡ []
   all_suit =
-      nil_both _ _ (nil_both _ _
-      (objects_suit pl spec (knows (tree_at pl spec)) all_known spec.entries (caps_pieces spec) w.kept.objects)
-      (flat_none (off_in spec.arch (knows (tree_at pl spec))) (IsFine spec.arch (knows (tree_at pl spec)))
+      nil_both _ _ (nil_both _ _ (objects_suit pl spec (knows (tree_at pl spec)) all_known spec.entries (caps_pieces spec)
+      w.kept.objects) (flat_none (off_in spec.arch (knows (tree_at pl spec))) (IsFine spec.arch (knows (tree_at pl spec)))
       (holders_at pl spec spec.entries (last_pieces spec)) (λ h f. f.suits) fine))
       (irqs_suit pl spec (knows (tree_at pl spec)) all_known spec.irqs (brace_r (codes "\n") ∷ []) irqs_are.2)
 
@@ -136,12 +125,7 @@ module _ (pl : List Piece → Span) (spec : Spec) (w : IsWritable spec) where
       (holders_at pl spec spec.entries (last_pieces spec)) (λ h f. f.below) fine
 
   none_past : limits (tree_at pl spec) ≡ []
-  none_past =
-      nil_both _ _
-      (past_none most_objects (objects_named (tree_at pl spec)) (let e = objects_counted pl spec.entries (caps_pieces spec) in
-      let f = w.few_objects in rw e f))
-      (past_none most_caps (caps_named (tree_at pl spec)) (let e = caps_counted pl spec spec.entries (last_pieces spec) in
-      let f = w.few_caps in rw e f))
+  none_past = search (rules, nil_both, past_none, tree_at, objects_counted, caps_counted)
 
   pub no_faults : tree_faults (tree_at pl spec) ≡ []
   no_faults = nil_both _ _ no_unknown (nil_both _ _ none_twice (nil_both _ _ all_suit (nil_both _ _ all_below none_past)))
@@ -162,12 +146,11 @@ pub canonical_text : (spec : Spec) → IsWritable spec → Text (canonical spec)
 canonical_text spec w =
     let ps = pieces spec in
     let total : ℕ = length (laid ps) in
-    let ts : List Token = tokens total ps in
     let same : canonical spec ≡ laid ps = all_laid spec in
     subst (λ (bytes : List ℕ). Text bytes spec) (sym same)
     (record {
       few = ap is_long (sym same) ∙ w.short;
-      tokens = ts;
+      tokens = tokens total ps;
       lexes = laid_lexes total ps (fine_pieces spec w);
       tree = tree_at (placed total) spec;
       spelled = subst (λ (seen : List Seen). IsSpecSpelled (tree_at (placed total) spec) seen) (sym (seen_tokens ps))

@@ -44,8 +44,7 @@ leaf_paths h (x ∷ xs) = ap (λ z. x.path ∷ z) (leaf_paths h xs)
 a_leaf : (s : Source) → AreNamesSound s → (x : Placed) → IsIn x (leaves (hierarchy_of s))
     → IsLeafOf (hierarchy_of s) (flat_of s) (leaf_of (hierarchy_of s) x)
 a_leaf s sound x i =
-    let h = hierarchy_of s in
-    let stands = (leaves_stand s sound x).0 i in
+    let h = hierarchy_of s in let stands = (leaves_stand s sound x).0 i in
     let c = leaf_component s sound x i in
     let item : (body h x.part.kind).item ≡ Some c.0.0 = ap (λ (b : Body). b.item) (body_number s x.part.kind c.0 c.1) in
     let d = domain_of h x.path in
@@ -73,8 +72,7 @@ a_leaf s sound x i =
 
 are_leaves : (s : Source) → AreNamesSound s → AreLeaves (hierarchy_of s) (flat_of s)
 are_leaves s sound =
-    let h = hierarchy_of s in
-    let same = leaf_paths h (leaves h) in
+    let h = hierarchy_of s in let same = leaf_paths h (leaves h) in
     let P : List Path → Type 0 = λ ps. IsOnce ps in
     record {
       paths = λ p. let Q : List Path → Type 0 = λ ps. IsIn p ps in
@@ -84,8 +82,7 @@ are_leaves s sound =
           (leaves_in_order s sound);
       each = λ l i.
           let x = from_map (leaf_of h) l (leaves h) i in
-          let R : Leaf → Type 0 = λ z. IsLeafOf h (flat_of s) z in
-          subst R x.2 (a_leaf s sound x.0 x.1);
+          subst (λ z. IsLeafOf h (flat_of s) z) x.2 (a_leaf s sound x.0 x.1);
     }
 
 -- ---- domains
@@ -106,21 +103,18 @@ from_inside : (s : Source) (d : Path) (n : ℕ) → IsInside (hierarchy_of s) (f
     → (x : Placed) × (slice_get (leaves (hierarchy_of s)) n ≡ Some x) × (is_hardware (hierarchy_of s) x.part ≡ false)
     × (domain_of (hierarchy_of s) x.path ≡ d)
 from_inside s d n k =
-    let h = hierarchy_of s in
-    let x = from_get_map (leaf_of h) (leaves h) n k.leaf k.there in
+    let h = hierarchy_of s in let x = from_get_map (leaf_of h) (leaves h) n k.leaf k.there in
     let P : Leaf → Type 0 = λ l. IsDomainOf h l.path d in
     (x.0, x.1, ap (λ (l : Leaf). l.hardware) x.2 ∙ k.software, domain_of_is h x.0.path d (subst P (sym x.2) k.domain))
 
 are_domains : (s : Source) → AreNamesSound s → AreDomains (hierarchy_of s) (flat_of s)
 are_domains s sound =
-    let h = hierarchy_of s in
-    let same = domain_paths h (domains h) in
+    let h = hierarchy_of s in let same = domain_paths h (domains h) in
     let P : List Path → Type 0 = λ ps. IsOnce ps in
     record {
       paths = λ d. let Q : List Path → Type 0 = λ ps. IsIn d ps in (
         λ i.
-            let x = (domains_are h d).0 (subst Q same i) in
-            let n = place_of x.0 (leaves h) x.1 in
+            let x = (domains_are h d).0 (subst Q same i) in let n = place_of x.0 (leaves h) x.1 in
             (n.0, inside_from s d n.0 x.0 n.1 x.2 x.3),
         λ k.
             let x = from_inside s d k.0 k.1 in
@@ -133,27 +127,24 @@ are_domains s sound =
           (domains_in_order h));
       leaves = λ x i n.
           let d = from_map (flat_domain h) x (domains h) i in
-          let R : Domain → Type 0 = λ z. IsIn n z.leaves ↔ IsInside h (flat_of s) z.path n in
-          subst R d.2 (
+          subst (λ (z : Domain). IsIn n z.leaves ↔ IsInside h (flat_of s) z.path n) d.2 (
             λ j. let y = (leaves_of_domain h d.0 n).0 j in inside_from s d.0 n y.0 y.1 y.2 y.3,
             λ k. (leaves_of_domain h d.0 n).1 (from_inside s d.0 n k),
           );
       rising = λ x i.
           let d = from_map (flat_domain h) x (domains h) i in
-          let R : Domain → Type 0 = λ z. InOrder ◌<◌ z.leaves in
-          subst R d.2 (domain_leaves_rise h d.0);
+          subst (λ (z : Domain). InOrder ◌<◌ z.leaves) d.2 (domain_leaves_rise h d.0);
     }
   where
     before : (h : Hierarchy) (d e : Path) → IsKeyBefore (leaves h) (λ x. not (is_hardware h x.part)) (λ x. domain_of h x.path) d e
         → IsDomainBefore (flat_domain h d) (flat_domain h e)
     before h d e k =
-        let x = k.stands.item in
         record {
           first = k.first;
           stands = (leaves_of_domain h d k.first).1 (
-            x,
+            k.stands.item,
             k.stands.there,
-            not-true (is_hardware h x.part) k.stands.passing,
+            not-true (is_hardware h k.stands.item.part) k.stands.passing,
             k.stands.key_is,
           );
           before = λ n i. let y = (leaves_of_domain h e n).0 i in
@@ -187,12 +178,10 @@ an_end : (s : Source) → AreNamesSound s → AreDotted (hierarchy_of s) → (x 
     → (r : Reached) → joined_by (hierarchy_of s) x.inside end ≡ Some r
     → IsEndOf (hierarchy_of s) (flat_of s) x.path x.wire n (flat_end (hierarchy_of s) x.path end r)
 an_end s sound dotted x i n end g r j =
-    let h = hierarchy_of s in
-    let both = joined s sound x n end r i g j in
+    let h = hierarchy_of s in let both = joined s sound x n end r i g j in
     let placed : Placed = record { path = x.path ++ r.path; part = r.part } in
     let a = place_of placed (leaves h) both.1 in
     let number : leaf_number h placed.path ≡ a.0 = leaf_number_is s sound a.0 placed a.1 in
-    let there : slice_get (leaves h) (leaf_number h placed.path) ≡ Some placed = ap (slice_get (leaves h)) number ∙ a.1 in
     let d = end_declared s sound dotted x.inside x.wire end r ((connections_stand s sound x).0 i).1
     (in_place end x.wire.1.ends n g) j in
     let own = body_number s r.part.kind d.component d.stands in
@@ -205,7 +194,7 @@ an_end s sound dotted x i n end g r j =
       numbered = g;
       place = refl;
       leaf = leaf_of h placed;
-      there = get_map (leaf_of h) (leaves h) (leaf_number h placed.path) placed there;
+      there = get_map (leaf_of h) (leaves h) (leaf_number h placed.path) placed (ap (slice_get (leaves h)) number ∙ a.1);
       interface = r.interface;
       joins = both.0;
       part = r.part;
@@ -228,8 +217,7 @@ an_end s sound dotted x i n end g r j =
 a_wire : (s : Source) → AreNamesSound s → AreDotted (hierarchy_of s) → (x : Strung) → IsIn x (connections (hierarchy_of s))
     → IsWireOf (hierarchy_of s) (flat_of s) (flat_connection (hierarchy_of s) x) x.path x.wire
 a_wire s sound dotted x i =
-    let h = hierarchy_of s in
-    let stands = (connections_stand s sound x).0 i in
+    let h = hierarchy_of s in let stands = (connections_stand s sound x).0 i in
     record {
       inside = x.inside;
       there = stands.0;
@@ -245,14 +233,11 @@ a_wire s sound dotted x i =
         → IsEndOf (hierarchy_of s) (flat_of s) x.path x.wire n e
     end_at n e g =
         let h = hierarchy_of s in
-        let many = ends_kept s sound dotted x i in
-        let low = below (flat_ends h x) n e g in
-        let end = at_place x.wire.1.ends n (omega (arith, many, low)) in
+        let end = at_place x.wire.1.ends n (omega (arith, ends_kept s sound dotted x i, below (flat_ends h x) n e g)) in
         let r = all_joined s sound dotted x end.0 i (in_place end.0 x.wire.1.ends n end.1) in
         let there = end_numbers_kept s sound dotted x n end.0 r.0 i end.1 r.1 in
         let same : flat_end h x.path end.0 r.0 ≡ e = cc in
-        let P : FlatEnd → Type 0 = λ z. IsEndOf h (flat_of s) x.path x.wire n z in
-        subst P same (an_end s sound dotted x i n end.0 end.1 r.0 r.1)
+        subst (λ z. IsEndOf h (flat_of s) x.path x.wire n z) same (an_end s sound dotted x i n end.0 end.1 r.0 r.1)
 
 connection_paths : (h : Hierarchy) (xs : List Strung) → map (λ (c : FlatConnection). c.path) (map (flat_connection h) xs) ≡ map
     (λ x. x.path ++ x.wire.1.id.name ∷ []) xs
@@ -262,17 +247,15 @@ connection_paths h (x ∷ xs) = ap (λ z. (x.path ++ x.wire.1.id.name ∷ []) �
 are_connections : (s : Source) → AreNamesSound s → AreDotted (hierarchy_of s) → AreConnections (hierarchy_of s) (flat_of s)
 are_connections s sound dotted =
     let h = hierarchy_of s in
-    let P : List Path → Type 0 = λ ps. IsOnce ps in
     record {
       each = λ c i.
           let x = from_map (flat_connection h) c (connections h) i in
-          let R : FlatConnection → Type 0 = λ z. IsWireOf h (flat_of s) z x.0.path x.0.wire in
-          (x.0.path, x.0.wire, subst R x.2 (a_wire s sound dotted x.0 x.1));
+          (x.0.path, x.0.wire, subst (λ z. IsWireOf h (flat_of s) z x.0.path x.0.wire) x.2 (a_wire s sound dotted x.0 x.1));
       all = λ q k w e i.
           let x : Strung = record { path = q; inside = k; wire = w } in
           let there = (connections_stand s sound x).1 (e, i) in
           (flat_connection h x, in_map (flat_connection h) x (connections h) there, a_wire s sound dotted x there);
-      once = subst P (sym (connection_paths h (connections h))) (connections_once s sound);
+      once = subst (λ ps. IsOnce ps) (sym (connection_paths h (connections h))) (connections_once s sound);
       order = order_map (IsConnectionBefore h) (flat_connection h) (connections h)
           (order_weaken _ (λ x y. IsConnectionBefore h (flat_connection h x) (flat_connection h y)) (connections h)
           (λ x y i j r. record {

@@ -14,25 +14,19 @@ use Rattle.cam_base.proofs.NumberedLists.{in_any}
 
 device_there : (rs : List Untyped) (paddr : ℕ) → list_any (has_page paddr) rs ≡ true → HasDevice rs paddr
 device_there rs paddr t =
-    let r = from_any (has_page paddr) rs t in
-    let q = r.0 in
+    let r = from_any (has_page paddr) rs t in let q = r.0 in
     let parts = and_parts q.device (leb q.paddr paddr && leb (paddr + 4096) (region_end q)) r.2 in
     let more = and_parts (leb q.paddr paddr) (leb (paddr + 4096) (region_end q)) parts.1 in
     record {
       region = q;
       one = r.1;
-      lies = record {
-        kind = parts.0;
-        low = leb-true q.paddr paddr more.0;
-        high = leb-true (paddr + 4096) (region_end q) more.1;
-      };
+      lies = record { kind = parts.0; low = leb-true q.paddr paddr more.0; high = leb-true (paddr + 4096) (region_end q) more.1 };
     }
 
 there_device : (rs : List Untyped) (paddr : ℕ) → HasDevice rs paddr → list_any (has_page paddr) rs ≡ true
 there_device rs paddr h =
     let q = h.region in
-    in_any (has_page paddr) rs q h.one
-    (ap (λ b. b && (leb q.paddr paddr && leb (paddr + 4096) (region_end q))) h.lies.kind
+    in_any (has_page paddr) rs q h.one (ap (λ b. b && (leb q.paddr paddr && leb (paddr + 4096) (region_end q))) h.lies.kind
     ∙ ap (λ b. b && leb (paddr + 4096) (region_end q)) (le-leb q.paddr paddr h.lies.low)
     ∙ le-leb (paddr + 4096) (region_end q) h.lies.high)
 
@@ -71,8 +65,7 @@ as_first rs before (DevicePage paddr ∷ ns) k e =
     ∙ as_first rs (before ++ DevicePage paddr ∷ []) ns (k + 1) (omega (arith, e, length-append {A = Need})))
   where
     by_tests : (a b : Bool) → device_refusal rs (pages before ++ paddr ∷ []) (k + 1) ns ≡ first_of (said rs)
-        (before ++ DevicePage paddr ∷ []) ns
-        → cond (not a) (Some (NoDevice k))
+        (before ++ DevicePage paddr ∷ []) ns → cond (not a) (Some (NoDevice k))
         (cond b (Some (SharedFrame k)) (device_refusal rs (pages before ++ paddr ∷ []) (k + 1) ns))
         ≡ option_or (cond (not a) (Some (NoDevice (length before))) (cond b (Some (SharedFrame (length before))) None))
         (first_of (said rs) (before ++ DevicePage paddr ∷ []) ns)
@@ -86,10 +79,8 @@ taken_there : (ns before rest : List Need) (paddr : ℕ) (item : Need) → ns �
     → is_needed paddr (pages before) ≡ true → IsTaken ns (length before) paddr
 taken_there ns before rest paddr item e t =
     let p = from_any (λ p. p == paddr) (pages before) t in
-    let n = from_filter_map as_page p.0 before p.1 in
-    let i = place_of n.0 before n.1 in
-    let same : p.0 ≡ paddr = eqb-true p.0 paddr p.2 in
-    let is : n.0 ≡ DevicePage paddr = the_page n.0 (n.2 ∙ ap Some same) in
+    let n = from_filter_map as_page p.0 before p.1 in let i = place_of n.0 before n.1 in
+    let is : n.0 ≡ DevicePage paddr = the_page n.0 (n.2 ∙ ap Some (eqb-true p.0 paddr p.2)) in
     let P : List Need → Type 0 = λ z. slice_get z i.0 ≡ Some (DevicePage paddr) in
     record {
       earlier = i.0;
@@ -116,12 +107,9 @@ served : (rs : List Untyped) (ns front rest : List Need) → ns ≡ front ++ res
     → AreServed rs ns (length front)
 served rs ns front rest e clean i paddr l n =
     let P : List Need → Type 0 = λ z. slice_get z i ≡ Some (DevicePage paddr) in
-    let here = front_get front rest i (DevicePage paddr) (subst P e n) l in
-    let s = at_split front i (DevicePage paddr) here in
-    let whole : ns ≡ s.0 ++ DevicePage paddr ∷ (s.1 ++ rest) = e ∙ ap (λ z. z ++ rest) s.2
-    ∙ append_assoc s.0 (DevicePage paddr ∷ s.1) rest in
-    by_tests s.0 (s.1 ++ rest) whole s.3 (list_any (has_page paddr) rs) (is_needed paddr (pages s.0)) refl refl
-    (clean s.0 s.1 (DevicePage paddr) s.2)
+    let s = at_split front i (DevicePage paddr) (front_get front rest i (DevicePage paddr) (subst P e n) l) in
+    by_tests s.0 (s.1 ++ rest) (e ∙ ap (λ z. z ++ rest) s.2 ∙ append_assoc s.0 (DevicePage paddr ∷ s.1) rest) s.3
+    (list_any (has_page paddr) rs) (is_needed paddr (pages s.0)) refl refl (clean s.0 s.1 (DevicePage paddr) s.2)
   where
     by_tests : (p q : List Need) → ns ≡ p ++ DevicePage paddr ∷ q → length p ≡ i → (a b : Bool) → list_any (has_page paddr) rs ≡ a
         → is_needed paddr (pages p) ≡ b
@@ -137,11 +125,9 @@ clean_served : (rs : List Untyped) (ns front rest : List Need) → ns ≡ front 
 clean_served rs ns front rest e a p q (DevicePage paddr) s =
     let whole : ns ≡ p ++ DevicePage paddr ∷ (q ++ rest) = e ∙ ap (λ z. z ++ rest) s
     ∙ append_assoc p (DevicePage paddr ∷ q) rest in
-    let P : List Need → Type 0 = λ z. slice_get z (length p) ≡ Some (DevicePage paddr) in
     let many : length front ≡ length p + suc (length q) = ap length s ∙ length-append p (DevicePage paddr ∷ q) in
-    let k =
-    a (length p) paddr (omega (arith, many))
-    (subst P (sym whole) (get_behind p (DevicePage paddr ∷ (q ++ rest)) 0 (length p) (omega arith))) in
+    let k = a (length p) paddr (omega (arith, many)) (subst (λ z. slice_get z (length p) ≡ Some (DevicePage paddr)) (sym whole)
+    (get_behind p (DevicePage paddr ∷ (q ++ rest)) 0 (length p) (omega arith))) in
     by_test whole (is_needed paddr (pages p)) refl k
   where
     by_test : ns ≡ p ++ DevicePage paddr ∷ (q ++ rest) → (b : Bool) → is_needed paddr (pages p) ≡ b
@@ -151,13 +137,11 @@ clean_served rs ns front rest e a p q (DevicePage paddr) s =
     by_test w true t k = absurd (k.1 (taken_there ns p (q ++ rest) paddr (DevicePage paddr) w t))
     by_test w false t k =
         ap (λ z. cond (not z) (Some (NoDevice (length p))) (cond (is_needed paddr (pages p)) (Some (SharedFrame (length p)))
-        None)) (there_device rs paddr k.0)
-        ∙ ap (λ z. cond z (Some (SharedFrame (length p))) None) t
+        None)) (there_device rs paddr k.0) ∙ ap (λ z. cond z (Some (SharedFrame (length p))) None) t
 clean_served rs ns front rest e a p q _ s = refl
 
 from_said : (rs : List Untyped) (ns front rest : List Need) (item : Need) (x : PlanRefusal) → ns ≡ front ++ item ∷ rest
-    → said rs front item ≡ Some x → IsClean (said rs) [] front
-    → IsDeviceRefusal rs ns x
+    → said rs front item ≡ Some x → IsClean (said rs) [] front → IsDeviceRefusal rs ns x
 from_said rs ns front rest (DevicePage paddr) x e s clean =
     by_tests (list_any (has_page paddr) rs) (is_needed paddr (pages front)) refl refl s
   where
@@ -170,13 +154,11 @@ from_said rs ns front rest (DevicePage paddr) x e s clean =
         → IsDeviceRefusal rs ns x
     by_tests false b t u says =
         let same : NoDevice (length front) ≡ x = cc in
-        let P : PlanRefusal → Type 0 = λ z. IsDeviceRefusal rs ns z in
-        subst P same (no_device (length front) paddr here (λ h. true≢false (sym (there_device rs paddr h) ∙ t))
-        (served rs ns front (DevicePage paddr ∷ rest) e clean))
+        subst (λ z. IsDeviceRefusal rs ns z) same (no_device (length front) paddr here
+        (λ h. true≢false (sym (there_device rs paddr h) ∙ t)) (served rs ns front (DevicePage paddr ∷ rest) e clean))
     by_tests true true t u says =
         let same : SharedFrame (length front) ≡ x = cc in
-        let P : PlanRefusal → Type 0 = λ z. IsDeviceRefusal rs ns z in
-        subst P same (shared_frame (length front) paddr here (device_there rs paddr t)
+        subst (λ z. IsDeviceRefusal rs ns z) same (shared_frame (length front) paddr here (device_there rs paddr t)
         (taken_there ns front rest paddr (DevicePage paddr) e u) (served rs ns front (DevicePage paddr ∷ rest) e clean))
     by_tests true false t u says = cc
 from_said rs ns front rest _ x e s clean = cc
@@ -195,8 +177,7 @@ says_at rs ns k paddr x n a says =
     let s = at_split ns k (DevicePage paddr) n in
     let P : ℕ → Type 0 = λ z. AreServed rs ns z in
     let Q : List Need → Type 0 = λ z. first_of (said rs) [] z ≡ Some x in
-    as_first rs [] ns 0 refl
-    ∙ subst Q (sym s.2) (in_first (said rs) [] s.0 (DevicePage paddr) s.1 x (says s.0 s.1 s.2 s.3)
+    as_first rs [] ns 0 refl ∙ subst Q (sym s.2) (in_first (said rs) [] s.0 (DevicePage paddr) s.1 x (says s.0 s.1 s.2 s.3)
     (clean_served rs ns s.0 (DevicePage paddr ∷ s.1) s.2 (subst P (sym s.3) a)))
 
 pub in_refusal : (rs : List Untyped) (ns : List Need) (x : PlanRefusal) → IsDeviceRefusal rs ns x

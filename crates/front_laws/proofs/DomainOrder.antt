@@ -17,8 +17,7 @@ numbers_rise {X} p a (x ∷ xs) = by_test (p (a, x)) (numbers_rise p (a + 1) xs)
         (filter p (enumerate_from (a + 1) xs)))
     by_test true more = (
       λ y i.
-          let k = from_filter p (enumerate_from (a + 1) xs) y i in
-          let j = from_enumerate (a + 1) xs y k.0 in
+          let j = from_enumerate (a + 1) xs y (from_filter p (enumerate_from (a + 1) xs) y i).0 in
           let e : y.0 ≡ a + 1 + j.0 = j.1 in
           omega (arith, e),
       more,
@@ -52,8 +51,7 @@ not_met met (e ∷ ds) d i = by_test (met e) refl i (not_met met ds d) (not_met 
     by_test : (b : Bool) → met e ≡ b
         → IsIn d (cond b (firsts_after same_path met ds) (e ∷ firsts_after same_path (λ y. met y || same_path y e) ds))
         → (IsIn d (firsts_after same_path met ds) → met d ≡ false)
-        → (IsIn d (firsts_after same_path (λ y. met y || same_path y e) ds) → (met d || same_path d e) ≡ false)
-        → met d ≡ false
+        → (IsIn d (firsts_after same_path (λ y. met y || same_path y e) ds) → (met d || same_path d e) ≡ false) → met d ≡ false
     by_test true t j old new = old j
     by_test false t (inl s) old new = ap met (sym s) ∙ t
     by_test false t (inr j) old new = (or_parts (met d) (same_path d e) (new j)).0
@@ -89,8 +87,7 @@ behind {X} whole passes key met front xs x e a d n k none =
     by_place : (slice_get front n ≡ Some k.item) ⊎ ((m : ℕ) × (n ≡ length front + m) × (slice_get (x ∷ xs) m ≡ Some k.item))
         → length front < n
     by_place (inl i) =
-        let t : met d ≡ true = ap met (sym k.key_is) ∙ a n k.item i k.passing in
-        absurd (true≢false (sym (or_left (met d) (same_path d (key x)) t) ∙ none))
+        absurd (true≢false (sym (or_left (met d) (same_path d (key x)) (ap met (sym k.key_is) ∙ a n k.item i k.passing)) ∙ none))
     by_place (inr (zero, b, c)) =
         let same : x ≡ k.item = cc in
         let s : same_path d (key x) ≡ true = (same_path-Decides d (key x)).1 (sym k.key_is ∙ ap key (sym same)) in
@@ -101,15 +98,13 @@ abbrev AreOrdered : {X : Type 0} → List X → (X → Bool) → (X → Path) �
 AreOrdered whole passes key met xs = InOrder (IsKeyBefore whole passes key) (firsts_after same_path met (Keys passes key xs))
 
 keys_ordered : {X : Type 0} (whole : List X) (passes : X → Bool) (key : X → Path) (met : Path → Bool) (front xs : List X)
-    → whole ≡ front ++ xs → IsMet passes key met front
-    → AreOrdered whole passes key met xs
+    → whole ≡ front ++ xs → IsMet passes key met front → AreOrdered whole passes key met xs
 keys_ordered whole passes key met front [] e a = tt
 keys_ordered {X} whole passes key met front (x ∷ xs) e a =
     let further : whole ≡ (front ++ x ∷ []) ++ xs = e ∙ sym (append_assoc front (x ∷ []) xs) in
     let more : Path → Bool = λ y. met y || same_path y (key x) in
-    by_test (passes x) refl
-    (λ k. keys_ordered whole passes key met (front ++ x ∷ []) xs further (met_more passes key met met front x a (λ d m. m) k))
-    (keys_ordered whole passes key more (front ++ x ∷ []) xs further
+    by_test (passes x) refl (λ k. keys_ordered whole passes key met (front ++ x ∷ []) xs further
+    (met_more passes key met met front x a (λ d m. m) k)) (keys_ordered whole passes key more (front ++ x ∷ []) xs further
     (met_more passes key met more front x a (λ d k. or_left (met d) (same_path d (key x)) k)
     (λ p. or_right (met (key x)) (same_path (key x) (key x)) ((same_path-Decides (key x) (key x)).1 refl))))
   where
@@ -117,8 +112,7 @@ keys_ordered {X} whole passes key met front (x ∷ xs) e a =
     here = ap (λ z. slice_get z (length front)) e ∙ get_behind front (x ∷ xs) 0 (length front) (omega arith)
 
     by_met : (b : Bool) → passes x ≡ true → met (key x) ≡ b → ((passes x ≡ true → met (key x) ≡ true)
-        → AreOrdered whole passes key met xs)
-        → AreOrdered whole passes key (λ y. met y || same_path y (key x)) xs
+        → AreOrdered whole passes key met xs) → AreOrdered whole passes key (λ y. met y || same_path y (key x)) xs
         → InOrder (IsKeyBefore whole passes key) (cond b (firsts_after same_path met (Keys passes key xs))
         (key x ∷ firsts_after same_path (λ y. met y || same_path y (key x)) (Keys passes key xs)))
     by_met true t m old new = old (λ p. m)
@@ -133,8 +127,7 @@ keys_ordered {X} whole passes key met front (x ∷ xs) e a =
     )
 
     by_test : (b : Bool) → passes x ≡ b → ((passes x ≡ true → met (key x) ≡ true) → AreOrdered whole passes key met xs)
-        → AreOrdered whole passes key (λ y. met y || same_path y (key x)) xs
-        → InOrder (IsKeyBefore whole passes key)
+        → AreOrdered whole passes key (λ y. met y || same_path y (key x)) xs → InOrder (IsKeyBefore whole passes key)
         (firsts_after same_path met (map key (cond b (x ∷ filter passes xs) (filter passes xs))))
     by_test false t old new = old (λ p. absurd (true≢false (sym p ∙ t)))
     by_test true t old new = by_met (met (key x)) t refl old new

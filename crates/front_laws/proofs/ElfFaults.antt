@@ -91,13 +91,11 @@ front_sound : (bytes : List ℕ) (c : Class) (front rest : List ProgramHeader) �
     → IsClean (λ b h. header_fault (length bytes) h) [] front
     → (n : ℕ) → n ≤ length front → length front ≤ (file_header c bytes).count → AreSoundTo bytes c n
 front_sound bytes c front rest e clean n l m k low =
-    let x = at_place front k (omega (arith, l, low)) in
-    let s = at_split front k x.0 x.1 in
+    let x = at_place front k (omega (arith, l, low)) in let s = at_split front k x.0 x.1 in
     let there : slice_get (headers c bytes) k ≡ Some x.0 = ap (λ z. slice_get z k) e ∙ get_front front rest k x.0 x.1 in
     let own = header_there c bytes k (omega (arith, l, low, m)) in
     let same : x.0 ≡ header_at c bytes k = cc in
-    let P : ProgramHeader → Type 0 = λ z. IsSoundHeader (length bytes) z in
-    subst P same (sound_from (length bytes) x.0 (clean s.0 s.1 x.0 s.2))
+    subst (λ z. IsSoundHeader (length bytes) z) same (sound_from (length bytes) x.0 (clean s.0 s.1 x.0 s.2))
 
 from_headers : (bytes : List ℕ) (c : Class) (f : ElfFault) → HasTable bytes c
     → headers_fault (length bytes) (headers c bytes) ≡ Some f → IsElfFault bytes f
@@ -108,13 +106,11 @@ from_headers bytes c f table e =
     let there : slice_get (headers c bytes) n ≡ Some r.item = ap (λ z. slice_get z n) r.split
     ∙ get_behind r.front (r.item ∷ r.rest) 0 n (omega arith) in
     let many = headers_many c bytes 0 (file_header c bytes).table (file_header c bytes).count in
-    let k = below (headers c bytes) n r.item there in
-    let low : n < (file_header c bytes).count = omega (arith, many, k) in
+    let low : n < (file_header c bytes).count = omega (arith, many, below (headers c bytes) n r.item there) in
     let own = header_there c bytes n low in
     let same : r.item ≡ header_at c bytes n = cc in
-    let P : ProgramHeader → Type 0 = λ z. IsHeaderFault (length bytes) z f in
     in_header c n table low (front_sound bytes c r.front (r.item ∷ r.rest) r.split r.clean n (omega arith) (omega (arith, low)))
-    (subst P same (fault_from (length bytes) r.item f r.says))
+    (subst (λ z. IsHeaderFault (length bytes) z f) same (fault_from (length bytes) r.item f r.says))
 
 all_sound : (bytes : List ℕ) (c : Class) → headers_fault (length bytes) (headers c bytes) ≡ None
     → AreSoundTo bytes c (file_header c bytes).count
@@ -180,8 +176,7 @@ from_class bytes c f kind e =
     by_fields : (x y z : Bool) → nat_lt (length bytes) (fields_end c) ≡ x → is_of_another_length c (file_header c bytes) ≡ y
         → is_past (length bytes) c (file_header c bytes) ≡ z
         → option_or (cond x (Some (short (length bytes))) (cond y (Some (fault code.Size (length_at c) (length_at c + 2)))
-        (fault_if z (short (length bytes))))) (behind_table bytes c) ≡ Some f
-        → IsElfFault bytes f
+        (fault_if z (short (length bytes))))) (behind_table bytes c) ≡ Some f → IsElfFault bytes f
     by_fields true y z p q r e = let same : short (length bytes) ≡ f = cc in
         no_fields c kind (ltb-true (length bytes) (fields_end c) p) (sym same)
     by_fields false true z p q r e =
@@ -195,8 +190,7 @@ from_class bytes c f kind e =
         let parts = and_parts (not (h.count == 0)) (nat_lt (length bytes) (h.table + h.count * header_length c)) r in
         let same : short (length bytes) ≡ f = cc in
         let equal : h.length ≡ header_length c =
-        is_equal h.length (header_length c) (second_false (not (h.count == 0)) (not (h.length == header_length c))
-        parts.0 q) in
+        is_equal h.length (header_length c) (second_false (not (h.count == 0)) (not (h.length == header_length c)) parts.0 q) in
         no_table c kind (ltb-false (length bytes) (fields_end c) p) (eqb-false h.count 0 (not-true _ parts.0)) equal
         (ltb-true (length bytes) (h.table + h.count * header_length c) parts.1) (sym same)
     by_fields false false false p q r e = from_behind bytes c f (has_table bytes c kind p q r) e
@@ -230,9 +224,8 @@ pub from_no_elf_fault : (bytes : List ℕ) → first_fault bytes ≡ None → Is
 from_no_elf_fault bytes e = by_tests (starts_with nat_eq bytes magic) (nat_lt (length bytes) 6)
     (class_of (slice_index bytes 4) (slice_index bytes 5)) refl refl refl e
   where
-    by_behind : (c : Class) → HasTable bytes c → (o : Option ElfFault)
-        → headers_fault (length bytes) (headers c bytes) ≡ o → (b : Bool)
-        → nat_lt sections_limit (length (sections_of_all (headers c bytes))) ≡ b
+    by_behind : (c : Class) → HasTable bytes c → (o : Option ElfFault) → headers_fault (length bytes) (headers c bytes) ≡ o
+        → (b : Bool) → nat_lt sections_limit (length (sections_of_all (headers c bytes))) ≡ b
         → option_or o (fault_if b (fault code.Limit 0 0)) ≡ None → IsSoundElf bytes
     by_behind c table None s false t e = record {
       class = c;
@@ -245,8 +238,7 @@ from_no_elf_fault bytes e = by_tests (starts_with nat_eq bytes magic) (nat_lt (l
     by_fields : (c : Class) → IsOfClass bytes c → (x y z : Bool) → nat_lt (length bytes) (fields_end c) ≡ x
         → is_of_another_length c (file_header c bytes) ≡ y → is_past (length bytes) c (file_header c bytes) ≡ z
         → option_or (cond x (Some (short (length bytes))) (cond y (Some (fault code.Size (length_at c) (length_at c + 2)))
-        (fault_if z (short (length bytes))))) (behind_table bytes c) ≡ None
-        → IsSoundElf bytes
+        (fault_if z (short (length bytes))))) (behind_table bytes c) ≡ None → IsSoundElf bytes
     by_fields c kind false false false p q r e =
         by_behind c (has_table bytes c kind p q r) (headers_fault (length bytes) (headers c bytes)) refl
         (nat_lt sections_limit (length (sections_of_all (headers c bytes)))) refl e
@@ -269,8 +261,7 @@ sound_header size h s = by_use (is_used h) refl
     by_use false u = refl
     by_use true u =
         ap (λ z. told h size true z (is_whole size h) (is_aligned h)) (s.sized u)
-        ∙ ap (λ z. told h size true true z (is_aligned h)) (s.whole u)
-        ∙ ap (λ z. told h size true true true z) (s.aligned u)
+        ∙ ap (λ z. told h size true true z (is_aligned h)) (s.whole u) ∙ ap (λ z. told h size true true true z) (s.aligned u)
 
 header_refused : (size : ℕ) (h : ProgramHeader) (f : ElfFault) → IsHeaderFault size h f → header_fault size h ≡ Some f
 header_refused size h f (not_sized u a e) = ap (λ z. told h size z (is_sized h) (is_whole size h) (is_aligned h)) u
@@ -286,8 +277,7 @@ header_refused size h f (not_aligned u a b c e) =
 
 -- a front of the headers, each of which is sound
 sound_front : (bytes : List ℕ) (c : Class) (front rest : List ProgramHeader) → headers c bytes ≡ front ++ rest
-    → AreSoundTo bytes c (length front)
-    → IsClean (λ b h. header_fault (length bytes) h) [] front
+    → AreSoundTo bytes c (length front) → IsClean (λ b h. header_fault (length bytes) h) [] front
 sound_front bytes c front rest e sound p q y s =
     let k = length p in
     let many : length front ≡ k + suc (length q) = ap length s ∙ length-append p (y ∷ q) in
@@ -295,32 +285,28 @@ sound_front bytes c front rest e sound p q y s =
     let there : slice_get (headers c bytes) k ≡ Some y = ap (λ z. slice_get z k) whole ∙ get_behind p (y ∷ (q ++ rest)) 0 k
     (omega arith) in
     let all = headers_many c bytes 0 (file_header c bytes).table (file_header c bytes).count in
-    let low = below (headers c bytes) k y there in
-    let own = header_there c bytes k (omega (arith, all, low)) in
+    let own = header_there c bytes k (omega (arith, all, below (headers c bytes) k y there)) in
     let same : y ≡ header_at c bytes k = cc in
     ap (header_fault (length bytes)) same ∙ sound_header (length bytes) (header_at c bytes k) (sound k (omega (arith, many)))
 
 in_headers : (bytes : List ℕ) (c : Class) (k : ℕ) (f : ElfFault) → k < (file_header c bytes).count → AreSoundTo bytes c k
-    → IsHeaderFault (length bytes) (header_at c bytes k) f
-    → headers_fault (length bytes) (headers c bytes) ≡ Some f
+    → IsHeaderFault (length bytes) (header_at c bytes k) f → headers_fault (length bytes) (headers c bytes) ≡ Some f
 in_headers bytes c k f low sound wrong =
     let g : List ProgramHeader → ProgramHeader → Option ElfFault = λ b h. header_fault (length bytes) h in
     let x = header_at c bytes k in
     let s = at_split (headers c bytes) k x (header_there c bytes k low) in
-    let P : ℕ → Type 0 = λ z. AreSoundTo bytes c z in
     as_first (length bytes) [] (headers c bytes) ∙ ap (first_of g []) s.2
     ∙ in_first g [] s.0 x s.1 f (header_refused (length bytes) x f wrong)
-    (sound_front bytes c s.0 (x ∷ s.1) s.2 (subst P (sym s.3) sound))
+    (sound_front bytes c s.0 (x ∷ s.1) s.2 (subst (λ z. AreSoundTo bytes c z) (sym s.3) sound))
 
 none_in_headers : (bytes : List ℕ) (c : Class) → AreSoundTo bytes c (file_header c bytes).count
     → headers_fault (length bytes) (headers c bytes) ≡ None
 none_in_headers bytes c sound =
     let g : List ProgramHeader → ProgramHeader → Option ElfFault = λ b h. header_fault (length bytes) h in
     let many = headers_many c bytes 0 (file_header c bytes).table (file_header c bytes).count in
-    let P : ℕ → Type 0 = λ z. AreSoundTo bytes c z in
     as_first (length bytes) [] (headers c bytes)
     ∙ in_none g [] (headers c bytes) (sound_front bytes c (headers c bytes) [] (sym (append-nil (headers c bytes)))
-    (subst P (sym many) sound))
+    (subst (λ z. AreSoundTo bytes c z) (sym many) sound))
 
 abbrev table_told : List ℕ → Class → Bool → Bool → Bool → Option ElfFault
 table_told bytes c x y z = cond x (Some (short (length bytes))) (cond y (Some (fault code.Size (length_at c) (length_at c + 2)))
@@ -371,8 +357,7 @@ in_elf_fault bytes f (no_class a l o e) =
     (λ a. fault_behind bytes (behind_magic bytes a (nat_lt (length bytes) 6)
     (class_of (slice_index bytes 4) (slice_index bytes 5)))) a
     ∙ ap (λ b. fault_behind bytes (behind_magic bytes true b (class_of (slice_index bytes 4) (slice_index bytes 5))))
-    (le-ltb (length bytes) 6 l)
-    ∙ ap (λ z. fault_behind bytes (behind_magic bytes true false z)) o ∙ ap Some (sym e)
+    (le-ltb (length bytes) 6 l) ∙ ap (λ z. fault_behind bytes (behind_magic bytes true false z)) o ∙ ap Some (sym e)
 in_elf_fault bytes f (no_fields c k l e) =
     let h = file_header c bytes in
     of_class bytes c k ∙ ap (λ x. class_told bytes c x (is_of_another_length c h) (is_past (length bytes) c h))
@@ -381,8 +366,7 @@ in_elf_fault bytes f (another_length c k l n w e) =
     let h = file_header c bytes in
     let other : not (h.length == header_length c) ≡ true = not_from_false _ (ne_eqb h.length (header_length c) w) in
     of_class bytes c k ∙ ap (λ x. class_told bytes c x (is_of_another_length c h) (is_past (length bytes) c h))
-    (le-ltb (length bytes) (fields_end c) l)
-    ∙ ap (λ y. class_told bytes c false y (is_past (length bytes) c h))
+    (le-ltb (length bytes) (fields_end c) l) ∙ ap (λ y. class_told bytes c false y (is_past (length bytes) c h))
     (and_from (not (h.count == 0)) (not (h.length == header_length c)) (not_from_false _ (ne_eqb h.count 0 n)) other)
     ∙ ap Some (sym e)
 in_elf_fault bytes f (no_table c k l n s p e) =
@@ -390,12 +374,10 @@ in_elf_fault bytes f (no_table c k l n s p e) =
     let b : is_of_another_length c h ≡ false = none_of_both (not (h.count == 0)) (not (h.length == header_length c))
     (λ t. ap not (eq-eqb h.length (header_length c) s)) in
     of_class bytes c k ∙ ap (λ x. class_told bytes c x (is_of_another_length c h) (is_past (length bytes) c h))
-    (le-ltb (length bytes) (fields_end c) l)
-    ∙ ap (λ y. class_told bytes c false y (is_past (length bytes) c h)) b
+    (le-ltb (length bytes) (fields_end c) l) ∙ ap (λ y. class_told bytes c false y (is_past (length bytes) c h)) b
     ∙ ap (λ z. class_told bytes c false false z)
     (and_from (not (h.count == 0)) (nat_lt (length bytes) (h.table + h.count * header_length c))
-    (not_from_false _ (ne_eqb h.count 0 n)) (lt-ltb (length bytes) (h.table + h.count * header_length c) p))
-    ∙ ap Some (sym e)
+    (not_from_false _ (ne_eqb h.count 0 n)) (lt-ltb (length bytes) (h.table + h.count * header_length c) p)) ∙ ap Some (sym e)
 in_elf_fault bytes f (in_header c k t low sound wrong) =
     with_table bytes c t ∙ ap (λ o. option_or o (limit_fault (headers c bytes))) (in_headers bytes c k f low sound wrong)
 in_elf_fault bytes f (many_sections c t sound l e) =

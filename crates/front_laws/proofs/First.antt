@@ -41,8 +41,7 @@ from_first g before [] f e = cc
 from_first {X} {F} g before (x ∷ xs) f e = by_case (g before x) refl (from_first g (before ++ x ∷ []) xs f) e
   where
     by_case : (o : Option F) → g before x ≡ o → (first_of g (before ++ x ∷ []) xs ≡ Some f → First g (before ++ x ∷ []) xs f)
-        → option_or o (first_of g (before ++ x ∷ []) xs) ≡ Some f
-        → First g before (x ∷ xs) f
+        → option_or o (first_of g (before ++ x ∷ []) xs) ≡ Some f → First g before (x ∷ xs) f
     by_case None none more t =
         let r = more t in
         record {
@@ -69,8 +68,7 @@ from_first {X} {F} g before (x ∷ xs) f e = by_case (g before x) refl (from_fir
         empty (z ∷ p) y q e = cc
 
 pub in_first : {X F : Type 0} (g : List X → X → Option F) (before front : List X) (item : X) (rest : List X) (f : F)
-    → g (before ++ front) item ≡ Some f → IsClean g before front
-    → first_of g before (front ++ item ∷ rest) ≡ Some f
+    → g (before ++ front) item ≡ Some f → IsClean g before front → first_of g before (front ++ item ∷ rest) ≡ Some f
 in_first g before [] item rest f says clean =
     ap (λ o. option_or o (first_of g (before ++ item ∷ []) rest)) (ap (λ u. g u item) (sym (append-nil before)) ∙ says)
 in_first g before (x ∷ front) item rest f says clean =
@@ -88,8 +86,7 @@ from_none {X} {F} g before [] e = λ p q y s. empty p q y s
 from_none {X} {F} g before (x ∷ xs) e = by_case (g before x) refl (from_none g (before ++ x ∷ []) xs) e
   where
     by_case : (o : Option F) → g before x ≡ o → (first_of g (before ++ x ∷ []) xs ≡ None → IsClean g (before ++ x ∷ []) xs)
-        → option_or o (first_of g (before ++ x ∷ []) xs) ≡ None
-        → IsClean g before (x ∷ xs)
+        → option_or o (first_of g (before ++ x ∷ []) xs) ≡ None → IsClean g before (x ∷ xs)
     by_case None none more t = clean_more g before x xs none (more t)
     by_case (Some h) says more t = cc
 

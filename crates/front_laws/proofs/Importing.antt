@@ -103,18 +103,15 @@ in_meeting : (root : List ℕ) (file : SourceFile) (name : List ℕ) → Imports
 in_meeting root file name x =
     let m : Meeting = (name, x.import.place) in
     let P : Bool → Type 0 = λ b. IsIn m (cond b [] (meeting_at x.import.place (name_given root file.name x.import))) in
-    let Q : Option (List ℕ) → Type 0 = λ o. IsIn m (meeting_at x.import.place o) in
     in_map key m (meetings_of root file) (in_flat_map (meeting_of root file.name) x.import m (imports_of file.tree) x.stands
-    (subst P (sym x.own) (subst Q (sym x.gives) (inl refl))))
+    (subst P (sym x.own) (subst (λ o. IsIn m (meeting_at x.import.place o)) (sym x.gives) (inl refl))))
 
 -- ---- what is reached
 
 -- the first file is the root
 first_name : (root : List ℕ) (files : List SourceFile) → IsSource root files → (file : SourceFile) (after : List SourceFile)
     → files ≡ file ∷ after → file.name ≡ root
-first_name root files s file after e =
-    let f = ap (map (λ (z : SourceFile). z.name)) (sym e) ∙ s.equation in
-    cc
+first_name root files s file after e = let f = ap (map (λ (z : SourceFile). z.name)) (sym e) ∙ s.equation in cc
 
 reached_at : (root : List ℕ) (files : List SourceFile) → IsSource root files
     → (n : ℕ) (before after : List SourceFile) (file : SourceFile) → length before ≤ n
@@ -131,11 +128,8 @@ reached_at root files s (suc n) (b ∷ before) after file l e =
     (file ∷ after) in
     let many : suc (length before) ≡ length p.0 + suc (length p.1) = ap length p.2 ∙ length-append p.0 (g.0 ∷ p.1) in
     let inner = reached_at root files s n p.0 (p.1 ++ file ∷ after) g.0 (omega (arith, l, many)) whole in
-    let name : file.name ≡ m.0.0 = (bytes_eq-Decides file.name m.0.0).0 m.2 in
-    let P : List ℕ → Type 0 = λ z. IsReached root files z in
-    let Q : List SourceFile → Type 0 = λ z. IsIn g.0 z in
-    subst P (sym name)
-    (by_import g.0 m.0.0 inner (subst Q (sym whole) (in_right g.0 p.0 (g.0 ∷ (p.1 ++ file ∷ after)) (inl refl)))
+    subst (λ z. IsReached root files z) (sym ((bytes_eq-Decides file.name m.0.0).0 m.2))
+    (by_import g.0 m.0.0 inner (subst (λ z. IsIn g.0 z) (sym whole) (in_right g.0 p.0 (g.0 ∷ (p.1 ++ file ∷ after)) (inl refl)))
     (from_meeting root g.0 m.0 g.2))
 
 names_are : (root : List ℕ) (files : List SourceFile) → IsSource root files → map (λ f. f.name) files ≡ map key (met root files)
@@ -154,9 +148,8 @@ among root files name (by_import file n r i x) =
 given_there : (root : List ℕ) (files : List SourceFile) → IsSource root files → (name : List ℕ) → IsReached root files name
     → IsIn name (map (λ f. f.name) files)
 given_there root files s name r =
-    let P : List (List ℕ) → Type 0 = λ z. IsIn name z in
-    subst P (sym (names_are root files s)) (in_firsts ((root, root_place) ∷ flat_map (meetings_of root) files) name
-    (among root files name r))
+    subst (λ z. IsIn name z) (sym (names_are root files s)) (in_firsts ((root, root_place) ∷ flat_map (meetings_of root) files)
+    name (among root files name r))
 
 pub files_reached : (root : List ℕ) (files : List SourceFile) → IsSource root files → AreReached root files
 files_reached root files s =
@@ -169,8 +162,7 @@ files_reached root files s =
         λ i.
             let f = from_map (λ (z : SourceFile). z.name) name files i in
             let p = split_in files f.0 f.1 in
-            let R : List ℕ → Type 0 = λ z. IsReached root files z in
-            subst R f.2 (reached_at root files s (length p.0) p.0 p.1 f.0 (omega arith) p.2),
+            subst (λ z. IsReached root files z) f.2 (reached_at root files s (length p.0) p.0 p.1 f.0 (omega arith) p.2),
         given_there root files s name,
       );
       once = subst P (sym same) (firsts_once ms);

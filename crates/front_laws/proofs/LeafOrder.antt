@@ -34,18 +34,15 @@ within_part h k x zs false e a = (λ y i. absurd i, tt)
 leaves_ordered : (h : Hierarchy) → AreNamedOnce h → (n k : ℕ) → InOrder (Leafwise h k) (leaves_within h n k)
 leaves_ordered h once zero k = tt
 leaves_ordered h once (suc n) k =
-    let parts = (body h k).parts in
-    let f = placed_by h (leaves_within h n) in
-    order_flat_map (Leafwise h k) f parts
-    (λ x i. within_part h k x (leaves_within h n x.kind) (is_composite h x.kind) (find_once name_of parts x (once k) i)
-    (leaves_ordered h once n x.kind))
+    let parts = (body h k).parts in let f = placed_by h (leaves_within h n) in
+    order_flat_map (Leafwise h k) f parts (λ x i. within_part h k x (leaves_within h n x.kind) (is_composite h x.kind)
+    (find_once name_of parts x (once k) i) (leaves_ordered h once n x.kind))
     (order_weaken (IsBefore parts) (λ x y. (u v : Placed) → IsIn u (f x) → IsIn v (f y) → Leafwise h k u v) parts
-    (λ x y i j s u v a b.
-    let p = begins h x (leaves_within h n x.kind) (is_composite h x.kind) u a in
-    let q = begins h y (leaves_within h n y.kind) (is_composite h y.kind) v b in
-    let P : Path → Type 0 = λ z. IsPathBefore h k z v.path in
-    let Q : Path → Type 0 = λ z. IsPathBefore h k (name_of x ∷ p.0) z in
-    subst P p.1 (subst Q q.1 (at_names k (name_of x) (name_of y) p.0 q.0 (before_map name_of parts x y s)))) (all_before parts))
+    (λ x y i j s u v a b. let p = begins h x (leaves_within h n x.kind) (is_composite h x.kind) u a in
+    let q = begins h y (leaves_within h n y.kind) (is_composite h y.kind) v b in let P : Path
+    → Type 0 = λ z. IsPathBefore h k z v.path in let Q : Path → Type 0 = λ z. IsPathBefore h k (name_of x ∷ p.0) z in
+    subst P p.1 (subst Q q.1 (at_names k (name_of x) (name_of y) p.0 q.0 (before_map name_of parts x y s))))
+    (all_before parts))
 
 pub leaves_in_order : (s : Source) → AreNamesSound s → InOrder (Leafwise (hierarchy_of s) (top_number (hierarchy_of s)))
     (leaves (hierarchy_of s))
@@ -60,8 +57,7 @@ Wirewise h k x y = IsWireBefore h k x.path x.wire.1.id.name y.path y.wire.1.id.n
 own_ordered : (h : Hierarchy) (k : ℕ) → InOrder (Wirewise h k) (map (strung k) (wires_of (body h k)))
 own_ordered h k =
     let ws = wires_of (body h k) in
-    order_map (Wirewise h k) (strung k) ws
-    (order_weaken (IsBefore ws) (λ v w. Wirewise h k (strung k v) (strung k w)) ws
+    order_map (Wirewise h k) (strung k) ws (order_weaken (IsBefore ws) (λ v w. Wirewise h k (strung k v) (strung k w)) ws
     (λ v w i j s. in_one k v.1.id.name w.1.id.name (before_map (λ (z : Wire). z.1.id.name) ws v w s)) (all_before ws))
 
 -- a connection in an instance has the instance's name in front
@@ -72,10 +68,8 @@ further_begins x zs y i = let z = from_map (further (name_of x)) y zs i in (z.0.
 wires_ordered : (h : Hierarchy) → AreNamedOnce h → (n k : ℕ) → InOrder (Wirewise h k) (connections_within h n k)
 wires_ordered h once zero k = own_ordered h k
 wires_ordered h once (suc n) k =
-    let parts = (body h k).parts in
-    let f = strung_by (connections_within h n) in
-    let own = map (strung k) (wires_of (body h k)) in
-    order_append (Wirewise h k) own (flat_map f parts) (own_ordered h k)
+    let parts = (body h k).parts in let f = strung_by (connections_within h n) in
+    order_append (Wirewise h k) (map (strung k) (wires_of (body h k))) (flat_map f parts) (own_ordered h k)
     (order_flat_map (Wirewise h k) f parts
     (λ x i. order_map (Wirewise h k) (further (name_of x)) (connections_within h n x.kind)
     (order_weaken (Wirewise h x.kind) (λ y z. Wirewise h k (further (name_of x) y) (further (name_of x) z))
@@ -91,8 +85,7 @@ wires_ordered h once (suc n) k =
     subst P p.1 (subst Q q.1 (by_instances k (name_of x) (name_of y) u.wire.1.id.name v.wire.1.id.name p.0 q.0
     (before_map name_of parts x y s)))) (all_before parts)))
     (λ u v a b.
-    let w = from_map (strung k) u (wires_of (body h k)) a in
-    let y = from_flat_map f v parts b in
+    let w = from_map (strung k) u (wires_of (body h k)) a in let y = from_flat_map f v parts b in
     let q = further_begins y.0 (connections_within h n y.0.kind) v y.2 in
     let P : Path → Type 0 = λ z. IsWireBefore h k z u.wire.1.id.name v.path v.wire.1.id.name in
     let Q : Path → Type 0 = λ z. IsWireBefore h k [] u.wire.1.id.name z v.wire.1.id.name in

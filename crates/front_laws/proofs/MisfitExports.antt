@@ -29,8 +29,7 @@ from_ends_in : (types : Types) (p : Port) (c : Known) → types p.0.component.na
 from_ends_in types p c t e =
     let first = and_parts (is_some (c.interface p.1)) (is_some c.holds && not (c.exports p.1)) e in
     let more = and_parts (is_some c.holds) (not (c.exports p.1)) first.1 in
-    let i = is_there (c.interface p.1) first.0 in
-    let h = is_there c.holds more.0 in
+    let i = is_there (c.interface p.1) first.0 in let h = is_there c.holds more.0 in
     record {
       component = c;
       known = t;
@@ -52,9 +51,7 @@ from_unled types (Some p) e = (p, refl, by_type (types p.0.component.name) refl 
 
 in_unled : (types : Types) (o : Option Port) (p : Port) → o ≡ Some p → IsUnled types p → is_unled types o ≡ true
 in_unled types o p e u =
-    let P : Option Port → Type 0 = λ z. is_unled types z ≡ true in
-    let Q : Option Known → Type 0 = λ t. option_map_or (λ c. ends_in c p.1) t false ≡ true in
-    subst P (sym e) (subst Q (sym u.known)
+    subst (λ z. is_unled types z ≡ true) (sym e) (subst (λ t. option_map_or (λ c. ends_in c p.1) t false ≡ true) (sym u.known)
     (and_from (is_some (u.component.interface p.1)) (is_some u.component.holds && not (u.component.exports p.1))
     (ap is_some u.declared)
     (and_from (is_some u.component.holds) (not (u.component.exports p.1)) (ap is_some u.composite)
@@ -76,9 +73,7 @@ from_inner types (Some p) inners e = by_interface (interface_at types p) refl e
 inner_there : (types : Types) (o : Option Port) (p : Port) (i : Interface) → o ≡ Some p → interface_at types p ≡ Some i
     → inner_of types o ≡ Some p
 inner_there types o p i e k =
-    let P : Option Port → Type 0 = λ z. inner_of types z ≡ Some p in
-    let Q : Option Interface → Type 0 = λ z. cond (is_some z) (Some p) None ≡ Some p in
-    subst P (sym e) (subst Q (sym k) refl)
+    subst (λ z. inner_of types z ≡ Some p) (sym e) (subst (λ z. cond (is_some z) (Some p) None ≡ Some p) (sym k) refl)
 
 from_port : (o : Option Port) (q : Port) → is_port o q ≡ true → (p : Port) × (o ≡ Some p) × IsSamePort p q
 from_port None q e = cc
@@ -123,8 +118,7 @@ from_differs types (Some c) held x (Some p) e d = by_both (interface_at types p)
 from_misfit : (types : Types) (owner : Option Known) (held : Holding) (targets : Name → Bool) (inners : Port → Bool) (x : Export)
     → is_misfit types owner held targets inners x ≡ true → Why types owner held targets inners [] x
 from_misfit types owner held targets inners x t =
-    let port = port_of held x.words in
-    let known_targets = targets x.target.name in
+    let port = port_of held x.words in let known_targets = targets x.target.name in
     let known_inner = option_map_or inners (inner_of types port) false in
     let unlike = differs (option_and_then (interface_at types) port) (option_and_then (λ c. c.interface x.target.name) owner) in
     elim (or_cases (is_none owner) (unlike || (known_targets || (known_inner || is_unled types port))) t) [
@@ -243,13 +237,11 @@ in_misfit types owner held targets inners x why = by_why why
         (is_unled types (port_of held x.words)) t)))
 
 into_after : (types : Types) (owner : Option Known) (held : Holding) (targets : Name → Bool) (inners : Port
-    → Bool) (before : List Export) (x : Export) (after : List Export)
-    → Why types owner held targets inners before x
+    → Bool) (before : List Export) (x : Export) (after : List Export) → Why types owner held targets inners before x
     → IsIn (export_fault x.words x.place) (misfits_after types owner held targets inners (before ++ x ∷ after))
 into_after types owner held targets inners [] x after why =
     in_left (export_fault x.words x.place) (where_true (is_misfit types owner held targets inners x)
-    (export_fault x.words x.place))
-    (misfits_after types owner held (λ n. targets n || bytes_eq n x.target.name)
+    (export_fault x.words x.place)) (misfits_after types owner held (λ n. targets n || bytes_eq n x.target.name)
     (λ p. inners p || is_port (inner_of types (port_of held x.words)) p) after)
     (in_true (is_misfit types owner held targets inners x) (export_fault x.words x.place)
     (in_misfit types owner held targets inners x why))
@@ -288,8 +280,7 @@ into_after types owner held targets inners (y ∷ before) x after why =
     known (inr (inr t)) =
         let q = from_inner types (port_of held x.words) inners t in
         inr
-        (inr
-        (known_port q.0 q.2.0 q.1 q.2.1 (or_left (inners q.0) (is_port (inner_of types (port_of held y.words)) q.0) q.3)))
+        (inr (known_port q.0 q.2.0 q.1 q.2.1 (or_left (inners q.0) (is_port (inner_of types (port_of held y.words)) q.0) q.3)))
 
 -- ---- in a source
 

@@ -17,29 +17,26 @@ use Rattle.front_laws.proofs.Ordered.{order_map}
 same_by : {X K : Type 0} (key : X → K) (xs ys : List X) → map key xs ≡ map key ys
     → ((x y : X) → IsIn x xs → IsIn y ys → key x ≡ key y → x ≡ y) → xs ≡ ys
 same_by key [] [] e f = refl
-same_by key [] (y ∷ ys) e f = cc
-same_by key (x ∷ xs) [] e f = cc
 same_by key (x ∷ xs) (y ∷ ys) e f =
     let heads : key x ≡ key y = cc in
     let tails : map key xs ≡ map key ys = cc in
     ap (λ z. z ∷ xs) (f x y (inl refl) (inl refl) heads)
     ∙ ap (λ z. y ∷ z) (same_by key xs ys tails (λ a b i j. f a b (inr i) (inr j)))
+same_by key _ _ e f = cc
 
 same_at : {X : Type 0} (xs ys : List X) → length xs ≡ length ys → ((n : ℕ) (x y : X) → slice_get xs n ≡ Some x
     → slice_get ys n ≡ Some y → x ≡ y) → xs ≡ ys
 same_at [] [] e f = refl
-same_at [] (y ∷ ys) e f = absurd (omega (arith, e))
-same_at (x ∷ xs) [] e f = absurd (omega (arith, e))
 same_at (x ∷ xs) (y ∷ ys) e f =
     ap (λ z. z ∷ xs) (f 0 x y refl refl) ∙ ap (λ z. y ∷ z) (same_at xs ys (omega (arith, e)) (λ n a b i j. f (suc n) a b i j))
+same_at _ _ e f = absurd (omega (arith, e))
 
 -- ---- leaves and domains
 
 same_paths : (s : Source) → AreNamesSound s → (f g : Flat) → AreLeaves (hierarchy_of s) f → AreLeaves (hierarchy_of s) g
     → map (λ l. l.path) f.leaves ≡ map (λ l. l.path) g.leaves
 same_paths s sound f g a b =
-    let h = hierarchy_of s in
-    let top = top_number h in
+    let h = hierarchy_of s in let top = top_number h in
     let R : Path → Path → Type 0 = λ p q. IsPathBefore h top p q in
     same_order R (λ p q r t. paths_one_way h (names_once s sound) (length p) top p q (omega arith) r t)
     (map (λ (l : Leaf). l.path) f.leaves) (map (λ (l : Leaf). l.path) g.leaves)
@@ -55,10 +52,8 @@ beside f g e n l i = from_get_map (λ (l : Leaf). l.path) g.leaves n l.path (ap 
 same_hardware : (h : Hierarchy) (f g : Flat) (l m : Leaf) → IsLeafOf h f l → IsLeafOf h g m → l.path ≡ m.path
     → l.hardware ≡ m.hardware
 same_hardware h f g l m a b e =
-    let u = a.stands in
     let v = b.stands in
-    let P : Path → Type 0 = λ z. part_at h (top_number h) z ≡ Some a.part in
-    let w = subst P e u in
+    let w = subst (λ z. part_at h (top_number h) z ≡ Some a.part) e a.stands in
     let same : a.part ≡ b.part = cc in
     a.hardware ∙ ap (is_hardware h) same ∙ sym b.hardware
 
@@ -87,18 +82,15 @@ domain_too h f g a b e c d x i =
     let leaves : y.0.leaves ≡ x.leaves = same_order ◌<◌ (λ m n r t. omega (arith, r, t)) y.0.leaves x.leaves (d.rising y.0 y.1)
     (c.rising x i)
     (λ n r. (c.leaves x i n).1 (inside_too h g f b a (sym e) x.path n (let Q : Path → Type 0 = λ p. IsInside h g p n in
-    subst Q y.2 ((d.leaves y.0 y.1 n).0 r))))
-    (λ n r. (d.leaves y.0 y.1 n).1 (let Q : Path → Type 0 = λ p. IsInside h g p n in
+    subst Q y.2 ((d.leaves y.0 y.1 n).0 r)))) (λ n r. (d.leaves y.0 y.1 n).1 (let Q : Path → Type 0 = λ p. IsInside h g p n in
     subst Q (sym y.2) (inside_too h f g a b e x.path n ((c.leaves x i n).0 r)))) in
-    let R : Domain → Type 0 = λ z. IsIn z g.domains in
-    subst R (same_domain y.0 x y.2 leaves) y.1
+    subst (λ z. IsIn z g.domains) (same_domain y.0 x y.2 leaves) y.1
 
 same_domains : (h : Hierarchy) (f g : Flat) → AreLeaves h f → AreLeaves h g
     → map (λ l. l.path) f.leaves ≡ map (λ l. l.path) g.leaves → AreDomains h f → AreDomains h g → f.domains ≡ g.domains
 same_domains h f g a b e c d =
     same_order IsDomainBefore (λ x y r t. let p = r.before t.first t.stands in let q = t.before r.first r.stands in
-    omega (arith, p, q)) f.domains g.domains c.order d.order
-    (domain_too h f g a b e c d) (domain_too h g f b a (sym e) d c)
+    omega (arith, p, q)) f.domains g.domains c.order d.order (domain_too h f g a b e c d) (domain_too h g f b a (sym e) d c)
 
 same_leaf : (l m : Leaf) → l.path ≡ m.path → l.component ≡ m.component → l.place ≡ m.place → l.hardware ≡ m.hardware
     → l.domain ≡ m.domain → l ≡ m
@@ -117,10 +109,8 @@ same_leaf l m a b c d e =
 leaf_is : (h : Hierarchy) (f g : Flat) → AreDomains h f → f.domains ≡ g.domains → (l m : Leaf) → IsLeafOf h f l → IsLeafOf h g m
     → l.path ≡ m.path → l ≡ m
 leaf_is h f g c ds l m a b e =
-    let u = a.stands in
     let v = b.stands in
-    let P : Path → Type 0 = λ z. part_at h (top_number h) z ≡ Some a.part in
-    let w = subst P e u in
+    let w = subst (λ z. part_at h (top_number h) z ≡ Some a.part) e a.stands in
     let same : a.part ≡ b.part = cc in
     let x = a.component in
     let y = ap (λ (z : Part). (body h z.kind).item) same ∙ b.component in
@@ -132,8 +122,7 @@ leaf_is h f g c ds l m a b e =
     by_kind : (l.hardware ≡ true) ⊎ (l.hardware ≡ false) → l.hardware ≡ m.hardware → l.domain ≡ m.domain
     by_kind (inl t) k = a.device t ∙ sym (b.device (sym k ∙ t))
     by_kind (inr t) k =
-        let p = a.domain t in
-        let q = b.domain (sym k ∙ t) in
+        let p = a.domain t in let q = b.domain (sym k ∙ t) in
         let same : p.1 ≡ q.1 = sym (domain_of_is h l.path p.1 p.3) ∙ ap (domain_of h) e ∙ domain_of_is h m.path q.1 q.3 in
         let here : slice_get (map (λ (z : Domain). z.path) f.domains) p.0 ≡ Some p.1 = get_map (λ (z : Domain). z.path) f.domains
         p.0 p.4.domain p.4.there ∙ ap Some p.4.path in
@@ -159,8 +148,7 @@ same_end e d a b c p =
 same_member : (ms : List Member) (i : Name) (a b : ℕ) (x y : Interface) → slice_get ms a ≡ Some (members.Interface x)
     → x.id.name ≡ i → slice_get ms b ≡ Some (members.Interface y) → y.id.name ≡ i
     → ((k : ℕ) (m : Interface) → k < a → slice_get ms k ≡ Some (members.Interface m) → m.id.name ≡ i → ⊥)
-    → ((k : ℕ) (m : Interface) → k < b → slice_get ms k ≡ Some (members.Interface m) → m.id.name ≡ i → ⊥)
-    → a ≡ b
+    → ((k : ℕ) (m : Interface) → k < b → slice_get ms k ≡ Some (members.Interface m) → m.id.name ≡ i → ⊥) → a ≡ b
 same_member ms i a b x y p n q m first second = elim (cases_lt a b) [
   | inl l ↦ absurd (second a x l p n)
   | inr l ↦ elim (cases_lt b a) [ inl k ↦ absurd (first b y k q m) | inr k ↦ omega (arith, l, k) ]
@@ -172,13 +160,11 @@ end_is : (s : Source) → AreNamesSound s → (f g : Flat) → AreLeaves (hierar
 end_is s sound f g a ls x there n e d p q =
     let h = hierarchy_of s in
     let j = joins_joined s sound x n e.role p.leaf.path p.interface there p.joins in
-    let k = joins_joined s sound x n d.role q.leaf.path q.interface there q.joins in
-    let j1 = j.1 in
+    let k = joins_joined s sound x n d.role q.leaf.path q.interface there q.joins in let j1 = j.1 in
     let k1 = k.1 in
     let end : j.0 ≡ k.0 = cc in
     let role : e.role ≡ d.role = sym j.2 ∙ ap (λ (z : End). z.role) end ∙ k.2 in
-    let j4 = j.4 in
-    let k4 = ap (joined_by h x.inside) end ∙ k.4 in
+    let j4 = j.4 in let k4 = ap (joined_by h x.inside) end ∙ k.4 in
     let reach : j.3 ≡ k.3 = cc in
     let path : p.leaf.path ≡ q.leaf.path = sym j.5 ∙ ap (λ (z : Reached). x.path ++ z.path) reach ∙ k.5 in
     let name : p.interface ≡ q.interface = sym j.6 ∙ ap (λ (z : Reached). z.interface) reach ∙ k.6 in
@@ -186,8 +172,7 @@ end_is s sound f g a ls x there n e d p q =
     let other = ap (λ zs. slice_get (map (λ (l : Leaf). l.path) zs) d.leaf) ls ∙ get_map (λ (l : Leaf). l.path) g.leaves d.leaf
     q.leaf q.there ∙ ap Some (sym path) in
     let leaf = once_place (map (λ (l : Leaf). l.path) f.leaves) e.leaf d.leaf p.leaf.path a.once here other in
-    let p1 = p.stands in
-    let q1 = ap (part_at h (top_number h)) path ∙ q.stands in
+    let p1 = p.stands in let q1 = ap (part_at h (top_number h)) path ∙ q.stands in
     let part : p.part ≡ q.part = cc in
     let p2 = p.of_leaf in
     let q2 = ap (λ (z : Part). (body h z.kind).component) part ∙ q.of_leaf in
@@ -198,8 +183,7 @@ end_is s sound f g a ls x there n e d p q =
     let member = same_member p.component.members p.interface e.member d.member p.member q.member p.placed p.named
     (subst P (sym component) q.placed) (q.named ∙ sym name) p.first
     (λ k m l i t. subst Q (sym component) q.first k m l i (t ∙ name)) in
-    let p3 = p.numbered in
-    let q3 = q.numbered in
+    let p3 = p.numbered in let q3 = q.numbered in
     let own : p.end ≡ q.end = cc in
     same_end e d role leaf member (p.place ∙ ap (λ (z : End). z.place) own ∙ sym q.place)
 
@@ -218,8 +202,7 @@ same_connection c d a b p e =
     ∙ ap (λ z. make d.path d.connector z c.ends) p ∙ ap (λ z. make d.path d.connector d.place z) e
 
 wire_is : (s : Source) → AreNamesSound s → (f g : Flat) → AreLeaves (hierarchy_of s) f → f.leaves ≡ g.leaves
-    → (c d : FlatConnection) (q : Path) (w : Wire) → IsWireOf (hierarchy_of s) f c q w
-    → IsWireOf (hierarchy_of s) g d q w → c ≡ d
+    → (c d : FlatConnection) (q : Path) (w : Wire) → IsWireOf (hierarchy_of s) f c q w → IsWireOf (hierarchy_of s) g d q w → c ≡ d
 wire_is s sound f g a ls c d q w i j =
     let x : Strung = record { path = q; inside = i.inside; wire = w } in
     let there = (connections_stand s sound x).1 (i.there, i.stands) in
@@ -231,16 +214,13 @@ connection_too : (s : Source) → AreNamesSound s → (f g : Flat) → AreLeaves
     → AreConnections (hierarchy_of s) f → AreConnections (hierarchy_of s) g
     → (c : FlatConnection) → IsIn c f.connections → IsIn c g.connections
 connection_too s sound f g a ls p q c i =
-    let x = p.each c i in
-    let y = q.all x.0 x.2.inside x.1 x.2.there x.2.stands in
-    let P : FlatConnection → Type 0 = λ z. IsIn z g.connections in
-    subst P (sym (wire_is s sound f g a ls c y.0 x.0 x.1 x.2 y.2)) y.1
+    let x = p.each c i in let y = q.all x.0 x.2.inside x.1 x.2.there x.2.stands in
+    subst (λ z. IsIn z g.connections) (sym (wire_is s sound f g a ls c y.0 x.0 x.1 x.2 y.2)) y.1
 
 connections_one_way : (s : Source) → AreNamesSound s → (c d : FlatConnection) → IsConnectionBefore (hierarchy_of s) c d
     → IsConnectionBefore (hierarchy_of s) d c → ⊥
 connections_one_way s sound c d r t =
-    let h = hierarchy_of s in
-    let top = top_number h in
+    let h = hierarchy_of s in let top = top_number h in
     let e = snoc_same r.path t.other_path r.name t.other_name (sym r.first ∙ t.second) in
     let k = snoc_same r.other_path t.path r.other_name t.name (sym r.second ∙ t.first) in
     let P : Path → Type 0 = λ z. IsWireBefore h top z t.name t.other_path t.other_name in
@@ -248,16 +228,14 @@ connections_one_way s sound c d r t =
     let R : Path → Type 0 = λ z. IsWireBefore h top r.other_path r.other_name z t.other_name in
     let S : Name → Type 0 = λ z. IsWireBefore h top r.other_path r.other_name r.path z in
     wires_one_way h (names_once s sound) (wires_once s sound) (length r.path) top r.path r.name r.other_path r.other_name
-    (omega arith) r.before
-    (subst S (sym e.1) (subst R (sym e.0) (subst Q (sym k.1) (subst P (sym k.0) t.before))))
+    (omega arith) r.before (subst S (sym e.1) (subst R (sym e.0) (subst Q (sym k.1) (subst P (sym k.0) t.before))))
 
 -- ---- all
 
 pub one_flat : (s : Source) → AreNamesSound s → (f g : Flat) → IsByHierarchy (hierarchy_of s) f
     → IsByHierarchy (hierarchy_of s) g → f ≡ g
 one_flat s sound f g a b =
-    let h = hierarchy_of s in
-    let paths = same_paths s sound f g a.leaves b.leaves in
+    let h = hierarchy_of s in let paths = same_paths s sound f g a.leaves b.leaves in
     let ds = same_domains h f g a.leaves b.leaves paths a.domains b.domains in
     let ls = same_leaves h f g a.leaves b.leaves paths a.domains ds in
     let cs : f.connections ≡ g.connections = same_order (IsConnectionBefore h) (connections_one_way s sound) f.connections

@@ -6,8 +6,7 @@ use Rattle.adl_meaning.specs.Prelude.{slice_get}
 -- ---- lists
 
 pub same_order : {X : Type 0} (R : X → X → Type 0) → ((x y : X) → R x y → R y x → ⊥) → (xs ys : List X) → InOrder R xs
-    → InOrder R ys
-    → ((x : X) → IsIn x xs → IsIn x ys) → ((x : X) → IsIn x ys → IsIn x xs) → xs ≡ ys
+    → InOrder R ys → ((x : X) → IsIn x xs → IsIn x ys) → ((x : X) → IsIn x ys → IsIn x xs) → xs ≡ ys
 same_order R one_way [] [] a b to from = refl
 same_order R one_way [] (y ∷ ys) a b to from = absurd (from y (inl refl))
 same_order R one_way (x ∷ xs) [] a b to from = absurd (to x (inl refl))
@@ -45,15 +44,12 @@ before_once {X} xs a b once s t =
     let S : List X → Type 0 = λ z. slice_get z (length t.front + suc (length t.between)) ≡ Some a in
     let a1 = subst P (sym s.split) (get_behind s.front (a ∷ (s.between ++ b ∷ s.rest)) 0 (length s.front) (omega arith)) in
     let b1 = subst Q (sym s.split) (get_behind s.front (a ∷ (s.between ++ b ∷ s.rest)) (suc (length s.between))
-    (length s.front + suc (length s.between)) refl ∙ get_behind s.between (b ∷ s.rest) 0 (length s.between)
-    (omega arith)) in
+    (length s.front + suc (length s.between)) refl ∙ get_behind s.between (b ∷ s.rest) 0 (length s.between) (omega arith)) in
     let b2 = subst R (sym t.split) (get_behind t.front (b ∷ (t.between ++ a ∷ t.rest)) 0 (length t.front) (omega arith)) in
     let a2 = subst S (sym t.split) (get_behind t.front (b ∷ (t.between ++ a ∷ t.rest)) (suc (length t.between))
-    (length t.front + suc (length t.between)) refl ∙ get_behind t.between (a ∷ t.rest) 0 (length t.between)
-    (omega arith)) in
+    (length t.front + suc (length t.between)) refl ∙ get_behind t.between (a ∷ t.rest) 0 (length t.between) (omega arith)) in
     let p = once_place xs (length s.front) (length t.front + suc (length t.between)) a once a1 a2 in
-    let q = once_place xs (length t.front) (length s.front + suc (length s.between)) b once b2 b1 in
-    omega (arith, p, q)
+    omega (arith, p, once_place xs (length t.front) (length s.front + suc (length s.between)) b once b2 b1)
 
 -- ---- paths
 
@@ -102,25 +98,21 @@ steps_one_way h once l k p q low a b inner = by_why a.why b.why
         let Q : Name → Type 0 = λ z. IsBefore (map name_of (body h k).parts) a.m z in
         before_once (map name_of (body h k).parts) a.n a.m (once k) r (subst Q (sym heads.0) (subst P (sym tails.0) s))
     by_why (inl r) (inr (e, x)) =
-        let same : a.m ≡ a.n = tails.0 ∙ e ∙ sym heads.0 in
         let P : Name → Type 0 = λ z. IsBefore (map name_of (body h k).parts) a.n z in
-        let s = subst P same r in before_once (map name_of (body h k).parts) a.n a.n (once k) s s
+        let s = subst P (tails.0 ∙ e ∙ sym heads.0) r in before_once (map name_of (body h k).parts) a.n a.n (once k) s s
     by_why (inr (e, x)) (inl r) =
-        let same : b.m ≡ b.n = sym heads.0 ∙ e ∙ tails.0 in
         let P : Name → Type 0 = λ z. IsBefore (map name_of (body h k).parts) b.n z in
-        let s = subst P same r in before_once (map name_of (body h k).parts) b.n b.n (once k) s s
+        let s = subst P (sym heads.0 ∙ e ∙ tails.0) r in before_once (map name_of (body h k).parts) b.n b.n (once k) s s
     by_why (inr (e, x)) (inr (f, y)) =
-        let u = x.1 in
-        let v = y.1 in
+        let u = x.1 in let v = y.1 in
         let name : part_named (body h k).parts a.n ≡ part_named (body h k).parts b.n =
         ap (part_named (body h k).parts) (e ∙ tails.0) in
         let same : x.0 ≡ y.0 = cc in
         let P : Part → Type 0 = λ z. IsPathBefore h z.kind b.p' b.q' in
         let Q : Path → Type 0 = λ z. IsPathBefore h x.0.kind z b.q' in
-        let R : Path → Type 0 = λ z. IsPathBefore h x.0.kind a.q' z in
         let short : length p ≡ suc (length a.p') = ap length a.first in
         inner x.0.kind a.p' a.q' (omega (arith, low, short)) x.2
-        (subst R (sym heads.1) (subst Q (sym tails.1) (subst P (sym same) y.2)))
+        (subst (λ z. IsPathBefore h x.0.kind a.q' z) (sym heads.1) (subst Q (sym tails.1) (subst P (sym same) y.2)))
 
 pub paths_one_way : (h : Hierarchy) → AreNamedOnce h → (l k : ℕ) (p q : Path) → length p ≤ l → IsPathBefore h k p q
     → IsPathBefore h k q p → ⊥
@@ -190,29 +182,24 @@ instances_one_way h once l k p a q b low c d inner = by_why c.why d.why
         let Q : Name → Type 0 = λ z. IsBefore (map name_of (body h k).parts) c.m z in
         before_once (map name_of (body h k).parts) c.n c.m (once k) r (subst Q (sym heads.0) (subst P (sym tails.0) s))
     by_why (inl r) (inr (e, x)) =
-        let same : c.m ≡ c.n = tails.0 ∙ e ∙ sym heads.0 in
         let P : Name → Type 0 = λ z. IsBefore (map name_of (body h k).parts) c.n z in
-        let s = subst P same r in before_once (map name_of (body h k).parts) c.n c.n (once k) s s
+        let s = subst P (tails.0 ∙ e ∙ sym heads.0) r in before_once (map name_of (body h k).parts) c.n c.n (once k) s s
     by_why (inr (e, x)) (inl r) =
-        let same : d.m ≡ d.n = sym heads.0 ∙ e ∙ tails.0 in
         let P : Name → Type 0 = λ z. IsBefore (map name_of (body h k).parts) d.n z in
-        let s = subst P same r in before_once (map name_of (body h k).parts) d.n d.n (once k) s s
+        let s = subst P (sym heads.0 ∙ e ∙ tails.0) r in before_once (map name_of (body h k).parts) d.n d.n (once k) s s
     by_why (inr (e, x)) (inr (f, y)) =
-        let u = x.1 in
-        let v = y.1 in
+        let u = x.1 in let v = y.1 in
         let name : part_named (body h k).parts c.n ≡ part_named (body h k).parts d.n =
         ap (part_named (body h k).parts) (e ∙ tails.0) in
         let same : x.0 ≡ y.0 = cc in
         let P : Part → Type 0 = λ z. IsWireBefore h z.kind d.p' b d.q' a in
         let Q : Path → Type 0 = λ z. IsWireBefore h x.0.kind z b d.q' a in
-        let R : Path → Type 0 = λ z. IsWireBefore h x.0.kind c.q' b z a in
         let short : length p ≡ suc (length c.p') = ap length c.first in
         inner x.0.kind c.p' c.q' (omega (arith, low, short)) x.2
-        (subst R (sym heads.1) (subst Q (sym tails.1) (subst P (sym same) y.2)))
+        (subst (λ z. IsWireBefore h x.0.kind c.q' b z a) (sym heads.1) (subst Q (sym tails.1) (subst P (sym same) y.2)))
 
 wire_steps_one_way : (h : Hierarchy) → AreNamedOnce h → ((k : ℕ) → IsOnce (wire_names h k))
-    → (l k : ℕ) (p : Path) (a : Name) (q : Path) (b : Name) → length p ≤ l
-    → WireStep h k p a q b → WireStep h k q b p a
+    → (l k : ℕ) (p : Path) (a : Name) (q : Path) (b : Name) → length p ≤ l → WireStep h k p a q b → WireStep h k q b p a
     → ((m : ℕ) → l ≡ suc m → (i : ℕ) (s : Path) (t : Path) → length s ≤ m → IsWireBefore h i s a t b
     → IsWireBefore h i t b s a → ⊥) → ⊥
 wire_steps_one_way h once wires l k p a q b low (inl c) (inl d) inner =

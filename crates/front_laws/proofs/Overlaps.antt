@@ -13,28 +13,22 @@ shared : (r q : Untyped) → shares r q ≡ true → ShareAddress q r
 shared r q t =
     let parts = and_parts (nat_lt r.paddr (region_end q)) (nat_lt q.paddr (region_end r)) t in
     let first : r.paddr < q.paddr + 2 ^ q.bits = ltb-true r.paddr (region_end q) parts.0 in
-    let second : q.paddr < r.paddr + 2 ^ r.bits = ltb-true q.paddr (region_end r) parts.1 in
-    let room = power_pos q.bits in
     let more = power_pos r.bits in
     elim (cases_lt r.paddr q.paddr) [
       | inl l ↦ record {
         address = q.paddr;
         low = omega arith;
-        high = omega (arith, room);
+        high = omega (arith, power_pos q.bits);
         other_low = omega (arith, l);
-        other_high = second;
+        other_high = ltb-true q.paddr (region_end r) parts.1;
       }
       | inr l ↦ record { address = r.paddr; low = l; high = first; other_low = omega arith; other_high = omega (arith, more) }
     ]
 
 sharing : (r q : Untyped) → ShareAddress q r → shares r q ≡ true
 sharing r q s =
-    let a = s.low in
-    let b = s.high in
-    let c = s.other_low in
-    let d = s.other_high in
-    let first : r.paddr < region_end q = omega (arith, b, c) in
-    let second : q.paddr < region_end r = omega (arith, a, d) in
+    let first : r.paddr < region_end q = omega (arith, s.high, s.other_low) in
+    let second : q.paddr < region_end r = omega (arith, s.low, s.other_high) in
     ap (λ z. z && nat_lt q.paddr (region_end r)) (lt-ltb r.paddr (region_end q) first) ∙ lt-ltb q.paddr (region_end r) second
 
 -- ---- the walk
@@ -55,21 +49,18 @@ none_at (Some k) n e = cc
 none_overlaps : (rs : List Untyped) → IsClean overlap_at [] rs → (i j : ℕ) → Overlap rs i j → ⊥
 none_overlaps rs clean i j o =
     let s = at_split rs j o.second o.at_second in
-    let l = o.order in
-    let n = s.3 in
     let P : List Untyped → Type 0 = λ z. slice_get z i ≡ Some o.first in
-    let first = front_get s.0 (o.second ∷ s.1) i o.first (subst P s.2 o.at_first) (omega (arith, l, n)) in
+    let first = front_get s.0 (o.second ∷ s.1) i o.first (subst P s.2 o.at_first) (omega (arith, o.order, s.3)) in
     none_passes (shares o.second) s.0 i o.first (none_at (position (shares o.second) s.0) (length s.0)
     (clean s.0 s.1 o.second s.2)) first (sharing o.second o.first o.shared)
 
 -- the overlaps of a front
 overlap_front : (p q : List Untyped) (i j : ℕ) → Overlap (p ++ q) i j → j < length p → Overlap p i j
 overlap_front p q i j o l =
-    let r = o.order in
     record {
       first = o.first;
       second = o.second;
-      at_first = front_get p q i o.first o.at_first (omega (arith, l, r));
+      at_first = front_get p q i o.first o.at_first (omega (arith, l, o.order));
       at_second = front_get p q j o.second o.at_second l;
       order = o.order;
       shared = o.shared;
@@ -82,27 +73,23 @@ from_overlap rs i j e =
     let m = map_some (numbered (length f.front)) (position (shares r) f.front) (i, j) f.says in
     let is_i : m.0 ≡ i = ap (λ (z : ℕ × ℕ). z.0) m.2 in
     let is_j : length f.front ≡ j = ap (λ (z : ℕ × ℕ). z.1) m.2 in
-    let at : position (shares r) f.front ≡ Some i = m.1 ∙ ap Some is_i in
-    let p = position-Some (shares r) f.front i r at in
-    let low = p.0 in
-    let there : slice_get f.front i ≡ Some (get_or f.front i r) = slice_get-get_or f.front i r low in
+    let p = position-Some (shares r) f.front i r (m.1 ∙ ap Some is_i) in
+    let there : slice_get f.front i ≡ Some (get_or f.front i r) = slice_get-get_or f.front i r p.0 in
     let P : List Untyped → Type 0 = λ z. slice_get z i ≡ Some (get_or f.front i r) in
-    let Q : List Untyped → Type 0 = λ z. slice_get z j ≡ Some r in
     record {
       overlap = record {
         first = get_or f.front i r;
         second = r;
         at_first = subst P (sym f.split) (get_front f.front (r ∷ f.rest) i (get_or f.front i r) there);
-        at_second = subst Q (sym f.split) (get_behind f.front (r ∷ f.rest) 0 j (omega (arith, is_j)));
-        order = omega (arith, low, is_j);
+        at_second = subst (λ z. slice_get z j ≡ Some r) (sym f.split) (get_behind f.front (r ∷ f.rest) 0 j (omega (arith, is_j)));
+        order = omega (arith, p.0, is_j);
         shared = shared r (get_or f.front i r) p.1;
       };
       first = λ k l o. earliest f k l o (get_or f.front i r) p.2 is_j;
     }
   where
     earliest : (f : First overlap_at [] rs (i, j)) (k l : ℕ) → Overlap rs k l → Untyped
-        → ((n : ℕ) → n < i → shares f.item (get_or f.front n f.item) ≡ false) → length f.front ≡ j
-        → (j < l) ⊎ ((l ≡ j) × (i ≤ k))
+        → ((n : ℕ) → n < i → shares f.item (get_or f.front n f.item) ≡ false) → length f.front ≡ j → (j < l) ⊎ ((l ≡ j) × (i ≤ k))
     earliest f k l o x least is_j = elim (cases_lt j l) [
       | inl more ↦ inl more
       | inr most ↦ elim (cases_eq l j) [
@@ -123,16 +110,13 @@ from_overlap rs i j e =
           | inl y ↦
               let P : List Untyped → Type 0 = λ z. slice_get z k ≡ Some o.first in
               let Q : List Untyped → Type 0 = λ z. slice_get z l ≡ Some o.second in
-              let order = o.order in
               let here : slice_get f.front k ≡ Some o.first = front_get f.front (f.item ∷ f.rest) k o.first
-              (subst P f.split o.at_first) (omega (arith, order, same, is_j)) in
+              (subst P f.split o.at_first) (omega (arith, o.order, same, is_j)) in
               let item : slice_get (f.front ++ f.item ∷ f.rest) l ≡ Some f.item = get_behind f.front (f.item ∷ f.rest) 0 l
               (omega (arith, same, is_j)) in
-              let at_l = subst Q f.split o.at_second in
-              let second : o.second ≡ f.item = let a = sym at_l ∙ item in cc in
+              let second : o.second ≡ f.item = let a = sym (subst Q f.split o.at_second) ∙ item in cc in
               let is_first = get_or_from_slice_get f.front k o.first f.item here in
-              let R : Untyped → Type 0 = λ z. ShareAddress o.first z in
-              let t = sharing f.item o.first (subst R second o.shared) in
+              let t = sharing f.item o.first (subst (λ z. ShareAddress o.first z) second o.shared) in
               absurd (true≢false (sym t ∙ ap (shares f.item) (sym is_first) ∙ least k y))
         ]
 

@@ -6,10 +6,7 @@ pub at_split : {X : Type 0} (xs : List X) (n : ℕ) (x : X) → slice_get xs n �
     × (length p ≡ n)
 at_split [] n x e = cc
 at_split (y ∷ xs) zero x e = let same : y ≡ x = cc in ([], xs, ap (λ z. z ∷ xs) same, refl)
-at_split (y ∷ xs) (suc n) x e =
-    let r = at_split xs n x e in
-    let l = r.3 in
-    (y ∷ r.0, r.1, ap (λ z. y ∷ z) r.2, omega (arith, l))
+at_split (y ∷ xs) (suc n) x e = let r = at_split xs n x e in (y ∷ r.0, r.1, ap (λ z. y ∷ z) r.2, omega (arith, r.3))
 
 -- what stands in front of an end
 pub front_get : {X : Type 0} (p q : List X) (n : ℕ) (x : X) → slice_get (p ++ q) n ≡ Some x → n < length p
@@ -34,8 +31,6 @@ passes_late p (y ∷ xs) (suc k) x e t = by_test (p y) (passes_late p xs k x e t
 pub none_passes : {X : Type 0} (p : X → Bool) (xs : List X) (k : ℕ) (x : X) → position p xs ≡ None → slice_get xs k ≡ Some x
     → p x ≡ true → ⊥
 none_passes p xs k x none e t =
-    let late = passes_late p xs k x e t in
-    let low = below xs k x e in
     let found : position p xs ≡ Some (position_or_len p xs) = ap (λ b. cond b (Some (position_or_len p xs)) None)
-    (lt-ltb (position_or_len p xs) (length xs) (omega (arith, late, low))) in
+    (lt-ltb (position_or_len p xs) (length xs) (omega (arith, passes_late p xs k x e t, below xs k x e))) in
     cc

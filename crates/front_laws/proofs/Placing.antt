@@ -20,8 +20,7 @@ lies_in_one device b (r ∷ rs) (inl l) = (r, inl refl, l)
 lies_in_one device b (r ∷ rs) (inr l) = let k = lies_in_one device b rs l in (k.0, inr k.1, k.2)
 
 suit_at : (rs : List Untyped) (ns : List Need) (places : List (Option ℕ)) (k : ℕ) (n : Need) → AllSuit rs ns places
-    → slice_get ns k ≡ Some n
-    → (p : Option ℕ) × (slice_get places k ≡ Some p) × Suits rs n p
+    → slice_get ns k ≡ Some n → (p : Option ℕ) × (slice_get places k ≡ Some p) × Suits rs n p
 suit_at rs [] places k n a e = cc
 suit_at rs (m ∷ ns) [] k n a e = absurd a
 suit_at rs (m ∷ ns) (p ∷ places) zero n a e = let same : m ≡ n = cc in let P : Need → Type 0 = λ z. Suits rs z p in
@@ -29,8 +28,7 @@ suit_at rs (m ∷ ns) (p ∷ places) zero n a e = let same : m ≡ n = cc in let
 suit_at rs (m ∷ ns) (p ∷ places) (suc k) n a e = suit_at rs ns places k n a.1 e
 
 bytes_in : (ns : List Need) (places : List (Option ℕ)) (k : ℕ) (n : Need) (first : ℕ) → slice_get ns k ≡ Some n
-    → slice_get places k ≡ Some (Some first)
-    → IsIn (bytes_of n first) (all_bytes ns places)
+    → slice_get places k ≡ Some (Some first) → IsIn (bytes_of n first) (all_bytes ns places)
 bytes_in (m ∷ ns) (Some p ∷ places) zero n first e f = let a : m ≡ n = cc in let b : p ≡ first = cc in
     inl (ap (λ z. bytes_of z p) a ∙ ap (bytes_of n) b)
 bytes_in (m ∷ ns) (Some p ∷ places) (suc k) n first e f = inr (bytes_in ns places k n first e f)
@@ -38,17 +36,15 @@ bytes_in (m ∷ ns) (None ∷ places) (suc k) n first e f = bytes_in ns places k
 bytes_in _ _ _ n first e f = cc
 
 apart_at : (ns : List Need) (places : List (Option ℕ)) (i j : ℕ) (n m : Need) (a b : ℕ) → AllApart (all_bytes ns places) → i < j
-    → slice_get ns i ≡ Some n
-    → slice_get places i ≡ Some (Some a) → slice_get ns j ≡ Some m → slice_get places j ≡ Some (Some b)
+    → slice_get ns i ≡ Some n → slice_get places i ≡ Some (Some a) → slice_get ns j ≡ Some m → slice_get places j ≡ Some (Some b)
     → Apart (bytes_of n a) (bytes_of m b)
 apart_at (x ∷ ns) (p ∷ places) i zero n m a b all l e f g h = absurd (omega (arith, l))
 apart_at (x ∷ ns) (Some p ∷ places) zero (suc j) n m a b all l e f g h =
     let s : x ≡ n = cc in
     let t : p ≡ a = cc in
     let P : Need → Type 0 = λ z. Apart (bytes_of z p) (bytes_of m b) in
-    let Q : ℕ → Type 0 = λ z. Apart (bytes_of n z) (bytes_of m b) in
-    subst Q t (subst P s (all_by (Apart (bytes_of x p)) (all_bytes ns places) (bytes_of m b) all.0
-    (bytes_in ns places j m b g h)))
+    subst (λ z. Apart (bytes_of n z) (bytes_of m b)) t
+    (subst P s (all_by (Apart (bytes_of x p)) (all_bytes ns places) (bytes_of m b) all.0 (bytes_in ns places j m b g h)))
 apart_at (x ∷ ns) (Some p ∷ places) (suc i) (suc j) n m a b all l e f g h =
     apart_at ns places i j n m a b all.1 (omega (arith, l)) e f g h
 apart_at (x ∷ ns) (None ∷ places) (suc i) (suc j) n m a b all l e f g h =

@@ -58,8 +58,6 @@ taken_name root own ms i b name e = by_known (is_known (firsts ms) name) refl
       of_new_name name b e (ltb-true (length (firsts ms)) files_limit t),
     )
     by_room k false t =
-        let P : List Meeting → Type 0 = λ z. IsIn name (map (λ m. m.0) z) → ⊥ in
-        let Q : List Meeting → Type 0 = λ z. files_limit ≤ length (firsts z) in
         record {
           before = [];
           import = i;
@@ -71,15 +69,14 @@ taken_name root own ms i b name e = by_known (is_known (firsts ms) name) refl
             record {
               name = name;
               gives = e;
-              new = subst P (sym (append-nil ms)) (unmet ms name k);
-              full = subst Q (sym (append-nil ms)) (grind (arith, nat_tests));
+              new = subst (λ z. IsIn name (map (λ m. m.0) z) → ⊥) (sym (append-nil ms)) (unmet ms name k);
+              full = subst (λ z. files_limit ≤ length (firsts z)) (sym (append-nil ms)) (grind (arith, nat_tests));
             },
             refl,
           );
         }
 
-    by_known : (c : Bool) → is_known (firsts ms) name ≡ c
-        → Taken root own ms i
+    by_known : (c : Bool) → is_known (firsts ms) name ≡ c → Taken root own ms i
         (cond c (Ok (firsts ms)) (cond (nat_lt (length (firsts ms)) files_limit) (Ok (firsts ms ++ (name, i.place) ∷ []))
         (Err (fault_at Limit i.place (codes "files")))))
     by_known true k = (
@@ -134,8 +131,7 @@ behind root own ms i is f t r =
     in_front [] q x e =
         let same : i ≡ x = cc in
         let P : Import → Type 0 = λ z. IsTaken root own ms z in
-        let Q : List Meeting → Type 0 = λ z. IsTaken root own z x in
-        subst Q (sym (append-nil ms)) (subst P same t)
+        subst (λ z. IsTaken root own z x) (sym (append-nil ms)) (subst P same t)
     in_front (y ∷ p) q x e =
         let same : i ≡ y = cc in
         let more : r.before ≡ p ++ x ∷ q = cc in
@@ -180,8 +176,7 @@ refused root own ms (i ∷ is) f e = by_result (take_import root own (firsts ms)
     by_result (Ok known) t more e = behind root own ms i is f t.1 (more (ap (λ z. take_imports root own z is) (sym t.0) ∙ e))
     by_result (Err g) t more e =
         let same : g ≡ f = cc in
-        let P : Fault → Type 0 = λ z. IsRefusedImport root own ms (i ∷ []) z in
-        alone root own ms i is f (subst P same t)
+        alone root own ms i is f (subst (λ z. IsRefusedImport root own ms (i ∷ []) z) same t)
 
 -- ---- and back
 
@@ -217,8 +212,7 @@ step_taken root own ms i (of_met_name name b e m) =
     ∙ ap (λ z. Ok z) (known_same ms i.place name k ∙ ap firsts (sym (given_here root own ms i name b e)))
 step_taken root own ms i (of_new_name name b e l) =
     takes root own (firsts ms) i (Some name) b e ∙ ap (met_as (firsts ms) i.place name (is_known (firsts ms) name))
-    (lt-ltb (length (firsts ms)) files_limit l)
-    ∙ by_known (is_known (firsts ms) name) refl
+    (lt-ltb (length (firsts ms)) files_limit l) ∙ by_known (is_known (firsts ms) name) refl
   where
     by_known : (a : Bool) → is_known (firsts ms) name ≡ a
         → met_as (firsts ms) i.place name a true ≡ Ok (firsts (ms ++ meeting_of root own i))
@@ -229,9 +223,8 @@ step_taken root own ms i (of_new_name name b e l) =
 
 abbrev Why : List ℕ → List ℕ → List Meeting → Import → Fault → Type 0
 Why root own met i f =
-    ((name_given root own i ≡ None) × (f ≡ fault_at BadPath i.place []))
-    ⊎ ((name : List ℕ) × (name_given root own i ≡ Some name) × (IsIn name (map (λ m. m.0) met) → ⊥)
-    × (files_limit ≤ length (firsts met)) × (f ≡ fault_at Limit i.place (codes "files")))
+    ((name_given root own i ≡ None) × (f ≡ fault_at BadPath i.place [])) ⊎ ((name : List ℕ) × (name_given root own i ≡ Some name)
+    × (IsIn name (map (λ m. m.0) met) → ⊥) × (files_limit ≤ length (firsts met)) × (f ≡ fault_at Limit i.place (codes "files")))
 
 refused_here : (root own : List ℕ) (ms : List Meeting) (i : Import) (f : Fault) → is_built_in i ≡ false → Why root own ms i f
     → take_import root own (firsts ms) i ≡ Err f
@@ -239,8 +232,7 @@ refused_here root own ms i f b (inl (e, same)) = takes root own (firsts ms) i No
 refused_here root own ms i f b (inr (name, e, new, full, same)) =
     takes root own (firsts ms) i (Some name) b e
     ∙ ap (λ a. met_as (firsts ms) i.place name a (nat_lt (length (firsts ms)) files_limit))
-    (not_known (is_known (firsts ms) name) refl)
-    ∙ ap (met_as (firsts ms) i.place name false) no_room ∙ ap (λ z. Err z) (sym same)
+    (not_known (is_known (firsts ms) name) refl) ∙ ap (met_as (firsts ms) i.place name false) no_room ∙ ap (λ z. Err z) (sym same)
   where
     not_known : (a : Bool) → is_known (firsts ms) name ≡ a → is_known (firsts ms) name ≡ false
     not_known true k = absurd (new (is_met ms name k))
@@ -263,9 +255,8 @@ in_turn root own ms (x ∷ before) i after f front b why =
     let same : (p : List Import) → met_before root own ms (x ∷ p) ≡ met_before root own (ms ++ meeting_of root own x) p =
     λ p. sym (append_assoc ms (meeting_of root own x) (flat_map (meeting_of root own) p)) in
     ap (and_then (λ more. take_imports root own more (before ++ i ∷ after)))
-    (step_taken root own ms x (subst P (append-nil ms) (front [] before x refl)))
-    ∙ in_turn root own (ms ++ meeting_of root own x) before i after f
-    (λ p q y e. let R : List Meeting → Type 0 = λ z. IsTaken root own z y in
+    (step_taken root own ms x (subst P (append-nil ms) (front [] before x refl))) ∙ in_turn root own (ms ++ meeting_of root own x)
+    before i after f (λ p q y e. let R : List Meeting → Type 0 = λ z. IsTaken root own z y in
     subst R (same p) (front (x ∷ p) q y (ap (λ z. x ∷ z) e))) b (subst Q (same before) why)
 
 in_refused : (root own : List ℕ) (ms : List Meeting) (imports : List Import) (f : Fault) → IsRefusedImport root own ms imports f
@@ -281,8 +272,7 @@ in_refused root own ms imports f r =
 
 -- of a file whose turn comes after the turns of others
 pub turn_refused : (m : Contents) (root : List ℕ) (files : List SourceFile) (known : List Meeting) → Turns m root files known
-    → (file : SourceFile) (f : Fault)
-    → take_imports root file.name known (imports_of file.tree) ≡ Err f
+    → (file : SourceFile) (f : Fault) → take_imports root file.name known (imports_of file.tree) ≡ Err f
     → IsRefusedImport root file.name ((root, root_place) ∷ flat_map (meetings_of root) files) (imports_of file.tree) f
 turn_refused m root files known turns file f e =
     refused root file.name ((root, root_place) ∷ flat_map (meetings_of root) files) (imports_of file.tree) f

@@ -23,8 +23,7 @@ given_or (Err f) o = refl
 as_first : (before ls : List Line) (n : ℕ) → n ≡ length before → first_bad n ls ≡ first_of said before ls
 as_first before [] n e = refl
 as_first before (l ∷ ls) n e =
-    given_or (line_given n l) (first_bad (n + 1) ls)
-    ∙ ap (λ z. option_or (bad_of (line_given z l)) (first_bad (n + 1) ls)) e
+    given_or (line_given n l) (first_bad (n + 1) ls) ∙ ap (λ z. option_or (bad_of (line_given z l)) (first_bad (n + 1) ls)) e
     ∙ ap (option_or (said before l)) (as_first (before ++ l ∷ []) ls (n + 1) (omega (arith, e, length-append before (l ∷ []))))
 
 -- ---- one line
@@ -61,16 +60,14 @@ few : (front : List Line) → IsClean said [] front → length front ≤ regions
 few [] clean = omega arith
 few (x ∷ xs) clean =
     let r = last_of x xs in
-    let k = (read_clean r.0 r.1 (clean r.0 [] r.1 r.2)).1 in
     let many : suc (length xs) ≡ length r.0 + 1 = ap length r.2 ∙ length-append r.0 (r.1 ∷ []) in
-    omega (arith, k, many)
+    omega (arith, (read_clean r.0 r.1 (clean r.0 [] r.1 r.2)).1, many)
 
 all_clean : (front : List Line) → ((l : Line) → IsIn l front → SpellsRegion l) → length front ≤ regions_limit
     → IsClean said [] front
 all_clean front read low p q y e =
-    let P : List Line → Type 0 = λ z. IsIn y z in
     let many : length front ≡ length p + suc (length q) = ap length e ∙ length-append p (y ∷ q) in
-    clean_read p y (read y (subst P (sym e) (in_right y p (y ∷ q) (inl refl)))) (omega (arith, low, many))
+    clean_read p y (read y (subst (λ z. IsIn y z) (sym e) (in_right y p (y ∷ q) (inl refl)))) (omega (arith, low, many))
 
 -- ---- a text
 
@@ -118,9 +115,8 @@ at_line bytes f more h r = by_region (region_of (fields r.item.text)) refl r.say
         by_room true t e = cc
         by_room false t e =
             let same : fault_at untyped.Limit r.item ≡ f = cc in
-            let low = few r.front r.clean in
             let most : regions_limit ≤ length r.front = grind (arith, nat_tests) in
-            one_region_more more r.front r.item h here (x, s) (omega (arith, low, most)) (sym same)
+            one_region_more more r.front r.item h here (x, s) (omega (arith, few r.front r.clean, most)) (sym same)
 
 pub from_region_fault : (bytes : List ℕ) (f : UntypedFault) → first_fault bytes ≡ Some f → IsRegionFault bytes f
 from_region_fault bytes f e = elim (head_case (lines bytes)) [
@@ -140,13 +136,11 @@ from_region_fault bytes f e = elim (head_case (lines bytes)) [
 pub in_region_fault : (bytes : List ℕ) (f : UntypedFault) → IsRegionFault bytes f → first_fault bytes ≡ Some f
 in_region_fault bytes f (no_head none e) = headless bytes none ∙ ap Some (sym e)
 in_region_fault bytes f (no_region more before line h r none e) =
-    with_head bytes more h ∙ as_first [] more 0 refl ∙ ap (first_of said []) r.split
-    ∙ in_first said [] before line r.after f (ap (λ o. bad_of (judged (length before) line o)) none ∙ ap Some (sym e))
-    (all_clean before r.read r.room)
+    with_head bytes more h ∙ as_first [] more 0 refl ∙ ap (first_of said []) r.split ∙ in_first said [] before line r.after f
+    (ap (λ o. bad_of (judged (length before) line o)) none ∙ ap Some (sym e)) (all_clean before r.read r.room)
 in_region_fault bytes f (one_region_more more before line h r s full e) =
     let past : nat_lt (length before) regions_limit ≡ false = grind (arith, nat_tests) in
-    with_head bytes more h ∙ as_first [] more 0 refl ∙ ap (first_of said []) r.split
-    ∙ in_first said [] before line r.after f
+    with_head bytes more h ∙ as_first [] more 0 refl ∙ ap (first_of said []) r.split ∙ in_first said [] before line r.after f
     (ap (λ o. bad_of (judged (length before) line o)) s.1 ∙ ap (λ b. bad_of (cond b (Ok s.0) (Err (fault_at untyped.Limit line))))
     past ∙ ap Some (sym e)) (all_clean before r.read r.room)
 

@@ -110,16 +110,14 @@ from_again : {X : Type 0} (place : X → Place) (xs : List X) (f : Fault) → Is
     → (x : X) × IsLater xs x × (f ≡ at_keyword code.Duplicate (place x))
 from_again {X} place xs f i =
     let p = from_map (λ p. at_keyword code.Duplicate p) f (drop 1 (map place xs)) i in
-    let P : List Place → Type 0 = λ ps. IsIn p.0 ps in
-    let x = from_map place p.0 (drop 1 xs) (subst P (drop_map place xs) p.1) in
+    let x = from_map place p.0 (drop 1 xs) (subst (λ ps. IsIn p.0 ps) (drop_map place xs) p.1) in
     (x.0, from_dropped xs x.0 x.1, sym p.2 ∙ ap (λ q. at_keyword code.Duplicate q) (sym x.2))
 
 in_again : {X : Type 0} (place : X → Place) (xs : List X) (x : X) → IsLater xs x
     → IsIn (at_keyword code.Duplicate (place x)) (again (map place xs))
 in_again {X} place xs x l =
-    let P : List Place → Type 0 = λ ps. IsIn (place x) ps in
     in_map (λ p. at_keyword code.Duplicate p) (place x) (drop 1 (map place xs))
-    (subst P (sym (drop_map place xs)) (in_map place x (drop 1 xs) (in_dropped xs x l)))
+    (subst (λ ps. IsIn (place x) ps) (sym (drop_map place xs)) (in_map place x (drop 1 xs) (in_dropped xs x l)))
 
 -- ---- in a source
 
@@ -213,9 +211,8 @@ in_configurations c f i =
 in_one_composition : (c : Component) (k : Composition) (f : Fault) → IsIn k (compositions c)
     → IsIn f (duplicates_in_composition k) → IsIn f (duplicates_in_component c)
 in_one_composition c k f j i =
-    let names = repeats (map (λ d. d.0) (declared_in c)) in
-    in_right f (names ++ later_compositions c ++ later_configurations c) (flat_map duplicates_in_composition (compositions c))
-    (in_flat_map duplicates_in_composition k f (compositions c) j i)
+    in_right f ((repeats (map (λ d. d.0) (declared_in c))) ++ later_compositions c ++ later_configurations c)
+    (flat_map duplicates_in_composition (compositions c)) (in_flat_map duplicates_in_composition k f (compositions c) j i)
 
 in_component : (s : Source) (c : Component) (f : Fault) → HasItem s (items.Component c) → IsIn f (duplicates_in_component c)
     → IsIn f (duplicates s)
@@ -243,9 +240,7 @@ word_stands s ws f (of_members c h) i = in_component s c f h (in_members c f i)
 word_stands s ws f (of_composition owner k h) i = in_composition s owner k f h i
 
 pub in_duplicates : (s : Source) (f : Fault) → IsDuplicate s f → IsIn f (duplicates s)
-in_duplicates s f (a_name ws w d a e) =
-    let P : Fault → Type 0 = λ g. IsIn g (repeats ws) in
-    word_stands s ws f d (subst P (sym e) (in_repeats ws w a))
+in_duplicates s f (a_name ws w d a e) = word_stands s ws f d (subst (λ g. IsIn g (repeats ws)) (sym e) (in_repeats ws w a))
 in_duplicates s f (a_composition c k h l e) =
     let P : Fault → Type 0 = λ g. IsIn g (later_compositions c) in
     in_component s c f h (in_compositions c f (subst P (sym e) (in_again (λ (k : Composition). k.place) (compositions c) k l)))

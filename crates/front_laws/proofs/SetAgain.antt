@@ -63,8 +63,7 @@ from_after h k met (y ∷ xs) f i =
         → Why h k (λ p n. met p n || (same_path p (path_of h k y.words) && bytes_eq n (last_name y.words))) before x
         → Why h k met (y ∷ before) x
     wider x before (inl t) =
-        let p = path_of h k x.words in
-        let q = path_of h k y.words in
+        let p = path_of h k x.words in let q = path_of h k y.words in
         elim (or_cases (met p (last_name x.words)) (same_path p q && bytes_eq (last_name x.words) (last_name y.words)) t) [
           | inl m ↦ inl m
           | inr b ↦ let parts = and_parts (same_path p q) (bytes_eq (last_name x.words) (last_name y.words)) b in
@@ -80,8 +79,7 @@ from_after h k met (y ∷ xs) f i =
     wider x before (inr z) = inr (z.0, inr z.1, z.2)
 
 into_after : (h : Hierarchy) (k : ℕ) (met : Met) (before : List Setting) (x : Setting) (after : List Setting)
-    → Why h k met before x
-    → IsIn (setting_twice x) (repeated_after h k met (before ++ x ∷ after))
+    → Why h k met before x → IsIn (setting_twice x) (repeated_after h k met (before ++ x ∷ after))
 into_after h k met [] x after (inl t) =
     in_left (setting_twice x) (where_true (met (path_of h k x.words) (last_name x.words)) (setting_twice x))
     (repeated_after h k (λ p n. met p n || (same_path p (path_of h k x.words) && bytes_eq n (last_name x.words))) after)
@@ -90,8 +88,7 @@ into_after h k met [] x after (inr z) = absurd z.1
 into_after h k met (y ∷ before) x after why =
     let more : Met = λ p n. met p n || (same_path p (path_of h k y.words) && bytes_eq n (last_name y.words)) in
     in_right (setting_twice x) (where_true (met (path_of h k y.words) (last_name y.words)) (setting_twice y))
-    (repeated_after h k more (before ++ x ∷ after))
-    (into_after h k more before x after (narrower why))
+    (repeated_after h k more (before ++ x ∷ after)) (into_after h k more before x after (narrower why))
   where
     narrower : Why h k met (y ∷ before) x
         → Why h k (λ p n. met p n || (same_path p (path_of h k y.words) && bytes_eq n (last_name y.words))) before x
@@ -102,9 +99,8 @@ into_after h k met (y ∷ before) x after why =
         let path : path_of h k x.words ≡ path_of h k y.words = sym a ∙ ap (λ (u : Setting). path_of h k u.words) (sym e) in
         let name : last_name x.words ≡ last_name y.words = sym b ∙ ap (λ (u : Setting). last_name u.words) (sym e) in
         let same = and_from (same_path (path_of h k x.words) (path_of h k y.words))
-        (bytes_eq (last_name x.words) (last_name y.words))
-        ((same_path-Decides (path_of h k x.words) (path_of h k y.words)).1 path)
-        ((bytes_eq-Decides (last_name x.words) (last_name y.words)).1 name) in
+        (bytes_eq (last_name x.words) (last_name y.words)) ((same_path-Decides (path_of h k x.words) (path_of h k y.words)).1
+        path) ((bytes_eq-Decides (last_name x.words) (last_name y.words)).1 name) in
         inl (or_right (met (path_of h k x.words) (last_name x.words)) (same_path (path_of h k x.words) (path_of h k y.words)
         && bytes_eq (last_name x.words) (last_name y.words)) same)
     narrower (inr (z, inr i, s)) = inr (z, i, s)
@@ -118,13 +114,11 @@ from_twice h f i =
     let e : b.0.0 ≡ n.0 = let a = n.1 in omega (arith, a) in
     let k = from_bodies h.bodies h.top n.0 b.0.1 n.2 in
     let r = from_after h b.0.0 (λ p n. false) (settings_of b.0.1) f b.2 in
-    let l = k.0 in
-    let own : b.0.1 ≡ body h b.0.0 = sym k.1 ∙ ap (body h) (sym e) in
     record {
       inside = b.0.0;
-      there = omega (arith, l, e);
+      there = omega (arith, k.0, e);
       setting = r.setting;
-      again = again_of b.0.0 r.before r.setting r.after (ap settings_of (sym own) ∙ r.split) r.why;
+      again = again_of b.0.0 r.before r.setting r.after (ap settings_of (sym (sym k.1 ∙ ap (body h) (sym e))) ∙ r.split) r.why;
       fault = r.fault;
     }
   where
@@ -143,8 +137,7 @@ from_twice h f i =
 
 pub in_twice : (h : Hierarchy) (f : Fault) → IsSettingTwice h f → IsIn f (settings_twice h)
 in_twice h f t =
-    let k = t.inside in
-    let a = t.again in
+    let k = t.inside in let a = t.again in
     let x = t.setting in
     let P : Fault → Type 0 = λ g. IsIn g (settings_twice h) in
     let Q : List Setting → Type 0 = λ xs. IsIn (setting_twice x) (repeated_after h k (λ p n. false) xs) in

@@ -62,16 +62,14 @@ few : (spec : Spec) (front : List Line) → IsClean (said spec) [] front → len
 few spec [] clean = omega arith
 few spec (x ∷ xs) clean =
     let r = last_of x xs in
-    let k = (read_clean spec r.0 r.1 (clean r.0 [] r.1 r.2)).1 in
     let many : suc (length xs) ≡ length r.0 + 1 = ap length r.2 ∙ length-append r.0 (r.1 ∷ []) in
-    omega (arith, k, many)
+    omega (arith, (read_clean spec r.0 r.1 (clean r.0 [] r.1 r.2)).1, many)
 
 all_clean : (spec : Spec) (front : List Line) → ((l : Line) → IsIn l front → SpellsStep spec l) → length front ≤ steps_limit
     → IsClean (said spec) [] front
 all_clean spec front read low p q y e =
-    let P : List Line → Type 0 = λ z. IsIn y z in
     let many : length front ≡ length p + suc (length q) = ap length e ∙ length-append p (y ∷ q) in
-    clean_read spec p y (read y (subst P (sym e) (in_right y p (y ∷ q) (inl refl)))) (omega (arith, low, many))
+    clean_read spec p y (read y (subst (λ z. IsIn y z) (sym e) (in_right y p (y ∷ q) (inl refl)))) (omega (arith, low, many))
 
 -- ---- a text
 
@@ -119,9 +117,8 @@ at_one spec bytes f short r = by_step (step_of (thread_named spec) r.item) refl 
     by_room x true t e = cc
     by_room x false t e =
         let same : at_line r.item (StepLimit, []) ≡ f = cc in
-        let low = few spec r.front r.clean in
         let most : steps_limit ≤ length r.front = grind (arith, nat_tests) in
-        one_step_more r.front r.item here x (omega (arith, low, most)) (sym same)
+        one_step_more r.front r.item here x (omega (arith, few spec r.front r.clean, most)) (sym same)
 
     by_step : (o : Option Step) → step_of (thread_named spec) r.item ≡ o
         → option_map (at_line r.item) (wrong_as spec (length r.front) r.item o) ≡ Some f → IsStepFault spec bytes f

@@ -1,5 +1,5 @@
 -- Faults of types by the relations of a hierarchy.
-use Rattle.front_laws.proofs.Common.{AreNamesSound, Component, End, Fault, HasWire, Hierarchy, Id, Interface, IsIn, IsTypeFault, List, Means, Member, None, Option, Part, Path, Reached, Some, Source, Wire, [], agree, and_parts, another_count}
+use Rattle.front_laws.proofs.Common.{AreNamesSound, Component, End, Fault, HasWire, Hierarchy, Id, Interface, IsIn, IsTypeFault, List, Means, Member, None, Option, Part, Reached, Some, Source, Wire, [], agree, and_parts, another_count}
 use Rattle.front_laws.proofs.Common.{another_kind, another_type, ap, arith, at_end, at_word, body, body_faults, cases_lt, end_faults, faults_below, first_leaf, flat_map, from_flat_map, has_one_type, hierarchy_of, in_append, in_flat_map, in_left}
 use Rattle.front_laws.proofs.Common.{in_right, inl, inr, is_kind_of, is_size, length, may_have, no_size, not, not-true, option_and_then, option_and_then_some, option_map_or, part_at, port_in, reached, refl, same_type, size_faults, subst, suc, sym}
 use Rattle.front_laws.proofs.Common.{top_number, true, type_faults, where_true, wire_faults, wires_of, zero, ℕ, ◌&&◌, ◌+◌, ◌<◌, ◌∙◌, ◌∷◌, ◌≡◌, ◌≤◌}
@@ -19,8 +19,7 @@ meant h k words l e =
     option_and_then_some (λ (r : Reached). leaf_at (body h r.part.kind) r.interface) (reached h k port) l e1 (λ r at e2.
     option_and_then_some (leaf_in r.interface) (body h r.part.kind).component l e2 (λ c own declared.
     let f = found_climbs h (length h.bodies) k port r at in
-    let P : Path → Type 0 = λ p. part_at h k p ≡ Some r.part in
-    let stands = subst P f.path f.stands.0 in
+    let stands = subst (λ p. part_at h k p ≡ Some r.part) f.path f.stands.0 in
     record {
       instance = port.0;
       outer = port.1;
@@ -48,9 +47,8 @@ means s sound k words l low m =
     let by_reach : option_and_then (λ (r : Reached). leaf_at (body h r.part.kind) r.interface) (reached h k (m.instance, m.outer))
     ≡ leaf_at (body h r.0.part.kind) r.0.interface =
     ap (option_and_then (λ (r : Reached). leaf_at (body h r.part.kind) r.interface)) r.1 in
-    ap (option_and_then (leaf_by h k)) m.named ∙ by_reach
-    ∙ ap (λ (x : Part). leaf_at (body h x.kind) r.0.interface) same ∙ ap (leaf_at (body h m.part.kind)) r.3
-    ∙ ap (option_and_then (leaf_in m.interface)) m.of_leaf ∙ m.declared
+    ap (option_and_then (leaf_by h k)) m.named ∙ by_reach ∙ ap (λ (x : Part). leaf_at (body h x.kind) r.0.interface) same
+    ∙ ap (leaf_at (body h m.part.kind)) r.3 ∙ ap (option_and_then (leaf_in m.interface)) m.of_leaf ∙ m.declared
 
 -- ---- one end
 
@@ -143,10 +141,8 @@ in_below h (suc n) k f l i = elim (cases_lt k n) [
 
 pub from_type_faults : (s : Source) (f : Fault) → IsIn f (type_faults s) → IsTypeFault (hierarchy_of s) f
 from_type_faults s f i =
-    let h = hierarchy_of s in
-    let r = from_below h (top_number h + 1) f i in
-    let l = r.1 in
-    from_body h r.0 f (omega (arith, l)) r.2
+    let h = hierarchy_of s in let r = from_below h (top_number h + 1) f i in
+    from_body h r.0 f (omega (arith, r.1)) r.2
 
 -- ---- and back
 

@@ -27,10 +27,8 @@ from_interface types held ws j (Some c) f n i =
     (j, no_interface ws j c refl (n c refl) (is_none (c.interface j.name) k.0), sym k.1)
 
 from_two : (types : Types) (held : Holding) (a j : Id) (f : Fault) (o : Option Held) → held a.name ≡ o
-    → IsIn f (unknown_in_two types o a j)
-    → (w : Id) × IsUnknownPart types held (a ∷ j ∷ []) w × (f ≡ unknown w)
+    → IsIn f (unknown_in_two types o a j) → (w : Id) × IsUnknownPart types held (a ∷ j ∷ []) w × (f ≡ unknown w)
 from_two types held a j f None e (inl s) = (a, not_held a j [] refl (omega arith) e, sym s)
-from_two types held a j f None e (inr i) = absurd i
 from_two types held a j f (Some (an_instance i)) e x = from_interface types held (a ∷ []) j (types i.component.name) f
     (λ c t. alone a i c e t) x
 from_two types held a j f (Some (a_group members)) e (inl s) = (a, group_named a j members refl e, sym s)
@@ -38,13 +36,11 @@ from_two types held a j f (Some (a_group members)) e (inr i) =
     let k = from_false (is_some (members j.name)) (unknown j) f i in
     (j, no_such_member a j [] members refl (omega arith) e (is_none (members j.name) k.0), sym k.1)
 from_two types held a j f (Some a_connection) e (inl s) = (a, connection_named a j [] refl (omega arith) e, sym s)
-from_two types held a j f (Some a_connection) e (inr i) = absurd i
+from_two types held a j f _ e (inr i) = absurd i
 
 from_three : (types : Types) (held : Holding) (a b j : Id) (f : Fault) (o : Option Held) → held a.name ≡ o
-    → IsIn f (unknown_in_three types o a b j)
-    → (w : Id) × IsUnknownPart types held (a ∷ b ∷ j ∷ []) w × (f ≡ unknown w)
+    → IsIn f (unknown_in_three types o a b j) → (w : Id) × IsUnknownPart types held (a ∷ b ∷ j ∷ []) w × (f ≡ unknown w)
 from_three types held a b j f None e (inl s) = (a, not_held a b (j ∷ []) refl (omega arith) e, sym s)
-from_three types held a b j f None e (inr i) = absurd i
 from_three types held a b j f (Some (an_instance i)) e (inl s) = (a, instance_in_front a b j i refl e, sym s)
 from_three types held a b j f (Some (an_instance i)) e (inr x) = absurd x
 from_three types held a b j f (Some (a_group members)) e x = by_member (members b.name) refl x
@@ -56,20 +52,17 @@ from_three types held a b j f (Some (a_group members)) e x = by_member (members 
     by_member (Some i) m x = from_interface types held (a ∷ b ∷ []) j (types i.component.name) f
         (λ c t. in_a_group a b members i c e m t) x
 from_three types held a b j f (Some a_connection) e (inl s) = (a, connection_named a b (j ∷ []) refl (omega arith) e, sym s)
-from_three types held a b j f (Some a_connection) e (inr i) = absurd i
+from_three types held a b j f _ e (inr i) = absurd i
 
 from_dotted : (types : Types) (held : Holding) (words : List Id) (f : Fault) → IsIn f (unknown_in_dotted types held words)
     → (w : Id) × IsUnknownPart types held words w × (f ≡ unknown w)
-from_dotted types held [] f i = absurd i
-from_dotted types held (a ∷ []) f i = absurd i
 from_dotted types held (a ∷ j ∷ []) f i = from_two types held a j f (held a.name) refl i
 from_dotted types held (a ∷ b ∷ j ∷ []) f i = from_three types held a b j f (held a.name) refl i
-from_dotted types held (a ∷ b ∷ j ∷ x ∷ more) f i = absurd i
+from_dotted types held _ f i = absurd i
 
 -- the fault at the first word, where the composition holds it so
 at_first : (types : Types) (held : Holding) (a b : Id) (more : List Id) (o : Option Held) (w : Id) → length (a ∷ b ∷ more) ≤ 3
-    → held a.name ≡ o
-    → ((c : List Id) → IsIn (unknown w) (unknown_in_two types o a b))
+    → held a.name ≡ o → ((c : List Id) → IsIn (unknown w) (unknown_in_two types o a b))
     → ((j : Id) → IsIn (unknown w) (unknown_in_three types o a b j))
     → IsIn (unknown w) (unknown_in_dotted types held (a ∷ b ∷ more))
 at_first types held a b [] o w l e two three = let P : Option Held → Type 0 =
@@ -88,34 +81,28 @@ in_dotted : (types : Types) (held : Holding) (words : List Id) (w : Id) → IsUn
     → IsIn (unknown w) (unknown_in_dotted types held words)
 in_dotted types held words w (not_held a b more e l h) =
     let P : List Id → Type 0 = λ z. IsIn (unknown w) (unknown_in_dotted types held z) in
-    let Q : List Id → Type 0 = λ z. length z ≤ 3 in
-    subst P (sym e) (at_first types held w b more None w (subst Q e l) h (λ c. inl refl) (λ j. inl refl))
+    subst P (sym e) (at_first types held w b more None w (subst (λ z. length z ≤ 3) e l) h (λ c. inl refl) (λ j. inl refl))
 in_dotted types held words w (connection_named a b more e l h) =
     let P : List Id → Type 0 = λ z. IsIn (unknown w) (unknown_in_dotted types held z) in
     let Q : List Id → Type 0 = λ z. length z ≤ 3 in
     subst P (sym e) (at_first types held w b more (Some a_connection) w (subst Q e l) h (λ c. inl refl) (λ j. inl refl))
 in_dotted types held words w (instance_in_front a b j i e h) =
     let P : List Id → Type 0 = λ z. IsIn (unknown w) (unknown_in_dotted types held z) in
-    let R : Option Held → Type 0 = λ z. IsIn (unknown w) (unknown_in_three types z w b j) in
-    subst P (sym e) (subst R (sym h) (inl refl))
+    subst P (sym e) (subst (λ z. IsIn (unknown w) (unknown_in_three types z w b j)) (sym h) (inl refl))
 in_dotted types held words w (group_named a j members e h) =
     let P : List Id → Type 0 = λ z. IsIn (unknown w) (unknown_in_dotted types held z) in
-    let R : Option Held → Type 0 = λ z. IsIn (unknown w) (unknown_in_two types z w j) in
-    subst P (sym e) (subst R (sym h) (inl refl))
+    subst P (sym e) (subst (λ z. IsIn (unknown w) (unknown_in_two types z w j)) (sym h) (inl refl))
 in_dotted types held words w (no_such_member a b more members e l h m) =
     let P : List Id → Type 0 = λ z. IsIn (unknown w) (unknown_in_dotted types held z) in
-    let Q : List Id → Type 0 = λ z. length z ≤ 3 in
-    subst P (sym e) (at_first types held a w more (Some (a_group members)) w (subst Q e l) h
+    subst P (sym e) (at_first types held a w more (Some (a_group members)) w (subst (λ z. length z ≤ 3) e l) h
     (λ c. inr (in_false (is_some (members w.name)) (unknown w) (ap is_some m)))
     (λ j. let S : Option Instance → Type 0 = λ z. IsIn (unknown w) (unknown_in_group types z w j) in subst S (sym m) (inl refl)))
 in_dotted types held words w (no_interface ws j c e n none) =
-    let P : List Id → Type 0 = λ z. IsIn (unknown w) (unknown_in_dotted types held z) in
-    subst P (sym e) (by_words ws n)
+    subst (λ z. IsIn (unknown w) (unknown_in_dotted types held z)) (sym e) (by_words ws n)
   where
     by_words : (ws : List Id) → NamesInstance types held ws c → IsIn (unknown w) (unknown_in_dotted types held (ws ++ w ∷ []))
     by_words ws (alone a i c' h t) =
-        let R : Option Held → Type 0 = λ z. IsIn (unknown w) (unknown_in_two types z a w) in
-        subst R (sym h) (interface_there c w (types i.component.name) t none)
+        subst (λ z. IsIn (unknown w) (unknown_in_two types z a w)) (sym h) (interface_there c w (types i.component.name) t none)
     by_words ws (in_a_group g a members i c' h m t) =
         let R : Option Held → Type 0 = λ z. IsIn (unknown w) (unknown_in_three types z g a w) in
         let S : Option Instance → Type 0 = λ z. IsIn (unknown w) (unknown_in_group types z a w) in
@@ -125,8 +112,7 @@ in_dotted types held words w (no_interface ws j c e n none) =
 
 -- what stands in a line of a kind stands in the composition
 from_line : (s : Source) (owner : Option Known) (k : Composition) (l : Line) (f : Fault) → HasComposition s owner k
-    → IsIn l k.lines
-    → IsIn f (unknown_in_line (known_in s) owner (held_as k) l) → IsUnknown s f
+    → IsIn l k.lines → IsIn f (unknown_in_line (known_in s) owner (held_as k) l) → IsUnknown s f
 from_line s owner k (lines.Instance i) f h j x =
     a_type_at i (in_flat_map instances_by (lines.Instance i) i k.lines j (inl refl)) x
   where
@@ -173,16 +159,14 @@ lacks_attribute None n t = tt
 lacks_attribute (Some c) n t = is_none (c.attribute n) t
 
 from_setter : (s : Source) (owner : Option Known) (holds : Option Holding) (x : Setting) (r : Setter) (f : Fault)
-    → HasSetting s owner holds x → x.setter ≡ r
-    → IsIn f (unknown_attribute owner r) → IsUnknown s f
+    → HasSetting s owner holds x → x.setter ≡ r → IsIn f (unknown_attribute owner r) → IsUnknown s f
 from_setter s owner holds x (setters.Literal v) f h e i = absurd i
 from_setter s owner holds x (setters.Reference y) f h e i =
     let t = from_false (is_some (option_and_then (λ c. c.attribute y.name) owner)) (unknown y) f i in
     an_attribute_referred owner holds x y h e (lacks_attribute owner y.name t.0) (sym t.1)
 
 from_one_setting : (s : Source) (owner : Option Known) (holds : Option Holding) (x : Setting) (f : Fault)
-    → HasSetting s owner holds x
-    → IsIn f (unknown_in_one_setting (known_in s) owner (scope_of_held holds) x) → IsUnknown s f
+    → HasSetting s owner holds x → IsIn f (unknown_in_one_setting (known_in s) owner (scope_of_held holds) x) → IsUnknown s f
 from_one_setting s owner holds x f h i =
     elim (in_append f (unknown_in_setting (known_in s) (scope_of_held holds) x.words) (unknown_attribute owner x.setter) i) [
       | inl j ↦ let w = from_setting (known_in s) holds x.words f j in in_a_setting owner holds x w.0 h w.1 w.2
@@ -200,9 +184,6 @@ from_configuration s owner holds g f h i =
 
 from_member : (s : Source) (c : Component) (m : Member) (f : Fault) → HasItem s (items.Component c) → IsIn m c.members
     → IsIn f (unknown_in_member (known_in s) (is_procedure s) (known_of c) m) → IsUnknown s f
-from_member s c (members.Control p) f h j x = absurd x
-from_member s c (members.Hardware p) f h j x = absurd x
-from_member s c (members.Include i) f h j x = absurd x
 from_member s c (members.Interface i) f h j x =
     let t = from_false (not (names_procedure i.kind) || is_procedure s i.word.name) (unknown i.word) f x in
     let both = neither (names_procedure i.kind) (is_procedure s i.word.name) t.0 in
@@ -211,14 +192,13 @@ from_member s c (members.Interface i) f h j x =
     neither : (a b : Bool) → (not a || b) ≡ false → (a ≡ true) × (b ≡ false)
     neither true b e = (refl, e)
     neither false b e = cc
-from_member s c (members.Attribute a) f h j x = absurd x
-from_member s c (members.Lock l) f h j x = absurd x
 from_member s c (members.Composition k) f h j x =
     from_composition s (Some (known_of c)) k f
     (of_component c k h (in_filter_map as_composition (members.Composition k) k c.members j refl)) x
 from_member s c (members.Configuration g) f h j x =
     from_configuration s (Some (known_of c)) (known_of c).holds g f
     (λ y i. of_a_body c g y h (in_filter_map as_configuration (members.Configuration g) g c.members j refl) i) x
+from_member s c _ f h j x = absurd x
 
 from_top : (s : Source) (a : Assembly) (o : Option Configuration) (f : Fault) → HasItem s (items.Assembly a) → a.configuration ≡ o
     → IsIn f (unknown_if_configured (known_in s) (within (held_as a.composition)) o) → IsUnknown s f
@@ -227,8 +207,6 @@ from_top s a (Some g) f h e i = from_configuration s None (Some (held_as a.compo
 
 from_item : (s : Source) (x : Item) (f : Fault) → HasItem s x → IsIn f (unknown_in_item (known_in s) (is_procedure s) x)
     → IsUnknown s f
-from_item s (items.Import i) f h j = absurd j
-from_item s (items.Procedure p) f h j = absurd j
 from_item s (items.Component c) f h j =
     let m = from_flat_map (unknown_in_member (known_in s) (is_procedure s) (known_of c)) f c.members j in
     from_member s c m.0 f h m.1 m.2
@@ -238,6 +216,7 @@ from_item s (items.Assembly a) f h j =
       | inl x ↦ from_composition s None a.composition f (of_assembly a h) x
       | inr x ↦ from_top s a a.configuration f h refl x
     ]
+from_item s _ f h j = absurd j
 
 pub from_unknown : (s : Source) (f : Fault) → IsIn f (unknown_names s) → IsUnknown s f
 from_unknown s f i =
@@ -265,13 +244,7 @@ composition_there c k i =
   where
     the_member : (m : Member) → as_composition m ≡ Some k → m ≡ members.Composition k
     the_member (members.Composition x) e = let same : x ≡ k = cc in ap (λ z. members.Composition z) same
-    the_member (members.Control p) e = cc
-    the_member (members.Hardware p) e = cc
-    the_member (members.Include p) e = cc
-    the_member (members.Interface p) e = cc
-    the_member (members.Attribute p) e = cc
-    the_member (members.Lock p) e = cc
-    the_member (members.Configuration p) e = cc
+    the_member _ e = cc
 
 configuration_there : (c : Component) (k : Configuration) → IsIn k (configurations c) → IsIn (members.Configuration k) c.members
 configuration_there c k i =
@@ -280,13 +253,7 @@ configuration_there c k i =
   where
     the_member : (m : Member) → as_configuration m ≡ Some k → m ≡ members.Configuration k
     the_member (members.Configuration x) e = let same : x ≡ k = cc in ap (λ z. members.Configuration z) same
-    the_member (members.Control p) e = cc
-    the_member (members.Hardware p) e = cc
-    the_member (members.Include p) e = cc
-    the_member (members.Interface p) e = cc
-    the_member (members.Attribute p) e = cc
-    the_member (members.Lock p) e = cc
-    the_member (members.Composition p) e = cc
+    the_member _ e = cc
 
 in_owned : (s : Source) (owner : Option Known) (k : Composition) (f : Fault) → HasComposition s owner k
     → IsIn f (unknown_in_composition (known_in s) owner k) → IsIn f (unknown_names s)
@@ -296,8 +263,7 @@ in_owned s owner k f (of_assembly a h) i =
     (unknown_if_configured (known_in s) (within (held_as a.composition)) a.configuration) i)
 
 in_lines : (s : Source) (owner : Option Known) (k : Composition) (l : Line) (f : Fault) → HasComposition s owner k
-    → IsIn l k.lines
-    → IsIn f (unknown_in_line (known_in s) owner (held_as k) l) → IsIn f (unknown_names s)
+    → IsIn l k.lines → IsIn f (unknown_in_line (known_in s) owner (held_as k) l) → IsIn f (unknown_names s)
 in_lines s owner k l f h j i = in_owned s owner k f h (in_flat_map (unknown_in_line (known_in s) owner (held_as k)) l
     f k.lines j i)
 
@@ -308,9 +274,7 @@ connection_there k w i =
   where
     the_line : (l : Line) → as_connection l ≡ Some w → l ≡ lines.Connection w
     the_line (lines.Connection x) e = let same : x ≡ w = cc in ap (λ z. lines.Connection z) same
-    the_line (lines.Instance x) e = cc
-    the_line (lines.Group x) e = cc
-    the_line (lines.Export x) e = cc
+    the_line _ e = cc
 
 export_there : (k : Composition) (w : Export) → IsIn w (exports_in k) → IsIn (lines.Export w) k.lines
 export_there k w i =
@@ -318,14 +282,11 @@ export_there k w i =
   where
     the_line : (l : Line) → as_export l ≡ Some w → l ≡ lines.Export w
     the_line (lines.Export x) e = let same : x ≡ w = cc in ap (λ z. lines.Export z) same
-    the_line (lines.Instance x) e = cc
-    the_line (lines.Group x) e = cc
-    the_line (lines.Connection x) e = cc
+    the_line _ e = cc
 
 -- an instance of a composition stands in a line
 in_instances : (s : Source) (owner : Option Known) (k : Composition) (i : Instance) → HasComposition s owner k
-    → IsIn i (instances_in k) → known_in s i.component.name ≡ None
-    → IsIn (unknown i.component) (unknown_names s)
+    → IsIn i (instances_in k) → known_in s i.component.name ≡ None → IsIn (unknown i.component) (unknown_names s)
 in_instances s owner k i h j none =
     let l = from_flat_map instances_by i k.lines j in in_lines s owner k l.0 (unknown i.component) h l.1 (by_line l.0 l.2)
   where
@@ -337,16 +298,14 @@ in_instances s owner k i h j none =
         λ z. IsIn (unknown i.component) (unknown_type (known_in s) z) in subst P (sym e) here
     by_line (lines.Instance x) (inr y) = absurd y
     by_line (lines.Group g) y = in_flat_map (unknown_type (known_in s)) i (unknown i.component) g.instances y here
-    by_line (lines.Connection x) y = absurd y
-    by_line (lines.Export x) y = absurd y
+    by_line _ y = absurd y
 
 in_one_setting : (s : Source) (owner : Option Known) (holds : Option Holding) (x : Setting) (f : Fault)
     → HasSetting s owner holds x
     → IsIn f (unknown_in_one_setting (known_in s) owner (scope_of_held holds) x) → IsIn f (unknown_names s)
 in_one_setting s owner holds x f (of_a_body c g y h j i) u =
     in_members s c (members.Configuration g) f h (configuration_there c g j)
-    (in_flat_map (unknown_in_one_setting (known_in s) (Some (known_of c)) (scope_of_held (known_of c).holds)) y f
-    g.settings i u)
+    (in_flat_map (unknown_in_one_setting (known_in s) (Some (known_of c)) (scope_of_held (known_of c).holds)) y f g.settings i u)
 in_one_setting s owner holds x f (of_the_top a g y h e i) u =
     let P : Option Configuration → Type 0 = λ z. IsIn f (unknown_if_configured (known_in s) (within (held_as a.composition)) z) in
     in_items s (items.Assembly a) f h (in_right f (unknown_in_composition (known_in s) None a.composition)

@@ -24,8 +24,7 @@ FromScope types untold words w = ⊥
 -- ---- one instance further inwards
 
 lead : (types : Types) (held inner : Holding) (ws words : List Id) (c : Known) (x : Id) → NamesInstance types held ws c
-    → c.holds ≡ Some inner
-    → IsUnknownWord types inner words x → IsUnknownWord types held (ws ++ words) x
+    → c.holds ≡ Some inner → IsUnknownWord types inner words x → IsUnknownWord types held (ws ++ words) x
 lead types held inner ws words c x n e (unheld before after w last split l leads none) =
     unheld (ws ++ before) after w last (ap (λ z. ws ++ z) split ∙ sym (append_assoc ws before _)) l
     (inwards held inner last ws before c n e leads) none
@@ -57,8 +56,7 @@ by_type types held ws words x (Some c) n h = by_holds c.holds refl h
     by_holds (Some inner) e u = lead types held inner ws words c x (n c refl) e u
 
 in_group : (types : Types) (held : Holding) (g : Id) (words : List Id) (x : Id) (members : Name → Option Instance)
-    → held g.name ≡ Some (a_group members)
-    → InGroup types members words x → IsUnknownWord types held (g ∷ words) x
+    → held g.name ≡ Some (a_group members) → InGroup types members words x → IsUnknownWord types held (g ∷ words) x
 in_group types held g words x members e (no_member v more split none) =
     unheld_in_group [] more g v held members (ap (λ z. g ∷ z) split) (here held) e none
 in_group types held g words x members e (inside_it v more i c inner w split m t hold u) =
@@ -108,12 +106,10 @@ abbrev Found : Types → Scope → List Id → Fault → Type 0
 Found types scope words f = (x : Id) × FromScope types scope words x × (f ≡ unknown x)
 
 from_last : (types : Types) (scope : Scope) (w : Id) (f : Fault) → IsIn f (unknown_last scope w) → Found types scope (w ∷ []) f
-from_last types (within held) w f i = absurd i
 from_last types (inside members) w f i =
     let k = from_false (is_some (members w.name)) (unknown w) f i in
     (w, no_member w [] refl (is_none (members w.name) k.0), sym k.1)
-from_last types behind w f i = absurd i
-from_last types untold w f i = absurd i
+from_last types _ w f i = absurd i
 
 from_inner : (types : Types) (scope : Scope) (w : Id) (more : List Id) (f : Fault) → 0 < length more
     → IsIn f (unknown_inner scope w) → Found types scope (w ∷ more) f
@@ -200,39 +196,34 @@ step : (types : Types) (held : Holding) (ws tail : List Id) (c : Known) (f : Fau
     → IsIn f (unknown_in_setting types (within held) (ws ++ tail))
 step types held ws tail c f (alone w i c' e t) h =
     let P : Option Held → Type 0 = λ o. IsIn f (unknown_in_setting types (scope_in_composition types o) tail) in
-    let Q : Option Known → Type 0 = λ o. IsIn f (unknown_in_setting types (scope_of_known o) tail) in
     in_right f (unknown_word (within held) (scope_behind types (within held) w.name) w tail)
     (unknown_in_setting types (scope_behind types (within held) w.name) tail)
-    (subst P (sym e) (subst Q (sym t) h))
+    (subst P (sym e) (subst (λ o. IsIn f (unknown_in_setting types (scope_of_known o) tail)) (sym t) h))
 step types held ws tail c f (in_a_group g w members i c' e m t) h =
     let P : Option Held → Type 0 = λ o. IsIn f (unknown_in_setting types (scope_in_composition types o) (w ∷ tail)) in
     let Q : Option Instance → Type 0 = λ o. IsIn f (unknown_in_setting types (scope_in_group types o) tail) in
-    let R : Option Known → Type 0 = λ o. IsIn f (unknown_in_setting types (scope_of_known o) tail) in
     in_right f (unknown_word (within held) (scope_behind types (within held) g.name) g (w ∷ tail))
     (unknown_in_setting types (scope_behind types (within held) g.name) (w ∷ tail))
     (subst P (sym e) (in_right f (unknown_word (inside members) (scope_behind types (inside members) w.name) w tail)
     (unknown_in_setting types (scope_behind types (inside members) w.name) tail)
-    (subst Q (sym m) (subst R (sym t) h))))
+    (subst Q (sym m) (subst (λ o. IsIn f (unknown_in_setting types (scope_of_known o) tail)) (sym t) h))))
 
 along : (types : Types) (held last : Holding) (before rest : List Id) (f : Fault) → Leads types held before last
     → IsIn f (unknown_in_setting types (within last) rest) → IsIn f (unknown_in_setting types (within held) (before ++ rest))
 along types held last before rest f (here h) i = i
 along types held last before rest f (inwards h inner l ws more c n e leads) i =
-    let P : List Id → Type 0 = λ z. IsIn f (unknown_in_setting types (within held) z) in
     let Q : Option Holding → Type 0 = λ o. IsIn f (unknown_in_setting types (scope_of_held o) (more ++ rest)) in
-    subst P (sym (append_assoc ws more rest))
+    subst (λ z. IsIn f (unknown_in_setting types (within held) z)) (sym (append_assoc ws more rest))
     (step types held ws (more ++ rest) c f n (subst Q (sym e) (along types inner last more rest f leads i)))
 
 past : (types : Types) (held : Holding) (ws tail : List Id) (f : Fault) → Ends types held ws
-    → IsIn f (unknown_in_setting types behind tail)
-    → IsIn f (unknown_in_setting types (within held) (ws ++ tail))
+    → IsIn f (unknown_in_setting types behind tail) → IsIn f (unknown_in_setting types (within held) (ws ++ tail))
 past types held ws tail f (at_connection w e) i =
     let P : Option Held → Type 0 = λ o. IsIn f (unknown_in_setting types (scope_in_composition types o) tail) in
     in_right f (unknown_word (within held) (scope_behind types (within held) w.name) w tail)
     (unknown_in_setting types (scope_behind types (within held) w.name) tail) (subst P (sym e) i)
 past types held ws tail f (at_leaf ws' c n e) i =
-    let Q : Option Holding → Type 0 = λ o. IsIn f (unknown_in_setting types (scope_of_held o) tail) in
-    step types held ws tail c f n (subst Q (sym e) i)
+    step types held ws tail c f n (subst (λ o. IsIn f (unknown_in_setting types (scope_of_held o) tail)) (sym e) i)
 
 unheld_here : (types : Types) (held : Holding) (w : Id) (after : List Id) → 0 < length after → held w.name ≡ None
     → IsIn (unknown w) (unknown_in_setting types (within held) (w ∷ after))
@@ -298,8 +289,7 @@ in_words types held words x (behind_an_end before end between after w inner spli
 -- ---- both, for the settings of a body
 
 pub from_setting : (types : Types) (holds : Option Holding) (words : List Id) (f : Fault)
-    → IsIn f (unknown_in_setting types (scope_of_held holds) words)
-    → (w : Id) × IsUnknownIn types holds words w × (f ≡ unknown w)
+    → IsIn f (unknown_in_setting types (scope_of_held holds) words) → (w : Id) × IsUnknownIn types holds words w × (f ≡ unknown w)
 from_setting types None words f i = from_words types behind words f i
 from_setting types (Some held) words f i = from_words types (within held) words f i
 

@@ -66,25 +66,20 @@ module _ (t : Tables) (can : CanMap t) where
 
   of_own : (f : ℕ) (info : FrameInfo) → slice_get (own_part (system t)) f ≡ Some info → IsMapped f
   of_own f info e =
-      let s = system t in
-      let a = from_place (own_frames s) t.flat.domains f info e in
+      let s = system t in let a = from_place (own_frames s) t.flat.domains f info e in
       let b = from_place (own_of a.place) (mapped_pages s a.place) a.number info a.stands in
       by_shown a.place a.item a.here b.place b.item b.here b.item.shown refl a.number b.number b.stands a.sum b.sum
     where
       by_shown : (d : ℕ) (x : Domain) → slice_get t.flat.domains d ≡ Some x → (n : ℕ) (p : MappedPage)
           → slice_get (mapped_pages (system t) d) n ≡ Some p → (w : Shown) → p.shown ≡ w → (i j : ℕ)
-          → slice_get (own_frame d p.shown) j ≡ Some info
-          → f ≡ before (own_frames (system t)) t.flat.domains d + i → i ≡ before (own_of d) (mapped_pages (system t) d) n + j
-          → IsMapped f
+          → slice_get (own_frame d p.shown) j ≡ Some info → f ≡ before (own_frames (system t)) t.flat.domains d + i
+          → i ≡ before (own_of d) (mapped_pages (system t) d) n + j → IsMapped f
       by_shown d x h n p g (Own fill) w i j k u v =
-          let l = below (own_frame d p.shown) j info k in
           let long : length (own_frame d p.shown) ≡ 1 = ap (λ z. length (own_frame d z)) w in
-          let number : own_number (system t) d n ≡ f = omega (arith, l, long, u, v) in
+          let number : own_number (system t) d n ≡ f = omega (arith, below (own_frame d p.shown) j info k, long, u, v) in
           of_page f d n x p h g (ap (λ z. number_shown (system t) d n z) w ∙ number)
       by_shown d x h n p g (Memory a b) w i j k u v =
-          let P : List FrameInfo → Type 0 = λ z. slice_get z j ≡ Some info in
-          let none : own_frame d p.shown ≡ [] = ap (λ z. own_frame d z) w in
-          let no = subst P none k in
+          let no = subst (λ z. slice_get z j ≡ Some info) (ap (λ z. own_frame d z) w) k in
           cc
 
   -- ---- memory
@@ -93,16 +88,13 @@ module _ (t : Tables) (can : CanMap t) where
       → (c.connector ≡ Mmio) ⊎ (c.connector ≡ SharedMemory) → j < memory_pages t.settled k c
       → IsMapped (memory_number (system t) k j)
   of_memory k j c h kind l =
-      let s = system t in
-      let w = can.memory.seen k c h kind in
+      let s = system t in let w = can.memory.seen k c h kind in
       let r = window_region t.flat t.settled w.1 in
       let n = place_of r (regions s w.0) (in_right r _ (map (window_region t.flat t.settled) (windows_of s w.0))
       (in_map (window_region t.flat t.settled) w.1 (windows_of s w.0) w.2)) in
       let x = in_domain t w.0 n.0 r n.1 in
-      let P : ℕ → Type 0 = λ z. slice_get t.flat.connections z ≡ Some c in
-      let here = subst P (sym w.3) h in
-      let pages : r.pages ≡ memory_pages t.settled k c = ap (λ o. option_map_or (memory_pages t.settled w.1.connection) o 0) here
-      ∙ ap (λ z. memory_pages t.settled z c) w.3 in
+      let pages : r.pages ≡ memory_pages t.settled k c = ap (λ o. option_map_or (memory_pages t.settled w.1.connection) o 0)
+      (subst (λ z. slice_get t.flat.connections z ≡ Some c) (sym w.3) h) ∙ ap (λ z. memory_pages t.settled z c) w.3 in
       let at = begins t w.0 n.0 + 4096 * j in
       let p : IsRegionPage t w.0 n.0 at j r = record { here = n.1; within = omega (arith, pages, l); at = refl } in
       let q = region_page t.settled (Window w.1) at j in
@@ -115,15 +107,12 @@ module _ (t : Tables) (can : CanMap t) where
   of_shared : (f m : ℕ) (info : FrameInfo) → f ≡ length (own_part (system t)) + m
       → slice_get (shared_part t.flat t.settled) m ≡ Some info → IsMapped f
   of_shared f m info u e =
-      let a = from_place (shared_frames t.settled) t.flat.connections m info e in
-      let k = a.place in
-      let c = a.item in
-      let list = connection_frames k (memory_pages t.settled k c) in
+      let a = from_place (shared_frames t.settled) t.flat.connections m info e in let k = a.place in
+      let c = a.item in let list = connection_frames k (memory_pages t.settled k c) in
       let g = given_if (is_shared c.connector) list a.number info a.stands in
       let kind = shared_is c.connector g.0 in
-      let l = below list a.number info g.1 in
       let long = as_long (λ j. frame (OfConnection k) None None) 0 (memory_pages t.settled k c) in
-      let within : a.number < memory_pages t.settled k c = omega (arith, l, long) in
+      let within : a.number < memory_pages t.settled k c = omega (arith, below list a.number info g.1, long) in
       by_place k a.number c a.here kind within (memory_at t can k a.number c a.here (inl kind) within) a.sum
     where
       by_place : (k j : ℕ) (c : FlatConnection) → slice_get t.flat.connections k ≡ Some c → c.connector ≡ SharedMemory
@@ -131,10 +120,7 @@ module _ (t : Tables) (can : CanMap t) where
           → IsMapped f
       by_place k j c h kind l (MemoryPlace.at_shared n b) s = number_is (memory_number (system t) k j) f
           (of_memory k j c h (inr kind) l) (omega (arith, n, s, u))
-      by_place k j c h kind l (MemoryPlace.at_device p r q n b) s =
-          let none : registers c ≡ None = ap (λ z. registers_in z c.ends) kind in
-          let no = sym none ∙ r in
-          cc
+      by_place k j c h kind l (MemoryPlace.at_device p r q n b) s = let no = sym (ap (λ z. registers_in z c.ends) kind) ∙ r in cc
 
   of_registers : (f m : ℕ) (info : FrameInfo) → f ≡ length (own_part (system t)) + (length (shared_part t.flat t.settled) + m)
       → slice_get (register_part t.flat t.settled) m ≡ Some info → IsMapped f
@@ -148,9 +134,8 @@ module _ (t : Tables) (can : CanMap t) where
       by_place k j c p h kind r first l (MemoryPlace.at_shared n b) s = let no : SharedMemory ≡ Mmio =
           sym (shared_of t k j c b) ∙ kind in cc
       by_place k j c p h kind r first l (MemoryPlace.at_device x q y n b) s =
-          let port : x ≡ p = some (registers c) x p q r in
-          let number : y.number ≡ k = some (first_to t.flat p) y.number k (ap (λ z. first_to t.flat z) (sym port)
-          ∙ y.first) first in
+          let number : y.number ≡ k =
+          some (first_to t.flat p) y.number k (ap (λ z. first_to t.flat z) (sym (some (registers c) x p q r)) ∙ y.first) first in
           let front : before (register_frames t.flat t.settled) t.flat.connections y.number ≡ before
           (register_frames t.flat t.settled) t.flat.connections k =
           ap (λ z. before (register_frames t.flat t.settled) t.flat.connections z) number in
@@ -160,20 +145,14 @@ module _ (t : Tables) (can : CanMap t) where
           → registers c ≡ o → slice_get (register_frames t.flat t.settled k c) j ≡ Some info
           → m ≡ before (register_frames t.flat t.settled) t.flat.connections k + j → IsMapped f
       by_registers k j c h None r g s =
-          let P : List FrameInfo → Type 0 = λ z. slice_get z j ≡ Some info in
-          let none : register_frames t.flat t.settled k c ≡ [] =
-          ap (λ o. option_map_or (frames_at t.flat t.settled k c) o []) r in
-          let no = subst P none g in
+          let no = subst (λ z. slice_get z j ≡ Some info) (ap (λ o. option_map_or (frames_at t.flat t.settled k c) o []) r) g in
           cc
       by_registers k j c h (Some p) r g s =
-          let P : List FrameInfo → Type 0 = λ z. slice_get z j ≡ Some info in
           let list = map (register_frame t.settled k c p) (range_with_len 0 (memory_pages t.settled k c)) in
-          let have : register_frames t.flat t.settled k c ≡ cond (is_first t.flat k p) list [] =
-          ap (λ o. option_map_or (frames_at t.flat t.settled k c) o []) r in
-          let q = given_if (is_first t.flat k p) list j info (subst P have g) in
-          let l = below list j info q.1 in
+          let q = given_if (is_first t.flat k p) list j info
+          (subst (λ z. slice_get z j ≡ Some info) (ap (λ o. option_map_or (frames_at t.flat t.settled k c) o []) r) g) in
           let long = as_long (register_frame t.settled k c p) 0 (memory_pages t.settled k c) in
-          let within : j < memory_pages t.settled k c = omega (arith, l, long) in
+          let within : j < memory_pages t.settled k c = omega (arith, below list j info q.1, long) in
           let kind = registers_mmio c.connector c.ends p r in
           by_place k j c p h kind r (first_is (first_to t.flat p) k q.0) within (memory_at t can k j c h (inr kind) within) s
 
@@ -185,17 +164,14 @@ module _ (t : Tables) (can : CanMap t) where
     | inr h ↦ elim (split_get (shared_part t.flat t.settled) (register_part t.flat t.settled) h.0 info h.2) [
       | inl g ↦ of_shared f h.0 info h.1 g
       | inr g ↦
-          let a = h.1 in
-          let b = g.1 in of_registers f g.0 info (omega (arith, a, b)) g.2
+          let b = g.1 in of_registers f g.0 info (omega (arith, h.1, b)) g.2
     ]
   ]
 
   pub all_frames : AreAllMapped t (spec_of t) (root_of t)
   all_frames at paddr fill o =
-      let x = object_stands t at (objects.Frame paddr fill) o in
-      let w = of_frame x.what x.sort in
+      let x = object_stands t at (objects.Frame paddr fill) o in let w = of_frame x.what x.sort in
       let is : IsThere t (FrameOf w.0) = subst (λ z. IsThere t z) w.1 x.there in
       let m = of_number w.0 is.0 (ap (λ (z : Spaces). slice_get z.frames w.0) (sym can.spaces) ∙ is.1) in
-      let stand : place t (FrameOf w.0) ≡ at = subst (λ z. place t z ≡ at) w.1 x.stands in
       let there : frames_from t + w.0 ≡ place t (FrameOf w.0) = omega arith in
-      (m.domain, m.v, m.leaves, m.cap, m.here, m.at, m.is ∙ there ∙ stand)
+      (m.domain, m.v, m.leaves, m.cap, m.here, m.at, m.is ∙ there ∙ subst (λ z. place t z ≡ at) w.1 x.stands)

@@ -8,14 +8,11 @@ behind f (y ∷ xs) a zero x e l = absurd (omega (arith, l))
 behind {X} f (y ∷ xs) zero (suc b) x e l =
     let same : x ≡ y = cc in
     let here : length (f 0 x) ≡ length (f 0 y) = ap (λ z. length (f 0 z)) same in
-    let long = length_append (f 0 y) (gather (λ n z. f (suc n) z) (take b xs)) in
-    omega (arith, here, long)
+    omega (arith, here, length_append (f 0 y) (gather (λ n z. f (suc n) z) (take b xs)))
 behind {X} f (y ∷ xs) (suc a) (suc b) x e l =
     let g : ℕ → X → List _ = λ n z. f (suc n) z in
     let ih = behind g xs a b x e (omega (arith, l)) in
-    let low = length_append (f 0 y) (gather g (take a xs)) in
-    let high = length_append (f 0 y) (gather g (take b xs)) in
-    omega (arith, ih, low, high)
+    omega (arith, ih, length_append (f 0 y) (gather g (take a xs)), length_append (f 0 y) (gather g (take b xs)))
 
 pub inside : {X Y : Type 0} (f : ℕ → X → List Y) (xs : List X) (a : ℕ) (x : X) → slice_get xs a ≡ Some x
     → before f xs a + length (f a x) ≤ length (gather f xs)
@@ -23,14 +20,10 @@ inside f [] a x e = cc
 inside f (y ∷ xs) zero x e =
     let same : x ≡ y = cc in
     let here : length (f 0 x) ≡ length (f 0 y) = ap (λ z. length (f 0 z)) same in
-    let long = length_append (f 0 y) (gather (λ n z. f (suc n) z) xs) in
-    omega (arith, here, long)
+    omega (arith, here, length_append (f 0 y) (gather (λ n z. f (suc n) z) xs))
 inside {X} f (y ∷ xs) (suc a) x e =
     let g : ℕ → X → List _ = λ n z. f (suc n) z in
-    let ih = inside g xs a x e in
-    let low = length_append (f 0 y) (gather g (take a xs)) in
-    let high = length_append (f 0 y) (gather g xs) in
-    omega (arith, ih, low, high)
+    omega (arith, inside g xs a x e, length_append (f 0 y) (gather g (take a xs)), length_append (f 0 y) (gather g xs))
 
 pub apart : {X Y : Type 0} (f : ℕ → X → List Y) (xs : List X) (a b i j : ℕ) (x y : X) → slice_get xs a ≡ Some x
     → slice_get xs b ≡ Some y → i < length (f a x) → j < length (f b y) → before f xs a + i ≡ before f xs b + j

@@ -15,8 +15,7 @@ dotted s short = spelled_dotted s (λ f i. let x = short f i in (x.0, x.1))
 pub can_lay : (s : Source) (images : Images) → AreFilesShort s → AreNamesSound s → first_type_fault s ≡ None
     → first_flat_fault s ≡ None → first_setting_fault s ≡ None → CanLay (given s (flat_of s) (settled_of s) images)
 can_lay s images short sound types flat settings =
-    let g = given s (flat_of s) (settled_of s) images in
-    let small = flat_small s sound flat in
+    let g = given s (flat_of s) (settled_of s) images in let small = flat_small s sound flat in
     let typed = ends_typed s sound (dotted s short) types in
     record {
       domains = let l = small.domains in omega (arith, l);
@@ -25,8 +24,7 @@ can_lay s images short sound types flat settings =
           let w = seen g d e i in
           let some = memory_some s sound (dotted s short) types typed (settings_sound s settings) e.connection e.end w.connection
           w.end w.there w.joined w.window in
-          let same = seen_pages g e w in
-          omega (arith, some, same);
+          omega (arith, some, seen_pages g e w);
       memory = λ k c at. pages_fit s k c;
       addresses = λ k c at. addresses_fit s k c;
     }
@@ -45,16 +43,13 @@ pub can_build : (s : Source) (images : Images) → AreFilesShort s → AreNamesS
     → first_slot_fault s (flat_of s) ≡ None → first_page_limit (given s (flat_of s) (settled_of s) images) ≡ None
     → IsBuildable (tables_from s (flat_of s) (settled_of s) images)
 can_build s images short sound types flat settings numbered sections space slots pages =
-    let g = given s (flat_of s) (settled_of s) images in
-    let one = one_assembly s sound in
+    let g = given s (flat_of s) (settled_of s) images in let one = one_assembly s sound in
     buildable (tables_from s (flat_of s) (settled_of s) images) refl refl (flat_small s sound flat) (few_uses s sound slots)
-    (can_lay s images short sound types flat settings)
-    (few_pages g one.0 one.1 pages).pages (registers_there s short sound types settings)
-    (sections_stand g numbered sections space)
+    (can_lay s images short sound types flat settings) (few_pages g one.0 one.1 pages).pages
+    (registers_there s short sound types settings) (sections_stand g numbered sections space)
 
 pub can_map : (s : Source) (images : Images) → AreFilesShort s → AreNamesSound s → first_type_fault s ≡ None
-    → first_flat_fault s ≡ None → first_setting_fault s ≡ None
-    → IsWindowed (tables_from s (flat_of s) (settled_of s) images)
+    → first_flat_fault s ≡ None → first_setting_fault s ≡ None → IsWindowed (tables_from s (flat_of s) (settled_of s) images)
 can_map s images short sound types flat settings =
     record {
       sized = λ d w i. let l = few_window_pages (given s (flat_of s) (settled_of s) images) (λ k c at. pages_fit s k c) d w

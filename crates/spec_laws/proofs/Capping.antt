@@ -29,15 +29,12 @@ pub of_levels : (ls : List Shape) (xs : List Mapping) (first link : ℕ)
     → total caps_of (numbered first link (layers ls xs)) ≤ length xs + sizes (layers ls xs)
 of_levels [] xs first link = omega arith
 of_levels (l ∷ ls) xs first link =
-    let rs = runs (span l) xs in
-    let us = uppers l rs in
-    let ys = layers ls us in
-    let above = numbered first (first + sizes ys) ys in
+    let rs = runs (span l) xs in let us = uppers l rs in
+    let ys = layers ls us in let above = numbered first (first + sizes ys) ys in
     let ih : total caps_of above ≤ length us + sizes ys = of_levels ls us first (first + sizes ys) in
     let ones : length us ≡ length rs = gather_ones (λ j (r : List Mapping). upper l j r) rs in
     let here : total caps_of (map (table_of l link) rs) ≡ length xs = of_tables l link rs ∙ in_runs (span l) xs in
-    let both = total_append caps_of above (map (table_of l link) rs) in
-    omega (arith, ih, ones, here, both)
+    omega (arith, ih, ones, here, total_append caps_of above (map (table_of l link) rs))
 
 -- looked up one behind another, all are counted
 pub looked_up : {X Y : Type 0} (g : X → ℕ) (d : X) (ys : List Y) (xs : List X) → length ys ≡ length xs

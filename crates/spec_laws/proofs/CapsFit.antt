@@ -1,14 +1,15 @@
 -- Capabilities of slots fit the objects that they lead to.
-use Rattle.spec_laws.proofs.Common.{Bool, CNodeOf, Cap, Connector, Direct, Domain, EndpointOf, FlatConnection, FlatEnd, From, Handler, Interrupt, IrqOf, IsFit, IsIn, IsThere, Kind, List, LockOf, Mmio, NONE, Notification, NotificationOf, OfEnd}
-use Rattle.spec_laws.proofs.Common.{OwnLock, RW, Rights, Role, Rpc, SharedMemory, SlotUse, Some, Tables, To, What, [], and_from, ap, arith, badge_at, bits_from, cap, cond_both, end_in, end_of, end_rights, fits_as, fits_kind, from_gather, gather, inl}
+use Rattle.spec_laws.proofs.Common.{Bool, CNodeOf, Cap, Connector, Domain, EndpointOf, FlatConnection, FlatEnd, From, Handler, Interrupt, IrqOf, IsFit, IsIn, IsThere, Kind, List, LockOf, NONE, Notification, NotificationOf, OfEnd}
+use Rattle.spec_laws.proofs.Common.{OwnLock, RW, Rights, Role, Rpc, SlotUse, Some, Tables, To, What, [], and_from, ap, arith, badge_at, bits_from, cap, cond_both, end_in, end_of, end_rights, fits_as, fits_kind, from_gather, gather, inl}
 use Rattle.spec_laws.proofs.Common.{inr, is_at, is_kind, joint, joint_by, keeps, keeps_slots, kind_of_object, kind_rights, kind_there, le-leb, least, leb, length, list_all, lt-ltb, nat_lt, object, option_and_then, option_map_or, place, refl}
-use Rattle.spec_laws.proofs.Common.{rights_at, rise, slice_get, slice_get_within, slots_at, spec_of, subst, suc, sym, true, use_cap, uses_at, zero, ℕ, ◌&&◌, ◌+◌, ◌<◌, ◌==◌, ◌^◌, ◌||◌, ◌∙◌, ◌∷◌, ◌≡◌, ◌≤◌}
+use Rattle.spec_laws.proofs.Common.{rights_at, rise, slice_get, slice_get_within, slots_at, spec_of, subst, suc, sym, true, use_cap, uses_at, zero, ℕ, ◌&&◌, ◌+◌, ◌<◌, ◌==◌, ◌^◌, ◌||◌, ◌∙◌, ◌∷◌, ◌≡◌, ◌≤◌, true≢false}
 use Rattle.std.specs.Option.{option_map}
 use Rattle.cap_model.specs.Kept.{fits, within}
 use Rattle.cap_model.specs.Kinds.{has_badge}
 use Rattle.cap_model.specs.declared.kind.Kind.TheVariants as kinds
 use Rattle.system_spec.specs.Bits.{bits_for}
-use Rattle.spec_laws.proofs.Uses.{HasSlot, IsEnd, IsUse, is_use}
+use Rattle.spec_laws.proofs.Uses.{IsEnd, IsUse, is_use}
+use Rattle.spec_laws.proofs.Used.{has_slot}
 
 -- ---- bits
 
@@ -78,10 +79,9 @@ module _ (t : Tables) where
   end_fits k n i =
       subst (λ w. Fits w (rights_at t k n) (badge_at t k n)) (sym (joint_is k i.connection i.here))
       (subst (λ r. Fits (joint_by k i.connection.connector) r (badge_at t k n))
-      (sym (rights_are k n i.connection i.end i.here i.stands))
-      (by_kind i.connection.connector i.end.role refl i.slot))
+      (sym (rights_are k n i.connection i.end i.here i.stands)) (by_kind i.connection.connector i.end.role refl i.slot))
     where
-      by_kind : (x : Connector) (r : Role) → i.connection.connector ≡ x → HasSlot x r
+      by_kind : (x : Connector) (r : Role) → i.connection.connector ≡ x → has_slot x r ≡ true
           → Fits (joint_by k x) (end_rights x r) (badge_at t k n)
       by_kind Rpc From q s = fits_of t (EndpointOf k) kinds.Endpoint (end_rights Rpc From) (badge_at t k n) (
         i.connection,
@@ -96,7 +96,7 @@ module _ (t : Tables) where
           (i.connection, i.here, inl q) refl (refl, refl)
       by_kind Interrupt To q s = fits_of t (NotificationOf k) kinds.Notification (end_rights Interrupt To) (badge_at t k n)
           (i.connection, i.here, inr q) refl (refl, refl)
-      by_kind _ _ q s = absurd s
+      by_kind _ _ q s = absurd (true≢false (sym s))
 
   module _ (fit : IsFit t) (d : ℕ) (x : Domain) (here : slice_get t.flat.domains d ≡ Some x) where
     use_fits : (n : ℕ) (u : SlotUse) → slice_get (uses_at t d) n ≡ Some u → fits (spec_of t) (use_cap t d n u) ≡ true
@@ -119,13 +119,11 @@ module _ (t : Tables) where
 
     slot_fits : (slot : Slot) → IsIn slot (slots_at t d) → test slot ≡ true
     slot_fits slot i =
-        let f : ℕ → SlotUse → List Slot = λ n u. (n + 1, use_cap t d n u) ∷ [] in
-        let g = from_gather f slot (uses_at t d) i in
+        let g = from_gather (λ n u. (n + 1, use_cap t d n u) ∷ []) slot (uses_at t d) i in
         elim g.3 [
           | inl same ↦
-              let below = slice_get_within (uses_at t d) g.0 g.1 g.2 in
               let enough = (least (length (uses_at t d)) (fit.domains d x here).slots).above in
-              let few : g.0 + 1 < 2 ^ bits = omega (arith, below, enough) in
+              let few : g.0 + 1 < 2 ^ bits = omega (arith, slice_get_within (uses_at t d) g.0 g.1 g.2, enough) in
               subst (λ (z : Slot). test z ≡ true) same (and_from (nat_lt (g.0 + 1) (2 ^ bits))
               (fits (spec_of t) (use_cap t d g.0 g.1)) (lt-ltb (g.0 + 1) (2 ^ bits) few) (use_fits g.0 g.1 g.2))
           | inr none ↦ absurd none
@@ -137,6 +135,5 @@ module _ (t : Tables) where
         let some = (least (length (uses_at t d)) (fit.domains d x here).slots).some in
         and_from (nat_lt 0 bits && leb bits 16) (keeps_slots (fits (spec_of t)) (2 ^ bits) slots)
         (and_from (nat_lt 0 bits) (leb bits 16) (lt-ltb 0 bits (omega (arith, some)))
-        (le-leb bits 16 (bits_few (length (uses_at t d)))))
-        (and_from (rise slots) (list_all test slots) (slots_rise (λ n. n + 1) (λ n u. use_cap t d n u) (uses_at t d)
-        (λ n. omega arith)) (all_pass test slots slot_fits))
+        (le-leb bits 16 (bits_few (length (uses_at t d))))) (and_from (rise slots) (list_all test slots)
+        (slots_rise (λ n. n + 1) (λ n u. use_cap t d n u) (uses_at t d) (λ n. omega arith)) (all_pass test slots slot_fits))

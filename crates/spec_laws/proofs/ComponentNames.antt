@@ -14,10 +14,8 @@ pub component_named : (c : Component) → IsOne component_line c → is_name c.i
 unfolding component_line
 component_named c w =
     let p = w.1 in
-    let word = p.2.4.3 in
     let P : List ℕ → Type 0 = λ z. is_name z ≡ true in
-    let is : c.id.name ≡ named word.0.text = ap (λ (z : Component). z.id.name) p.1 ∙ ap (λ (z : Id). z.name) word.1 in
-    subst P (sym is) (named_is word.0.text)
+    subst P (sym (ap (λ (z : Component). z.id.name) p.1 ∙ ap (λ (z : Id). z.name) p.2.4.3.1)) (named_is p.2.4.3.0.text)
 
 pub components_named : (s : Source) → AreFilesShort s → (c : ItemAt × Component) → IsIn c (components s)
     → is_name c.1.id.name ≡ true
@@ -30,29 +28,24 @@ components_named s short c i =
 
 name_there : (s : Source) (c : ItemAt × Component) → IsIn c (components s) → component_name s c.0 ≡ c.1.id.name
 name_there s c i =
-    let x = from_filter_map as_component c (items_of s) i in
-    let e = item_at s x.0 x.1 in
+    let x = from_filter_map as_component c (items_of s) i in let e = item_at s x.0 x.1 in
     by_item x.0 x.2 (ap (λ (o : Option Ended). option_map_or (λ (z : Ended). name_of_item z.item) o []) e.1 ∙ ap name_of_item e.2)
   where
     by_item : (y : ItemAt × Item) → as_component y ≡ Some c → component_name s y.0 ≡ name_of_item y.1
         → component_name s c.0 ≡ c.1.id.name
     by_item (at, items.Component d) t m =
         let same : (at, d) ≡ c = cc in
-        let P : ItemAt × Component → Type 0 = λ z. component_name s z.0 ≡ z.1.id.name in
-        subst P same m
+        subst (λ (z : ItemAt × Component). component_name s z.0 ≡ z.1.id.name) same m
     by_item (at, _) t m = cc
 
 pub leaves_named : (s : Source) → AreFilesShort s → AreNamesSound s → (l : ℕ) (leaf : Leaf)
     → slice_get (flat_of s).leaves l ≡ Some leaf → is_name (component_name s leaf.component) ≡ true
 leaves_named s short sound l leaf at =
-    let h = hierarchy_of s in
-    let x = from_get_map (leaf_of h) (leaves h) l leaf at in
+    let h = hierarchy_of s in let x = from_get_map (leaf_of h) (leaves h) l leaf at in
     let c = leaf_component s sound x.0 (in_get (leaves h) l x.0 x.1) in
-    let k = x.0.part.kind in
-    let i = in_get (components s) k c.0 c.1 in
+    let i = in_get (components s) x.0.part.kind c.0 c.1 in
     let P : List ℕ → Type 0 = λ z. is_name z ≡ true in
-    let is : component_name s leaf.component ≡ c.0.1.id.name =
-    ap (λ (z : Leaf). component_name s z.component) (sym x.2)
-    ∙ ap (λ (b : Body). component_name s (unwrap_or b.item (record { file = 0; item = 0 }))) (body_number s k c.0 c.1)
+    let is : component_name s leaf.component ≡ c.0.1.id.name = ap (λ (z : Leaf). component_name s z.component) (sym x.2)
+    ∙ ap (λ (b : Body). component_name s (unwrap_or b.item (record { file = 0; item = 0 }))) (body_number s x.0.part.kind c.0 c.1)
     ∙ name_there s c.0 i in
     subst P (sym is) (components_named s short c.0 i)

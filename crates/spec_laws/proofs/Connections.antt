@@ -39,8 +39,7 @@ module _ (t : Tables) (h : IsConnected t) where
 
   rooted : (c i : ℕ) (held : Cap) → Holds (spec_of t) c i held → RootOf (spec_of t) (labels t) c
   rooted c i held there =
-      let g = laid t h in
-      let b = holder t c i held there in
+      let g = laid t h in let b = holder t c i held there in
       let d = b.domain in
       let f = from_domain t.source t.flat b.found.leaves b.used (used_in t h d b.number b.found b.used b.here b.at) in
       let x = thread f.0 None in
@@ -66,19 +65,16 @@ module _ (t : Tables) (h : IsConnected t) where
       record {
         domain = b.domain;
         there = (b.found, b.here);
-        is = sym (ap (label_of (labels t)) b.node)
-            ∙ node_label t h b.domain b.found b.here;
+        is = sym (ap (label_of (labels t)) b.node) ∙ node_label t h b.domain b.found b.here;
       }
 
   one_node : AreApart (policy_tables t) → (c d i j : ℕ) (a b : Cap) → Holds (spec_of t) c i a → Holds (spec_of t) d j b
       → label_of (labels t) c ≡ label_of (labels t) d → c ≡ d
   one_node apart c d i j a b here there e =
-      let x = holder t c i a here in
-      let y = holder t d j b there in
+      let x = holder t c i a here in let y = holder t d j b there in
       let left = sym (ap (label_of (labels t)) x.node) ∙ node_label t h x.domain x.found x.here in
-      let right = sym (ap (label_of (labels t)) y.node) ∙ node_label t h y.domain y.found y.here in
       let same = one_domain (policy_tables t) apart x.domain y.domain (x.found, x.here) (y.found, y.here)
-      (sym left ∙ e ∙ right) in
+      (sym left ∙ e ∙ (sym (ap (label_of (labels t)) y.node) ∙ node_label t h y.domain y.found y.here)) in
       sym x.node ∙ ap (λ z. place t (CNodeOf z)) same ∙ y.node
 
   -- an object of a kind
@@ -104,8 +100,7 @@ module _ (t : Tables) (h : IsConnected t) where
   pub endpoint_here : (o : ℕ) → is_at (spec_of t) kinds.Endpoint o ≡ true → (k : ℕ) × IsThere t (EndpointOf k)
       × (place t (EndpointOf k) ≡ o)
   endpoint_here o is =
-      let x = kinded o kinds.Endpoint 0 calls_sort is in
-      let at = x.1 in
+      let x = kinded o kinds.Endpoint 0 calls_sort is in let at = x.1 in
       let w = of_calls at.what (at.sort ∙ x.2) in
       (w.0, subst (λ z. IsThere t z) w.1 at.there, subst (λ z. place t z ≡ o) w.1 at.stands)
 
@@ -117,8 +112,7 @@ module _ (t : Tables) (h : IsConnected t) where
 
   notification_here : (o : ℕ) → is_at (spec_of t) kinds.Notification o ≡ true → IsJoint o ⊎ IsLockHere o
   notification_here o is =
-      let x = kinded o kinds.Notification 1 notices_sort is in
-      let at = x.1 in
+      let x = kinded o kinds.Notification 1 notices_sort is in let at = x.1 in
       elim (of_notices at.what (at.sort ∙ x.2)) [
         | inl w ↦ inl (w.0, subst (λ z. IsThere t z) w.1 at.there, subst (λ z. place t z ≡ o) w.1 at.stands)
         | inr w ↦ inr (w.0, w.1, subst (λ z. IsThere t z) w.2 at.there, subst (λ z. place t z ≡ o) w.2 at.stands)
@@ -135,21 +129,17 @@ module _ (t : Tables) (h : IsConnected t) where
       → (is_at (spec_of t) kinds.Endpoint p ≡ true) ⊎ (is_at (spec_of t) kinds.Notification p ≡ true)
       → label_of (labels t) o ≡ label_of (labels t) p → o ≡ p
   one_endpoint apart o p is (inl other) e =
-      let x = endpoint_here o is in
-      let y = endpoint_here p other in
+      let x = endpoint_here o is in let y = endpoint_here p other in
       let left = sym (ap (label_of (labels t)) x.2) ∙ label_there t (EndpointOf x.0) x.1 in
-      let right = sym (ap (label_of (labels t)) y.2) ∙ label_there t (EndpointOf y.0) y.1 in
-      let same = one_connection (policy_tables t) apart x.0 y.0 (calls_label x.0 x.1) (calls_label y.0 y.1)
-      (sym left ∙ e ∙ right) in
-      sym x.2 ∙ ap (λ z. place t (EndpointOf z)) same ∙ y.2
+      sym x.2 ∙ ap (λ z. place t (EndpointOf z)) (one_connection (policy_tables t) apart x.0 y.0 (calls_label x.0 x.1)
+      (calls_label y.0 y.1) (sym left ∙ e ∙ (sym (ap (label_of (labels t)) y.2) ∙ label_there t (EndpointOf y.0) y.1))) ∙ y.2
   one_endpoint apart o p is (inr other) e =
       let x = endpoint_here o is in
       let left = sym (ap (label_of (labels t)) x.2) ∙ label_there t (EndpointOf x.0) x.1 in
       elim (notification_here p other) [
         | inl y ↦
-            let right = sym (ap (label_of (labels t)) y.2) ∙ label_there t (NotificationOf y.0) y.1 in
             let same = one_connection (policy_tables t) apart x.0 y.0 (calls_label x.0 x.1) (signal_label y.0 y.1)
-            (sym left ∙ e ∙ right) in
+            (sym left ∙ e ∙ (sym (ap (label_of (labels t)) y.2) ∙ label_there t (NotificationOf y.0) y.1)) in
             absurd (no_both x.0 y.0 same x.1 y.1)
         | inr y ↦
             let right = sym (ap (label_of (labels t)) y.3) ∙ label_there t (LockOf y.0 y.1) y.2 in
@@ -162,18 +152,14 @@ module _ (t : Tables) (h : IsConnected t) where
           let both : Some a.0 ≡ Some b.0 = sym a.1 ∙ ap (λ z. slice_get t.flat.connections z) same ∙ b.1 in
           let one : a.0 ≡ b.0 = cc in
           let rpc : b.0.connector ≡ Rpc = sym (ap (λ (z : FlatConnection). z.connector) one) ∙ a.2 in
-          elim b.2 [
-            | inl i ↦ (let w = sym rpc ∙ i in cc)
-            | inr i ↦ (let w = sym rpc ∙ i in cc)
-          ]
+          elim b.2 [ inl i ↦ (let w = sym rpc ∙ i in cc) | inr i ↦ (let w = sym rpc ∙ i in cc) ]
 
   -- ---- what stays within a label
 
   own_out : AreApart (policy_tables t) → (l : ℕ) (a : Authority) → Held (spec_of t) (labels t) (boot (spec_of t)) l a l
       → IsLockEdge (policy_tables t) (edge l a l)
   own_out apart l a (c, i, held, there, conf, from, to) =
-      let b = holder t c i held there in
-      let d = b.domain in
+      let b = holder t c i held there in let d = b.domain in
       let f = from_domain t.source t.flat b.found.leaves b.used (used_in t h d b.number b.found b.used b.here b.at) in
       let is : l ≡ domain_label (policy_tables t) d = from ∙ sym (ap (label_of (labels t)) b.node)
       ∙ node_label t h d b.found b.here in
@@ -199,16 +185,14 @@ module _ (t : Tables) (h : IsConnected t) where
                   subst (λ z. l ≡ label_of (labels t) (use_cap t d b.number z).object) (sym handler.is) leads in
                   let v = device_here t h k o.connection o.here handler.interrupt in
                   let device = device_end (policy_tables t) h.flat v.at v.device in
-                  let other = label ∙ irq_label t h k o.connection o.here handler.interrupt ∙ device.is in
                   absurd (domain_no_device (policy_tables t) apart mine (record {
                     device = device.device;
                     there = device.there;
-                    is = other;
+                    is = label ∙ irq_label t h k o.connection o.here handler.interrupt ∙ device.is;
                   }))
             ]
         | inr lock ↦
-            let leaf = f.0 in
-            let m = lock.0 in
+            let leaf = f.0 in let m = lock.0 in
             let x = h.flat.owned d leaf b.found b.here f.1 in
             let u : b.used ≡ OwnLock leaf m = lock.1 in
             let there : IsThere t (LockOf d b.number) = ((b.found, b.here), (leaf, m, b.at ∙ ap (λ z. Some z) u)) in
@@ -235,8 +219,7 @@ module _ (t : Tables) (h : IsConnected t) where
   own_in : (l : ℕ) (a : Authority) → IsLockEdge (policy_tables t) (edge l a l)
       → Held (spec_of t) (labels t) (boot (spec_of t)) l a l
   own_in l a k =
-      let x = k.lock in
-      let d = x.domain in
+      let x = k.lock in let d = x.domain in
       let w = h.flat.listed x.leaf d x.found x.here x.inside in
       let u : SlotUse = OwnLock x.leaf x.member in
       let inside = lock_used t.source t.flat w.0.leaves x.leaf x.member x.found x.lock w.2 x.here x.declared in
@@ -256,22 +239,19 @@ module _ (t : Tables) (h : IsConnected t) where
   signals : AreApart (policy_tables t) → (c i d n : ℕ) (held : Cap) → Holds (spec_of t) c i held
       → irq_at (boot (spec_of t)) d ≡ Some n → label_of (labels t) c ≢ label_of (labels t) d
   signals apart c i d n held there is e =
-      let b = bound t h d n is in
-      let v = device_here t h b.connection b.found b.here b.interrupt in
+      let b = bound t h d n is in let v = device_here t h b.connection b.found b.here b.interrupt in
       let device = device_end (policy_tables t) h.flat v.at v.device in
-      let label = e ∙ sym (ap (label_of (labels t)) b.irq) ∙ irq_label t h b.connection b.found b.here b.interrupt ∙ device.is in
       domain_no_device (policy_tables t) apart (holder_label c i held there) (record {
         device = device.device;
         there = device.there;
-        is = label;
+        is = e ∙ sym (ap (label_of (labels t)) b.irq) ∙ irq_label t h b.connection b.found b.here b.interrupt ∙ device.is;
       })
 
   -- ---- what is held is plain
 
   pub holds_plain : HoldsPlain (spec_of t)
   holds_plain c i held there =
-      let b = holder t c i held there in
-      let d = b.domain in
+      let b = holder t c i held there in let d = b.domain in
       let f = from_domain t.source t.flat b.found.leaves b.used (used_in t h d b.number b.found b.used b.here b.at) in
       subst (λ z. is_plain (spec_of t) z ≡ true) b.is (elim f.2 [
         | inl o ↦
@@ -282,8 +262,7 @@ module _ (t : Tables) (h : IsConnected t) where
                   let plain : is_plain (spec_of t) (use_cap t d b.number (OfEnd k o.number)) ≡ true =
                   ap (λ x. option_plain x (rights_at t k o.number)) (joint_kind_at t k o.connection o.end.role o.here w.0)
                   ∙ ap (λ x. plain_kind (joint_kind o.connection.connector) x) (rights_are t k o.number o.connection o.end
-                  o.here o.stands)
-                  ∙ row_plain o.connection.connector o.end.role w.0 in
+                  o.here o.stands) ∙ row_plain o.connection.connector o.end.role w.0 in
                   subst (λ z. is_plain (spec_of t) (use_cap t d b.number z) ≡ true) same plain
               | inr handler ↦
                   let plain : is_plain (spec_of t) (use_cap t d b.number (Handler k o.number)) ≡ true =

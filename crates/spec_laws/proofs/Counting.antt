@@ -151,8 +151,7 @@ module _ (t : Tables) (w : What → ℕ) where
         let f : ℕ → FlatConnection → ℕ = λ k c. total of_part (endpoint_by k c.connector) in
         let g : ℕ → FlatConnection → ℕ = λ k c. total of_part (notification_by k c.connector) in
         let a = totals_each (λ k c. f k c + g k c) joint t.flat.connections (λ k c e. by_kind c.connector k) in
-        let b = totals_add f g t.flat.connections in
-        omega (arith, a, b)
+        omega (arith, a, totals_add f g t.flat.connections)
       where
         by_kind : (c : Connector) (k : ℕ) → total of_part (endpoint_by k c) + total of_part (notification_by k c) ≤ joint
         by_kind Rpc k = let l = most.endpoints k in omega (arith, l)

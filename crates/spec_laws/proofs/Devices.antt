@@ -26,9 +26,8 @@ first_found {X} p (z ∷ zs) (suc n) x e h = by_test (p z) refl (first_found p z
 pub position_found : {X : Type 0} (p : X → Bool) (xs : List X) (y : X) → slice_get xs (position_or_len p xs) ≡ Some y
     → position p xs ≡ Some (position_or_len p xs)
 position_found p xs y e =
-    let less : nat_lt (position_or_len p xs) (length xs) ≡ true =
-    lt-ltb (position_or_len p xs) (length xs) (slice_get_within xs (position_or_len p xs) y e) in
-    ap (λ b. cond b (Some (position_or_len p xs)) None) less
+    ap (λ b. cond b (Some (position_or_len p xs)) None) (lt-ltb (position_or_len p xs) (length xs)
+    (slice_get_within xs (position_or_len p xs) y e))
 
 module _ (t : Tables) (flat : IsFlat t.source t.flat) where
   -- an end at the device, which is the first
@@ -44,12 +43,9 @@ module _ (t : Tables) (flat : IsFlat t.source t.flat) where
       let x = h.at in
       let both : Some x.connection ≡ Some c = sym x.here ∙ ap (λ z. slice_get t.flat.connections z) h.place ∙ here in
       let same : x.connection ≡ c = cc in
-      let stands : slice_get c.ends x.number ≡ Some x.end = subst (λ (z : FlatConnection). slice_get z.ends x.number ≡ Some x.end)
-      same x.stands in
-      let hard : is_hardware c.connector x.end ≡ true =
-      subst (λ (z : FlatConnection). (end_rule z.connector x.end.role).hardware ≡ true) same h.device in
       let test : FlatEnd → Bool = is_hardware c.connector in
-      let f = first_found test c.ends x.number x.end stands hard in
+      let f = first_found test c.ends x.number x.end (subst (λ (z : FlatConnection). slice_get z.ends x.number ≡ Some x.end) same
+      x.stands) (subst (λ (z : FlatConnection). (end_rule z.connector x.end.role).hardware ≡ true) same h.device) in
       let n = position_or_len test c.ends in
       let at : slice_get c.ends n ≡ Some f.0 = f.1 in
       let placed : device_place c.connector c.ends ≡ Some n = position_found test c.ends f.0 at in

@@ -38,14 +38,12 @@ module _ (t : Tables) where
 
   of_object : (c i : ℕ) (held : Cap) (o : Object) → IsAt t c o → Contains (boot_node o).slots (i, Capability held) → HeldBy c held
   of_object c i held (objects.CNode bits slots) at there =
-      let w = of_node at.what at.sort in
-      let d = w.0 in
+      let w = of_node at.what at.sort in let d = w.0 in
       let here : IsThere t (CNodeOf d) = subst (λ z. IsThere t z) w.1 at.there in
       let is : object t (CNodeOf d) ≡ objects.CNode bits slots = subst (λ z. object t z ≡ objects.CNode bits slots) w.1 at.is in
       let same : slots ≡ slots_at t d = cc in
-      let inside : Contains (map boot_slot (slots_at t d)) (i, Capability held) =
-      subst (λ z. Contains (map boot_slot z) (i, Capability held)) same there in
-      let k = contains_at (map boot_slot (slots_at t d)) (i, Capability held) inside in
+      let k = contains_at (map boot_slot (slots_at t d)) (i, Capability held)
+      (subst (λ z. Contains (map boot_slot z) (i, Capability held)) same there) in
       let s = slot_of (slots_at t d) k.0 i (Capability held) k.1 in
       let u = from_ones (λ n u. (n + 1, use_cap t d n u)) (uses_at t d) k.0 s.0 s.1 in
       let content : Capability s.0.1 ≡ Capability held = s.2 in
@@ -75,16 +73,13 @@ module _ (t : Tables) where
   pub slot_holds : (d n : ℕ) (x : Domain) (u : SlotUse) → slice_get t.flat.domains d ≡ Some x → slice_get (uses_at t d) n ≡ Some u
       → Holds spec (place t (CNodeOf d)) (n + 1) (use_cap t d n u)
   slot_holds d n x u e s =
-      let c = place t (CNodeOf d) in
-      let held = use_cap t d n u in
+      let c = place t (CNodeOf d) in let held = use_cap t d n u in
       let there : node_at (boot spec) c ≡ boot_node (object t (CNodeOf d)) = boots spec boot_node c (object t (CNodeOf d)) no_node
       (object_there t (CNodeOf d) (x, e)) in
       let slot : slice_get (slots_at t d) n ≡ Some (n + 1, held) = get_ones (λ n u. (n + 1, use_cap t d n u))
       (uses_at t d) n u s in
-      let inside : Contains (map boot_slot (slots_at t d)) (n + 1, Capability held) =
-      at_contains (map boot_slot (slots_at t d)) (n + 1, Capability held) n (slice_get-map boot_slot (slots_at t d) n
-      ∙ ap (option_map boot_slot) slot) in
-      subst (λ (z : Node). Contains z.slots (n + 1, Capability held)) (sym there) inside
+      subst (λ (z : Node). Contains z.slots (n + 1, Capability held)) (sym there) (at_contains (map boot_slot (slots_at t d))
+      (n + 1, Capability held) n (slice_get-map boot_slot (slots_at t d) n ∙ ap (option_map boot_slot) slot))
 
   -- ---- the objects of connections
 
@@ -109,8 +104,7 @@ module _ (t : Tables) where
   pub joint_kind_at : (k : ℕ) (c : FlatConnection) (r : Role) → slice_get t.flat.connections k ≡ Some c
       → has_slot c.connector r ≡ true → kind_at spec (place t (joint t k)) ≡ Some (joint_kind c.connector)
   joint_kind_at k c r h s =
-      ap (λ z. kind_at spec (place t z)) (joint_is t k c h)
-      ∙ kind_there t (joint_by k c.connector) (joint_there k c r h s)
+      ap (λ z. kind_at spec (place t z)) (joint_is t k c h) ∙ kind_there t (joint_by k c.connector) (joint_there k c r h s)
       ∙ ap (λ z. Some z) (joint_kinds k c.connector)
 
   pub joint_label : (k : ℕ) (c : FlatConnection) (r : Role) → slice_get t.flat.connections k ≡ Some c
@@ -124,8 +118,7 @@ module _ (t : Tables) where
   end_confers x a s =
       ap (λ z. option_confers z (rights_at t x.place x.number) a) (joint_kind_at x.place x.connection x.end.role x.here s)
       ∙ ap (λ z. kind_confers (joint_kind x.connection.connector) z a) (rights_are t x.place x.number x.connection x.end
-      x.here x.stands)
-      ∙ row_law x.connection.connector x.end.role a s
+      x.here x.stands) ∙ row_law x.connection.connector x.end.role a s
 
   leads_joint : (x : EndAt t.flat) (y : Connector) (label : ℕ) → label ≡ connection_label (policy_tables t) x.place
       → LeadsTo (policy_tables t) x (joint_object y) label
@@ -190,8 +183,7 @@ module _ (t : Tables) where
     held_direct : (l : ℕ) (a : Authority) (m : ℕ) → l ≢ m → Held spec (labels t) (boot spec) l a m
         → DirectReason policy (edge l a m)
     held_direct l a m differ (c, i, held, there, conf, from, to) =
-        let b = holder c i held there in
-        let d = b.domain in
+        let b = holder c i held there in let d = b.domain in
         let f = from_domain t.source t.flat b.found.leaves b.used (used_in d b.number b.found b.used b.here b.at) in
         let mine : l ≡ domain_label policy d = from ∙ ap (label_of (labels t)) (sym b.node) ∙ node_label d b.found b.here in
         let conferred : confers spec (use_cap t d b.number b.used) a ≡ true =
@@ -294,8 +286,7 @@ module _ (t : Tables) where
 
     signal_direct : (l : ℕ) (a : Authority) (m : ℕ) → OfSignal (labels t) (boot spec) l a m → DirectReason policy (edge l a m)
     signal_direct l a m (o, n, there, is, from, to) =
-        let b = bound o n there in
-        let k = b.connection in
+        let b = bound o n there in let k = b.connection in
         let v = device_here k b.found b.here b.interrupt in
         let r = device_from k b.found v b.interrupt in
         let i : v.at.connection.connector ≡ Interrupt = ap (λ (z : FlatConnection). z.connector) v.connection ∙ b.interrupt in
@@ -328,8 +319,7 @@ module _ (t : Tables) where
 
     pub in_its_domain : (x : EndAt t.flat) → is_at_device x ≡ false → InDomain x
     in_its_domain x soft =
-        let j = h.flat.joined x in
-        let d = h.flat.software x j.leaf soft j.here in
+        let j = h.flat.joined x in let d = h.flat.software x j.leaf soft j.here in
         let l = h.flat.listed x.end.leaf d.0 j.leaf j.here d.1 in
         record { domain = d.0; found = l.0; here = l.1; listed = l.2; label = leaf_of_domain d.0 x.end.leaf l.0 l.1 l.2 }
 
@@ -357,10 +347,8 @@ module _ (t : Tables) where
     slot_given : (l : ℕ) (a : Authority) (m : ℕ) (d : DirectReason policy (edge l a m))
         → OfSlot d.at.connection.connector d.at.end.role d.object → Held spec (labels t) (boot spec) l a m
     slot_given l a m d s =
-        let x = d.at in
-        let c = x.connection.connector in
-        let r = x.end.role in
-        let i = in_its_domain x (slot_soft c r s.slot) in
+        let x = d.at in let c = x.connection.connector in
+        let r = x.end.role in let i = in_its_domain x (slot_soft c r s.slot) in
         let u = use_held x (OfEnd x.place x.number) i (end_in_uses c r x.place x.number s.slot) in
         let given : gives c r (joint_object c) a ≡ true = subst (λ z. gives c r z a ≡ true) s.object d.given in
         let leads : m ≡ connection_label policy x.place = from_joint x c m (subst (λ z. LeadsTo policy x z m) s.object d.to) in (
@@ -377,11 +365,10 @@ module _ (t : Tables) where
     pub one_end : (x y : EndAt t.flat) → y.place ≡ x.place → is_at_device x ≡ true → is_at_device y ≡ true
         → y.end.leaf ≡ x.end.leaf
     one_end x y e a b =
-        let n = h.flat.one_device x y e a b in
         let both : Some y.connection ≡ Some x.connection = sym y.here ∙ ap (λ z. slice_get t.flat.connections z) e ∙ x.here in
         let same : y.connection ≡ x.connection = cc in
         let ends : Some y.end ≡ Some x.end = sym y.stands ∙ ap (λ (z : FlatConnection). slice_get z.ends y.number) same
-        ∙ ap (λ z. slice_get x.connection.ends z) n ∙ x.stands in
+        ∙ ap (λ z. slice_get x.connection.ends z) (h.flat.one_device x y e a b) ∙ x.stands in
         let end : y.end ≡ x.end = cc in
         ap (λ (z : FlatEnd). z.leaf) end
 
@@ -398,12 +385,9 @@ module _ (t : Tables) where
     handling_given : (l : ℕ) (a : Authority) (m : ℕ) (d : DirectReason policy (edge l a m))
         → IsHandling d.at.connection.connector d.at.end.role d.object a → Held spec (labels t) (boot spec) l a m
     handling_given l a m d s =
-        let x = d.at in
-        let c = x.connection.connector in
-        let r = x.end.role in
-        let k = x.place in
-        let i = in_its_domain x (soft_to c r s.connector s.role) in
-        let u = use_held x (Handler k x.number) i (handler_use c r k x.number s.connector s.role) in
+        let x = d.at in let k = x.place in
+        let i = in_its_domain x (soft_to x.connection.connector x.end.role s.connector s.role) in
+        let u = use_held x (Handler k x.number) i (handler_use x.connection.connector x.end.role k x.number s.connector s.role) in
         let other : AtOtherEnd policy x m = subst (λ z. LeadsTo policy x z m) s.object d.to in
         let v = device_here k x.connection x.here s.connector in
         let same = same_connection policy x other.at other.same in
@@ -423,8 +407,7 @@ module _ (t : Tables) where
     signalling_given : (l : ℕ) (a : Authority) (m : ℕ) (d : DirectReason policy (edge l a m))
         → IsSignalling d.at.connection.connector d.at.end.role d.object a → OfSignal (labels t) (boot spec) l a m
     signalling_given l a m d s =
-        let x = d.at in
-        let k = x.place in
+        let x = d.at in let k = x.place in
         let v = device_here k x.connection x.here s.connector in
         let hard : is_at_device x ≡ true = from_device x.connection.connector x.end.role s.connector s.role in
         let leaf : x.end.leaf ≡ v.at.end.leaf = one_end v.at x (sym v.place) v.device hard in

@@ -1,8 +1,10 @@
 -- The ends at a leaf
-use Rattle.spec_laws.proofs.Common.{Bool, EndAt, FlatConnection, FlatEnd, IsIn, Leaf, List, Member, Some, Tables, [], and_parts, ap, at_place, cond, end_here, ends, ends_at, ends_in, eq-eqb, eqb-true, false, from_gather, gather, get_ones, in_gather}
-use Rattle.spec_laws.proofs.Common.{inl, inr, joins, leaf_ends, leaf_members, length, member_ends, members_at, members_of_leaf, refl, slice_get, subst, sym, system, true, ℕ, ◌&&◌, ◌<◌, ◌==◌, ◌∙◌, ◌∷◌, ◌≡◌}
-use Rattle.spec_laws.proofs.Once.{Once, once_gather, once_none, once_one}
+use Rattle.spec_laws.proofs.Common.{Bool, EndAt, FlatConnection, FlatEnd, IsIn, Leaf, List, Member, Some, Tables, [], and_parts, ap, at_place, cond, end_here, ends, ends_at, eq-eqb, eqb-true, from_gather, gather, in_gather}
+use Rattle.spec_laws.proofs.Common.{inl, joins, leaf_ends, leaf_members, length, member_ends, refl, slice_get, subst, sym, system, true, ℕ, ◌&&◌, ◌<◌, ◌==◌, ◌∙◌, ◌∷◌, ◌≡◌}
+use Rattle.spec_laws.proofs.Once.{Once, once_gather, once_if}
 use Rattle.spec_laws.proofs.SlotLists.{some}
+use Rattle.spec_laws.proofs.Lists.{shown_if}
+use Rattle.cspace_layout.proofs.Using.{ends_at_leaf}
 
 -- an end that joins the leaf, by its numbers
 pub record JoinsLeaf (cs : List FlatConnection) (leaf member : ℕ) (e : EndAt) : Type 0 where
@@ -18,19 +20,10 @@ at k n = record { connection = k; end = n }
 
 -- what an end gives, if it joins the member
 here_is : (leaf m k n : ℕ) (x : FlatEnd) (e : EndAt) → IsIn e (end_here leaf m k n x) → (joins leaf m x ≡ true) × (at k n ≡ e)
-here_is leaf m k n x e i = by_test (joins leaf m x) refl i
-  where
-    by_test : (b : Bool) → joins leaf m x ≡ b → IsIn e (cond b (at k n ∷ []) []) → (joins leaf m x ≡ true) × (at k n ≡ e)
-    by_test true h (inl s) = (h, s)
-    by_test true h (inr s) = absurd s
-    by_test false h s = absurd s
+here_is leaf m k n x e i = shown_if (joins leaf m x) (at k n) e i
 
 once_here : (leaf m k n : ℕ) (x : FlatEnd) → Once (end_here leaf m k n x)
-once_here leaf m k n x = by_test (joins leaf m x)
-  where
-    by_test : (b : Bool) → Once (cond b (at k n ∷ []) [])
-    by_test true = once_one (at k n)
-    by_test false = once_none
+once_here leaf m k n x = once_if (joins leaf m x) (at k n)
 
 module _ (cs : List FlatConnection) (leaf : ℕ) where
   abbrev of_connection : ℕ → ℕ → FlatConnection → List EndAt
@@ -39,8 +32,7 @@ module _ (cs : List FlatConnection) (leaf : ℕ) where
   pub member_end : (m : ℕ) (e : EndAt) → IsIn e (member_ends cs leaf m) → JoinsLeaf cs leaf m e
   member_end m e i =
       let a = from_gather (of_connection m) e cs i in
-      let f : ℕ → FlatEnd → List EndAt = λ n x. end_here leaf m a.0 n x in
-      let b = from_gather f e a.1.ends a.3 in
+      let b = from_gather (λ n x. end_here leaf m a.0 n x) e a.1.ends a.3 in
       let s = here_is leaf m a.0 b.0 b.1 e b.3 in
       let q = and_parts (b.1.leaf == leaf) (b.1.member == m) s.0 in
       let P : ℕ → Type 0 = λ z. slice_get cs z ≡ Some a.1 in
@@ -65,8 +57,7 @@ module _ (cs : List FlatConnection) (leaf : ℕ) where
   once_member : (m : ℕ) → Once (member_ends cs leaf m)
   once_member m =
       let inner : (k : ℕ) (c : FlatConnection) → slice_get cs k ≡ Some c → Once (of_connection m k c) = λ k c h. (
-      let f : ℕ → FlatEnd → List EndAt = λ n x. end_here leaf m k n x in
-      once_gather f c.ends (λ n x g. once_here leaf m k n x)
+      once_gather (λ n x. end_here leaf m k n x) c.ends (λ n x g. once_here leaf m k n x)
       (λ n l x z e i j. ap (λ (w : EndAt). w.end) ((here_is leaf m k n x e i).1 ∙ sym (here_is leaf m k l z e j).1))) in
       once_gather (of_connection m) cs inner (λ k l c d e i j. (
       let a = from_gather (λ n x. end_here leaf m k n x) e c.ends i in
@@ -75,10 +66,8 @@ module _ (cs : List FlatConnection) (leaf : ℕ) where
 
   pub once_leaf : (members : List Member) → Once (leaf_ends cs leaf members)
   once_leaf members =
-      let f : ℕ → Member → List EndAt = λ m x. member_ends cs leaf m in
-      once_gather f members (λ m x h. once_member m) (λ k l x z e i j. (
-      let a = member_end k e i in
-      let b = member_end l e j in
+      once_gather (λ m x. member_ends cs leaf m) members (λ m x h. once_member m) (λ k l x z e i j. (
+      let a = member_end k e i in let b = member_end l e j in
       let conn : a.connection ≡ b.connection = some (slice_get cs e.connection) a.connection b.connection a.here b.here in
       let P : FlatConnection → Type 0 = λ z. slice_get z.ends e.end ≡ Some a.end in
       let end : a.end ≡ b.end = some (slice_get b.connection.ends e.end) a.end b.end (subst P conn a.stands) b.stands in
@@ -88,10 +77,7 @@ module _ (cs : List FlatConnection) (leaf : ℕ) where
 
 pub ends_are : (t : Tables) (leaf : ℕ) (x : Leaf) → slice_get t.flat.leaves leaf ≡ Some x
     → ends_at (ends (system t)) leaf ≡ leaf_ends t.flat.connections leaf (leaf_members t.source t.flat leaf)
-ends_are t leaf x h =
-    let f : ℕ → Leaf → List EndAt = λ n z. leaf_ends t.flat.connections n (members_at t.source z.component) in
-    ap (λ o. ends_in o) (get_ones f t.flat.leaves leaf x h)
-    ∙ ap (λ o. leaf_ends t.flat.connections leaf (members_of_leaf t.source o)) (sym h)
+ends_are t leaf x h = ends_at_leaf t.source t.flat leaf
 
 pub end_of_leaf : (t : Tables) (leaf : ℕ) (e : EndAt) (members : List Member) → IsIn e (leaf_ends t.flat.connections leaf members)
     → (m : ℕ) × JoinsLeaf t.flat.connections leaf m e

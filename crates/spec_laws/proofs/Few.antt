@@ -16,9 +16,8 @@ module _ (t : Tables) where
 
   pub all_tables_are : totals (λ d (x : Domain). length (tables_at t 0 0 d)) t.flat.domains ≡ length (all_tables t)
   all_tables_are =
-      sym (length_gather (domain_tables t) t.flat.domains
-      ∙ totals_same (λ d (x : Domain). length (domain_tables t d x)) (λ d x. length (tables_at t 0 0 d)) t.flat.domains
-      (λ d x e. same d x))
+      sym (length_gather (domain_tables t) t.flat.domains ∙ totals_same (λ d (x : Domain). length (domain_tables t d x))
+      (λ d x. length (tables_at t 0 0 d)) t.flat.domains (λ d x e. same d x))
     where
       same : (d : ℕ) (x : Domain) → length (domain_tables t d x) ≡ length (tables_at t 0 0 d)
       same d x = gather_ones (λ j o. page_table d j (level_of o)) (tables_at t 0 0 d)
@@ -38,9 +37,7 @@ module _ (t : Tables) where
   pub parts_few : length (parts t) ≤ object_sum t
   parts_few =
       let a = parts_most t one (λ d. 1) 1 1 1 1 (λ d. length (tables_at t 0 0 d)) 1 one_most in
-      let b = length_is (parts t) in
-      let c = totals_const 1 t.flat.domains in
-      omega (arith, a, b, c, all_tables_are)
+      omega (arith, a, length_is (parts t), totals_const 1 t.flat.domains, all_tables_are)
 
   pub objects_few : length (spec_of t).entries ≤ object_sum t
   objects_few = let m = length-map (parts t) (entry t) in omega (arith, m, parts_few)
@@ -66,16 +63,13 @@ module _ (t : Tables) where
   table_caps : (d : ℕ) → totals (λ j (o : Object). caps (TableOf d j)) (tables_at t 0 0 d) ≤ length (pages_at t d) + length
       (tables_at t 0 0 d)
   table_caps d =
-      let first = place t (TableOf d 0) in
-      let frames = place t (FrameOf 0) in
+      let first = place t (TableOf d 0) in let frames = place t (FrameOf 0) in
       let xs : List Mapping = map (page_mapping frames) (pages_at t d) in
       let long = as_long t 0 0 first frames d in
       let all : totals (λ j (o : Object). caps (TableOf d j)) (tables_at t 0 0 d) ≡ total caps_of (standing t d) =
       looked_up caps_of objects.Endpoint (tables_at t 0 0 d) (standing t d) long in
-      let most = of_levels (shapes (arch t)) xs first 0 in
       let size = as_many first 0 (layers (shapes (arch t)) xs) in
-      let count = length-map (pages_at t d) (page_mapping frames) in
-      omega (arith, all, most, size, count, long)
+      omega (arith, all, of_levels (shapes (arch t)) xs first 0, size, length-map (pages_at t d) (page_mapping frames), long)
 
   caps_most : Most t caps (λ d. length (uses_at t d)) 3 0 0 1 (λ d. length (pages_at t d) + length (tables_at t 0 0 d)) 0
   caps_most = record {
@@ -106,19 +100,7 @@ module _ (t : Tables) where
   module _ (sized : IsSized t) where
     pub objects_within : length (spec_of t).entries ≤ 238592
     objects_within =
-        let a = sized.domains in
-        let b = sized.connections in
-        let c = sized.uses in
-        let d = sized.threads in
-        let e = sized.tables in
-        let f = sized.frames in
-        omega (arith, objects_few, a, b, c, d, e, f)
+        omega (arith, objects_few, sized.domains, sized.connections, sized.uses, sized.threads, sized.tables, sized.frames)
 
     pub caps_within : cap_count (spec_of t) ≤ 299008
-    caps_within =
-        let a = sized.connections in
-        let b = sized.uses in
-        let c = sized.pages in
-        let d = sized.threads in
-        let e = sized.tables in
-        omega (arith, caps_few, a, b, c, d, e)
+    caps_within = omega (arith, caps_few, sized.connections, sized.uses, sized.pages, sized.threads, sized.tables)

@@ -48,10 +48,8 @@ module _ (t : Tables) (can : CanMap t) (d : ℕ) (x : Domain) (h : slice_get t.f
 
   pub in_maps : (n : ℕ) (p : MappedPage) → slice_get (mapped_pages (system t) d) n ≡ Some p → IsIn (mapping n p) maps
   in_maps n p e =
-      let f : ℕ → MappedPage → List Page = λ n p. laid_page n p ∷ [] in
-      let P : List Page → Type 0 = λ z. IsIn (laid_page n p) z in
-      in_map (page_mapping (frames_from t)) (laid_page n p) (pages_at t d)
-      (subst P (sym pages_are) (in_gather f (laid_page n p) (mapped_pages (system t) d) n p e (inl refl)))
+      in_map (page_mapping (frames_from t)) (laid_page n p) (pages_at t d) (subst (λ z. IsIn (laid_page n p) z) (sym pages_are)
+      (in_gather (λ n p. laid_page n p ∷ []) (laid_page n p) (mapped_pages (system t) d) n p e (inl refl)))
 
   pub record IsMapping (m : Mapping) : Type 0 where
     pub number : ℕ
@@ -61,10 +59,8 @@ module _ (t : Tables) (can : CanMap t) (d : ℕ) (x : Domain) (h : slice_get t.f
 
   pub from_maps : (m : Mapping) → IsIn m maps → IsMapping m
   from_maps m i =
-      let f : ℕ → MappedPage → List Page = λ n p. laid_page n p ∷ [] in
       let a = from_map (page_mapping (frames_from t)) m (pages_at t d) i in
-      let P : List Page → Type 0 = λ z. IsIn a.0 z in
-      let b = from_gather f a.0 (mapped_pages (system t) d) (subst P pages_are a.1) in
+      let b = from_gather (λ n p. laid_page n p ∷ []) a.0 (mapped_pages (system t) d) (subst (λ z. IsIn a.0 z) pages_are a.1) in
       elim b.3 [
         | inl e ↦ record { number = b.0; shown = b.1; here = b.2; is = ap (page_mapping (frames_from t)) e ∙ a.2 }
         | inr n ↦ absurd n
@@ -81,11 +77,8 @@ module _ (t : Tables) (can : CanMap t) (d : ℕ) (x : Domain) (h : slice_get t.f
   region_below : (n j : ℕ) (r : Region) → slice_get (regions (system t) d) n ≡ Some r → j < r.pages
       → begins t d n + 4096 * j < root_span (shapes (arch t))
   region_below n j r e l =
-      let rs = regions (system t) d in
-      let few = few_at (system t) can.lay can.few d x h in
-      let a = pages_before rs n r e in
-      let b = below rs n r e in
-      root_spans (arch t) (begins t d n + 4096 * j) (omega (arith, few, a, b, l))
+      let rs = regions (system t) d in let few = few_at (system t) can.lay can.few d x h in
+      root_spans (arch t) (begins t d n + 4096 * j) (omega (arith, few, pages_before rs n r e, below rs n r e, l))
 
   page_below : (p : MappedPage) → IsIn p (mapped_pages (system t) d) → p.at < root_span (shapes (arch t))
   page_below p i =
@@ -110,8 +103,7 @@ module _ (t : Tables) (can : CanMap t) (d : ℕ) (x : Domain) (h : slice_get t.f
   pub maps_below : (m : Mapping) → IsIn m maps → m.at < root_span (shapes (arch t))
   maps_below m i =
       let a = from_maps m i in
-      let P : ℕ → Type 0 = λ z. z < root_span (shapes (arch t)) in
-      subst P (ap (λ (z : Mapping). z.at) a.is)
+      subst (λ z. z < root_span (shapes (arch t))) (ap (λ (z : Mapping). z.at) a.is)
       (page_below a.shown (in_place a.shown (mapped_pages (system t) d) a.number a.here))
 
   -- ---- some page is mapped: the buffer of the first thread
@@ -162,8 +154,7 @@ module _ (t : Tables) (can : CanMap t) (d : ℕ) (x : Domain) (h : slice_get t.f
 
   pub found : (v : ℕ) (cap : Cap) → v < root_span (shapes (arch t)) → IsAt (spec_of t) (root_of t d) v cap → Found v cap
   found v cap l i =
-      let m = (walk v cap l).0 i in
-      let a = from_maps m.0 m.1 in
+      let m = (walk v cap l).0 i in let a = from_maps m.0 m.1 in
       record {
         number = a.number;
         shown = a.shown;
@@ -180,9 +171,7 @@ module _ (t : Tables) (can : CanMap t) (d : ℕ) (x : Domain) (h : slice_get t.f
       → v < root_span (shapes (arch t))
   within v n p e same =
       let i = in_place p (mapped_pages (system t) d) n e in
-      let a = rise.aligned p i in
-      let l = page_below p i in
-      last (arch t) p.at v a same l
+      last (arch t) p.at v (rise.aligned p i) same (page_below p i)
     where
       last : (a : Arch) (at v : ℕ) → at % 4096 ≡ 0 → at / 4096 ≡ v / 4096 → at < root_span (shapes a) → v < root_span (shapes a)
       last Arm11 at v a s l = omega (arith, a, s, l)

@@ -19,11 +19,9 @@ pub tables_are_fit : (s : Source) (images : Images) → AreFilesShort s → AreN
     → IsFit (tables_from s (flat_of s) (settled_of s) images)
 tables_are_fit s images short sound types flat settings numbered sections space slots pages =
     let g = given s (flat_of s) (settled_of s) images in
-    let t = tables_from s (flat_of s) (settled_of s) images in
-    let one = one_assembly s sound in
+    let t = tables_from s (flat_of s) (settled_of s) images in let one = one_assembly s sound in
     let can = can_lay s images short sound types flat settings in
     let build = can_build s images short sound types flat settings numbered sections space slots pages in
-    let stand = sections_stand g numbered sections space in
     let few = (few_pages g one.0 one.1 pages).pages in
     record {
       laid = refl;
@@ -31,7 +29,7 @@ tables_are_fit s images short sound types flat settings numbered sections space 
       objects = build.few.objects;
       domains = λ d x at. record {
         slots = let l = uses_few t refl refl (flat_small s sound flat) (few_uses s sound slots) can few d in omega (arith, l);
-        pages = λ p i. let q = pages_placed g stand can few d p i in record {
+        pages = λ p i. let q = pages_placed g (sections_stand g numbered sections space) can few d p i in record {
           aligned = q.aligned;
           below = q.below;
           frame = build.shown d p i;
@@ -45,14 +43,11 @@ tables_are_fit s images short sound types flat settings numbered sections space 
     }
 
 pub layouts_are_limited : (s : Source) (images : Images) → AreFilesShort s → AreNamesSound s → first_type_fault s ≡ None
-    → first_flat_fault s ≡ None → first_setting_fault s ≡ None
-    → first_slot_fault s (flat_of s) ≡ None → first_page_limit (given s (flat_of s) (settled_of s) images) ≡ None
-    → IsLimited (given s (flat_of s) (settled_of s) images)
+    → first_flat_fault s ≡ None → first_setting_fault s ≡ None → first_slot_fault s (flat_of s) ≡ None
+    → first_page_limit (given s (flat_of s) (settled_of s) images) ≡ None → IsLimited (given s (flat_of s) (settled_of s) images)
 layouts_are_limited s images short sound types flat settings slots pages =
-    let g = given s (flat_of s) (settled_of s) images in
-    let one = one_assembly s sound in
-    let small = flat_small s sound flat in
-    let few = few_pages g one.0 one.1 pages in
+    let one = one_assembly s sound in let small = flat_small s sound flat in
+    let few = few_pages (given s (flat_of s) (settled_of s) images) one.0 one.1 pages in
     record {
       domains = small.domains;
       connections = small.connections;

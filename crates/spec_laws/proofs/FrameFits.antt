@@ -1,11 +1,12 @@
 -- Each frame has the address of a page or none, and fills a part of it or nothing.
-use Rattle.spec_laws.proofs.Common.{Bool, Buffer, Content, Domain, FlatConnection, FlatEnd, FrameInfo, Given, IsIn, List, MappedPage, Memory, None, Option, Own, Placed, Region, Section, SectionPage, Settled, Shown, Some, Stack, Window, [], and_from}
-use Rattle.spec_laws.proofs.Common.{arith, base, by_address, cond, connection_frames, device_frame, device_frames, eq-eqb, false, fill_from, fill_of, frame, frames, frames_at, from_flat_map, from_gather, from_map, from_range, in_append, in_place}
+use Rattle.spec_laws.proofs.Common.{Content, FlatConnection, FlatEnd, FrameInfo, Given, IsIn, List, MappedPage, Memory, None, Option, Own, Region, Section, SectionPage, Settled, Shown, Some, Window, [], and_from}
+use Rattle.spec_laws.proofs.Common.{arith, base, by_address, connection_frames, device_frame, device_frames, eq-eqb, fill_from, fill_of, frame, frames, frames_at, from_flat_map, from_gather, from_map, from_range, in_append, in_place}
 use Rattle.spec_laws.proofs.Common.{inl, inr, is_first, is_shared, keeps_fill, keeps_frame, le-leb, leaves_of, leb, lt-ltb, map, mapped_pages, memory_paddr, memory_pages, memory_part, min, nat_lt, option_map, option_map_or, own_frame, own_frames}
 use Rattle.spec_laws.proofs.Common.{own_part, page_at, page_count, page_of, pages_of, pages_of_region, range_with_len, refl, region_page, region_part, regions, register_frames, register_part, registers, section_page, section_pages, section_part}
 use Rattle.spec_laws.proofs.Common.{sections_of, shared_frames, shared_part, slice_get, subst, true, ℕ, ⊎_elim, ◌%◌, ◌*◌, ◌+◌, ◌-◌, ◌<◌, ◌==◌, ◌≡◌}
 use Rattle.source_images.specs.ByAddress.{name_of}
 use Rattle.vspace_layout.specs.declared.owner.Owner.TheVariants.{OfConnection}
+use Rattle.spec_laws.proofs.Lists.{from_if}
 
 abbrev Keeps : FrameInfo → Type 0
 Keeps f = keeps_frame f.paddr f.fill ≡ true
@@ -15,8 +16,7 @@ Keeps f = keeps_frame f.paddr f.fill ≡ true
 fill_kept : (file : List ℕ) (s : Section) (j at : ℕ) → j < page_count s → keeps_fill (fill_from file s j at) ≡ true
 fill_kept file s j at l =
     and_from (nat_lt 0 (min (s.size - 4096 * j) 4096)) (leb (0 + min (s.size - 4096 * j) 4096) 4096)
-    (lt-ltb 0 (min (s.size - 4096 * j) 4096) (omega (arith, l))) (le-leb (0 + min (s.size - 4096 * j) 4096) 4096
-    (omega arith))
+    (lt-ltb 0 (min (s.size - 4096 * j) 4096) (omega (arith, l))) (le-leb (0 + min (s.size - 4096 * j) 4096) 4096 (omega arith))
 
 section_kept : (file : List ℕ) (s : Section) (j : ℕ) → j < page_count s → keeps_frame None (fill_of file s j) ≡ true
 section_kept file s j l = by_place s.at
@@ -40,40 +40,28 @@ region_filled settled _ at j = refl
 module _ (g : Given) where
   section_filled : (leaves : List ℕ) (x : SectionPage) → IsIn x (section_pages g.images leaves) → keeps_frame None x.fill ≡ true
   section_filled leaves x i =
-      let a : (y : Placed) × IsIn y (by_address (sections_of g.images leaves)) × IsIn x (pages_of g.images y) =
-      from_flat_map (pages_of g.images) x (by_address (sections_of g.images leaves)) i in
+      let a = from_flat_map (pages_of g.images) x (by_address (sections_of g.images leaves)) i in
       let file = name_of g.images a.0.image in
-      let b : (j : ℕ) × IsIn j (range_with_len 0 (page_count a.0.section)) × (page_at file a.0.section j ≡ x) =
-      from_map (page_at file a.0.section) x (range_with_len 0 (page_count a.0.section)) a.2 in
+      let b = from_map (page_at file a.0.section) x (range_with_len 0 (page_count a.0.section)) a.2 in
       let l = from_range 0 (page_count a.0.section) b.0 b.1 in
       subst (λ (z : SectionPage). keeps_frame None z.fill ≡ true) b.2 (section_kept file a.0.section b.0 (omega (arith, l)))
 
   page_filled : (d : ℕ) (p : MappedPage) → IsIn p (mapped_pages g d) → PageFilled p
   page_filled d p i =
-      ⊎_elim
-      (λ j.
-      let s : (x : SectionPage) × IsIn x (section_pages g.images (leaves_of g.flat d)) × (section_page x ≡ p) =
-      from_map section_page p (section_pages g.images (leaves_of g.flat d)) j in
-      subst PageFilled s.2 (section_filled (leaves_of g.flat d) s.0 s.1))
-      (λ j.
-      let k : (k : ℕ) × (r : Region) × (slice_get (regions g d) k ≡ Some r)
-      × IsIn p (pages_of_region g.settled (base g) (regions g d) k r) =
-      from_gather (pages_of_region g.settled (base g) (regions g d)) p (regions g d) j in
-      by_page k.1 _ k.3)
+      ⊎_elim (λ j. let s = from_map section_page p (section_pages g.images (leaves_of g.flat d)) j in
+      subst PageFilled s.2 (section_filled (leaves_of g.flat d) s.0 s.1)) (λ j. let k = from_gather
+      (pages_of_region g.settled (base g) (regions g d)) p (regions g d) j in by_page k.1 _ k.3)
       (in_append p (section_part g.images (leaves_of g.flat d)) (region_part g.settled (base g) (regions g d)) i)
     where
       by_page : (r : Region) (from : ℕ) → IsIn p (map (page_of g.settled from r) (range_with_len 0 r.pages)) → PageFilled p
       by_page r from i =
-          let m : (j : ℕ) × IsIn j (range_with_len 0 r.pages) × (page_of g.settled from r j ≡ p) =
-          from_map (page_of g.settled from r) p (range_with_len 0 r.pages) i in
+          let m = from_map (page_of g.settled from r) p (range_with_len 0 r.pages) i in
           subst PageFilled m.2 (region_filled g.settled r.content (from + 4096 * m.0) m.0)
 
   own_kept : (f : FrameInfo) → IsIn f (own_part g) → Keeps f
   own_kept f i =
-      let a : (d : ℕ) × (x : Domain) × (slice_get g.flat.domains d ≡ Some x) × IsIn f (own_frames g d x) =
-      from_gather (own_frames g) f g.flat.domains i in
-      let b : (n : ℕ) × (p : MappedPage) × (slice_get (mapped_pages g a.0) n ≡ Some p) × IsIn f (own_frame a.0 p.shown) =
-      from_gather (λ n (p : MappedPage). own_frame a.0 p.shown) f (mapped_pages g a.0) a.3 in
+      let a = from_gather (own_frames g) f g.flat.domains i in
+      let b = from_gather (λ n (p : MappedPage). own_frame a.0 p.shown) f (mapped_pages g a.0) a.3 in
       by_shown a.0 b.1.shown (page_filled a.0 b.1 (in_place b.1 (mapped_pages g a.0) b.0 b.2)) b.3
     where
       by_shown : (d : ℕ) (s : Shown) → IsFilled s → IsIn f (own_frame d s) → Keeps f
@@ -84,19 +72,13 @@ module _ (g : Given) where
 -- ---- memory
 
 shared_kept : (settled : Settled) (k : ℕ) (c : FlatConnection) (f : FrameInfo) → IsIn f (shared_frames settled k c) → Keeps f
-shared_kept settled k c f i = by_test (is_shared c.connector) i
-  where
-    by_test : (b : Bool) → IsIn f (cond b (connection_frames k (memory_pages settled k c)) []) → Keeps f
-    by_test true i =
-        let m : (j : ℕ) × IsIn j (range_with_len 0 (memory_pages settled k c)) × (frame (OfConnection k) None None ≡ f) =
-        from_map (λ j. frame (OfConnection k) None None) f (range_with_len 0 (memory_pages settled k c)) i in
-        subst Keeps m.2 refl
-    by_test false i = absurd i
+shared_kept settled k c f i =
+    let q = from_if (is_shared c.connector) (connection_frames k (memory_pages settled k c)) f i in
+    subst Keeps (from_map (λ j. frame (OfConnection k) None None) f (range_with_len 0 (memory_pages settled k c)) q.1).2 refl
 
 device_kept : (leaf at count : ℕ) (f : FrameInfo) → at % 4096 ≡ 0 → IsIn f (device_frames leaf at count) → Keeps f
 device_kept leaf at count f aligned i =
-    let m : (j : ℕ) × IsIn j (range_with_len 0 count) × (device_frame leaf at j ≡ f) =
-    from_map (device_frame leaf at) f (range_with_len 0 count) i in
+    let m = from_map (device_frame leaf at) f (range_with_len 0 count) i in
     subst Keeps m.2 (and_from ((at + 4096 * m.0) % 4096 == 0) true (eq-eqb ((at + 4096 * m.0) % 4096) 0 (omega (arith, aligned)))
     refl)
 
@@ -104,27 +86,19 @@ registers_kept : (g : Given) (k : ℕ) (c : FlatConnection) (f : FrameInfo) → 
     → IsIn f (register_frames g.flat g.settled k c) → Keeps f
 registers_kept g k c f aligned i = by_end (registers c) i
   where
-    by_test : (e : FlatEnd) (b : Bool)
-        → IsIn f (cond b (device_frames e.leaf (memory_paddr g.settled k c) (memory_pages g.settled k c)) []) → Keeps f
-    by_test e true i = device_kept e.leaf (memory_paddr g.settled k c) (memory_pages g.settled k c) f aligned i
-    by_test e false i = absurd i
-
     by_end : (o : Option FlatEnd) → IsIn f (option_map_or (frames_at g.flat g.settled k c) o []) → Keeps f
     by_end None i = absurd i
-    by_end (Some e) i = by_test e (is_first g.flat k e) i
+    by_end (Some e) i =
+        let frames = device_frames e.leaf (memory_paddr g.settled k c) (memory_pages g.settled k c) in
+        let q = from_if (is_first g.flat k e) frames f i in
+        device_kept e.leaf (memory_paddr g.settled k c) (memory_pages g.settled k c) f aligned q.1
 
 memory_kept : (g : Given) → ((k : ℕ) (c : FlatConnection) → slice_get g.flat.connections k ≡ Some c
     → memory_paddr g.settled k c % 4096 ≡ 0) → (f : FrameInfo) → IsIn f (memory_part g.flat g.settled) → Keeps f
 memory_kept g aligned f i =
-    ⊎_elim
-    (λ j.
-    let a : (k : ℕ) × (c : FlatConnection) × (slice_get g.flat.connections k ≡ Some c) × IsIn f (shared_frames g.settled k c) =
-    from_gather (shared_frames g.settled) f g.flat.connections j in
-    shared_kept g.settled a.0 a.1 f a.3)
-    (λ j.
-    let a : (k : ℕ) × (c : FlatConnection) × (slice_get g.flat.connections k ≡ Some c)
-    × IsIn f (register_frames g.flat g.settled k c) = from_gather (register_frames g.flat g.settled) f g.flat.connections j in
-    registers_kept g a.0 a.1 f (aligned a.0 a.1 a.2) a.3)
+    ⊎_elim (λ j. let a = from_gather (shared_frames g.settled) f g.flat.connections j in
+    shared_kept g.settled a.0 a.1 f a.3) (λ j. let a = from_gather
+    (register_frames g.flat g.settled) f g.flat.connections j in registers_kept g a.0 a.1 f (aligned a.0 a.1 a.2) a.3)
     (in_append f (shared_part g.flat g.settled) (register_part g.flat g.settled) i)
 
 pub frames_kept : (g : Given) → ((k : ℕ) (c : FlatConnection) → slice_get g.flat.connections k ≡ Some c

@@ -1,5 +1,5 @@
 -- Own frames of domains stand by domain and address, behind them shared frames, and then registers of devices
-use Rattle.spec_laws.proofs.Common.{AreFramesInOrder, CanMap, Cap, Domain, Fill, FlatConnection, FlatEnd, FrameInfo, FrameOf, IsBefore, IsNamed, IsOwn, IsOwnAt, IsRegisterAt, IsSharedAt, List, MappedPage, Mmio, None, OneDevice, Option, Own, Owned}
+use Rattle.spec_laws.proofs.Common.{AreFramesInOrder, CanMap, Cap, Domain, Fill, FlatConnection, FlatEnd, FrameInfo, FrameOf, IsBefore, IsNamed, IsOwn, IsOwnAt, IsRegisterAt, IsSharedAt, List, MappedPage, Mmio, Option, Own, Owned}
 use Rattle.spec_laws.proofs.Common.{Part, SharedMemory, Some, Tables, [], ap, arith, at_place, before, below, cases_lt, cond, connection_frames, false, frame_owner, frame_parts, get_ones, get_or_from_slice_get, in_gather, in_together, inl, inr}
 use Rattle.spec_laws.proofs.Common.{is_shared, leads_to, length, mapped_pages, memory_number, memory_pages, name_at, number_shown, numbered, object_at, objects_stand, option_map_or, own_frames, own_number, own_part, own_port, owned, part, place}
 use Rattle.spec_laws.proofs.Common.{position-Some, refl, register_frames, registers, registers_in, root_of, same_port, sections, shared_frames, shared_part, slice_get, spec_of, subst, sym, system, true, true≢false, ℕ, ◌+◌, ◌/◌, ◌<◌, ◌∙◌}
@@ -9,24 +9,22 @@ use Rattle.system_spec.specs.declared.series.Series.TheVariants as series
 use Rattle.spec_laws.proofs.Whose.{object_stands, of_frame}
 use Rattle.spec_laws.proofs.Blocks.{behind, inside}
 use Rattle.spec_laws.proofs.Finding.{found, rise}
-use Rattle.spec_laws.proofs.Framing.{FirstTo}
+use Rattle.spec_laws.proofs.Framing.{FirstTo, one_device}
 use Rattle.spec_laws.proofs.Lists.{not_above}
 use Rattle.spec_laws.proofs.Owning.{inside_own, no_memory, one_own, own_of}
 use Rattle.spec_laws.proofs.Rooted.{frames_from}
 use Rattle.spec_laws.proofs.Showing.{MemoryPlace, memory_at, memory_shown}
-use Rattle.spec_laws.proofs.SlotLists.{some}
 
 -- ---- the first connection to a device
 
 first_least : (t : Tables) (k : ℕ) (c : FlatConnection) (e : FlatEnd) → slice_get t.flat.connections k ≡ Some c
     → registers c ≡ Some e → (f : FirstTo t e) → f.number ≤ k
 first_least t k c e h r f =
-    let cs = t.flat.connections in
-    let s = position-Some (leads_to e) cs f.number c f.first in
+    let s = position-Some (leads_to e) t.flat.connections f.number c f.first in
     elim (cases_lt k f.number) [
       | inl l ↦
           let yes : leads_to e c ≡ true = ap (λ o. option_map_or (same_port e) o false) r ∙ own_port e in
-          absurd (true≢false (sym yes ∙ ap (leads_to e) (sym (get_or_from_slice_get cs k c c h)) ∙ s.2 k l))
+          absurd (true≢false (sym yes ∙ ap (leads_to e) (sym (get_or_from_slice_get t.flat.connections k c c h)) ∙ s.2 k l))
       | inr l ↦ omega (arith, l)
     ]
 
@@ -76,59 +74,51 @@ module _ (t : Tables) (can : CanMap t) where
 
   own_order : (d v m e w n : ℕ) → OwnNumber d v m → OwnNumber e w n → IsBefore d (v / 4096) e (w / 4096) → m < n
   own_order d v m e w n a b (inl l) =
-      let next = behind (own_frames (system t)) t.flat.domains d e a.leaves a.here l in
-      let low = a.low in
-      let i = a.is in
-      let j = b.is in
-      omega (arith, next, low, i, j)
+      omega (arith, behind (own_frames (system t)) t.flat.domains d e a.leaves a.here l, a.low, a.is, b.is)
   own_order d v m e w n a b (inr r) = in_domain (subst (λ z. OwnNumber z w n) (sym r.0) b)
     where
       in_domain : OwnNumber d w n → m < n
       in_domain b =
-          let p = a.same in
-          let q = b.same in
-          let less = r.1 in
-          let i = a.is in
-          let j = b.is in
           elim (cases_lt a.number b.number) [
             | inl l ↦
                 let next = behind (own_of d) (pages d) a.number b.number a.page a.stands l in
-                let one = one_own d a.page a.fill a.shown in
-                omega (arith, next, one, i, j)
+                omega (arith, next, one_own d a.page a.fill a.shown, a.is, b.is)
             | inr l ↦
                 let le = not_above (λ (z : MappedPage). z.at) (pages d) b.number a.number b.page a.page
                 (rise t can d a.leaves a.here).rise b.stands a.stands (omega (arith, l)) in
-                absurd (omega (arith, le, p, q, less))
+                absurd (omega (arith, le, a.same, b.same, r.1))
           ]
 
   own_below : (d v m : ℕ) → OwnNumber d v m → m < frames_from t + own
   own_below d v m a =
       let all : before (own_frames (system t)) t.flat.domains d + length (own_frames (system t) d a.leaves) ≤ own =
       inside (own_frames (system t)) t.flat.domains d a.leaves a.here in
-      let low = a.low in
-      let i = a.is in
-      omega (arith, all, low, i)
+      omega (arith, all, a.low, a.is)
 
   -- ---- frames of memory
 
-  record SharedNumber (k j at : ℕ) : Type 0 where
+  -- frame j of connection k, in the part that f lays behind so many frames
+  record FrameNumber (f : ℕ → FlatConnection → List FrameInfo) (front k j at : ℕ) : Type 0 where
     connection : FlatConnection
     here : slice_get cs k ≡ Some connection
-    is : at ≡ frames_from t + (own + before (shared_frames t.settled) cs k + j)
-    low : j < length (shared_frames t.settled k connection)
+    is : at ≡ frames_from t + (front + before f cs k + j)
+    low : j < length (f k connection)
 
-  record RegisterNumber (k j at : ℕ) : Type 0 where
-    connection : FlatConnection
-    here : slice_get cs k ≡ Some connection
-    is : at ≡ frames_from t + (own + (length (shared_part t.flat t.settled) + before (register_frames t.flat t.settled) cs k) + j)
-    low : j < length (register_frames t.flat t.settled k connection)
+  abbrev shared : ℕ → FlatConnection → List FrameInfo
+  shared = shared_frames t.settled
 
-  shared_at : (k j at : ℕ) → IsSharedAt t (spec_of t) (root_of t) k j at → SharedNumber k j at
+  abbrev laid : ℕ → FlatConnection → List FrameInfo
+  laid = register_frames t.flat t.settled
+
+  abbrev behind_shared : ℕ
+  behind_shared = own + length (shared_part t.flat t.settled)
+
+  shared_at : (k j at : ℕ) → IsSharedAt t (spec_of t) (root_of t) k j at → FrameNumber shared own k j at
   shared_at k j at w =
       let s = memory_shown t can w.domain k j at w.connection w.here w.shows in
       by_place s.is (memory_at t can k j w.connection w.here s.kind s.within)
     where
-      by_place : at ≡ frames_from t + memory_number (system t) k j → MemoryPlace t k j w.connection → SharedNumber k j at
+      by_place : at ≡ frames_from t + memory_number (system t) k j → MemoryPlace t k j w.connection → FrameNumber shared own k j at
       by_place is (MemoryPlace.at_shared n a) = record {
         connection = w.connection;
         here = w.here;
@@ -136,106 +126,48 @@ module _ (t : Tables) (can : CanMap t) where
         low = a;
       }
       by_place is (MemoryPlace.at_device e r f n a) =
-          let none : registers w.connection ≡ None = ap (λ z. registers_in z w.connection.ends) w.is_shared in
-          let g = sym none ∙ r in absurd cc
+          let g = sym (ap (λ z. registers_in z w.connection.ends) w.is_shared) ∙ r in absurd cc
 
-  register_at : (k j at : ℕ) → IsRegisterAt t (spec_of t) (root_of t) k j at → RegisterNumber k j at
+  register_at : (k j at : ℕ) → IsRegisterAt t (spec_of t) (root_of t) k j at → FrameNumber laid behind_shared k j at
   register_at k j at w =
       let s = memory_shown t can w.domain k j at w.connection w.here w.shows in
       by_place s.is (elim s.kind [
         | inl m ↦ (let g : SharedMemory ≡ Mmio = sym m ∙ w.is_device in absurd cc)
-        | inr m ↦
-            memory_at t can k j w.connection w.here (inr m) s.within
+        | inr m ↦ memory_at t can k j w.connection w.here (inr m) s.within
       ])
     where
-      by_place : at ≡ frames_from t + memory_number (system t) k j → MemoryPlace t k j w.connection → RegisterNumber k j at
+      by_place : at ≡ frames_from t + memory_number (system t) k j → MemoryPlace t k j w.connection
+          → FrameNumber laid behind_shared k j at
       by_place is (MemoryPlace.at_shared n a) =
           let none : length (shared_frames t.settled k w.connection) ≡ 0 =
-          ap (λ z. length (cond (is_shared z) (connection_frames k (memory_pages t.settled k w.connection)) []))
-          w.is_device in
+          ap (λ z. length (cond (is_shared z) (connection_frames k (memory_pages t.settled k w.connection)) [])) w.is_device in
           absurd (omega (arith, none, a))
       by_place is (MemoryPlace.at_device e r f n a) =
-          let one : OneDevice w.connection f.connection = record {
-            port = e;
-            first = r;
-            other = f.end;
-            second = f.leads;
-            leaf = sym f.leaf;
-            member = sym f.member;
-          } in
-          let le = w.first f.number f.connection f.here one in
-          let ge = first_least t k w.connection e w.here r f in
-          let same : f.number ≡ k = omega (arith, le, ge) in
-          let P : ℕ → Type 0 = λ z. slice_get cs z ≡ Some f.connection in
-          let conn : f.connection ≡ w.connection = some (slice_get cs k) f.connection w.connection (subst P same f.here) w.here in
-          let F = register_frames t.flat t.settled in
-          let sum : before F cs f.number ≡ before F cs k = ap (λ z. before F cs z) same in
-          let long : length (F f.number f.connection) ≡ length (F k w.connection) = ap (λ z. length (F z f.connection)) same
-          ∙ ap (λ z. length (F k z)) conn in
-          record {
-            connection = w.connection;
-            here = w.here;
-            is = is ∙ ap (λ z. frames_from t + z) n
-                ∙ ap (λ z. frames_from t + (own + (length (shared_part t.flat t.settled) + z) + j)) sum;
-            low = omega (arith, long, a);
-          }
+          let le = w.first f.number f.connection f.here (one_device t w.connection e r f) in
+          let same : f.number ≡ k = omega (arith, le, first_least t k w.connection e w.here r f) in
+          let number : FrameNumber laid behind_shared f.number j at =
+          record { connection = f.connection; here = f.here; is = omega (arith, is, n); low = a } in
+          subst (λ z. FrameNumber laid behind_shared z j at) same number
 
-  shared_order : (k i m l j n : ℕ) → SharedNumber k i m → SharedNumber l j n → IsBefore k i l j → m < n
-  shared_order k i m l j n a b (inl g) =
-      let next = behind (shared_frames t.settled) cs k l a.connection a.here g in
-      let low = a.low in
-      let p = a.is in
-      let q = b.is in
-      omega (arith, next, low, p, q)
-  shared_order k i m l j n a b (inr r) =
-      let same : before (shared_frames t.settled) cs k ≡ before (shared_frames t.settled) cs l =
-      ap (λ z. before (shared_frames t.settled) cs z) r.0 in
-      let less = r.1 in
-      let p = a.is in
-      let q = b.is in
-      omega (arith, same, less, p, q)
+  in_part : (f : ℕ → FlatConnection → List FrameInfo) (front k i m l j n : ℕ) → FrameNumber f front k i m
+      → FrameNumber f front l j n → IsBefore k i l j → m < n
+  in_part f front k i m l j n a b (inl g) = omega (arith, behind f cs k l a.connection a.here g, a.low, a.is, b.is)
+  in_part f front k i m l j n a b (inr r) =
+      let same : before f cs k ≡ before f cs l = ap (before f cs) r.0 in omega (arith, same, r.1, a.is, b.is)
 
-  shared_below : (k i m l j n : ℕ) → SharedNumber k i m → RegisterNumber l j n → m < n
-  shared_below k i m l j n a b =
-      let all : before (shared_frames t.settled) cs k + length (shared_frames t.settled k a.connection) ≤ length
-      (shared_part t.flat t.settled) = inside (shared_frames t.settled) cs k a.connection a.here in
-      let low = a.low in
-      let p = a.is in
-      let q = b.is in
-      omega (arith, all, low, p, q)
-
-  register_order : (k i m l j n : ℕ) → RegisterNumber k i m → RegisterNumber l j n → IsBefore k i l j → m < n
-  register_order k i m l j n a b (inl g) =
-      let next = behind (register_frames t.flat t.settled) cs k l a.connection a.here g in
-      let low = a.low in
-      let p = a.is in
-      let q = b.is in
-      omega (arith, next, low, p, q)
-  register_order k i m l j n a b (inr r) =
-      let F = register_frames t.flat t.settled in
-      let same : before F cs k ≡ before F cs l = ap (λ z. before F cs z) r.0 in
-      let less = r.1 in
-      let p = a.is in
-      let q = b.is in
-      omega (arith, same, less, p, q)
+  shared_below : (k i m l j n : ℕ) → FrameNumber shared own k i m → FrameNumber laid behind_shared l j n → m < n
+  shared_below k i m l j n a b = omega (arith, inside shared cs k a.connection a.here, a.low, a.is, b.is)
 
   behind_own : (d v m k j n : ℕ) → IsOwnAt t (spec_of t) (root_of t) d v m → IsSharedAt t (spec_of t) (root_of t) k j n
       ⊎ IsRegisterAt t (spec_of t) (root_of t) k j n → m < n
-  behind_own d v m k j n a (inl b) =
-      let low = own_below d v m (own_at d v m a) in
-      let is = (shared_at k j n b).is in
-      omega (arith, low, is)
-  behind_own d v m k j n a (inr b) =
-      let low = own_below d v m (own_at d v m a) in
-      let is = (register_at k j n b).is in
-      omega (arith, low, is)
+  behind_own d v m k j n a (inl b) = omega (arith, own_below d v m (own_at d v m a), (shared_at k j n b).is)
+  behind_own d v m k j n a (inr b) = omega (arith, own_below d v m (own_at d v m a), (register_at k j n b).is)
 
   -- ---- numbers
 
   named : (n : ℕ) → n < length t.spaces.frames → IsNamed (spec_of t) (place t (FrameOf 0) + n) series.Frame n
   named n l =
-      let x = at_place t.spaces.frames n l in
-      let y = owned (frame_owner x.0.owner) (FrameOf n) in
+      let x = at_place t.spaces.frames n l in let y = owned (frame_owner x.0.owner) (FrameOf n) in
       let g : ℕ → FrameInfo → Owned = λ n z. owned (frame_owner z.owner) (FrameOf n) in
       let k : ℕ → Owned → List Part = λ n z. part series.Frame n z.owner z.what ∷ [] in
       let p = part series.Frame n (frame_owner x.0.owner) (FrameOf n) in
@@ -247,8 +179,7 @@ module _ (t : Tables) (can : CanMap t) where
   all_numbered : (at : ℕ) (paddr : Option ℕ) (fill : Option Fill) → object_at (spec_of t) at ≡ Some (objects.Frame paddr fill)
       → (n : ℕ) × (n < length t.spaces.frames) × (at ≡ place t (FrameOf 0) + n)
   all_numbered at paddr fill o =
-      let x = object_stands t at (objects.Frame paddr fill) o in
-      let w = of_frame x.what x.sort in
+      let x = object_stands t at (objects.Frame paddr fill) o in let w = of_frame x.what x.sort in
       let is : IsThere t (FrameOf w.0) = subst (λ z. IsThere t z) w.1 x.there in
       let stands : place t (FrameOf w.0) ≡ place t (FrameOf 0) + w.0 = omega arith in
       (w.0, below t.spaces.frames w.0 is.0 is.1, sym x.stands ∙ ap (λ z. place t z) w.1 ∙ stands)
@@ -257,8 +188,8 @@ module _ (t : Tables) (can : CanMap t) where
   frames_in_order = record {
     own = λ d v m e w n a b l. own_order d v m e w n (own_at d v m a) (own_at e w n b) l;
     own_first = behind_own;
-    shared = λ k i m l j n a b h. shared_order k i m l j n (shared_at k i m a) (shared_at l j n b) h;
+    shared = λ k i m l j n a b h. in_part shared own k i m l j n (shared_at k i m a) (shared_at l j n b) h;
     shared_first = λ k i m l j n a b. shared_below k i m l j n (shared_at k i m a) (register_at l j n b);
-    registers = λ k i m l j n a b h. register_order k i m l j n (register_at k i m a) (register_at l j n b) h;
+    registers = λ k i m l j n a b h. in_part laid behind_shared k i m l j n (register_at k i m a) (register_at l j n b) h;
     numbered = record { first = place t (FrameOf 0); count = length t.spaces.frames; each = named; all = all_numbered };
   }

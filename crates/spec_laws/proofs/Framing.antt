@@ -1,13 +1,14 @@
 -- The frame of each page that is mapped
-use Rattle.spec_laws.proofs.Common.{Bool, Buffer, CanMap, Connector, Content, Direct, Domain, EndAt, EndSetting, Endpoint, FlatConnection, FlatEnd, FrameInfo, FrameOf, Interrupt, IsIn, IsRegionPage, List, MappedPage, Memory, Mmio, None, Notification}
-use Rattle.spec_laws.proofs.Common.{OneDevice, Option, Own, Owned, Part, Region, Role, Rpc, SharedMemory, Shown, Some, Spaces, Stack, Tables, Window, [], and_parts, ap, arith, base, begins, below, below_count, eqb-true, false, first_to, frame}
+use Rattle.spec_laws.proofs.Common.{Bool, CanMap, Connector, Content, Domain, EndAt, EndSetting, Endpoint, FlatConnection, FlatEnd, FrameInfo, FrameOf, IsIn, IsRegionPage, List, MappedPage, Memory, Mmio, None}
+use Rattle.spec_laws.proofs.Common.{OneDevice, Option, Own, Owned, Part, Region, Role, SharedMemory, Shown, Some, Spaces, Tables, Window, [], and_parts, ap, arith, base, begins, below, below_count, eqb-true, false, first_to, frame}
 use Rattle.spec_laws.proofs.Common.{frame_object, frame_owner, frame_parts, frames, frames_stand, from_gather, from_map, get_ones, get_or, in_append, in_gather, in_place, in_together, inl, inr, is_shared, is_to, is_window, leads_to, leaves_of}
 use Rattle.spec_laws.proofs.Common.{mapped_pages, memory_number, memory_paddr, memory_pages, memory_place, number_shown, numbered, object_at, objects_stand, option_and_then, option_map_or, own_port, owned, page_of, pages_of_region, part, place}
 use Rattle.spec_laws.proofs.Common.{position, position-Some, position_found, range_with_len, refl, region_page, region_part, regions, registers, registers_in, same_port, section_page, section_pages, section_part, sections, setting_of, slice_get}
 use Rattle.spec_laws.proofs.Common.{slice_get-get_or, spec_of, subst, sym, system, to_place, true, ℕ, ◌*◌, ◌+◌, ◌/◌, ◌<◌, ◌==◌, ◌∙◌, ◌∷◌, ◌≡◌, ◌⊎◌}
 use Rattle.system_spec.specs.declared.series.Series.TheVariants as series
 use Rattle.vspace_layout.specs.declared.owner.Owner.TheVariants.{OfConnection, OfDomain, OfLeaf}
-use Rattle.spec_laws.proofs.Paging.{window_is, window_of}
+use Rattle.spec_laws.proofs.Paging.{window_of}
+use Rattle.spec_laws.proofs.Windows.{seen, seen_pages}
 
 -- ---- frames as objects
 
@@ -46,8 +47,7 @@ pub first_is : (t : Tables) (k : ℕ) (c : FlatConnection) (e : FlatEnd) → sli
 first_is t k c e h r =
     let cs = t.flat.connections in
     let hit = position_found (leads_to e) cs k c h (ap (λ o. option_map_or (same_port e) o false) r ∙ own_port e) in
-    let s = position-Some (leads_to e) cs hit.0 c hit.1 in
-    let d = get_or cs hit.0 c in
+    let s = position-Some (leads_to e) cs hit.0 c hit.1 in let d = get_or cs hit.0 c in
     let p = of_port (registers d) e s.1 in
     record {
       number = hit.0;
@@ -59,6 +59,11 @@ first_is t k c e h r =
       leaf = p.2;
       member = p.3;
     }
+
+-- a connection and the first to its registers are of one device
+pub one_device : (t : Tables) (c : FlatConnection) (e : FlatEnd) → registers c ≡ Some e → (f : FirstTo t e)
+    → OneDevice c f.connection
+one_device t c e r f = record { port = e; first = r; other = f.end; second = f.leads; leaf = sym f.leaf; member = sym f.member }
 
 -- ---- memory of connections
 
@@ -104,20 +109,11 @@ memory_frame t can k j c h (inl m) l = (
   IsMemoryFrame.of_shared m refl,
 )
 memory_frame t can k j c h (inr m) l =
-    let r = registers_there t k j c m l in
-    let f = first_is t k c r.0 h r.1 in
-    let one : OneDevice c f.connection = record {
-      port = r.0;
-      first = r.1;
-      other = f.end;
-      second = f.leads;
-      leaf = sym f.leaf;
-      member = sym f.member;
-    } in
-    let pages = can.memory.pages k f.number c f.connection h f.here one in
+    let r = registers_there t k j c m l in let f = first_is t k c r.0 h r.1 in
+    let one : OneDevice c f.connection = one_device t c r.0 r.1 f in
     let paddr = can.memory.paddr k f.number c f.connection h f.here one in
     let got = (frames_stand (system t)).registers k j f.number c f.connection r.0 f.end h r.1 f.first f.here f.leads
-    (omega (arith, l, pages)) in (
+    (omega (arith, l, can.memory.pages k f.number c f.connection h f.here one)) in (
       frame (OfLeaf f.end.leaf) (Some (memory_paddr t.settled f.number f.connection + 4096 * j)) None,
       got,
       IsMemoryFrame.of_device r.0 m r.1
@@ -137,13 +133,12 @@ pub record MemoryOf (t : Tables) (e : EndAt) (r : Region) : Type 0 where
 pub memory_of : (t : Tables) (d : ℕ) (r : Region) (e : EndAt) → IsIn r (regions (system t) d) → r.content ≡ Window e
     → MemoryOf t e r
 memory_of t d r e i c =
-    let w = window_of t d r e i c in
-    let v = window_is t d e w.0 in
+    let w = window_of t d r e i c in let v = seen (system t) d e w.0 in
     record {
       connection = v.connection;
-      here = v.here;
-      kind = has_memory v.connection.connector v.end.role v.sees;
-      pages = ap (λ (z : Region). z.pages) (sym w.1) ∙ ap (λ o. option_map_or (memory_pages t.settled e.connection) o 0) v.here;
+      here = v.there;
+      kind = has_memory v.connection.connector v.end.role v.window;
+      pages = ap (λ (z : Region). z.pages) (sym w.1) ∙ seen_pages (system t) e v;
     }
 
 -- the page of a window that shows page j of the memory of connection k
@@ -176,7 +171,6 @@ shows_at t d k j p e i =
         let f : Memory w.connection i ≡ Memory k j = ap (λ (z : MappedPage). z.shown) q ∙ e in
         let number : w.connection ≡ k = cc in
         let page : i ≡ j = cc in
-        let P : ℕ → Type 0 = λ z. z < r.pages in
         record {
           number = n;
           region = r;
@@ -185,9 +179,8 @@ shows_at t d k j p e i =
           of_connection = number;
           page = record {
             here = h;
-            within = subst P page l;
-            at = ap (λ (z : MappedPage). z.at) (sym q)
-                ∙ ap (λ z. begins t d n + 4096 * z) page;
+            within = subst (λ z. z < r.pages) page l;
+            at = ap (λ (z : MappedPage). z.at) (sym q) ∙ ap (λ z. begins t d n + 4096 * z) page;
           };
         }
     by_content n r i _ c h l q = let f : Own None ≡ Memory k j = ap (λ (z : MappedPage). z.shown) q ∙ e in cc
@@ -205,8 +198,7 @@ frame_by t can d x h n p e (Memory k j) f =
     let P : ℕ → Type 0 = λ z. slice_get t.flat.connections z ≡ Some m.connection in
     let pages : s.region.pages ≡ memory_pages t.settled k m.connection = m.pages ∙ ap (λ z. memory_pages t.settled z m.connection)
     s.of_connection in
-    let l = s.page.within in
-    let g = memory_frame t can k j m.connection (subst P s.of_connection m.here) m.kind (omega (arith, pages, l)) in
+    let g = memory_frame t can k j m.connection (subst P s.of_connection m.here) m.kind (omega (arith, pages, s.page.within)) in
     (g.0, ap (λ z. slice_get (frames (system t)) (number_shown (system t) d n z)) f ∙ g.1)
 
 pub frame_of_page : (t : Tables) → CanMap t → (d : ℕ) (x : Domain) → slice_get t.flat.domains d ≡ Some x
@@ -214,6 +206,5 @@ pub frame_of_page : (t : Tables) → CanMap t → (d : ℕ) (x : Domain) → sli
     → (info : FrameInfo) × (object_at (spec_of t) (place t (FrameOf (number_shown (system t) d n p.shown))) ≡ Some
     (frame_object info))
 frame_of_page t can d x h n p e =
-    let i = frame_by t can d x h n p e p.shown refl in
-    let f = number_shown (system t) d n p.shown in
+    let i = frame_by t can d x h n p e p.shown refl in let f = number_shown (system t) d n p.shown in
     (i.0, frame_there t f i.0 (ap (λ (z : Spaces). slice_get z.frames f) can.spaces ∙ i.1))

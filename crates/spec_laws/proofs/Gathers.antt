@@ -7,9 +7,7 @@ pub gather_most : {X Y : Type 0} (f : ℕ → X → List Y) (xs : List X) → ((
 gather_most f [] h = omega arith
 gather_most f (x ∷ xs) h =
     let ih = gather_most (λ n z. f (suc n) z) xs (λ k z e. h (suc k) z e) in
-    let a = length_append (f 0 x) (gather (λ n z. f (suc n) z) xs) in
-    let b = h 0 x refl in
-    omega (arith, ih, a, b)
+    omega (arith, ih, length_append (f 0 x) (gather (λ n z. f (suc n) z) xs), h 0 x refl)
 
 -- one thing for each element, by its place
 pub ones_at : {X Y : Type 0} (f : ℕ → X → Y) (xs : List X) (k : ℕ) → slice_get (gather (λ n x. f n x ∷ []) xs) k ≡ option_map
@@ -24,10 +22,8 @@ part_of_sum {X} f (y ∷ xs) zero x e = by_same y e
   where
     by_same : (y : X) → Some y ≡ Some x → f 0 x ≤ sum (f 0 y ∷ gather (λ n z. f (suc n) z ∷ []) xs)
     by_same y e =
-        let s = sum_by-cons (λ (n : ℕ). n) (f 0 y) (gather (λ n z. f (suc n) z ∷ []) xs) in
         let same : f 0 x ≡ f 0 y = cc in
-        omega (arith, same, s)
+        omega (arith, same, sum_by-cons (λ (n : ℕ). n) (f 0 y) (gather (λ n z. f (suc n) z ∷ []) xs))
 part_of_sum f (y ∷ xs) (suc k) x e =
     let ih = part_of_sum (λ n z. f (suc n) z) xs k x e in
-    let s = sum_by-cons (λ (n : ℕ). n) (f 0 y) (gather (λ n z. f (suc n) z ∷ []) xs) in
-    omega (arith, ih, s)
+    omega (arith, ih, sum_by-cons (λ (n : ℕ). n) (f 0 y) (gather (λ n z. f (suc n) z ∷ []) xs))

@@ -12,8 +12,7 @@ no_less : {X : Type 0} (p : ℕ × X → Bool) (a : ℕ) (xs : List X) (i n : �
 no_less p a [] i n e = cc
 no_less {X} p a (x ∷ xs) i n e = by_test (p (a, x)) i e (λ i e. no_less p (a + 1) xs i n e)
   where
-    by_test : (b : Bool) (i : ℕ)
-        → slice_get (map (λ (z : ℕ × X). z.0) (cond b ((a, x) ∷ filter p (enumerate_from (a + 1) xs))
+    by_test : (b : Bool) (i : ℕ) → slice_get (map (λ (z : ℕ × X). z.0) (cond b ((a, x) ∷ filter p (enumerate_from (a + 1) xs))
         (filter p (enumerate_from (a + 1) xs)))) i ≡ Some n
         → ((i : ℕ) → slice_get (numbers p (a + 1) xs) i ≡ Some n → a + 1 ≤ n) → a ≤ n
     by_test true zero e more = let same : a ≡ n = cc in omega (arith, same)
@@ -26,8 +25,7 @@ one_place p a [] i j n e f = cc
 one_place {X} p a (x ∷ xs) i j n e f = by_test (p (a, x)) i j e f (λ i j e f. one_place p (a + 1) xs i j n e f)
     (λ i e. no_less p (a + 1) xs i n e)
   where
-    by_test : (b : Bool) (i j : ℕ)
-        → slice_get (map (λ (z : ℕ × X). z.0) (cond b ((a, x) ∷ filter p (enumerate_from (a + 1) xs))
+    by_test : (b : Bool) (i j : ℕ) → slice_get (map (λ (z : ℕ × X). z.0) (cond b ((a, x) ∷ filter p (enumerate_from (a + 1) xs))
         (filter p (enumerate_from (a + 1) xs)))) i ≡ Some n
         → slice_get (map (λ (z : ℕ × X). z.0) (cond b ((a, x) ∷ filter p (enumerate_from (a + 1) xs))
         (filter p (enumerate_from (a + 1) xs)))) j ≡ Some n
@@ -46,15 +44,13 @@ some_in (y ∷ xs) x i = omega arith
 pub leaves_once : (s : Source) (d i j leaf : ℕ) (x : Domain) → slice_get (flat_of s).domains d ≡ Some x
     → slice_get x.leaves i ≡ Some leaf → slice_get x.leaves j ≡ Some leaf → i ≡ j
 leaves_once s d i j leaf x at e f =
-    let h = hierarchy_of s in
-    let q = from_get_map (flat_domain h) (domains h) d x at in
+    let h = hierarchy_of s in let q = from_get_map (flat_domain h) (domains h) d x at in
     let P : Domain → Type 0 = λ z. slice_get z.leaves i ≡ Some leaf → slice_get z.leaves j ≡ Some leaf → i ≡ j in
     subst P q.2 (λ e f. one_place (λ (y : ℕ × Placed). is_inside h q.0 y.1) 0 (leaves h) i j leaf e f) e f
 
 pub leaves_some : (s : Source) (d : ℕ) (x : Domain) → slice_get (flat_of s).domains d ≡ Some x → 0 < length x.leaves
 leaves_some s d x at =
-    let h = hierarchy_of s in
-    let q = from_get_map (flat_domain h) (domains h) d x at in
+    let h = hierarchy_of s in let q = from_get_map (flat_domain h) (domains h) d x at in
     let y = (domains_are h q.0).0 (in_get (domains h) d q.0 q.1) in
     let n = place_in (leaves h) y.0 y.1 in
     let i = (leaves_of_domain h q.0 n.0).1 (y.0, n.1, y.2, y.3) in

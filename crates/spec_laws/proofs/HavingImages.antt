@@ -16,19 +16,15 @@ item_there s x i =
     let f = from_flat_map items_in x (enumerate_from 0 s.files) i in
     let file = from_enumerate 0 s.files f.0 f.1 in
     let e = from_map (λ (e : ℕ × Ended). let y : ItemAt × Item = (record { file = f.0.0; item = e.0 }, e.1.item) in
-    y) x (enumerate_from 0 f.0.1.tree.items) f.2 in
-    let item = from_enumerate 0 f.0.1.tree.items e.0 e.1 in
-    let of_item : Ended → Option Name = λ z. component_of z.item in
-    let of_file : ℕ → SourceFile → Option Name = λ n z. option_and_then of_item (slice_get z.tree.items n) in
-    let P : ItemAt × Item → Type 0 = λ y. component_name s y.0 ≡ component_of y.1 in
-    let a : f.0.0 ≡ file.0 = file.1 ∙ omega arith in
-    let b : e.0.0 ≡ item.0 = item.1 ∙ omega arith in
-    let here : component_name s (record { file = f.0.0; item = e.0.0 }) ≡ component_of e.0.1.item =
-    ap (λ n. option_and_then (of_file e.0.0) (slice_get s.files n)) a
-    ∙ ap (option_and_then (of_file e.0.0)) file.2
-    ∙ ap (λ n. option_and_then of_item (slice_get f.0.1.tree.items n)) b
-    ∙ ap (option_and_then of_item) item.2 in
-    subst P e.2 here
+    y) x (enumerate_from 0 f.0.1.tree.items) f.2 in let item = from_enumerate 0 f.0.1.tree.items e.0 e.1 in let of_item : Ended
+    → Option Name = λ z. component_of z.item in let of_file : ℕ → SourceFile → Option Name =
+    λ n z. option_and_then of_item (slice_get z.tree.items n) in let a : f.0.0 ≡ file.0 = file.1 ∙ omega arith in
+    let b : e.0.0 ≡ item.0 = item.1 ∙ omega arith in let here : component_name s (record {
+      file = f.0.0;
+      item = e.0.0;
+    }) ≡ component_of e.0.1.item = ap (λ n. option_and_then (of_file e.0.0) (slice_get s.files n)) a
+    ∙ ap (option_and_then (of_file e.0.0)) file.2 ∙ ap (λ n. option_and_then of_item (slice_get f.0.1.tree.items n)) b
+    ∙ ap (option_and_then of_item) item.2 in subst (λ (y : ItemAt × Item). component_name s y.0 ≡ component_of y.1) e.2 here
 
 name_there : (s : Source) (c : ItemAt × Component) → IsIn c (components s) → component_name s c.0 ≡ Some c.1.id.name
 name_there s c i =
@@ -39,15 +35,13 @@ name_there s c i =
         → component_name s c.0 ≡ Some c.1.id.name
     by_item (at, items.Component d) t m =
         let same : (at, d) ≡ c = cc in
-        let P : ItemAt × Component → Type 0 = λ z. component_name s z.0 ≡ Some z.1.id.name in
-        subst P same m
+        subst (λ (z : ItemAt × Component). component_name s z.0 ≡ Some z.1.id.name) same m
     by_item (at, _) t m = cc
 
 leaf_named : (s : Source) → AreNamesSound s → (l : ℕ) (leaf : Leaf) → slice_get (flat_of s).leaves l ≡ Some leaf
     → (n : Name) × (component_name s leaf.component ≡ Some n)
 leaf_named s sound l leaf at =
-    let h = hierarchy_of s in
-    let x = from_get_map (leaf_of h) (leaves h) l leaf at in
+    let h = hierarchy_of s in let x = from_get_map (leaf_of h) (leaves h) l leaf at in
     let c = leaf_component s sound x.0 (in_get (leaves h) l x.0 x.1) in
     let k = x.0.part.kind in (
       c.0.1.id.name,
@@ -69,9 +63,8 @@ leaf_numbered s sound l d leaf at own =
     let typed : type_of s leaf ≡ Some n.0 = ap (λ (b : Bool). cond b None (component_name s leaf.component))
     (soft_leaf s l d leaf at own) ∙ n.1 in
     let all = filter_map (type_of s) (flat_of s).leaves in
-    let listed : IsIn n.0 (types s (flat_of s)) = (firsts_are bytes_eq bytes_eq-Decides all n.0).1
-    (in_filter_map (type_of s) leaf n.0 (flat_of s).leaves (in_get (flat_of s).leaves l leaf at) typed) in
-    let r = place_of n.0 (types s (flat_of s)) listed in
+    let r = place_of n.0 (types s (flat_of s)) ((firsts_are bytes_eq bytes_eq-Decides all n.0).1
+    (in_filter_map (type_of s) leaf n.0 (flat_of s).leaves (in_get (flat_of s).leaves l leaf at) typed)) in
     (r.0, ap (option_and_then (λ name. position (bytes_eq name) (types s (flat_of s)))) typed ∙ r.1)
 
 pub programs_have_images : (contents : Contents) (root : List ℕ) (s : Source) (images : Images) → AreNamesSound s
@@ -80,6 +73,5 @@ programs_have_images contents root s images sound read leaf d found at own =
     let r = leaf_numbered s sound leaf d found at own in (
       r.0,
       ap (λ (z : Images). image_number z leaf) read.images
-          ∙ ap (option_and_then (λ o. o)) (get_map (type_number s (flat_of s)) (flat_of s).leaves leaf found at)
-          ∙ r.1,
+          ∙ ap (option_and_then (λ o. o)) (get_map (type_number s (flat_of s)) (flat_of s).leaves leaf found at) ∙ r.1,
     )

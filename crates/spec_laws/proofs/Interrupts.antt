@@ -22,9 +22,8 @@ module _ (s : Source) (sound : AreNamesSound s) (dotted : AreDotted (hierarchy_o
       × (is_hardware c.connector e ≡ true)
   device_there k c at int =
       let d = some_end s sound dotted types k c at From in
-      let hard : is_hardware c.connector d.1 ≡ true = ap (λ z. (end_rule z d.1.role).hardware) int
-      ∙ ap (λ r. (end_rule Interrupt r).hardware) d.3 in
-      let n = position_found (is_hardware c.connector) c.ends d.0 d.1 d.2 hard in
+      let n = position_found (is_hardware c.connector) c.ends d.0 d.1 d.2 (ap (λ z. (end_rule z d.1.role).hardware) int
+      ∙ ap (λ r. (end_rule Interrupt r).hardware) d.3) in
       let e = at_position (is_hardware c.connector) c.ends n.0 d.1 n.1 in
       (n.0, e.0, n.1, e.1, e.2)
 
@@ -107,12 +106,11 @@ module _ (s : Source) (sound : AreNamesSound s) (dotted : AreDotted (hierarchy_o
       let d = device_there s sound dotted types k c at int in
       let f = end_found s (ends_typed s sound dotted types) settings k d.0 c d.1 at d.3 in
       let es = found_on (hierarchy_of s) s (flat_of s) c in
-      let role = from_role d.1.role (ap (λ z. (end_rule z d.1.role).hardware) (sym int) ∙ d.4) in
       let event : is_device_event f.found.joint ≡ true =
       subst (λ r. is_kind_of (end_rule Interrupt r) (record {
         interface = f.found.joint.interface;
         hardware = f.found.joint.leaf.hardware;
-      }) ≡ true) role
+      }) ≡ true) (from_role d.1.role (ap (λ z. (end_rule z d.1.role).hardware) (sym int) ∙ d.4))
       (subst (λ x. is_kind_of (end_rule x d.1.role) (record {
         interface = f.found.joint.interface;
         hardware = f.found.joint.leaf.hardware;
@@ -120,8 +118,7 @@ module _ (s : Source) (sound : AreNamesSound s) (dotted : AreDotted (hierarchy_o
       let n = settled_irq f.found event f.good f.present in
       let is : irq_number (settled_of s) k c ≡ n.irq.number =
       ap (λ o. option_map_or (λ z. z.irq) (option_and_then (setting_of (settled_of s) k) o) 0) d.2
-      ∙ ap (λ o. option_map_or (λ z. z.irq) o 0) f.setting
-      ∙ ap (λ o. unwrap_or o 0) n.meant in
+      ∙ ap (λ o. option_map_or (λ z. z.irq) o 0) f.setting ∙ ap (λ o. unwrap_or o 0) n.meant in
       record {
         ends = es;
         here = get_map (found_on (hierarchy_of s) s (flat_of s)) (flat_of s).connections k c at;
@@ -140,8 +137,7 @@ module _ (s : Source) (sound : AreNamesSound s) (dotted : AreDotted (hierarchy_o
       → slice_get (flat_of s).connections k ≡ Some b → a.connector ≡ Interrupt → b.connector ≡ Interrupt
       → irq_number (settled_of s) j a ≡ irq_number (settled_of s) k b → j ≡ k
   one_line j k a b p q x y same =
-      let u = line_of j a p x in
-      let v = line_of k b q y in
+      let u = line_of j a p x in let v = line_of k b q y in
       let n = u.irq.number in
       let most = once u.irq (in_flat_map irqs_in u.ends u.irq founds (in_place u.ends founds j u.here) u.among) in
       let first = counted_once n (numbers (irqs_in u.ends)) (in_map (λ (a : Irq). a.number) u.irq (irqs_in u.ends) u.among) in

@@ -6,7 +6,7 @@ use Rattle.spec_laws.proofs.Common.{notification_by, object, objects_stand, opti
 use Rattle.spec_laws.proofs.Common.{ℕ, ◌∙◌, ◌≡◌, there, IsThere}
 use Rattle.cap_model.specs.declared.object.Object.TheVariants as objects
 use Rattle.system_spec.specs.declared.series.Series.TheVariants as series
-use Rattle.spec_laws.proofs.Joints.{ntfn_number}
+use Rattle.spec_laws.proofs.Names.{same_number}
 use Rattle.spec_laws.proofs.Labels.{label_is}
 use Rattle.spec_laws.proofs.Locks.{part_there}
 use Rattle.spec_laws.proofs.Whose.{class_of, classed, device_at, of_interrupt, owner_of, whose}
@@ -16,10 +16,8 @@ module _ (t : Tables) where
       → IsOf t (labels_of t) at (irq_owner k c)
   irqs_are can k at c h w =
       let p = part_there t at (objects.Irq (Some w.notification)) w.is in
-      let i = in_place p.0 (parts t) at p.1 in
-      let here = there t p.0 i in
-      let q = of_interrupt p.0.what (sym (classed t p.0.what here) ∙ ap class_of p.2) in
-      let j = q.0 in
+      let i = in_place p.0 (parts t) at p.1 in let here = there t p.0 i in
+      let q = of_interrupt p.0.what (sym (classed t p.0.what here) ∙ ap class_of p.2) in let j = q.0 in
       let u : IsThere t (IrqOf j) = subst (λ z. IsThere t z) q.1 here in
       let is : object t (IrqOf j) ≡ objects.Irq (Some w.notification) =
       subst (λ z. object t z ≡ objects.Irq (Some w.notification)) q.1 p.2 in
@@ -27,12 +25,9 @@ module _ (t : Tables) where
       let P : Connector → Type 0 = λ m. IsIn (part series.Ntfn j (OfConnection j) (NotificationOf j)) (notification_by j m) in
       let n = part series.Ntfn j (OfConnection j) (NotificationOf j) in
       let stands = (parts_are_there t).notification j u.0 u.1 n (subst P (sym u.2) (inl refl)) in
-      let few = can.lay.connections in
-      let low = below t.flat.connections j u.0 u.1 in
-      let mine = below t.flat.connections k c h in
-      let number : j ≡ k = ntfn_number j k (omega (arith, few, low)) (omega (arith, few, mine))
+      let few = can.lay.connections in let low = below t.flat.connections j u.0 u.1 in
+      let number : j ≡ k = same_number series.Ntfn series.Ntfn j k (omega (arith, few, low)) (omega (arith, few, below t.flat.connections k c h))
       (sym ((objects_stand t).name n stands) ∙ ap (λ z. name_at (spec_of t) z) (sym holds) ∙ w.holds) in
-      let owner : p.0.owner ≡ irq_owner k c = whose t p.0 i ∙ ap (owner_of t) q.1 ∙ ap (device_at t) number
-      ∙ ap (λ o. option_map_or (irq_owner k) o (OfConnection k)) h in
       let R : ℕ → Type 0 = λ z. IsOf t (labels_of t) z p.0.owner in
-      subst (IsOf t (labels_of t) at) owner (subst R (place_is t at p.0 p.1) (label_is t p.0 i))
+      subst (IsOf t (labels_of t) at) (whose t p.0 i ∙ ap (owner_of t) q.1 ∙ ap (device_at t) number
+      ∙ ap (λ o. option_map_or (irq_owner k) o (OfConnection k)) h) (subst R (place_is t at p.0 p.1) (label_is t p.0 i))

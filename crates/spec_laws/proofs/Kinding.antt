@@ -49,14 +49,11 @@ module _ (t : Tables) where
   pub table_kind : (d j : ℕ) (o : Object) → slice_get (tables_at t 0 0 d) j ≡ Some o
       → kind_of_object (object t (TableOf d j)) ≡ kind_of (level_series (level_of o))
   table_kind d j o e =
-      let first = place t (TableOf d 0) in
-      let frames = place t (FrameOf 0) in
+      let first = place t (TableOf d 0) in let frames = place t (FrameOf 0) in
       let m = moved t 0 0 first frames d j o e in
-      ap kind_of_object (object_is t d j m.0 m.1)
-      ∙ each_at OfLevel (standing t d) j m.0
+      ap kind_of_object (object_is t d j m.0 m.1) ∙ each_at OfLevel (standing t d) j m.0
       (all_of_level first 0 (layers (shapes (arch t)) (map (page_mapping frames) (pages_at t d)))) m.1
-      ∙ ap (λ l. kinds.Pages l) (levels_same first frames 0 0 d j m.0 o m.1 e)
-      ∙ series_kind (level_of o)
+      ∙ ap (λ l. kinds.Pages l) (levels_same first frames 0 0 d j m.0 o m.1 e) ∙ series_kind (level_of o)
 
   -- ---- parts
 
@@ -65,14 +62,14 @@ module _ (t : Tables) where
 
   kinded : (p : Part) → IsIn p (parts t) → Kinded p
   kinded = of_every t Kinded (record {
-    cnode = λ n d. refl;
+    cnode = λ d x e. refl;
     thread = λ n d i x e. ap (λ o. kind_of_object (option_map_or (λ z. objects.Thread (tcb t d z)) o objects.Endpoint)) e;
-    endpoint = λ k. refl;
-    notification = λ k. refl;
-    lock = λ n d i. refl;
-    irq = λ n k c e. refl;
+    endpoint = λ k c h e. refl;
+    notification = λ k c h e. refl;
+    lock = λ n d i leaf m x h s is. refl;
+    irq = λ n k c h e is. refl;
     table = λ n d j o e. table_kind d j o e;
-    frame = λ n f x e. ap (λ o. kind_of_object (option_map_or frame_object o objects.Endpoint)) e;
+    frame = λ f x e. ap (λ o. kind_of_object (option_map_or frame_object o objects.Endpoint)) e;
   })
 
   pub kinds_are : SayKinds (spec_of t)

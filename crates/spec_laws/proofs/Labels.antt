@@ -48,16 +48,14 @@ module _ (t : Tables) (can : CanMap t) where
   threads : (at leaf d : ℕ) (end : Option EndAt) (x : Leaf) → IsIn (ThreadLine at leaf end) (map_lines t)
       → slice_get t.flat.leaves leaf ≡ Some x → x.domain ≡ Some d → IsOf t (labels_of t) at (owners.OfDomain d)
   threads at leaf d end x i h e =
-      let l = the_line t can at leaf end i in
-      let g = domain_is t can at leaf end l in
+      let l = the_line t can at leaf end i in let g = domain_is t can at leaf end l in
       let found : g.0 ≡ x = some (slice_get t.flat.leaves leaf) g.0 x g.1 h in
       let mine : Some l.domain ≡ Some d = sym g.2 ∙ ap (λ (z : Leaf). z.domain) found ∙ e in
       let same : l.domain ≡ d = cc in
-      let a = thread_part t can l.domain l.number l.leaves l.y l.here l.stands in
       let P : ℕ → Type 0 = λ z. IsOf t (labels_of t) at (owners.OfDomain z) in
       subst P same (moved t (place t (OfThread l.domain l.number)) at (owners.OfDomain l.domain) l.at_is
       (label_is t (part series.Tcb (threads_before t can l.domain l.number) (owners.OfDomain l.domain)
-      (OfThread l.domain l.number)) a))
+      (OfThread l.domain l.number)) (thread_part t can l.domain l.number l.leaves l.y l.here l.stands)))
 
   locks : CanSlot t → (d bits m number : ℕ) (slots : List (ℕ × Cap)) (cap : Cap)
       → object_at (spec_of t) d ≡ Some (objects.CNode bits slots) → IsIn (m, cap) slots
@@ -76,8 +74,7 @@ module _ (t : Tables) (can : CanMap t) where
       → IsAt (spec_of t) (root_of t d) v cap → IsOwn t (spec_of t) (root_of t) cap.object
       → IsOf t (labels_of t) cap.object (owners.OfDomain d)
   own d v x cap h l i o =
-      let f = found t can d x h v cap l i in
-      let fill = no_memory t can d x h v cap f o in
+      let f = found t can d x h v cap l i in let fill = no_memory t can d x h v cap f o in
       let number = number_shown (system t) d f.number f.shown.shown in
       let got = (frames_stand (system t)).own d f.number f.shown fill.0 f.here fill.1 (below t.flat.domains d x h) in
       let at : place t (FrameOf number) ≡ frames_from t + number = omega arith in
@@ -89,8 +86,7 @@ module _ (t : Tables) (can : CanMap t) where
       → ShowsMemory t (spec_of t) (root_of t) d k j at → (info : FrameInfo) × IsMemoryFrame t k j c info
       × IsOf t (labels_of t) at (frame_owner info.owner)
   memory_label d k j at c h w =
-      let m = memory_shown t can d k j at c h w in
-      let g = memory_frame t can k j c h m.kind m.within in
+      let m = memory_shown t can d k j at c h w in let g = memory_frame t can k j c h m.kind m.within in
       let f = memory_number (system t) k j in
       let there : place t (FrameOf f) ≡ frames_from t + f = omega arith in (
         g.0,
@@ -114,12 +110,9 @@ module _ (t : Tables) (can : CanMap t) where
     where
       by_frame : (info : FrameInfo) → IsMemoryFrame t k j c info → IsOf t (labels_of t) at (frame_owner info.owner)
           → IsOf t (labels_of t) at (owners.OfLeaf e.leaf)
-      by_frame info (IsMemoryFrame.of_shared n f) l =
-          let none : registers c ≡ None = ap (λ z. registers_in z c.ends) n in
-          let g = sym none ∙ r in cc
+      by_frame info (IsMemoryFrame.of_shared n f) l = let g = sym (ap (λ z. registers_in z c.ends) n) ∙ r in cc
       by_frame info (IsMemoryFrame.of_device x n q f) l =
-          let same : x ≡ e = some (registers c) x e q r in
-          subst (λ (z : FlatEnd). IsOf t (labels_of t) at (owners.OfLeaf z.leaf)) same
+          subst (λ (z : FlatEnd). IsOf t (labels_of t) at (owners.OfLeaf z.leaf)) (some (registers c) x e q r)
           (subst (λ (z : FrameInfo). IsOf t (labels_of t) at (frame_owner z.owner)) f l)
 
   pub frame_labels : AreFrameLabels t (spec_of t) (root_of t) (labels_of t)

@@ -39,9 +39,7 @@ part_word p l =
 pub part_short : (p : Part) → p.number < 2 ^ 32 → length (part_name p) ≤ 16
 part_short p l =
     let d = length-decimal-le 10 p.number (omega arith) (omega (arith, l)) (omega (arith, l)) in
-    let a = length-append (prefix p.series) (decimal p.number) in
-    let s = prefix_short p.series in
-    omega (arith, d, a, s)
+    omega (arith, d, length-append (prefix p.series) (decimal p.number), prefix_short p.series)
 
 -- ---- texts of programs' names
 
@@ -104,15 +102,13 @@ module _ (t : Tables) (fit : IsFit t) (written : IsWritten t) where
     where
       each : (s : ℕ × Cap) → IsIn s (slots_at t d) → is_number s.0 && is_number s.1.badge ≡ true
       each s i =
-          let f : ℕ → SlotUse → List (ℕ × Cap) = λ n u. (n + 1, use_cap t d n u) ∷ [] in
-          let g = from_gather f s (uses_at t d) i in
+          let g = from_gather (λ n u. (n + 1, use_cap t d n u) ∷ []) s (uses_at t d) i in
           elim g.3 [
             | inl same ↦
                 let below = slice_get_within (uses_at t d) g.0 g.1 g.2 in
-                let few = (fit.domains d x here).slots in
                 let at : ℕ × Cap = (g.0 + 1, use_cap t d g.0 g.1) in
                 subst (λ (z : ℕ × Cap). is_number z.0 && is_number z.1.badge ≡ true) {x = at} same
-                (slot_is at (omega (arith, below, few)) (use_badge d g.0 g.1))
+                (slot_is at (omega (arith, below, (fit.domains d x here).slots)) (use_badge d g.0 g.1))
             | inr none ↦ absurd none
           ]
 
@@ -126,9 +122,8 @@ module _ (t : Tables) (fit : IsFit t) (written : IsWritten t) where
       let b = if_any (λ (c : Cap). is_number c.badge) (buffer_cap t d y.buffer) in
       and_from (is_number y.buffer && is_number (leaf_entry t y.leaf)) (is_number y.sp && (is_plain (leaf_name t y.leaf) && b))
       (and_from (is_number y.buffer) (is_number (leaf_entry t y.leaf)) (number_is y.buffer w.buffer)
-      (number_is (leaf_entry t y.leaf) w.entry))
-      (and_from (is_number y.sp) (is_plain (leaf_name t y.leaf) && b) (number_is y.sp w.stack)
-      (and_from (is_plain (leaf_name t y.leaf)) b (name_plain (leaf_name t y.leaf) w.name)
+      (number_is (leaf_entry t y.leaf) w.entry)) (and_from (is_number y.sp) (is_plain (leaf_name t y.leaf) && b)
+      (number_is y.sp w.stack) (and_from (is_plain (leaf_name t y.leaf)) b (name_plain (leaf_name t y.leaf) w.name)
       (buffer_laid (frame_at (pages_at t d) y.buffer))))
 
   paddr_laid : (o : Option ℕ) → ((at : ℕ) → o ≡ Some at → at < 2 ^ 64) → if_any is_number o ≡ true
@@ -164,11 +159,9 @@ module _ (t : Tables) (fit : IsFit t) (written : IsWritten t) where
         → (r : List Mapping) (link : ℕ) → table_of y.shape link r ≡ o → is_laid (table_of y.shape link r) ≡ true
     table_laid o i y j r link e =
         all_pass (λ (s : ℕ × Cap). is_number s.0 && is_number s.1.badge) (map (slot_of y.shape link) r)
-        (λ s k.
-        let below = slots_below (arch t) (mappings t fit d x here) y j r link s k in
+        (λ s k. let below = slots_below (arch t) (mappings t fit d x here) y j r link s k in
         let small = shape_small (arch t) y.shape (shape_of_layer (shapes (arch t)) (mappings t fit d x here) y j) in
-        let none = no_badge o i y r link e s k in
-        slot_is s (omega (arith, below, small)) (omega (arith, none)))
+        slot_is s (omega (arith, below, small)) (omega (arith, no_badge o i y r link e s k)))
 
     pub standing_laid : (o : Object) → IsIn o (standing t d) → (is_laid o ≡ true) × AreShort o
     standing_laid o i =
@@ -200,9 +193,7 @@ module _ (t : Tables) (fit : IsFit t) (written : IsWritten t) where
   frame_there : (o : Option FrameInfo) → ((x : FrameInfo) → o ≡ Some x → IsIn x t.spaces.frames)
       → Fine (option_map_or frame_object o objects.Endpoint)
   frame_there None h = (refl, tt)
-  frame_there (Some x) h =
-      let w = written.frames x (h x refl) in
-      (frame_laid x w, λ f e. name_short f.file (w.fill f e).file)
+  frame_there (Some x) h = let w = written.frames x (h x refl) in (frame_laid x w, λ f e. name_short f.file (w.fill f e).file)
 
   pub fine_there : (w : What) → IsThere t w → Fine (object t w)
   fine_there (CNodeOf d) h = (cnode_laid d h.0 h.1, tt)

@@ -1,5 +1,5 @@
 -- How long the lines of a canonical text are, where names are short.
-use Rattle.spec_laws.proofs.Common.{Aarch64, Arch, Arm11, Bool, CNode, Cap, Directory, Endpoint, Fill, Frame, Global, IsIn, Level, List, None, Object, Option, Pages, Rights, Some, Spec, Table, Tcb, Thread, Upper, [], and_parts, ap, arch_word}
+use Rattle.spec_laws.proofs.Common.{Aarch64, Arch, Arm11, Bool, CNode, Cap, Directory, Endpoint, Fill, Frame, IsIn, Level, List, None, Object, Option, Pages, Rights, Some, Spec, Tcb, Thread, [], and_parts, ap, arch_word}
 use Rattle.spec_laws.proofs.Common.{are_slots, arith, buffer_line, cap_end, caps_of, cond_both, decimal, elf_field, entry_line, entry_text, false, fill_field, flat_map, frame_line, has_slot, holder_text, if_any, inl, inr, irq_line, irq_text, is_laid}
 use Rattle.spec_laws.proofs.Common.{is_number, is_tcb, keeps, keeps_fill, leb, leb-true, length, length_append, level_word, ltb-true, name_at, named_line, nat_lt, not, object_line, paddr_field, params, refl, slots_text, some, suc, sym, tcb_line}
 use Rattle.spec_laws.proofs.Common.{tcb_text, true, zero, ℕ, ◌&&◌, ◌*◌, ◌++◌, ◌+◌, ◌<◌, ◌==◌, ◌^◌, ◌∷◌, ◌≡◌, ◌≤◌}
@@ -28,9 +28,8 @@ unfolding hex_digits
 digits_short zero n = omega arith
 digits_short (suc room) n =
     let ih = digits_short room (n / 16) in
-    let long = length_append (hex_digits room (n / 16)) (glyph (n % 16) ∷ []) in
     cond_both (nat_lt n 16) (glyph n ∷ []) (hex_digits room (n / 16) ++ glyph (n % 16) ∷ []) (λ (z : List ℕ). length z ≤ suc room)
-    (λ e. omega arith) (λ e. omega (arith, ih, long))
+    (λ e. omega arith) (λ e. omega (arith, ih, length_append (hex_digits room (n / 16)) (glyph (n % 16) ∷ [])))
 
 hex_short : (n : ℕ) → length (hex_text n) ≤ 18
 unfolding hex_text
@@ -49,20 +48,17 @@ rights_short : (r : Rights) → length (rights_word r) ≤ 4
 rights_short r =
     let a = letter_short r.reply reply_letter [] 0 (omega arith) in
     let b = letter_short r.grant grant_letter (letter r.reply reply_letter []) 1 a in
-    let c = letter_short r.write write_letter (letter r.grant grant_letter (letter r.reply reply_letter [])) 2 b in
     letter_short r.read read_letter (letter r.write write_letter (letter r.grant grant_letter (letter r.reply reply_letter []))) 3
-    c
+    (letter_short r.write write_letter (letter r.grant grant_letter (letter r.reply reply_letter [])) 2 b)
 
 params_short : (a b : Bool) (r : Rights) (badge : ℕ) → badge < 2 ^ 64 → length (params a b r badge) ≤ 36
 params_short false false r badge l = omega arith
 params_short true false r badge l =
-    let s = all_short (2 ∷ 4 ∷ 1 ∷ []) (codes " (" ∷ rights_word r ∷ codes ")" ∷ [])
-    (omega arith, (rights_short r, (omega arith, tt))) in
-    more (params true false r badge) 7 36 s (omega arith)
+    more (params true false r badge) 7 36 (all_short (2 ∷ 4 ∷ 1 ∷ []) (codes " (" ∷ rights_word r ∷ codes ")" ∷ [])
+    (omega arith, (rights_short r, (omega arith, tt)))) (omega arith)
 params_short false true r badge l =
-    let s = all_short (9 ∷ 20 ∷ 1 ∷ []) (codes " (badge: " ∷ decimal badge ∷ codes ")" ∷ [])
-    (omega arith, (decimal_short badge l, (omega arith, tt))) in
-    more (params false true r badge) 30 36 s (omega arith)
+    more (params false true r badge) 30 36 (all_short (9 ∷ 20 ∷ 1 ∷ []) (codes " (badge: " ∷ decimal badge ∷ codes ")" ∷ [])
+    (omega arith, (decimal_short badge l, (omega arith, tt)))) (omega arith)
 params_short true true r badge l =
     all_short (2 ∷ 4 ∷ 9 ∷ 20 ∷ 1 ∷ []) (codes " (" ∷ rights_word r ∷ codes ", badge: " ∷ decimal badge ∷ codes ")" ∷ [])
     (omega arith, (rights_short r, (omega arith, (decimal_short badge l, (omega arith, tt)))))
@@ -71,23 +67,15 @@ params_short true true r badge l =
 
 -- what a line is longer by than that of a CNode
 abbrev pub extra : Object → ℕ
-extra Endpoint = 0
-extra Notification = 0
-extra (CNode bits slots) = 0
 extra (Thread tcb) = 209
 extra (Frame paddr fill) = 229
-extra (Pages level slots) = 0
-extra (Irq notification) = 0
+extra _ = 0
 
 -- files have short names
 abbrev pub AreShort : Object → Type 0
-AreShort Endpoint = Unit {0}
-AreShort Notification = Unit {0}
-AreShort (CNode bits slots) = Unit {0}
 AreShort (Thread tcb) = (elf : List ℕ) → tcb.elf ≡ Some elf → length elf ≤ 127
 AreShort (Frame paddr fill) = (f : Fill) → fill ≡ Some f → length f.file ≤ 127
-AreShort (Pages level slots) = Unit {0}
-AreShort (Irq notification) = Unit {0}
+AreShort _ = Unit {0}
 
 elf_short : (elf : Option (List ℕ)) → ((e : List ℕ) → elf ≡ Some e → length e ≤ 127) → length (elf_field elf) ≤ 136
 elf_short None h = omega arith
@@ -153,18 +141,15 @@ line_short spec name Notification n k h =
     let s = all_short (16 ∷ 16 ∷ []) (name ∷ codes " = notification\n" ∷ []) (n, (omega arith, tt)) in
     more (object_line name Notification) 32 53 s (omega arith)
 line_short spec name (CNode bits slots) n k h =
-    let sized = and_parts (nat_lt 0 bits && leb bits 16) _ k in
-    let few = leb-true bits 16 (and_parts (nat_lt 0 bits) (leb bits 16) sized.0).1 in
+    let few = leb-true bits 16 (and_parts (nat_lt 0 bits) (leb bits 16) (and_parts (nat_lt 0 bits && leb bits 16) _ k).0).1 in
     all_short (16 ∷ 10 ∷ 20 ∷ 7 ∷ []) (name ∷ codes " = cnode (" ∷ decimal bits ∷ codes " bits)\n" ∷ [])
     (n, (omega arith, (decimal_short bits (omega (arith, few)), (omega arith, tt))))
 line_short spec name (Thread tcb) n k h =
-    let p = and_parts (leb tcb.prio 255 && _) _ k in
-    tcb_short name tcb n (leb-true tcb.prio 255 (and_parts (leb tcb.prio 255) _ p.0).0) h
+    tcb_short name tcb n (leb-true tcb.prio 255 (and_parts (leb tcb.prio 255) _ (and_parts (leb tcb.prio 255 && _) _ k).0).0) h
 line_short spec name (Frame paddr fill) n k h = frame_short name paddr fill n (and_parts _ (if_any keeps_fill fill) k).1 h
 line_short spec name (Pages level slots) n k h =
-    let s = all_short (16 ∷ 3 ∷ 3 ∷ 1 ∷ []) (name ∷ codes " = " ∷ level_word level ∷ codes "\n" ∷ [])
-    (n, (omega arith, (level_short level, (omega arith, tt)))) in
-    more (object_line name (Pages level slots)) 23 53 s (omega arith)
+    more (object_line name (Pages level slots)) 23 53 (all_short (16 ∷ 3 ∷ 3 ∷ 1 ∷ []) (name ∷ codes " = " ∷ level_word level
+    ∷ codes "\n" ∷ []) (n, (omega arith, (level_short level, (omega arith, tt))))) (omega arith)
 line_short spec name (Irq notification) n k h =
     let s = all_short (16 ∷ 7 ∷ []) (name ∷ codes " = irq\n" ∷ []) (n, (omega arith, tt)) in
     more (object_line name (Irq notification)) 23 53 s (omega arith)
@@ -188,10 +173,8 @@ module _ (spec : Spec) (names : (o : ℕ) → length (name_at spec o) ≤ 16) wh
   badge_of [] s h i = absurd i
   badge_of (x ∷ xs) s h (inl e) =
       let a = and_parts (is_number x.0 && is_number x.1.badge) (are_slots xs) h in
-      let b = and_parts (is_number x.0) (is_number x.1.badge) a.0 in
       let n : s.1.badge ≡ x.1.badge = ap (λ (z : ℕ × Cap). z.1.badge) (sym e) in
-      let l = number x.1.badge b.1 in
-      omega (arith, n, l)
+      omega (arith, n, number x.1.badge (and_parts (is_number x.0) (is_number x.1.badge) a.0).1)
   badge_of (x ∷ xs) s h (inr i) = badge_of xs s (and_parts (is_number x.0 && is_number x.1.badge) (are_slots xs) h).1 i
 
   slots_short : (name : List ℕ) (slots : List (ℕ × Cap)) → length name ≤ 16 → are_slots slots ≡ true
@@ -199,11 +182,9 @@ module _ (spec : Spec) (names : (o : ℕ) → length (name_at spec o) ≤ 16) wh
   slots_short name [] n h = omega arith
   slots_short name (s ∷ ss) n h =
       let head = name ∷ codes " {\n" ∷ [] in
-      let text = flat_map (slot_line spec) (s ∷ ss) in
-      let m = 73 * length (s ∷ ss) in
-      let a = length_flat_map (slot_line spec) (s ∷ ss) in
+      let text = flat_map (slot_line spec) (s ∷ ss) in let m = 73 * length (s ∷ ss) in
       let b = total_each (λ x. length (slot_line spec x)) 73 (s ∷ ss) (λ x i. slot_short x (badge_of (s ∷ ss) x h i)) in
-      let c : length text ≤ m = omega (arith, a, b) in
+      let c : length text ≤ m = omega (arith, length_flat_map (slot_line spec) (s ∷ ss), b) in
       let d = joined (together head ⊹ text) (codes "}\n") (19 + m) 2
       (joined (together head) text 19 m (all_short (16 ∷ 3 ∷ []) head (n, (omega arith, tt))) c) (omega arith) in
       omega (arith, d)
@@ -226,29 +207,23 @@ module _ (spec : Spec) (names : (o : ℕ) → length (name_at spec o) ≤ 16) wh
   tcb_text_short name tcb true n h =
       let head = name ∷ codes " {\n" ∷ [] in
       let x = named_line spec (codes "cspace: ") tcb.cspace in
-      let y = named_line spec (codes "vspace: ") tcb.vspace in
-      let z = buffer_line spec tcb.buffer in
-      let a = 73 * some tcb.cspace in
-      let b = 73 * some tcb.vspace in
+      let y = named_line spec (codes "vspace: ") tcb.vspace in let z = buffer_line spec tcb.buffer in
+      let a = 73 * some tcb.cspace in let b = 73 * some tcb.vspace in
       let c = 73 * some tcb.buffer in
-      let p = and_parts (is_number tcb.addr && is_number tcb.ip) _ h in
-      let q = and_parts (is_number tcb.sp) _ p.1 in
-      let badge = (and_parts _ (if_any (λ c. is_number c.badge) tcb.buffer) q.1).1 in
+      let q = and_parts (is_number tcb.sp) _ (and_parts (is_number tcb.addr && is_number tcb.ip) _ h).1 in
       let first = all_short (16 ∷ 3 ∷ []) head (n, (omega arith, tt)) in
-      let s = joined (together head ⊹ x ⊹ y ⊹ z) (codes "}\n") (19 + a + b + c) 2
-      (joined (together head ⊹ x ⊹ y) z (19 + a + b) c
+      let s = joined (together head ⊹ x ⊹ y ⊹ z) (codes "}\n") (19 + a + b + c) 2 (joined (together head ⊹ x ⊹ y) z (19 + a + b) c
       (joined (together head ⊹ x) y (19 + a) b
       (joined (together head) x 19 a first (named_short (codes "cspace: ") tcb.cspace (omega arith)))
       (named_short (codes "vspace: ") tcb.vspace (omega arith)))
-      (buffer_short tcb.buffer badge)) (omega arith) in
+      (buffer_short tcb.buffer ((and_parts _ (if_any (λ c. is_number c.badge) tcb.buffer) q.1).1))) (omega arith) in
       omega (arith, s)
 
   irq_text_short : (name : List ℕ) (o : Option ℕ) → length name ≤ 16 → length (irq_text spec name o) ≤ 21 + 73 * caps_of (Irq o)
   irq_text_short name None n = omega arith
   irq_text_short name (Some o) n =
-      let s = all_short (16 ∷ 8 ∷ 16 ∷ 3 ∷ []) (name ∷ codes " {\n0x0: " ∷ name_at spec o ∷ codes "\n}\n" ∷ [])
-      (n, (omega arith, (names o, (omega arith, tt)))) in
-      more (irq_text spec name (Some o)) 43 94 s (omega arith)
+      more (irq_text spec name (Some o)) 43 94 (all_short (16 ∷ 8 ∷ 16 ∷ 3 ∷ []) (name ∷ codes " {\n0x0: " ∷ name_at spec o
+      ∷ codes "\n}\n" ∷ []) (n, (omega arith, (names o, (omega arith, tt))))) (omega arith)
 
   pub holder_short : (name : List ℕ) (o : Object) → length name ≤ 16 → is_laid o ≡ true
       → length (holder_text spec name o) ≤ 21 + 73 * caps_of o
@@ -277,15 +252,13 @@ module _ (spec : Spec) (names : (o : ℕ) → length (name_at spec o) ≤ 16) wh
   unfolding canonical
   canonical_short a b c p q r =
       let head = codes "arch " ∷ arch_word spec.arch ∷ codes "\n\nobjects {\n" ∷ [] in
-      let x = flat_map entry_line spec.entries in
-      let y = flat_map (entry_text spec) spec.entries in
+      let x = flat_map entry_line spec.entries in let y = flat_map (entry_text spec) spec.entries in
       let z = flat_map (irq_line spec) spec.irqs in
       let first = all_short (5 ∷ 7 ∷ 12 ∷ []) head (omega arith, (arch_short spec.arch, (omega arith, tt))) in
       let s1 = joined (together head) x 24 a first p in
       let s2 = joined (together head ⊹ x) (codes "}\n\ncaps {\n") (24 + a) 10 s1 (omega arith) in
-      let s3 = joined (together head ⊹ x ⊹ codes "}\n\ncaps {\n") y (24 + a + 10) b s2 q in
-      let s4 = joined (together head ⊹ x ⊹ codes "}\n\ncaps {\n" ⊹ y) (codes "}\n\nirq maps {\n") (24 + a + 10 + b) 14 s3
-      (omega arith) in
+      let s4 = joined (together head ⊹ x ⊹ codes "}\n\ncaps {\n" ⊹ y) (codes "}\n\nirq maps {\n") (24 + a + 10 + b) 14
+      (joined (together head ⊹ x ⊹ codes "}\n\ncaps {\n") y (24 + a + 10) b s2 q) (omega arith) in
       let s5 = joined (together head ⊹ x ⊹ codes "}\n\ncaps {\n" ⊹ y ⊹ codes "}\n\nirq maps {\n") z
       (24 + a + 10 + b + 14) c s4 r in
       let s6 = joined (together head ⊹ x ⊹ codes "}\n\ncaps {\n" ⊹ y ⊹ codes "}\n\nirq maps {\n" ⊹ z) (codes "}\n")

@@ -1,9 +1,10 @@
 -- Interrupt lines rise by number, and each leads to an interrupt of its own.
-use Rattle.spec_laws.proofs.Common.{Bool, Connector, Direct, FlatConnection, Interrupt, IrqOf, IsFit, IsIn, IsThere, List, Mmio, Notification, Part, Rpc, SharedMemory, Some, Tables, What, [], and_from, and_parts, ap, arith, by_number, cases_order}
+use Rattle.spec_laws.proofs.Common.{Bool, Connector, FlatConnection, Interrupt, IrqOf, IsFit, IsIn, IsThere, List, Notification, Part, Some, Tables, What, [], and_from, and_parts, ap, arith, by_number, cases_order}
 use Rattle.spec_laws.proofs.Common.{cond, differ, eqb-true, false, false_from_ne_true, from_gather, gather, has_part, inl, inr, irq_number, is_at, keeps_lines, leb, leb-false, leb-true, length, line_by, lines, list_all, list_any, lt-ltb, ltb-true}
-use Rattle.spec_laws.proofs.Common.{map, nat_lt, parts, place, put_line, refl, rise, same_Some, slice_get, spec_of, stands, subst, suc, sym, true, ℕ, ◌&&◌, ◌++◌, ◌<◌, ◌==◌, ◌∙◌, ◌∷◌, ◌≡◌, ◌≤◌, ◌⊎◌}
+use Rattle.spec_laws.proofs.Common.{map, nat_lt, parts, place, put_line, refl, rise, same_Some, slice_get, spec_of, stands, subst, suc, sym, true, ℕ, ◌&&◌, ◌++◌, ◌<◌, ◌==◌, ◌∙◌, ◌∷◌, ◌≡◌, ◌≤◌}
 use Rattle.cap_model.specs.declared.kind.Kind.TheVariants as kinds
 use Rattle.spec_laws.proofs.CapsFit.{all_pass, is_at_of}
+use Rattle.spec_laws.proofs.SlotLists.{from_order, from_put}
 
 abbrev Line : Type 0
 Line = ℕ × ℕ
@@ -17,8 +18,7 @@ rises_behind x (y ∷ xs) r = (and_parts (nat_lt x.0 y.0) (rise (y ∷ xs)) r).1
 rises_over : (x : Line) (xs : List Line) (y : Line) → rise (x ∷ xs) ≡ true → IsIn y xs → x.0 < y.0
 rises_over x [] y r i = absurd i
 rises_over x (z ∷ xs) y r (inl same) =
-    let l : x.0 < z.0 = ltb-true x.0 z.0 (and_parts (nat_lt x.0 z.0) (rise (z ∷ xs)) r).0 in
-    subst (λ (w : Line). x.0 < w.0) same l
+    subst (λ (w : Line). x.0 < w.0) same (ltb-true x.0 z.0 (and_parts (nat_lt x.0 z.0) (rise (z ∷ xs)) r).0)
 rises_over x (z ∷ xs) y r (inr i) =
     let l : x.0 < z.0 = ltb-true x.0 z.0 (and_parts (nat_lt x.0 z.0) (rise (z ∷ xs)) r).0 in
     let m : z.0 < y.0 = rises_over z xs y (and_parts (nat_lt x.0 z.0) (rise (z ∷ xs)) r).1 i in
@@ -31,48 +31,29 @@ rise_from x (y ∷ xs) r h = and_from (nat_lt x.0 y.0) (rise (y ∷ xs)) (lt-ltb
 
 -- ---- lines by number
 
-from_put : (x : Line) (ls : List Line) (l : Line) → IsIn l (put_line x ls) → (x ≡ l) ⊎ IsIn l ls
-from_put x [] l (inl e) = inl e
-from_put x [] l (inr i) = absurd i
-from_put x (y ∷ ys) l i = by_test (leb x.0 y.0) (from_put x ys l) i
-  where
-    by_test : (b : Bool) → (IsIn l (put_line x ys) → (x ≡ l) ⊎ IsIn l ys) → IsIn l (cond b (x ∷ y ∷ ys) (y ∷ put_line x ys))
-        → (x ≡ l) ⊎ IsIn l (y ∷ ys)
-    by_test true more (inl e) = inl e
-    by_test true more (inr i) = inr i
-    by_test false more (inl e) = inr (inl e)
-    by_test false more (inr i) = elim (more i) [ inl e ↦ inl e | inr j ↦ inr (inr j) ]
-
 put_rises : (x : Line) (ls : List Line) → rise ls ≡ true → ((l : Line) → IsIn l ls → x.0 ≡ l.0 → ⊥) → rise (put_line x ls) ≡ true
 put_rises x [] r h = refl
 put_rises x (y ∷ ys) r h = by_test (leb x.0 y.0) refl (put_rises x ys (rises_behind y ys r) (λ l i. h l (inr i)))
   where
     by_test : (b : Bool) → leb x.0 y.0 ≡ b → rise (put_line x ys) ≡ true → rise (cond b (x ∷ y ∷ ys) (y ∷ put_line x ys)) ≡ true
     by_test true e more =
-        let l = leb-true x.0 y.0 e in
         let below : x.0 < y.0 = elim (cases_order x.0 y.0) [
           | inl same ↦ absurd (h y (inl refl) same)
           | inr (inl less) ↦ less
-          | inr (inr above) ↦ absurd (omega (arith, l, above))
+          | inr (inr above) ↦ absurd (omega (arith, leb-true x.0 y.0 e, above))
         ] in
         and_from (nat_lt x.0 y.0) (rise (y ∷ ys)) (lt-ltb x.0 y.0 below) r
     by_test false e more =
-        let above = leb-false x.0 y.0 e in
         rise_from y (put_line x ys) more
-        (λ l i. elim (from_put x ys l i) [
-          | inl same ↦ let m : y.0 < x.0 = omega (arith, above) in subst (λ (z : Line). y.0 < z.0) same m
+        (λ l i. elim (from_put x l ys i) [
+          | inl same ↦ let m : y.0 < x.0 = omega (arith, leb-false x.0 y.0 e) in subst (λ (z : Line). y.0 < z.0) same m
           | inr j ↦ rises_over y ys l r j
         ])
-
-pub from_sorted : (ls : List Line) (l : Line) → IsIn l (by_number ls) → IsIn l ls
-from_sorted [] l i = absurd i
-from_sorted (x ∷ xs) l i = elim (from_put x (by_number xs) l i) [ inl e ↦ inl e | inr j ↦ inr (from_sorted xs l j) ]
 
 -- lines of elements, each of which gives one at most, and no two of one number
 sorted_rise : {X : Type 0} (f : ℕ → X → List Line) (xs : List X) → ((k : ℕ) (x : X) → length (f k x) ≤ 1)
     → ((j k : ℕ) (a b : X) (l m : Line) → slice_get xs j ≡ Some a → slice_get xs k ≡ Some b → IsIn l (f j a) → IsIn m (f k b)
-    → l.0 ≡ m.0 → j ≡ k)
-    → rise (by_number (gather f xs)) ≡ true
+    → l.0 ≡ m.0 → j ≡ k) → rise (by_number (gather f xs)) ≡ true
 sorted_rise f [] few one = refl
 sorted_rise {X} f (x ∷ xs) few one =
     let g : ℕ → X → List Line = λ k y. f (suc k) y in
@@ -84,11 +65,9 @@ sorted_rise {X} f (x ∷ xs) few one =
         → rise (by_number (ls ++ gather (λ k y. f (suc k) y) xs)) ≡ true
     by_list [] e behind = behind
     by_list (l ∷ []) e behind =
-        put_rises l (by_number (gather (λ k y. f (suc k) y) xs)) behind
-        (λ m i s.
-        let c = from_gather (λ k y. f (suc k) y) m xs (from_sorted (gather (λ k y. f (suc k) y) xs) m i) in
-        let n : 0 ≡ suc c.0 = one 0 (suc c.0) x c.1 l m refl c.2 (subst (λ z. IsIn l z) (sym e) (inl refl)) c.3 s in
-        absurd (omega (arith, n)))
+        put_rises l (by_number (gather (λ k y. f (suc k) y) xs)) behind (λ m i s. let c = from_gather (λ k y. f (suc k) y) m xs
+        (from_order m (gather (λ k y. f (suc k) y) xs) i) in let n : 0 ≡ suc c.0 = one 0 (suc c.0) x c.1 l m refl c.2
+        (subst (λ z. IsIn l z) (sym e) (inl refl)) c.3 s in absurd (omega (arith, n)))
     by_list (l ∷ m ∷ ls) e behind = let long = few 0 x in let s : length (f 0 x) ≡ length (l ∷ m ∷ ls) = ap (λ z. length z) e in
         absurd (omega (arith, long, s))
 
@@ -110,11 +89,11 @@ places_differ (x ∷ ls) r h =
 
 -- ---- the lines of connections
 
-module _ (t : Tables) (fit : IsFit t) where
-  one_each : (k : ℕ) (c : FlatConnection) (x : Connector) → length (line_by t k c x) ≤ 1
-  one_each k c Notification = omega arith
-  one_each k c _ = omega arith
+pub one_each : (t : Tables) (k : ℕ) (c : FlatConnection) (x : Connector) → length (line_by t k c x) ≤ 1
+one_each t k c Notification = omega arith
+one_each t k c _ = omega arith
 
+module _ (t : Tables) (fit : IsFit t) where
   from_line : (l : Line) (k : ℕ) (c : FlatConnection) (x : Connector) → IsIn l (line_by t k c x)
       → (x ≡ Interrupt) × ((irq_number t.settled k c, place t (IrqOf k)) ≡ l)
   from_line l k c Interrupt (inl same) = (refl, same)
@@ -123,10 +102,8 @@ module _ (t : Tables) (fit : IsFit t) where
 
   lines_rise : rise (lines t) ≡ true
   lines_rise =
-      sorted_rise (λ k (c : FlatConnection). line_by t k c c.connector) t.flat.connections (λ k c. one_each k c c.connector)
-      (λ j k a b l m p q i o s.
-      let x = from_line l j a a.connector i in
-      let y = from_line m k b b.connector o in
+      sorted_rise (λ k (c : FlatConnection). line_by t k c c.connector) t.flat.connections (λ k c. one_each t k c c.connector)
+      (λ j k a b l m p q i o s. let x = from_line l j a a.connector i in let y = from_line m k b b.connector o in
       fit.one_line j k a b p q x.0 y.0 (ap (λ (z : Line). z.0) x.1 ∙ s ∙ sym (ap (λ (z : Line). z.0) y.1)))
 
   -- the connection of a line
@@ -138,21 +115,19 @@ module _ (t : Tables) (fit : IsFit t) where
   pub lined : (l : Line) → IsIn l (lines t) → Lined l
   lined l i =
       let f : ℕ → FlatConnection → List Line = λ k (c : FlatConnection). line_by t k c c.connector in
-      let g = from_gather f l t.flat.connections (from_sorted (gather f t.flat.connections) l i) in
+      let g = from_gather f l t.flat.connections (from_order l (gather f t.flat.connections) i) in
       let w = from_line l g.0 g.1 g.1.connector g.3 in
       record { number = g.0; there = (g.1, g.2, w.0); is = w.1 }
 
   -- an interrupt's place tells its connection
   one_place : (j k : ℕ) → IsThere t (IrqOf j) → IsThere t (IrqOf k) → place t (IrqOf j) ≡ place t (IrqOf k) → j ≡ k
   one_place j k a b same =
-      let p = has_part t (IrqOf j) a in
-      let q = has_part t (IrqOf k) b in
+      let p = has_part t (IrqOf j) a in let q = has_part t (IrqOf k) b in
       let e : slice_get (parts t) (place t (IrqOf j)) ≡ Some p.0 = ap (λ w. slice_get (parts t) (place t w)) (sym p.2)
       ∙ stands t p.0 p.1 in
       let f : slice_get (parts t) (place t (IrqOf k)) ≡ Some q.0 = ap (λ w. slice_get (parts t) (place t w)) (sym q.2)
       ∙ stands t q.0 q.1 in
-      let one : p.0 ≡ q.0 = same_Some _ _ (sym e ∙ ap (λ n. slice_get (parts t) n) same ∙ f) in
-      ap of_irq (sym p.2 ∙ ap (λ (z : Part). z.what) one ∙ q.2)
+      ap of_irq (sym p.2 ∙ ap (λ (z : Part). z.what) (same_Some _ _ (sym e ∙ ap (λ n. slice_get (parts t) n) same ∙ f)) ∙ q.2)
     where
       of_irq : What → ℕ
       of_irq (IrqOf k) = k
@@ -160,11 +135,9 @@ module _ (t : Tables) (fit : IsFit t) where
 
   one_target : (x y : Line) → IsIn x (lines t) → IsIn y (lines t) → x.1 ≡ y.1 → x.0 ≡ y.0
   one_target x y i j e =
-      let a = lined x i in
-      let b = lined y j in
-      let at : place t (IrqOf a.number) ≡ place t (IrqOf b.number) = ap (λ (z : Line). z.1) a.is ∙ e
-      ∙ sym (ap (λ (z : Line). z.1) b.is) in
-      let k : a.number ≡ b.number = one_place a.number b.number a.there b.there at in
+      let a = lined x i in let b = lined y j in
+      let k : a.number ≡ b.number = one_place a.number b.number a.there b.there (ap (λ (z : Line). z.1) a.is ∙ e
+      ∙ sym (ap (λ (z : Line). z.1) b.is)) in
       let c : a.there.0 ≡ b.there.0 = same_Some _ _ (sym a.there.1 ∙ ap (λ n. slice_get t.flat.connections n) k ∙ b.there.1) in
       sym (ap (λ (z : Line). z.0) a.is) ∙ ap (λ n. irq_number t.settled n a.there.0) k ∙ ap (λ z. irq_number t.settled b.number z)
       c ∙ ap (λ (z : Line). z.0) b.is
@@ -181,5 +154,4 @@ module _ (t : Tables) (fit : IsFit t) where
       let test : Line → Bool = λ l. is_at (spec_of t) kinds.Irq l.1 in
       and_from (rise ls && differ (λ a b. a == b) (map (λ (l : Line). l.1) ls)) (list_all test ls)
       (and_from (rise ls) (differ (λ a b. a == b) (map (λ (l : Line). l.1) ls)) lines_rise
-      (places_differ ls lines_rise one_target))
-      (all_pass test ls to_interrupt)
+      (places_differ ls lines_rise one_target)) (all_pass test ls to_interrupt)

@@ -1,5 +1,15 @@
 -- Lists: what stands in them, and numbers that rise.
-use Rattle.spec_laws.proofs.Common.{IsIn, List, Rises, Some, [], ap, arith, inl, map, range_with_len, refl, slice_get, suc, sym, zero, ℕ, ◌+◌, ◌<◌, ◌∙◌, ◌∷◌, ◌≡◌, ◌≤◌}
+use Rattle.spec_laws.proofs.Common.{IsIn, List, Rises, Some, [], ap, arith, inl, map, range_with_len, refl, slice_get, suc, sym, zero, ℕ, ◌<◌, ◌∙◌, ◌∷◌, ◌≡◌, ◌≤◌, Bool, true, false, cond, inr}
+
+-- what stands in a list that is empty unless a test passes
+pub from_if : {X : Type 0} (b : Bool) (xs : List X) (y : X) → IsIn y (cond b xs []) → (b ≡ true) × IsIn y xs
+from_if true xs y i = (refl, i)
+from_if false xs y i = absurd i
+
+pub shown_if : {X : Type 0} (b : Bool) (x y : X) → IsIn y (cond b (x ∷ []) []) → (b ≡ true) × (x ≡ y)
+shown_if true x y (inl e) = (refl, e)
+shown_if true x y (inr n) = absurd n
+shown_if false x y n = absurd n
 
 pub in_range : (a n : ℕ) → 0 < n → IsIn a (range_with_len a n)
 in_range a zero l = absurd (omega (arith, l))

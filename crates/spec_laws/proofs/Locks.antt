@@ -1,7 +1,7 @@
 -- No two uses have one lock
 use Rattle.spec_laws.proofs.Common.{CNodeOf, CanSlot, Cap, Connector, Domain, Each, Entry, FlatConnection, Handler, Interrupt, IrqOf, IsIn, IsJoint, IsNamed, List, LockOf, None, Object}
 use Rattle.spec_laws.proofs.Common.{OfDomain, OfEnd, Option, OwnLock, OwnLocks, Owned, Part, Rpc, SlotPlan, SlotUse, Slots, Some, Spec, Tables, [], ap, arith, before, domain_locks, domain_uses}
-use Rattle.spec_laws.proofs.Common.{entry, entry_object, from_gather, from_get_map, gather, in_gather, in_place, in_together, inl, inr, interrupt, irq_owner, lock, locks, map, name_at, name_of, numbered, object}
+use Rattle.spec_laws.proofs.Common.{entry, entry_object, from_gather, from_get_map, gather, in_gather, in_together, inl, interrupt, irq_owner, lock, locks, map, name_at, name_of, numbered, object}
 use Rattle.spec_laws.proofs.Common.{object_at, objects_stand, option_map_or, owned, part, parts, place, place_of, plan_of, refl, sections, single, slice_get, slots_at, spec_of, stands}
 use Rattle.spec_laws.proofs.Common.{subst, suc, sym, use_cap, uses_at, zero, ℕ, ◌+◌, ◌∙◌, ◌∷◌, ◌≡◌}
 use Rattle.adl_meaning.specs.declared.connector.Connector.TheVariants.{Notification as Notifies}
@@ -10,7 +10,8 @@ use Rattle.system_spec.specs.declared.series.Series.TheVariants as series
 use Rattle.spec_laws.proofs.SlotLists.{some}
 use Rattle.spec_laws.proofs.Numbering.{irq_part}
 use Rattle.spec_laws.proofs.Whose.{object_stands, of_node}
-use Rattle.spec_laws.proofs.Slotting.{cap_is, of_handler, of_use as from_use, uses_are}
+use Rattle.spec_laws.proofs.Slotting.{cap_is}
+use Rattle.spec_laws.proofs.Uses.{is_use}
 
 pub each_map : {X Y : Type 0} (P : Y → Type 0) (f : X → Y) (xs : List X) → ((x : X) → P (f x)) → Each P (map f xs)
 each_map P f [] h = tt
@@ -94,22 +95,15 @@ module _ (t : Tables) (can : CanSlot t) where
   handled : (d n k l : ℕ) (x : Domain) → slice_get t.flat.domains d ≡ Some x → slice_get (uses_at t d) n ≡ Some (Handler k l)
       → IsHandled d n k l
   handled d n k l x h e =
-      let P : List SlotUse → Type 0 = λ us. IsIn (Handler k l) us in
-      elim (from_use t x.leaves (Handler k l) (subst P (uses_are t can d x h) (in_place (Handler k l) (uses_at t d) n e))) [
-        | inl o ↦
-            let u = of_handler o.connection.connector o.end.role o.place o.number k l o.used in
-            let Q : ℕ → Type 0 = λ z. slice_get t.flat.connections z ≡ Some o.connection in
-            record { connection = o.connection; here = subst Q u.0 o.here; is_interrupt = u.2; leads = refl }
-        | inr o ↦ let z = o.2 in cc
-      ]
+      let u = is_use t can.slots d x h n (Handler k l) e in
+      record { connection = u.0; here = u.1; is_interrupt = u.2; leads = refl }
 
   of_use : (d n r : ℕ) (x : Domain) (u : SlotUse) → slice_get t.flat.domains d ≡ Some x → slice_get (uses_at t d) n ≡ Some u
       → IsNamed spec (use_cap t d n u).object series.Lock r → IsLockSlot d (n + 1) (use_cap t d n u)
   of_use d n r x (OfEnd k l) h e name = let c = cap_is t can d n x (OfEnd k l) h e in
       absurd (no_joint spec (use_cap t d n (OfEnd k l)).object k r c.connection.connector c.joint name)
   of_use d n r x (Handler k l) h e name =
-      let c = handled d n k l x h e in
-      let n = before interrupt t.flat.connections k in
+      let c = handled d n k l x h e in let n = before interrupt t.flat.connections k in
       let j = irq_part t k c.connection c.here c.is_interrupt in
       absurd (no_irq n r (sym ((objects_stand t).name (part series.Irq n (irq_owner k c.connection) (IrqOf k)) j)
       ∙ ap (λ z. name_at spec z) (sym c.leads) ∙ name))
@@ -152,28 +146,22 @@ module _ (t : Tables) (can : CanSlot t) where
   pub slot_is : (d m r bits : ℕ) (slots : List (ℕ × Cap)) (a : Cap) → object_at spec d ≡ Some (objects.CNode bits slots)
       → IsIn (m, a) slots → IsNamed spec a.object series.Lock r → IsLockSlot d m a
   slot_is d m r bits slots a o i name =
-      let p = object_stands t d (objects.CNode bits slots) o in
-      let w = of_node p.what p.sort in
+      let p = object_stands t d (objects.CNode bits slots) o in let w = of_node p.what p.sort in
       let at : place t (CNodeOf w.0) ≡ d = subst (λ z. place t z ≡ d) w.1 p.stands in
       let same : w.0 ≡ d = omega (arith, at) in
       let filled : slots_at t d ≡ slots = ap (λ z. slots_at t z) (sym same)
       ∙ ap slots_of_cnode (ap (λ z. object t z) (sym w.1) ∙ p.is) in
-      let P : List (ℕ × Cap) → Type 0 = λ z. IsIn (m, a) z in
-      in_domain d m r a (slice_get t.flat.domains d) refl (subst P (sym filled) i) name
+      in_domain d m r a (slice_get t.flat.domains d) refl (subst (λ z. IsIn (m, a) z) (sym filled) i) name
 
   own : OwnLocks spec
   own d m n e a b bits more slots others r s o q i j u v eq =
-      let x = slot_is d m r bits slots a o i u in
-      let y = slot_is e n s more others b q j v in
+      let x = slot_is d m r bits slots a o i u in let y = slot_is e n s more others b q j v in
       let p = part series.Lock x.named (OfDomain d) (LockOf d x.number) in
       let w = part series.Lock y.named (OfDomain e) (LockOf e y.number) in
-      let at : place t (LockOf d x.number) ≡ place t (LockOf e y.number) = sym x.leads ∙ eq ∙ y.leads in
-      let P : ℕ → Type 0 = λ z. slice_get (parts t) z ≡ Some p in
-      let parts_same : p ≡ w = some (slice_get (parts t) (place t (LockOf e y.number))) p w (subst P at (stands t p x.there))
-      (stands t w y.there) in
+      let parts_same : p ≡ w = some (slice_get (parts t) (place t (LockOf e y.number))) p w
+      (subst (λ z. slice_get (parts t) z ≡ Some p) (sym x.leads ∙ eq ∙ y.leads) (stands t p x.there)) (stands t w y.there) in
       let what : LockOf d x.number ≡ LockOf e y.number = ap (λ (z : Part). z.what) parts_same in
-      let number : x.number ≡ y.number = (lock_same d x.number e y.number what).1 in
-      ((lock_same d x.number e y.number what).0, x.slot ∙ ap (λ z. z + 1) number ∙ sym y.slot)
+      ((lock_same d x.number e y.number what).0, x.slot ∙ ap (λ z. z + 1) ((lock_same d x.number e y.number what).1) ∙ sym y.slot)
 
 pub own_locks : (t : Tables) → CanSlot t → OwnLocks (spec_of t)
 own_locks t can = own t can

@@ -1,22 +1,22 @@
 -- What the pages of a domain show, and whose frames they are.
 use Rattle.spec_laws.proofs.Common.{AtOtherEnd, Bool, Buffer, Connector, Domain, Fill, FlatConnection, FlatEnd, FrameInfo, FrameOf, From, Given, IsConnected, IsIn, IsThere, LeadsTo, MappedPage, Memory, Mmio, None, ObjectKind, OfDevice, OfFrames}
-use Rattle.spec_laws.proofs.Common.{Option, Own, Page, Read, Region, Role, SectionPage, SharedMemory, Some, Space, Stack, Tables, ThreadPlace, To, [], and_parts, ap, arith, base, end_rule, eqb-true, false, first_to, first_to_end, flat_map, frame}
+use Rattle.spec_laws.proofs.Common.{Option, Own, Page, Read, Region, Role, SectionPage, SharedMemory, Some, Space, Stack, Tables, ThreadPlace, To, [], ap, arith, base, end_rule, first_to_end, flat_map, frame}
 use Rattle.spec_laws.proofs.Common.{frame_owner, frames, frames_stand, from_flat_map, from_gather, from_map, from_ones, from_range, gather, get_ones, given_tables, gives, in_append, in_gather, in_map, in_place, in_right, inl, inr, is_at_device}
-use Rattle.spec_laws.proofs.Common.{is_shared, is_to, leads_to, leaf_label, leaves_of, map, mapped_pages, may_read, may_write, memory_number, memory_pages, number_of, number_shown, opposite, option_and_then, option_map_or, own_label, own_port, page}
+use Rattle.spec_laws.proofs.Common.{is_shared, is_to, leaf_label, leaves_of, map, mapped_pages, may_read, may_write, memory_number, memory_pages, number_of, number_shown, opposite, option_and_then, option_map_or, own_label, page}
 use Rattle.spec_laws.proofs.Common.{page_of, pages_at, pages_of_region, place_of, policy_tables, position_or_len, range_with_len, refl, region, region_part, region_start, regions, register_frame, registers, registers_in, same_port, section_page}
 use Rattle.spec_laws.proofs.Common.{section_pages, section_part, setting_of, slice_get, slice_get_within, space, subst, sym, thread_place, thread_regions, threads_at, threads_of, true, window_pages, window_region, windows_of, ℕ, ◌+◌, ◌<◌, ◌∙◌, ◌∷◌}
-use Rattle.spec_laws.proofs.Common.{◌≡◌, ◌⊎◌}
+use Rattle.spec_laws.proofs.Common.{◌≡◌, ◌⊎◌, and_from, eq-eqb}
 use lib.Dec.{eqb}
 use Rattle.arch_policy.specs.declared.owner.Owner.TheVariants as owners
 use Rattle.arch_policy.specs.Ends.{EndAt}
 use Rattle.cspace_layout.specs.declared.end_at.EndAt.{EndAt as Joined}
 use Rattle.vspace_layout.specs.declared.owner.Owner.TheVariants.{OfDomain, OfConnection}
 use Rattle.vspace_layout.specs.declared.thread.ThreadOf.{ThreadOf}
-use Rattle.spec_laws.proofs.SpaceBounds.{led_to}
 use Rattle.spec_laws.proofs.Devices.{first_found, position_found}
 use Rattle.spec_laws.proofs.Lists.{in_range}
 use Rattle.spec_laws.proofs.Rows.{device_role}
 use Rattle.spec_laws.proofs.Whose.{frame_owner_at, owner_of}
+use Rattle.spec_laws.proofs.Framing.{first_is}
 
 -- ---- pages of a domain's space
 
@@ -64,11 +64,10 @@ module _ (g : Given) (d : ℕ) where
   window_page_of : (start j : ℕ) (r : Region) (p : MappedPage) (o : IsOfEnd r) → j < r.pages → page_of g.settled start r j ≡ p
       → OfWindow g d p
   window_page_of start j r p o below is =
-      let e = o.0 in
-      let here : page_of g.settled start (window_region g.flat g.settled e) j ≡ p =
+      let here : page_of g.settled start (window_region g.flat g.settled o.0) j ≡ p =
       ap (λ z. page_of g.settled start z j) o.2 ∙ is in
       record {
-        end = e;
+        end = o.0;
         there = o.1;
         number = j;
         below = subst (λ (z : Region). j < z.pages) (sym o.2) below;
@@ -108,8 +107,7 @@ module _ (g : Given) (d : ℕ) where
   pub window_there : (e : Joined) → IsIn e (windows_of g d) → IsIn (window_region g.flat g.settled e) (regions g d)
   window_there e i =
       in_right (window_region g.flat g.settled e) (flat_map (thread_regions g.settled) (threads_of g d))
-      (map (window_region g.flat g.settled) (windows_of g d))
-      (in_map (window_region g.flat g.settled) e (windows_of g d) i)
+      (map (window_region g.flat g.settled) (windows_of g d)) (in_map (window_region g.flat g.settled) e (windows_of g d) i)
 
 -- ---- pages and threads as they are laid
 
@@ -170,12 +168,10 @@ module _ (t : Tables) (h : IsConnected t) where
 
   -- an own page shows a frame of its domain
   pub own_frame : (d n : ℕ) (x : Domain) (p : MappedPage) → slice_get t.flat.domains d ≡ Some x
-      → slice_get (mapped_pages laid d) n ≡ Some p → IsOwn p
-      → IsThere t (FrameOf (number_shown laid d n p.shown))
+      → slice_get (mapped_pages laid d) n ≡ Some p → IsOwn p → IsThere t (FrameOf (number_shown laid d n p.shown))
       × (owner_of t (FrameOf (number_shown laid d n p.shown)) ≡ owners.OfDomain d)
   own_frame d n x p e s own =
-      let f = number_shown laid d n p.shown in
-      let y = frame (OfDomain d) None own.0 in
+      let f = number_shown laid d n p.shown in let y = frame (OfDomain d) None own.0 in
       let at : slice_get (frames laid) f ≡ Some y = (frames_stand laid).own d n p own.0 s own.1
       (slice_get_within t.flat.domains d x e) in
       ((y, frame_there f y at), frame_is f y at)
@@ -189,8 +185,7 @@ module _ (t : Tables) (h : IsConnected t) where
   pub sees_shared : (x : EndAt t.flat) (j : ℕ) → x.connection.connector ≡ SharedMemory
       → j < memory_pages t.settled x.place x.connection → Sees x OfFrames (memory_number laid x.place j)
   sees_shared x j e l =
-      let f = memory_number laid x.place j in
-      let y = frame (OfConnection x.place) None None in
+      let f = memory_number laid x.place j in let y = frame (OfConnection x.place) None None in
       let at : slice_get (frames laid) f ≡ Some y = (frames_stand laid).shared x.place j x.connection x.here (ap is_shared e) l in
       record {
         there = (y, frame_there f y at);
@@ -219,8 +214,7 @@ module _ (t : Tables) (h : IsConnected t) where
 
   pub at_registers : (k : ℕ) (c : FlatConnection) → slice_get t.flat.connections k ≡ Some c → c.connector ≡ Mmio → AtRegisters k c
   at_registers k c e m =
-      let v = h.flat.registers k c e m in
-      let x = v.at in
+      let v = h.flat.registers k c e m in let x = v.at in
       let same_some : Some x.connection ≡ Some c = sym x.here ∙ ap (λ z. slice_get t.flat.connections z) v.place ∙ e in
       let same : x.connection ≡ c = cc in
       let role : x.end.role ≡ To = elim (device_role x.connection.connector x.end.role v.device) [
@@ -243,54 +237,25 @@ module _ (t : Tables) (h : IsConnected t) where
         has = ap (λ z. registers_in z c.ends) m ∙ first;
       }
 
-  -- the first connection to the same registers
-  record FirstTo (e : FlatEnd) : Type 0 where
-    number : ℕ
-    connection : FlatConnection
-    here : slice_get t.flat.connections number ≡ Some connection
-    first : first_to t.flat e ≡ Some number
-    end : FlatEnd
-    has : registers connection ≡ Some end
-    same : same_port e end ≡ true
-
-  first_here : (k : ℕ) (c : FlatConnection) (e : FlatEnd) → slice_get t.flat.connections k ≡ Some c
-      → registers c ≡ Some e → FirstTo e
-  first_here k c e here has =
-      let passes : leads_to e c ≡ true = ap (λ z. option_map_or (same_port e) z false) has ∙ own_port e in
-      let f = first_found (leads_to e) t.flat.connections k c here passes in
-      let w = led_to e f.0 f.2 in
-      record {
-        number = position_or_len (leads_to e) t.flat.connections;
-        connection = f.0;
-        here = f.1;
-        first = position_found (leads_to e) t.flat.connections f.0 f.1;
-        end = w.0;
-        has = w.1;
-        same = w.2;
-      }
-
   pub sees_device : (x : EndAt t.flat) (j : ℕ) → x.connection.connector ≡ Mmio → x.end.role ≡ From
       → j < memory_pages t.settled x.place x.connection → Sees x OfDevice (memory_number laid x.place j)
   sees_device x j e r l =
-      let k = x.place in
-      let f = memory_number laid k j in
+      let k = x.place in let f = memory_number laid k j in
       let v = at_registers k x.connection x.here e in
-      let b = first_here k x.connection v.at.end x.here v.has in
+      let b = first_is t k x.connection v.at.end x.here v.has in
+      let same : same_port v.at.end b.end ≡ true = and_from (eqb b.end.leaf v.at.end.leaf) (eqb b.end.member v.at.end.member)
+      (eq-eqb b.end.leaf v.at.end.leaf b.leaf) (eq-eqb b.end.member v.at.end.member b.member) in
       let y = register_frame t.settled b.number b.connection b.end j in
-      let as_many = h.registers k b.number x.connection b.connection v.at.end b.end x.here b.here v.has b.has b.same in
+      let as_many = h.registers k b.number x.connection b.connection v.at.end b.end x.here b.here v.has b.leads same in
       let at : slice_get (frames laid) f ≡ Some y = (frames_stand laid).registers k j b.number x.connection b.connection v.at.end
-      b.end x.here v.has b.first b.here b.has (omega (arith, as_many, l)) in
-      let leaf : b.end.leaf ≡ v.at.end.leaf =
-      eqb-true b.end.leaf v.at.end.leaf (and_parts (eqb b.end.leaf v.at.end.leaf)
-      (eqb b.end.member v.at.end.member) b.same).0 in
+      b.end x.here v.has b.first b.here b.leads (omega (arith, as_many, l)) in
       let label : number_of t.numbers (owner_of t (FrameOf f)) ≡ leaf_label (policy_tables t) v.at.end.leaf =
-      ap (number_of t.numbers) (frame_is f y at ∙ ap owners.OfLeaf leaf)
+      ap (number_of t.numbers) (frame_is f y at ∙ ap owners.OfLeaf b.leaf)
       ∙ sym (own_label (policy_tables t) h.flat v.at v.device) in
       let other : AtOtherEnd (policy_tables t) x (number_of t.numbers (owner_of t (FrameOf f))) =
       record { at = v.at; same = v.place; role = v.role ∙ ap opposite (sym r); label_is = label } in
       record {
         there = (y, frame_there f y at);
-        memory = ap (λ c. gives c x.end.role OfDevice Read) e
-            ∙ ap (λ z. gives Mmio z OfDevice Read) r;
+        memory = ap (λ c. gives c x.end.role OfDevice Read) e ∙ ap (λ z. gives Mmio z OfDevice Read) r;
         leads = other;
       }

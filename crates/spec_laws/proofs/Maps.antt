@@ -22,19 +22,15 @@ pub tables_can_map : (s : Source) (images : Images) → AreFilesShort s → AreN
     → first_slot_fault s (flat_of s) ≡ None → first_page_limit (given s (flat_of s) (settled_of s) images) ≡ None
     → HaveImages (flat_of s) images → CanMap (tables_from s (flat_of s) (settled_of s) images)
 tables_can_map s images short sound types flat settings numbered sections space slots pages have =
-    let h = hierarchy_of s in
-    let g = given s (flat_of s) (settled_of s) images in
-    let one = one_assembly s sound in
-    let typed = ends_typed s sound (dotted s short) types in
-    let right = settings_sound s settings in
-    let same = (registers_there s short sound types settings).same in
+    let h = hierarchy_of s in let one = one_assembly s sound in
+    let typed = ends_typed s sound (dotted s short) types in let right = settings_sound s settings in
     record {
       spaces = refl;
       lay = can_lay s images short sound types flat settings;
       numbered = numbered;
       sound = sections;
       clean = space;
-      few = (few_pages g one.0 one.1 pages).pages;
+      few = (few_pages (given s (flat_of s) (settled_of s) images) one.0 one.1 pages).pages;
       grouped = record {
         listed = λ d leaf x at i. leaf_owned h d leaf x at i;
         inside = λ leaf d found at own. leaf_listed h leaf d found at own;
@@ -62,7 +58,7 @@ tables_can_map s images short sound types flat settings numbered sections space 
       };
       memory = record {
         pages = λ k l c e at there o.
-            same k l c e o.port o.other at there o.first o.second
+            ((registers_there s short sound types settings).same) k l c e o.port o.other at there o.first o.second
             (and_from (o.other.leaf == o.port.leaf) (o.other.member == o.port.member)
             (eq-eqb o.other.leaf o.port.leaf (sym o.leaf)) (eq-eqb o.other.member o.port.member (sym o.member)));
         paddr = λ k l c e at there o. same_paddr s typed right k l c e o.port o.other at there o.first o.second o.leaf o.member;

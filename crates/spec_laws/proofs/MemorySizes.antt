@@ -22,10 +22,7 @@ no_memory : IsMemory 0 0
 no_memory = record { most = omega arith; fits = omega arith; aligned = omega arith }
 
 of_setting : (e : EndSetting) → IsMeasured e → IsMemory (e.bytes / 4096) e.paddr
-of_setting e m =
-    let a = m.most in
-    let b = m.fits in
-    record { most = omega (arith, a); fits = omega (arith, b); aligned = m.aligned }
+of_setting e m = record { most = omega (arith, m.most); fits = omega (arith, m.fits); aligned = m.aligned }
 
 memory_is : (s : Source) (k : ℕ) (c : FlatConnection)
     → IsMemory (memory_pages (settled_of s) k c) (memory_paddr (settled_of s) k c)
@@ -34,9 +31,7 @@ memory_is s k c = by_place (memory_place c.connector c.ends)
     by_setting : (n : ℕ) (o : Option EndSetting) → setting_of (settled_of s) k n ≡ o
         → IsMemory (option_map_or (λ x. x.bytes / 4096) o 0) (option_map_or (λ x. x.paddr) o 0)
     by_setting n None e = no_memory
-    by_setting n (Some x) e =
-        let f = setting_from s k n x e in
-        of_setting x (subst IsMeasured f.1 (measured f.0))
+    by_setting n (Some x) e = let f = setting_from s k n x e in of_setting x (subst IsMeasured f.1 (measured f.0))
 
     by_place : (o : Option ℕ) → IsMemory (option_map_or (λ x. x.bytes / 4096) (option_and_then (setting_of (settled_of s) k) o) 0)
         (option_map_or (λ x. x.paddr) (option_and_then (setting_of (settled_of s) k) o) 0)
@@ -127,13 +122,9 @@ module _ (s : Source) (sound : AreNamesSound s) (dotted : AreDotted (hierarchy_o
   shared_some k n c e at there is =
       let first = first_of c.ends n e there in
       let f = end_found s typed settings k 0 c first.0 at first.1 in
-      let on : (is_shared f.found.joint.connection.connector || is_device_memory f.found.joint) ≡ true =
-      ap (λ (z : FlatConnection). is_shared z.connector || is_device_memory f.found.joint) f.connection
-      ∙ ap (λ z. is_shared z || is_device_memory f.found.joint) is in
-      let size = size_of_end f.found f.good on in
-      let pages = pages_by (settled_of s) k 0 c (end_setting f.found) (ap (λ z. memory_place z c.ends) is) f.setting in
-      let some = size.some in
-      omega (arith, pages, some)
+      let size = size_of_end f.found f.good (ap (λ (z : FlatConnection). is_shared z.connector || is_device_memory f.found.joint)
+      f.connection ∙ ap (λ z. is_shared z || is_device_memory f.found.joint) is) in
+      omega (arith, pages_by (settled_of s) k 0 c (end_setting f.found) (ap (λ z. memory_place z c.ends) is) f.setting, size.some)
 
   device_memory : (k n : ℕ) (c : FlatConnection) (e : FlatEnd) (f : IsEndFound s k n c e) → c.connector ≡ Mmio → e.role ≡ To
       → is_device_memory f.found.joint ≡ true
@@ -153,14 +144,11 @@ module _ (s : Source) (sound : AreNamesSound s) (dotted : AreDotted (hierarchy_o
   registers_some : (k : ℕ) (c : FlatConnection) → slice_get (flat_of s).connections k ≡ Some c → c.connector ≡ Mmio
       → 0 < memory_pages (settled_of s) k c
   registers_some k c at is =
-      let l = led k c at is in
-      let f = end_found s typed settings k l.place c l.end at l.there in
-      let device = device_memory k l.place c l.end f is l.role in
+      let l = led k c at is in let f = end_found s typed settings k l.place c l.end at l.there in
       let size = size_of_end f.found f.good (or_right (is_shared f.found.joint.connection.connector)
-      (is_device_memory f.found.joint) device) in
+      (is_device_memory f.found.joint) (device_memory k l.place c l.end f is l.role)) in
       let pages = pages_by (settled_of s) k l.place c (end_setting f.found) (place_of_mmio c l.place is l.first) f.setting in
-      let some = size.some in
-      omega (arith, pages, some)
+      omega (arith, pages, size.some)
 
   pub memory_some : (k n : ℕ) (c : FlatConnection) (e : FlatEnd) → slice_get (flat_of s).connections k ≡ Some c
       → slice_get c.ends n ≡ Some e → is_window c.connector e.role ≡ true → 0 < memory_pages (settled_of s) k c
@@ -176,37 +164,28 @@ module _ (s : Source) (sound : AreNamesSound s) (dotted : AreDotted (hierarchy_o
       → (end_setting f.found).bytes ≡ device_bytes (hierarchy_of s) Mmio None f.found.joint.leaf f.found.joint.interface
   unfolding device_bytes
   bytes_here k n c e f is =
-      let h = hierarchy_of s in
-      let j = f.found.joint in
+      let h = hierarchy_of s in let j = f.found.joint in
       ap (λ z. (end_setting z).bytes) f.values
       ∙ ap (λ (z : FlatConnection). device_bytes h z.connector (value_at h j.connection.path (codes "size")) j.leaf
-      j.interface) f.connection
-      ∙ ap (λ z. device_bytes h z (value_at h j.connection.path (codes "size")) j.leaf j.interface) is
+      j.interface) f.connection ∙ ap (λ z. device_bytes h z (value_at h j.connection.path (codes "size")) j.leaf j.interface) is
 
   same_pages : (k n : ℕ) (c d : FlatConnection) (e f : FlatEnd) → slice_get (flat_of s).connections k ≡ Some c
       → slice_get (flat_of s).connections n ≡ Some d → registers c ≡ Some e → registers d ≡ Some f → same_port e f ≡ true
       → memory_pages (settled_of s) k c ≡ memory_pages (settled_of s) n d
   same_pages k n c d e f at there has also same =
-      let h = hierarchy_of s in
-      let a = from_registers c e has in
-      let b = from_registers d f also in
-      let x = end_found s typed settings k a.1 c e at a.3 in
+      let h = hierarchy_of s in let a = from_registers c e has in
+      let b = from_registers d f also in let x = end_found s typed settings k a.1 c e at a.3 in
       let y = end_found s typed settings n b.1 d f there b.3 in
       let port = and_parts (f.leaf == e.leaf) (f.member == e.member) same in
-      let leaf_is : f.leaf ≡ e.leaf = eqb-true f.leaf e.leaf port.0 in
-      let member_is : f.member ≡ e.member = eqb-true f.member e.member port.1 in
       let leaf : x.found.joint.leaf ≡ y.found.joint.leaf =
-      same_Some _ _ (sym x.leaf ∙ ap (slice_get (flat_of s).leaves) (sym leaf_is) ∙ y.leaf) in
+      same_Some _ _ (sym x.leaf ∙ ap (slice_get (flat_of s).leaves) (sym (eqb-true f.leaf e.leaf port.0)) ∙ y.leaf) in
       let interface : x.found.joint.interface ≡ y.found.joint.interface =
       interface_same _ _ (sym x.interface ∙ ap (λ (z : Leaf). slice_get (members_at s z.component) e.member) leaf
-      ∙ ap (slice_get (members_at s y.found.joint.leaf.component)) (sym member_is) ∙ y.interface) in
+      ∙ ap (slice_get (members_at s y.found.joint.leaf.component)) (sym (eqb-true f.member e.member port.1)) ∙ y.interface) in
       let bytes : (end_setting x.found).bytes ≡ (end_setting y.found).bytes =
-      bytes_here k a.1 c e x a.0
-      ∙ ap (λ z. device_bytes h Mmio None z x.found.joint.interface) leaf
-      ∙ ap (λ z. device_bytes h Mmio None y.found.joint.leaf z) interface
-      ∙ sym (bytes_here n b.1 d f y b.0) in
-      pages_by (settled_of s) k a.1 c (end_setting x.found) (place_of_mmio c a.1 a.0 a.2) x.setting
-      ∙ ap (λ z. z / 4096) bytes
+      bytes_here k a.1 c e x a.0 ∙ ap (λ z. device_bytes h Mmio None z x.found.joint.interface) leaf
+      ∙ ap (λ z. device_bytes h Mmio None y.found.joint.leaf z) interface ∙ sym (bytes_here n b.1 d f y b.0) in
+      pages_by (settled_of s) k a.1 c (end_setting x.found) (place_of_mmio c a.1 a.0 a.2) x.setting ∙ ap (λ z. z / 4096) bytes
       ∙ sym (pages_by (settled_of s) n b.1 d (end_setting y.found) (place_of_mmio d b.1 b.0 b.2) y.setting)
 
   pub registers_are : HaveRegisters (flat_of s) (settled_of s)

@@ -27,5 +27,4 @@ same_series s r m n e = sym (series_found s (decimal m)) ∙ ap series_of e ∙ 
 pub same_number : (s r : Series) (m n : ℕ) → m < 2 ^ 64 → n < 2 ^ 64 → name_of s m ≡ name_of r n → m ≡ n
 same_number s r m n l k e =
     let q = same_series s r m n e in
-    let f : prefix r ++ decimal m ≡ prefix r ++ decimal n = sym (ap (λ z. name_of z m) q) ∙ e in
-    decimal_injective m n l k (append_cancel_left (prefix r) (decimal m) (decimal n) f)
+    decimal_injective m n l k (append_cancel_left (prefix r) (decimal m) (decimal n) (sym (ap (λ z. name_of z m) q) ∙ e))

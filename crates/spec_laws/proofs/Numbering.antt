@@ -1,10 +1,9 @@
 -- Numbers are sums: which lock, which interrupt and which thread has which
-use Rattle.spec_laws.proofs.Common.{Bool, Connector, Direct, Domain, FlatConnection, FlatEnd, From, Handler, Interrupt, IrqOf, IsIn, IsLockNumber, List, LockOf, Member, Mmio, OfDomain, OfEnd, OwnLock, Owned, Owner, Part, Role, Rpc, SharedMemory}
+use Rattle.spec_laws.proofs.Common.{Bool, Connector, Domain, FlatConnection, FlatEnd, Handler, Interrupt, IrqOf, IsIn, IsLockNumber, List, LockOf, Member, OfDomain, OfEnd, OwnLock, Owned, Owner, Part, Role, SharedMemory}
 use Rattle.spec_laws.proofs.Common.{SlotUse, Some, Tables, To, [], ap, arith, before, cond, domain_uses, end_uses, false, flat_map, flat_map-gather, gather, gather_same, gathered, in_gather, in_together, inl, interrupt, irq, irq_by, irq_owner, irqs}
 use Rattle.spec_laws.proofs.Common.{is_lock, joined_uses, joins, leaf_locks, leaf_members, leaf_uses, length, length_append, lock, lock_uses, locks, member_uses, numbered, owned, part, parts, refl, sections, slice_get, subst, suc, sym, take, true}
 use Rattle.spec_laws.proofs.Common.{uses_at, zero, ℕ, ◌++◌, ◌+◌, ◌∙◌, ◌∷◌, ◌≡◌}
 use Rattle.std.proofs.lemmas.List.Concat.{flat_map-append}
-use Rattle.adl_meaning.specs.declared.connector.Connector.TheVariants.{Notification as Notifies}
 use Rattle.system_spec.specs.declared.series.Series.TheVariants as series
 use Rattle.system_spec.specs.Parts.{domain_locks as parted_locks}
 use Rattle.system_spec.specs.Places.{has_irq}
@@ -48,13 +47,8 @@ lock_of (Handler k m) = []
 lock_of (OwnLock leaf m) = (leaf, m) ∷ []
 
 end_none : (c : Connector) (r : Role) (k n : ℕ) → flat_map lock_of (end_uses c r k n) ≡ []
-end_none Rpc r k n = refl
-end_none Notifies r k n = refl
 end_none Interrupt To k n = refl
-end_none Interrupt From k n = refl
-end_none SharedMemory r k n = refl
-end_none Mmio r k n = refl
-end_none Direct r k n = refl
+end_none _ _ k n = refl
 
 none_if : (b : Bool) (us : List SlotUse) → flat_map lock_of us ≡ [] → flat_map lock_of (cond b us []) ≡ []
 none_if true us e = e
@@ -81,10 +75,9 @@ leaf_has t leaf =
     let p : ℕ → Member → List SlotUse = λ m x. member_uses t.flat.connections leaf m in
     let q : ℕ → Member → List SlotUse = λ m x. lock_uses leaf m x in
     let l : ℕ → Member → List (ℕ × ℕ) = λ m x. cond (is_lock x) ((leaf, m) ∷ []) [] in
-    flat_map-append lock_of (gather p members) (gather q members)
-    ∙ ap (λ z. z ++ flat_map lock_of (gather q members)) (flat_map-gather lock_of p members
-    ∙ none_gathered (λ m x. flat_map lock_of (p m x)) members (λ m x. member_none t.flat.connections leaf m))
-    ∙ flat_map-gather lock_of q members
+    flat_map-append lock_of (gather p members) (gather q members) ∙ ap (λ z. z ++ flat_map lock_of (gather q members))
+    (flat_map-gather lock_of p members ∙ none_gathered (λ m x. flat_map lock_of (p m x)) members
+    (λ m x. member_none t.flat.connections leaf m)) ∙ flat_map-gather lock_of q members
     ∙ gather_same (λ m x. flat_map lock_of (q m x)) l members (λ m x e. lock_if (is_lock x) leaf m)
 
 domain_has : (t : Tables) (x : Domain) → flat_map lock_of (domain_uses t.source t.flat x.leaves) ≡ domain_locks t x
@@ -106,17 +99,15 @@ module _ (t : Tables) (uses_are : (d : ℕ) (x : Domain) → slice_get t.flat.do
 
   pub lock_numbered : IsLockNumber t leaf m lock_number
   lock_numbered =
-      let us = uses_at t d in
-      let i = before (lock d) us n in
+      let us = uses_at t d in let i = before (lock d) us n in
       let listed : (e : ℕ) (z : Domain) → slice_get t.flat.domains e ≡ Some z
       → gather (λ k u. lock_of u) (uses_at t e) ≡ domain_locks t z =
       λ e z j. sym (as_gathered lock_of (uses_at t e)) ∙ ap (flat_map lock_of) (uses_are e z j) ∙ domain_has t z in
       let sums = before_same (parted_locks t) (λ d z. domain_locks t z) t.flat.domains d
       (λ e z j. as_long (lock e) (λ k u. lock_of u) (uses_at t e) (as_many e) ∙ ap length (listed e z j)) in
       let own = before_same (lock d) (λ k u. lock_of u) us n (λ k u j. as_many d k u) in
-      let stands : slice_get (gather (λ k u. lock_of u) us) i ≡ Some (leaf, m) =
-      gathered (λ k u. lock_of u) us n (OwnLock leaf m) 0
-      (leaf, m) i e refl (omega (arith, own)) in
+      let stands : slice_get (gather (λ k u. lock_of u) us) i ≡ Some (leaf, m) = gathered (λ k u. lock_of u) us n (OwnLock leaf m)
+      0 (leaf, m) i e refl (omega (arith, own)) in
       record {
         domain = d;
         leaves = x;
@@ -129,8 +120,7 @@ module _ (t : Tables) (uses_are : (d : ℕ) (x : Domain) → slice_get t.flat.do
   -- it is a part, under its number
   pub lock_part : IsIn (part series.Lock lock_number (OfDomain d) (LockOf d n)) (parts t)
   lock_part =
-      let y = owned (OfDomain d) (LockOf d n) in
-      let us = uses_at t d in
+      let y = owned (OfDomain d) (LockOf d n) in let us = uses_at t d in
       let i = before (lock d) us n in
       let inner : slice_get (gather (lock d) us) i ≡ Some y = gathered (lock d) us n (OwnLock leaf m) 0 y i e refl
       (omega arith) in
@@ -147,19 +137,14 @@ as_interrupt k o SharedMemory = refl
 as_interrupt k o _ = refl
 
 pub irqs_before : (t : Tables) (k : ℕ) → before irq t.flat.connections k ≡ before interrupt t.flat.connections k
-irqs_before t k =
-    before_same irq interrupt t.flat.connections k (λ j x i. as_interrupt j (irq_owner j x) x.connector)
+irqs_before t k = before_same irq interrupt t.flat.connections k (λ j x i. as_interrupt j (irq_owner j x) x.connector)
 
 pub irq_part : (t : Tables) (k : ℕ) (c : FlatConnection) → slice_get t.flat.connections k ≡ Some c → c.connector ≡ Interrupt
     → IsIn (part series.Irq (before interrupt t.flat.connections k) (irq_owner k c) (IrqOf k)) (parts t)
 irq_part t k c h e =
-    let y = owned (irq_owner k c) (IrqOf k) in
-    let cs = t.flat.connections in
-    let P : Connector → Type 0 = λ m. slice_get (irq_by k (irq_owner k c) m) 0 ≡ Some y in
-    let sums = irqs_before t k in
+    let y = owned (irq_owner k c) (IrqOf k) in let cs = t.flat.connections in
     let at : slice_get (irqs t) (before interrupt cs k) ≡ Some y = gathered irq cs k c 0 y (before interrupt cs k) h
-    (subst P (sym e) refl) (omega (arith, sums)) in
-    let f : ℕ → Owned → List Part = λ n z. part series.Irq n z.owner z.what ∷ [] in
+    (subst (λ m. slice_get (irq_by k (irq_owner k c) m) 0 ≡ Some y) (sym e) refl) (omega (arith, irqs_before t k)) in
     let p = part series.Irq (before interrupt cs k) (irq_owner k c) (IrqOf k) in
-    in_together (sections t) 5 (numbered series.Irq (irqs t)) p refl (in_gather f p (irqs t) (before interrupt cs k) y
-    at (inl refl))
+    in_together (sections t) 5 (numbered series.Irq (irqs t)) p refl (in_gather (λ n z. part series.Irq n z.owner z.what ∷ []) p
+    (irqs t) (before interrupt cs k) y at (inl refl))

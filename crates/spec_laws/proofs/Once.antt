@@ -1,5 +1,5 @@
 -- Lists in which nothing stands twice
-use Rattle.spec_laws.proofs.Common.{IsIn, List, Some, [], arith, flat_map, from_flat_map, from_gather, gather, in_place, inl, inr, place_of, refl, slice_get, split_get, subst, suc, sym, zero, ℕ, ◌++◌, ◌∷◌, ◌≡◌}
+use Rattle.spec_laws.proofs.Common.{IsIn, List, Some, [], arith, flat_map, from_flat_map, from_gather, gather, in_place, inl, inr, place_of, refl, slice_get, split_get, subst, suc, sym, zero, ℕ, ◌++◌, ◌∷◌, ◌≡◌, Bool, cond, true, false}
 
 abbrev pub Once : {X : Type 0} → List X → Type 0
 Once {X} xs = (i j : ℕ) (x : X) → slice_get xs i ≡ Some x → slice_get xs j ≡ Some x → i ≡ j
@@ -13,9 +13,7 @@ once_append xs ys a b no_both i j x e f = elim (split_get xs ys i x e) [
   | inr p ↦ elim (split_get xs ys j x f) [
     | inl q ↦ absurd (no_both x (in_place x xs j q) (in_place x ys p.0 p.2))
     | inr q ↦
-        let same = b p.0 q.0 x p.2 q.2 in
-        let m = p.1 in
-        let n = q.1 in omega (arith, same, m, n)
+        let n = q.1 in omega (arith, b p.0 q.0 x p.2 q.2, p.1, n)
   ]
 ]
 
@@ -25,6 +23,10 @@ once_none i j x e f = cc
 pub once_one : {X : Type 0} (y : X) → Once (y ∷ [])
 once_one y zero zero x e f = refl
 once_one y _ _ x e f = cc
+
+pub once_if : {X : Type 0} (b : Bool) (y : X) → Once (cond b (y ∷ []) [])
+once_if true y = once_one y
+once_if false y = once_none
 
 pub once_gather : {X Y : Type 0} (f : ℕ → X → List Y) (xs : List X) → ((k : ℕ) (x : X) → slice_get xs k ≡ Some x → Once (f k x))
     → ((k l : ℕ) (x z : X) (y : Y) → IsIn y (f k x) → IsIn y (f l z) → k ≡ l) → Once (gather f xs)

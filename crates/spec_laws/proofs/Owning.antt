@@ -53,10 +53,9 @@ module _ (t : Tables) (can : CanMap t) where
   fills d v cap write fill s at =
       let x = leaf_domain t d s.leaf s.inside in
       let q = section_there t can.settled d (4096 * (v / 4096)) write fill s in
-      let all = section_pages t.images (leaves_of t.flat d) in
       let p = section_page q.0 in
-      of_page d v cap p fill x.0 x.1 (in_left p (section_part t.images (leaves_of t.flat d)) _ (in_map section_page q.0 all q.1))
-      q.2 (ap (λ z. Own z) q.4) at
+      of_page d v cap p fill x.0 x.1 (in_left p (section_part t.images (leaves_of t.flat d)) _
+      (in_map section_page q.0 (section_pages t.images (leaves_of t.flat d)) q.1)) q.2 (ap (λ z. Own z) q.4) at
 
   zeros : (d n v j : ℕ) (r : Region) (cap : Cap) → IsRegionPage t d n (4096 * (v / 4096)) j r
       → ((e : EndAt) → r.content ≡ Window e → ⊥) → IsAt (spec_of t) (root_of t d) v cap
@@ -98,21 +97,15 @@ module _ (t : Tables) (can : CanMap t) where
 
   pub inside_own : (d n : ℕ) (x : Domain) (p : MappedPage) (fill : Option Fill) → slice_get (pages d) n ≡ Some p
       → p.shown ≡ Own fill → before (own_of d) (pages d) n < length (own_frames (system t) d x)
-  inside_own d n x p fill e f =
-      let a = inside (own_of d) (pages d) n p e in
-      let b = one_own d p fill f in
-      omega (arith, a, b)
+  inside_own d n x p fill e f = omega (arith, inside (own_of d) (pages d) n p e, one_own d p fill f)
 
   same_page : (d e n m : ℕ) (p q : MappedPage) (fill more : Option Fill) → d ≡ e → slice_get (pages d) n ≡ Some p
       → p.shown ≡ Own fill → slice_get (pages e) m ≡ Some q → q.shown ≡ Own more
       → before (own_of d) (pages d) n ≡ before (own_of e) (pages e) m → p.at / 4096 ≡ q.at / 4096
   same_page d e n m p q fill more at h f g k same =
-      let P : ℕ → Type 0 = λ z. slice_get (pages z) m ≡ Some q in
-      let Q : ℕ → Type 0 = λ z. before (own_of d) (pages d) n ≡ before (own_of z) (pages z) m in
-      let there = subst P (sym at) g in
-      let one = one_own d p fill f in
-      let two = one_own d q more k in
-      let eq = subst Q (sym at) same in
+      let there = subst (λ z. slice_get (pages z) m ≡ Some q) (sym at) g in
+      let one = one_own d p fill f in let two = one_own d q more k in
+      let eq = subst (λ z. before (own_of d) (pages d) n ≡ before (own_of z) (pages z) m) (sym at) same in
       let u = apart (own_of d) (pages d) n m 0 0 p q h there (omega (arith, one)) (omega (arith, two)) (omega (arith, eq)) in
       ap (λ (z : MappedPage). z.at / 4096)
       (some (slice_get (pages d) m) p q (ap (λ z. slice_get (pages d) z) (sym u.0) ∙ h) there)
@@ -122,11 +115,9 @@ module _ (t : Tables) (can : CanMap t) where
       → IsAt (spec_of t) (root_of t e) w b → a.object ≡ b.object → IsOwn t (spec_of t) (root_of t) a.object
       → (d ≡ e) × (v / 4096 ≡ w / 4096)
   once d e v w x y a b h g l k i j same own =
-      let f = found t can d x h v a l i in
-      let q = found t can e y g w b k j in
-      let P : ℕ → Type 0 = λ z. IsOwn t (spec_of t) (root_of t) z in
+      let f = found t can d x h v a l i in let q = found t can e y g w b k j in
       let fill = no_memory d x h v a f own in
-      let more = no_memory e y g w b q (subst P same own) in
+      let more = no_memory e y g w b q (subst (λ z. IsOwn t (spec_of t) (root_of t) z) same own) in
       let first : a.object ≡ frames_from t + own_number (system t) d f.number = ap (λ (z : Cap). z.object) f.is
       ∙ ap (λ z. frames_from t + number_shown (system t) d f.number z) fill.1 in
       let second : b.object ≡ frames_from t + own_number (system t) e q.number = ap (λ (z : Cap). z.object) q.is

@@ -11,11 +11,9 @@ pub record AreFewPages (g : Given) : Type 0 where
 
 pub few_pages : (g : Given) (a : ItemAt × Assembly) → assemblies g.source ≡ a ∷ [] → first_page_limit g ≡ None → AreFewPages g
 few_pages g a one none =
-    let n = sum (page_counts g) in
-    let m = sum (table_counts g) in
+    let n = sum (page_counts g) in let m = sum (table_counts g) in
     let empty = least-empty (page_faults g) none in
-    let here : limits_passed n m a ++ [] ≡ [] = sym (ap (λ xs. flat_map (limits_passed n m) xs) one) ∙ empty in
-    let both = none_left (limits_passed n m a) [] here in
+    let both = none_left (limits_passed n m a) [] (sym (ap (λ xs. flat_map (limits_passed n m) xs) one) ∙ empty) in
     let pages = limit_passed a (codes "pages") 65536 n in
     let tables = limit_passed a (codes "tables") 65536 m in
     record {

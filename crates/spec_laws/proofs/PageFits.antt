@@ -21,10 +21,9 @@ module _ (g : Given) (stand : (d : ℕ) → SectionsStand g d) where
       let n = place_of p (gather (λ n q. page g d n q ∷ []) (mapped_pages g d)) j in
       let q = from_ones (page g d) (mapped_pages g d) n.0 p n.1 in
       let there = in_place q.0 (mapped_pages g d) n.0 q.1 in
-      let low = page_low g d (stand d) (few_at g can few d x e) q.0 there in
       subst IsPlacedPage q.2 (record {
         aligned = (rising g d (stand d)).aligned q.0 there;
-        below = root_spans (arch g) q.0.at low;
+        below = root_spans (arch g) q.0.at (page_low g d (stand d) (few_at g can few d x e) q.0 there);
       }))
       i
 
@@ -34,13 +33,11 @@ some_page : (g : Given) → CanLay g → (d i : ℕ) (x : ThreadOf) → slice_ge
     → 0 < length (mapped_pages g d)
 some_page g can d i x at =
     let a = below (threads_of g d) i x at in
-    let b = length_threads g.settled (threads_of g d) in
     let c = length_append (flat_map (thread_regions g.settled) (threads_of g d))
     (map (window_region g.flat g.settled) (windows_of g d)) in
     let d1 = few_regions g.flat g.settled (threads_of g d) (windows_of g d) (can.windows d) in
     let e = length_append (section_part g.images (leaves_of g.flat d)) (region_part g.settled (base g) (regions g d)) in
-    let f = length-region_part g.settled (base g) (regions g d) in
-    omega (arith, a, b, c, d1, e, f)
+    omega (arith, a, length_threads g.settled (threads_of g d), c, d1, e, length-region_part g.settled (base g) (regions g d))
 
 pub threads_mapped : (g : Given) → CanLay g → (d : ℕ) (x : ThreadPlace)
     → IsIn x (option_map_or (λ (s : Space). s.threads) (slice_get (spaces_of g).spaces d) [])

@@ -1,10 +1,9 @@
 -- What is mapped in the space of a domain is what the source and its images say
-use Rattle.spec_laws.proofs.Common.{AreSettled, Bool, Buffer, Connector, Content, Domain, EndAt, EndSetting, Fill, FlatConnection, FlatEnd, Image, IsIn, IsRegionPage, IsSectionPage, List, MappedPage, MapsPage, None, Option, Placed, Region, Section}
-use Rattle.spec_laws.proofs.Common.{SectionPage, Some, Stack, Tables, Window, [], ap, base, begins, below_count, by_address, cond, end_in, end_window, ends, ends_at, eq-eqb, false, fill_of, from_flat_map, from_gather, from_map, image_number, in_any}
-use Rattle.spec_laws.proofs.Common.{in_append, in_flat_map, in_gather, in_left, in_map, in_place, in_right, inl, inr, is_run, is_window, leaf_windows, leaves_of, map, mapped_pages, may_read, may_write, nat_eq, option_and_then, option_map_or, page_at}
-use Rattle.spec_laws.proofs.Common.{page_count, page_of, pages_of, pages_of_region, place_of, placed, range_with_len, refl, region_page, region_part, regions, section_page, section_pages, section_part, sections_if, sections_of, sees_memory}
+use Rattle.spec_laws.proofs.Common.{AreSettled, Bool, Buffer, Content, Domain, EndAt, EndSetting, Fill, IsIn, IsRegionPage, IsSectionPage, List, MappedPage, MapsPage, None, Option, Placed, Region, Section}
+use Rattle.spec_laws.proofs.Common.{SectionPage, Some, Stack, Tables, Window, [], ap, base, begins, below_count, by_address, eq-eqb, false, fill_of, from_flat_map, from_gather, from_map, image_number, in_any}
+use Rattle.spec_laws.proofs.Common.{in_append, in_flat_map, in_gather, in_left, in_map, in_place, in_right, inl, inr, is_run, leaves_of, map, mapped_pages, may_read, may_write, nat_eq, option_map_or, page_at}
+use Rattle.spec_laws.proofs.Common.{page_count, page_of, pages_of, pages_of_region, place_of, placed, range_with_len, refl, region_page, region_part, regions, section_page, section_pages, section_part, sections_if, sections_of}
 use Rattle.spec_laws.proofs.Common.{setting_of, slice_get, subst, sym, system, thread_regions, threads_of, true, window_region, windows_of, ℕ, ◌*◌, ◌+◌, ◌∙◌, ◌∷◌, ◌≡◌}
-use Rattle.std.specs.Prelude.{option_map}
 use Rattle.std.proofs.lemmas.List.Sorted.{IsPermutation-sym}
 use Rattle.source_images.specs.ByAddress.{name_of}
 use Rattle.source_images.specs.Images.{runs}
@@ -13,6 +12,7 @@ use Rattle.source_images.proofs.InOrder.{name_is, order_moves}
 use Rattle.source_images.proofs.SectionsTold.{comes_from}
 use Rattle.source_images.proofs.Sorting.{in_permutation}
 use Rattle.spec_laws.proofs.Members.{in_range}
+use Rattle.spec_laws.proofs.Windows.{seen}
 
 -- ---- a domain that has leaves is there
 
@@ -23,55 +23,12 @@ has_domain t d some = by_domain (slice_get t.flat.domains d) refl
     by_domain (Some x) h = (x, h)
     by_domain None h = absurd (some (ap (λ o. option_map_or (λ (z : Domain). z.leaves) o []) h))
 
--- ---- windows are of ends that see memory
-
-pub shown_if : {X : Type 0} (b : Bool) (x y : X) → IsIn y (cond b (x ∷ []) []) → (b ≡ true) × (x ≡ y)
-shown_if true x y (inl e) = (refl, e)
-shown_if true x y (inr n) = absurd n
-shown_if false x y n = absurd n
-
--- an end that sees memory
-pub record WindowEnd (t : Tables) (e : EndAt) : Type 0 where
-  pub connection : FlatConnection
-  pub here : slice_get t.flat.connections e.connection ≡ Some connection
-  pub end : FlatEnd
-  pub stands : slice_get connection.ends e.end ≡ Some end
-  pub sees : is_window connection.connector end.role ≡ true
-
-abbrev kind_sees : Connector × FlatEnd → Bool
-kind_sees x = is_window x.0 x.1.role
-
-abbrev with : Connector → FlatEnd → Connector × FlatEnd
-with c e = (c, e)
-
-window_end : (t : Tables) (e : EndAt) → sees_memory t.flat e ≡ true → WindowEnd t e
-window_end t e h = by_connection (slice_get t.flat.connections e.connection) refl h
-  where
-    by_end : (c : FlatConnection) → slice_get t.flat.connections e.connection ≡ Some c → (o : Option FlatEnd)
-        → slice_get c.ends e.end ≡ o → option_map_or kind_sees (option_map (with c.connector) o) false ≡ true → WindowEnd t e
-    by_end c g None f k = cc
-    by_end c g (Some x) f k = record { connection = c; here = g; end = x; stands = f; sees = k }
-
-    by_connection : (o : Option FlatConnection) → slice_get t.flat.connections e.connection ≡ o
-        → option_map_or kind_sees (option_and_then (end_in e.end) o) false ≡ true → WindowEnd t e
-    by_connection None g k = cc
-    by_connection (Some c) g k = by_end c g (slice_get c.ends e.end) refl k
-
-pub window_is : (t : Tables) (d : ℕ) (e : EndAt) → IsIn e (windows_of (system t) d) → WindowEnd t e
-window_is t d e i =
-    let a = from_flat_map (leaf_windows t.flat (ends (system t))) e (leaves_of t.flat d) i in
-    let b = from_flat_map (end_window t.flat) e (ends_at (ends (system t)) a.0) a.2 in
-    let s = shown_if (sees_memory t.flat b.0) b.0 e b.2 in
-    let P : EndAt → Type 0 = λ z. sees_memory t.flat z ≡ true in
-    window_end t e (subst P s.1 s.0)
-
 -- the region of a window
 pub window_of : (t : Tables) (d : ℕ) (r : Region) (e : EndAt) → IsIn r (regions (system t) d) → r.content ≡ Window e
     → IsIn e (windows_of (system t) d) × (window_region t.flat t.settled e ≡ r)
 window_of t d r e i c = elim (in_append r _ (map (window_region t.flat t.settled) (windows_of (system t) d)) i) [
   | inl j ↦
-      let a = from_flat_map (thread_regions t.settled) r (threads_of (system t) d) j in
-      elim a.2 [
+      elim (from_flat_map (thread_regions t.settled) r (threads_of (system t) d) j).2 [
         | inl s ↦ let f : Stack ≡ Window e = ap (λ (z : Region). z.content) s ∙ c in cc
         | inr h ↦ elim h [
           | inl s ↦ let f : Buffer ≡ Window e = ap (λ (z : Region). z.content) s ∙ c in cc
@@ -82,8 +39,7 @@ window_of t d r e i c = elim (in_append r _ (map (window_region t.flat t.settled
       let a = from_map (window_region t.flat t.settled) r (windows_of (system t) d) j in
       let f : Window a.0 ≡ Window e = ap (λ (z : Region). z.content) a.2 ∙ c in
       let same : a.0 ≡ e = cc in
-      let P : EndAt → Type 0 = λ z. IsIn z (windows_of (system t) d) × (window_region t.flat t.settled z ≡ r) in
-      subst P same (a.1, a.2)
+      subst (λ z. IsIn z (windows_of (system t) d) × (window_region t.flat t.settled z ≡ r)) same (a.1, a.2)
 ]
 
 module _ (t : Tables) (set : AreSettled t) where
@@ -122,17 +78,14 @@ module _ (t : Tables) (set : AreSettled t) where
       → (q : SectionPage) × IsIn q (section_pages t.images (leaves_of t.flat d)) × (q.vaddr ≡ v) × (q.write ≡ write)
       × (q.fill ≡ fill)
   section_there d v write fill s =
-      let leaves = leaves_of t.flat d in
-      let all = sections_of t.images leaves in
-      let m = s.runs.number in
-      let n = place_of s.section s.image.sections s.has in
+      let leaves = leaves_of t.flat d in let all = sections_of t.images leaves in
+      let m = s.runs.number in let n = place_of s.section s.image.sections s.has in
       let x = placed m n.0 s.section in
       let f : ℕ → Section → List Placed = λ k z. placed m k z ∷ [] in
       let P : Bool → Type 0 = λ b. IsIn x (sections_if b m s.image) in
       let mine = subst P (sym (is_run_by d m s.leaf s.inside s.runs.numbered)) (in_gather f x s.image.sections n.0 s.section n.1
       (inl refl)) in
-      let g : ℕ → Image → List Placed = λ k z. sections_if (is_run t.images leaves k) k z in
-      let there = in_gather g x t.images.images m s.image s.runs.listed mine in
+      let there = in_gather (λ k z. sections_if (is_run t.images leaves k) k z) x t.images.images m s.image s.runs.listed mine in
       let sorted = in_permutation (by_address all) all x (IsPermutation-sym all (by_address all) (order_moves all)) there in
       let q = page_at (name_of t.images m) s.section s.page in
       let page = in_map (page_at (name_of t.images m) s.section) s.page (range_with_len 0 (page_count s.section))
@@ -158,7 +111,7 @@ module _ (t : Tables) (set : AreSettled t) where
 
   pub window_set : (d : ℕ) (e : EndAt) → IsIn e (windows_of (system t) d)
       → (s : EndSetting) × (setting_of t.settled e.connection e.end ≡ Some s)
-  window_set d e i = let w = window_is t d e i in set.end e.connection e.end w.connection w.end w.here w.stands
+  window_set d e i = let w = seen (system t) d e i in set.end e.connection e.end w.connection w.end w.there w.joined
 
   abbrev Maps : ℕ → MappedPage → Type 0
   Maps d z = MapsPage t d z.at z.read z.write

@@ -76,9 +76,7 @@ module _ (t : Tables) (slots_are : t.slots ≡ slots_of t.source t.flat) (spaces
   tables_few : (d frames : ℕ) → table_count t frames d ≤ 262144
   tables_few d frames =
       let a = few_tables (arch t) (map (page_mapping frames) (pages_at t d)) in
-      let b = length-map (pages_at t d) (page_mapping frames) in
-      let c = pages_few d in
-      omega (arith, a, b, c)
+      omega (arith, a, length-map (pages_at t d) (page_mapping frames), pages_few d)
 
   -- ---- sections
 
@@ -86,35 +84,26 @@ module _ (t : Tables) (slots_are : t.slots ≡ slots_of t.source t.flat) (spaces
   tcbs_few =
       gather_most (domain_tcbs t) t.flat.domains
       (λ d x e.
-      let a = gather_ones (λ i (thread : ThreadPlace). owned (OfDomain d) (ThreadOf d i)) (threads_at t d) in
-      let b = threads_few d in
-      omega (arith, a, b))
+      omega (arith, gather_ones (λ i (thread : ThreadPlace). owned (OfDomain d) (ThreadOf d i)) (threads_at t d), threads_few d))
 
   locks_few : length (locks t) ≤ 262144 * length t.flat.domains
-  locks_few =
-      gather_most (domain_locks t) t.flat.domains
-      (λ d x e.
-      let a = few_locks d (uses_at t d) in
-      let b = uses_few d in
-      omega (arith, a, b))
+  locks_few = gather_most (domain_locks t) t.flat.domains (λ d x e. omega (arith, few_locks d (uses_at t d), uses_few d))
 
   all_tables_few : length (all_tables t) ≤ 262144 * length t.flat.domains
   all_tables_few =
-      gather_most (domain_tables t) t.flat.domains
-      (λ d x e.
-      let a = gather_ones (λ j (o : Object). page_table d j (level_of o)) (tables_at t 0 0 d) in
-      let b = as_many 0 0 (layers (shapes (arch t)) (map (page_mapping 0) (pages_at t d))) in
-      let c = tables_few d 0 in
-      omega (arith, a, b, c))
+      gather_most (domain_tables t) t.flat.domains (λ d x e. let a = gather_ones (λ j (o : Object). page_table d j (level_of o))
+      (tables_at t 0 0 d) in omega (
+        arith,
+        a,
+        as_many 0 0 (layers (shapes (arch t)) (map (page_mapping 0) (pages_at t d))),
+        tables_few d 0,
+      ))
 
   pub parts_few : length (parts t) ≤ 2147483648
   parts_few =
-      let a = numbered series.CNode (cnodes t.flat.domains) in
-      let b = numbered series.Tcb (tcbs t) in
-      let c = endpoints t in
-      let d = notifications t in
-      let e = numbered series.Lock (locks t) in
-      let f = numbered series.Irq (irqs t) in
+      let a = numbered series.CNode (cnodes t.flat.domains) in let b = numbered series.Tcb (tcbs t) in
+      let c = endpoints t in let d = notifications t in
+      let e = numbered series.Lock (locks t) in let f = numbered series.Irq (irqs t) in
       let g = table_parts (all_tables t) in
       let h = numbered series.Frame (frame_parts t.spaces.frames) in
       let whole : length (parts t) ≡ length
@@ -123,24 +112,18 @@ module _ (t : Tables) (slots_are : t.slots ≡ slots_of t.source t.flat) (spaces
       let a1 = length-numbered series.CNode (cnodes t.flat.domains) in
       let a2 : length (cnodes t.flat.domains) ≡ length t.flat.domains =
       gather_ones (λ n (x : Domain). owned (OfDomain n) (CNodeOf n)) t.flat.domains in
-      let b1 = length-numbered series.Tcb (tcbs t) in
-      let b2 = tcbs_few in
+      let b1 = length-numbered series.Tcb (tcbs t) in let b2 = tcbs_few in
       let c1 : length c ≤ length t.flat.connections = few_endpoints t.flat.connections in
       let d1 : length d ≤ length t.flat.connections = few_notifications t.flat.connections in
-      let e1 = length-numbered series.Lock (locks t) in
-      let e2 = locks_few in
+      let e1 = length-numbered series.Lock (locks t) in let e2 = locks_few in
       let f1 = length-numbered series.Irq (irqs t) in
       let f2 : length (irqs t) ≤ length t.flat.connections = few_irqs t.flat.connections in
       let g1 : length g ≡ length (all_tables t) = gather_ones (λ m (x : PageTable). table_part (all_tables t) m x)
       (all_tables t) in
-      let g2 = all_tables_few in
-      let h1 = length-numbered series.Frame (frame_parts t.spaces.frames) in
+      let g2 = all_tables_few in let h1 = length-numbered series.Frame (frame_parts t.spaces.frames) in
       let h2 : length (frame_parts t.spaces.frames) ≡ length t.spaces.frames =
       gather_ones (λ n (x : FrameInfo). owned (frame_owner x.owner) (FrameOf n)) t.spaces.frames in
-      let h3 = frames_few in
-      let few_domains = small.domains in
-      let few_connections = small.connections in
-      omega (arith, whole, a1, a2, b1, b2, c1, d1, e1, e2, f1, f2, g1, g2, h1, h2, h3, few_domains, few_connections)
+      omega (arith, whole, a1, a2, b1, b2, c1, d1, e1, e2, f1, f2, g1, g2, h1, h2, frames_few, small.domains, small.connections)
 
   are_few : AreFew t
   are_few = record {

@@ -1,11 +1,11 @@
 -- What is laid out plainly can be written.
-use Rattle.spec_laws.proofs.Common.{Bool, Buffer, CanLay, Content, Domain, Fill, Flat, FlatConnection, FlatEnd, FrameInfo, Given, Image, Images, IsFillWritten, IsFrameWritten, IsIn, IsPlain, IsThreadWritten, IsTrue, IsWritten, Leaf, List, MappedPage}
-use Rattle.spec_laws.proofs.Common.{Memory, None, Option, Own, Placed, Section, SectionPage, Settled, Shown, Some, Source, Space, Stack, Tables, ThreadPlace, Window, [], and_parts, ap, arch_of, arith, base, below_count, by_address, component_name}
-use Rattle.spec_laws.proofs.Common.{cond, connection_frames, device_frame, device_frames, div-mul-le_self, entry_in, false, few_at, fill_from, fill_of, frame, frames, frames_at, from_flat_map, from_gather, from_map, from_ones, gather, given}
-use Rattle.spec_laws.proofs.Common.{image_number, in_append, in_place, inl, inr, is_first, is_name, is_run, is_shared, leaf_name, leaves_of, leb, length_regions, ltb-true, mapped_pages, memory_paddr, memory_pages, memory_part, option_map_or}
-use Rattle.spec_laws.proofs.Common.{own_frame, own_frames, own_part, page_at, page_count, page_counts, page_of, pages_of, pages_of_region, pages_upto, placed, put_section, range_with_len, refl, region_page, region_part, region_start, regions}
+use Rattle.spec_laws.proofs.Common.{Bool, CanLay, Content, Domain, Fill, Flat, FlatConnection, FlatEnd, FrameInfo, Given, Image, Images, IsFillWritten, IsFrameWritten, IsIn, IsPlain, IsThreadWritten, IsTrue, IsWritten, Leaf, List, MappedPage}
+use Rattle.spec_laws.proofs.Common.{Memory, None, Option, Own, Placed, Section, SectionPage, Settled, Shown, Some, Source, Space, Tables, ThreadPlace, Window, [], and_parts, ap, arch_of, arith, base, below_count, by_address, component_name}
+use Rattle.spec_laws.proofs.Common.{connection_frames, device_frame, device_frames, div-mul-le_self, entry_in, false, few_at, fill_from, fill_of, frame, frames, frames_at, from_flat_map, from_gather, from_map, from_ones, gather, given}
+use Rattle.spec_laws.proofs.Common.{image_number, in_append, in_place, inl, inr, is_first, is_name, is_run, is_shared, leaf_name, leaves_of, length_regions, ltb-true, mapped_pages, memory_paddr, memory_pages, memory_part, option_map_or}
+use Rattle.spec_laws.proofs.Common.{own_frame, own_frames, own_part, page_at, page_count, page_counts, page_of, pages_of, pages_of_region, pages_upto, placed, range_with_len, refl, region_page, region_part, region_start, regions}
 use Rattle.spec_laws.proofs.Common.{register_frames, register_part, registers, same_Some, section_page, section_pages, section_part, sections_if, sections_of, shared_frames, shared_part, slice_get, slice_get_within, space, start_same, subst, sum}
-use Rattle.spec_laws.proofs.Common.{sym, tables_from, thread_place, threads_at, threads_of, true, windows_of, ℕ, ◌*◌, ◌+◌, ◌<◌, ◌==◌, ◌^◌, ◌∙◌, ◌∷◌, ◌≡◌, ◌≤◌, ◌⊎◌}
+use Rattle.spec_laws.proofs.Common.{sym, tables_from, thread_place, threads_at, threads_of, true, windows_of, ℕ, ◌*◌, ◌+◌, ◌<◌, ◌==◌, ◌^◌, ◌∙◌, ◌∷◌, ◌≡◌, ◌≤◌}
 use Rattle.std.specs.Prelude.{◌%◌, ◌&&◌, not}
 use Rattle.std.specs.Option.{option_map}
 use Rattle.source_images.specs.ByAddress.{name_of}
@@ -13,24 +13,9 @@ use Rattle.sect_table.specs.Sections.{ends_within, is_placed, is_sound}
 use Rattle.vspace_layout.proofs.Starting.{low_base, stacks_fit}
 use Rattle.vspace_layout.specs.declared.owner.Owner.TheVariants.{OfConnection, OfDomain}
 use Rattle.vspace_layout.specs.declared.thread.ThreadOf.{ThreadOf}
-
--- ---- lists
-
-from_put : (x y : Placed) (ys : List Placed) → IsIn y (put_section x ys) → (x ≡ y) ⊎ IsIn y ys
-from_put x y [] (inl e) = inl e
-from_put x y [] (inr i) = absurd i
-from_put x y (z ∷ zs) i = by_test (leb x.section.vaddr z.section.vaddr) (from_put x y zs) i
-  where
-    by_test : (b : Bool) → (IsIn y (put_section x zs) → (x ≡ y) ⊎ IsIn y zs) → IsIn y (cond b (x ∷ z ∷ zs) (z ∷ put_section x zs))
-        → (x ≡ y) ⊎ IsIn y (z ∷ zs)
-    by_test true more (inl e) = inl e
-    by_test true more (inr i) = inr i
-    by_test false more (inl e) = inr (inl e)
-    by_test false more (inr i) = elim (more i) [ inl e ↦ inl e | inr j ↦ inr (inr j) ]
-
-from_sorted : (xs : List Placed) (y : Placed) → IsIn y (by_address xs) → IsIn y xs
-from_sorted [] y i = absurd i
-from_sorted (x ∷ xs) y i = elim (from_put x y (by_address xs) i) [ inl e ↦ inl e | inr j ↦ inr (from_sorted xs y j) ]
+use Rattle.spec_laws.proofs.Lists.{from_if}
+use Rattle.source_images.proofs.InOrder.{order_moves}
+use Rattle.source_images.proofs.Sorting.{in_permutation}
 
 -- ---- fills
 
@@ -58,8 +43,7 @@ section_fine file s j named sound l f e = by_at s.at (sound_at s sound) e
     by_at : (o : Option ℕ) → is_placed o s.size ≡ true → option_map (fill_from file s j) o ≡ Some f → IsFillWritten f
     by_at None h e = absurd cc
     by_at (Some at) h e =
-        let within = ltb-true (at + s.size) (2 ^ 64) h in
-        let there = byte_there s j l in
+        let within = ltb-true (at + s.size) (2 ^ 64) h in let there = byte_there s j l in
         subst IsFillWritten (same_Some (fill_from file s j at) f e) (record { file = named; at = omega (arith, within, there) })
 
 module _ (g : Given) (plain : IsPlain g) where
@@ -88,7 +72,8 @@ module _ (g : Given) (plain : IsPlain g) where
   section_pages_fine : (leaves : List ℕ) (q : SectionPage) → IsIn q (section_pages g.images leaves) → FillFine q.fill
   section_pages_fine leaves q i =
       let x = from_flat_map (pages_of g.images) q (by_address (sections_of g.images leaves)) i in
-      let p = placed_fine leaves x.0 (from_sorted (sections_of g.images leaves) x.0 x.1) in
+      let all = sections_of g.images leaves in
+      let p = placed_fine leaves x.0 (in_permutation all (by_address all) x.0 (order_moves all) x.1) in
       let j = from_map (page_at (name_of g.images x.0.image) x.0.section) q (range_with_len 0 (page_count x.0.section)) x.2 in
       subst (λ (z : SectionPage). FillFine z.fill) {x = page_at (name_of g.images x.0.image) x.0.section j.0} j.2
       (section_fine (name_of g.images x.0.image) x.0.section j.0 p.0 p.1 (below_count (page_count x.0.section) j.0 j.1))
@@ -129,14 +114,10 @@ module _ (g : Given) (plain : IsPlain g) where
   shared_written : (f : FrameInfo) → IsIn f (shared_part g.flat g.settled) → IsFrameWritten f
   shared_written f i =
       let k = from_gather (shared_frames g.settled) f g.flat.connections i in
-      by_test (is_shared k.1.connector) k.0 (memory_pages g.settled k.0 k.1) k.3
-    where
-      by_test : (b : Bool) (k n : ℕ) → IsIn f (cond b (connection_frames k n) []) → IsFrameWritten f
-      by_test true k n i =
-          let made : ℕ → FrameInfo = λ j. frame (OfConnection k) None None in
-          let j = from_map made f (range_with_len 0 n) i in
-          subst IsFrameWritten {x = made j.0} j.2 (record { paddr = λ at n. absurd cc; fill = λ z n. absurd cc })
-      by_test false k n i = absurd i
+      let q = from_if (is_shared k.1.connector) (connection_frames k.0 (memory_pages g.settled k.0 k.1)) f k.3 in
+      let made : ℕ → FrameInfo = λ j. frame (OfConnection k.0) None None in
+      let j = from_map made f (range_with_len 0 (memory_pages g.settled k.0 k.1)) q.1 in
+      subst IsFrameWritten {x = made j.0} j.2 (record { paddr = λ at n. absurd cc; fill = λ z n. absurd cc })
 
   module _ (can : CanLay g) where
     register_written : (f : FrameInfo) → IsIn f (register_part g.flat g.settled) → IsFrameWritten f
@@ -144,24 +125,17 @@ module _ (g : Given) (plain : IsPlain g) where
         let k = from_gather (register_frames g.flat g.settled) f g.flat.connections i in
         by_end k.0 k.1 k.2 (registers k.1) k.3
       where
-        by_test : (b : Bool) (k : ℕ) (c : FlatConnection) (e : FlatEnd) → slice_get g.flat.connections k ≡ Some c
-            → IsIn f (cond b (device_frames e.leaf (memory_paddr g.settled k c) (memory_pages g.settled k c)) [])
-            → IsFrameWritten f
-        by_test false k c e h i = absurd i
-        by_test true k c e h i =
-            let j = from_map (device_frame e.leaf (memory_paddr g.settled k c)) f
-            (range_with_len 0 (memory_pages g.settled k c)) i in
-            let l = below_count (memory_pages g.settled k c) j.0 j.1 in
-            let room = can.addresses k c h in
-            let at : ℕ = memory_paddr g.settled k c + 4096 * j.0 in
-            let few : at < 2 ^ 64 = omega (arith, l, room) in
-            subst IsFrameWritten {x = device_frame e.leaf (memory_paddr g.settled k c) j.0} j.2
-            (record { paddr = λ n s. subst (λ z. z < 2 ^ 64) (same_Some at n s) few; fill = λ z n. absurd cc })
-
         by_end : (k : ℕ) (c : FlatConnection) → slice_get g.flat.connections k ≡ Some c → (o : Option FlatEnd)
             → IsIn f (option_map_or (frames_at g.flat g.settled k c) o []) → IsFrameWritten f
         by_end k c h None i = absurd i
-        by_end k c h (Some e) i = by_test (is_first g.flat k e) k c e h i
+        by_end k c h (Some e) i =
+            let frames = device_frames e.leaf (memory_paddr g.settled k c) (memory_pages g.settled k c) in
+            let j = from_map (device_frame e.leaf (memory_paddr g.settled k c)) f (range_with_len 0 (memory_pages g.settled k c))
+            (from_if (is_first g.flat k e) frames f i).1 in
+            let at : ℕ = memory_paddr g.settled k c + 4096 * j.0 in
+            let few : at < 2 ^ 64 = omega (arith, below_count (memory_pages g.settled k c) j.0 j.1, can.addresses k c h) in
+            subst IsFrameWritten {x = device_frame e.leaf (memory_paddr g.settled k c) j.0} j.2
+            (record { paddr = λ n s. subst (λ z. z < 2 ^ 64) (same_Some at n s) few; fill = λ z n. absurd cc })
 
     pub frame_written : (f : FrameInfo) → IsIn f (frames g) → IsFrameWritten f
     frame_written f i = elim (in_append f (own_part g) (memory_part g.flat g.settled) i) [
@@ -185,22 +159,19 @@ module _ (g : Given) (plain : IsPlain g) where
     module _ (pages : sum (page_counts g) ≤ 65536) (d : ℕ) (x : Domain) (here : slice_get g.flat.domains d ≡ Some x) where
       stack_few : (i : ℕ) (y : ThreadOf) → slice_get (threads_of g d) i ≡ Some y → (thread_place g d i y).sp < 2 ^ 64
       stack_few i y e =
-          let few = few_at g can pages d x here in
-          let l = slice_get_within (threads_of g d) i y e in
           let many = length_regions g.flat g.settled (threads_of g d) (windows_of g d) in
-          let same = start_same (base g) (regions g d) (2 * i) (omega (arith, l, many)) in
-          let fits = stacks_fit g.flat g.settled (base g) (threads_of g d) (windows_of g d)
-          (low_base (arch_of g.images.images)) few i y e in
-          omega (arith, same, fits)
+          omega (
+            arith,
+            start_same (base g) (regions g d) (2 * i) (omega (arith, slice_get_within (threads_of g d) i y e, many)),
+            stacks_fit g.flat g.settled (base g)
+                (threads_of g d) (windows_of g d) (low_base (arch_of g.images.images)) (few_at g can pages d x here) i y e,
+          )
 
       buffer_few : (i : ℕ) (y : ThreadOf) → slice_get (threads_of g d) i ≡ Some y → (thread_place g d i y).buffer < 2 ^ 64
       buffer_few i y e =
-          let few = few_at g can pages d x here in
-          let l = slice_get_within (threads_of g d) i y e in
+          let few = few_at g can pages d x here in let l = slice_get_within (threads_of g d) i y e in
           let many = length_regions g.flat g.settled (threads_of g d) (windows_of g d) in
-          let upto = pages_upto (regions g d) (2 * i + 1) in
-          let low = low_base (arch_of g.images.images) in
-          omega (arith, few, l, many, upto, low)
+          omega (arith, few, l, many, pages_upto (regions g d) (2 * i + 1), low_base (arch_of g.images.images))
 
 module _ (source : Source) (flat : Flat) (settled : Settled) (images : Images) where
   abbrev g : Given

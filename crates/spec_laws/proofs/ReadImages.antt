@@ -136,8 +136,7 @@ image_plain s short all m i e =
     }
 
 pub read_images_are_plain : (contents : Contents) (root : List ℕ) (s : Source) (images : Images) → AreFilesShort s
-    → AreImagesOf contents root s (flat_of s) images
-    → (m : ℕ) (i : Image) → slice_get images.images m ≡ Some i → IsImagePlain i
+    → AreImagesOf contents root s (flat_of s) images → (m : ℕ) (i : Image) → slice_get images.images m ≡ Some i → IsImagePlain i
 read_images_are_plain contents root s images short read m i e =
     image_plain s short (found_of contents root s (flat_of s)) m i (ap (λ (z : Images). slice_get z.images m)
     (sym read.images) ∙ e)

@@ -13,7 +13,8 @@ use Rattle.vspace_layout.specs.Regions.{domain_windows as windows_in}
 use Rattle.spec_laws.specs.Regioned.{AreRegions, HasRegions, IsWindowLine, SaysWindow}
 use Rattle.spec_laws.proofs.Finding.{pages_are, rise}
 use Rattle.spec_laws.proofs.MapLines.{by_line}
-use Rattle.spec_laws.proofs.Paging.{has_domain, region_in, window_is}
+use Rattle.spec_laws.proofs.Paging.{has_domain, region_in}
+use Rattle.spec_laws.proofs.Windows.{seen}
 use Rattle.spec_laws.proofs.Rooted.{frames_from}
 use Rattle.spec_laws.proofs.SlotLists.{some}
 use Rattle.spec_laws.proofs.Spaces.{is_at, rises_tell}
@@ -63,9 +64,7 @@ module _ (t : Tables) (can : CanMap t) where
     where
       not_none : leaves_of t.flat d ≡ [] → ⊥
       not_none leaves =
-          let none : windows_of (system t) d ≡ [] = ap (λ ls. windows_in t.flat (ends (system t)) ls) leaves in
-          let P : List EndAt → Type 0 = λ z. slice_get z i ≡ Some y in
-          let f = subst P none e in cc
+          let f = subst (λ z. slice_get z i ≡ Some y) (ap (λ ls. windows_in t.flat (ends (system t)) ls) leaves) e in cc
 
   -- ---- the buffer of a thread
 
@@ -117,11 +116,8 @@ module _ (t : Tables) (can : CanMap t) where
 
     pub regions_hold : HasRegions t (spec_of t) (root_of t d) d i y (tcb t d (thread_place (system t) d i y))
     regions_hold =
-        let w = has_thread t can d x h y (in_place y (threads_of (system t) d) i e) in
-        let g = can.grouped.listed d y.leaf x h w.1 in
-        let s = can.settled.leaf y.leaf g.0 g.1 in
-        let f = number_shown (system t) d there.0 q.shown in
-        let c = cap (place t (FrameOf f)) RW 0 in
+        let g = can.grouped.listed d y.leaf x h (has_thread t can d x h y (in_place y (threads_of (system t) d) i e)).1 in
+        let s = can.settled.leaf y.leaf g.0 g.1 in let f = number_shown (system t) d there.0 q.shown in
         let same : frames_from t + f ≡ place t (FrameOf f) = omega arith in
         let P : Cap → Type 0 = λ z. IsAt (spec_of t) (root_of t d) start z in
         record {
@@ -130,7 +126,7 @@ module _ (t : Tables) (can : CanMap t) where
           stack_ends = ap (λ o. begins t d (2 * i) + 4096 * option_map_or (λ (z : LeafSetting). z.stack / 4096) o 0) s.1
               ∙ ap (λ z. begins t d (2 * i) + z) (whole_stack s.0.stack (can.settled.stack y.leaf s.0 s.1));
           buffer_at = refl;
-          cap = c;
+          cap = cap (place t (FrameOf f)) RW 0;
           buffer = ap (λ o. option_map (λ z. cap (place t (FrameOf z)) RW 0) o) frame_is;
           rights = refl;
           mapped = subst P (ap (λ z. cap z RW 0) same) (is_at t can d x h start there.0 q there.1 (ap (λ z. z / 4096) begin));
@@ -143,9 +139,8 @@ module _ (t : Tables) (can : CanMap t) where
       let x = thread_domain t can d i y e in
       let here = one_line t can at (place t (OfThread d i)) y.leaf y.end line (line_to t can d i x.0 y x.1 e) in
       let made = tcb t d (thread_place (system t) d i y) in
-      let same : made ≡ c = same_thread made c (object_at (spec_of t) at) (ap (λ z. object_at (spec_of t) z) here
-      ∙ thread_object t can d i x.0 y x.1 e) o in
-      subst (HasRegions t (spec_of t) (root_of t d) d i y) same (regions_hold d i x.0 y x.1 e)
+      subst (HasRegions t (spec_of t) (root_of t d) d i y) (same_thread made c (object_at (spec_of t) at)
+      (ap (λ z. object_at (spec_of t) z) here ∙ thread_object t can d i x.0 y x.1 e) o) (regions_hold d i x.0 y x.1 e)
 
   -- ---- windows
 
@@ -168,15 +163,15 @@ module _ (t : Tables) (can : CanMap t) where
   of_window d x h n w s =
       let made : ℕ → EndAt → Window = λ n z. window_at (system t) d n z in
       let e = from_ones made (windows_of (system t) d) n w (ap (λ z. slice_get z n) (sym (windows_are d x h)) ∙ s) in
-      let v = window_is t d e.0 (in_place e.0 (windows_of (system t) d) n e.1) in
+      let v = seen (system t) d e.0 (in_place e.0 (windows_of (system t) d) n e.1) in
       record {
         domain = d;
         number = n;
         e = e.0;
         here = e.1;
         connection = v.connection;
-        of_connection = v.here;
-        is = ap (λ z. window_line z) (sym e.2) ∙ said d n e.0 v.connection v.here;
+        of_connection = v.there;
+        is = ap (λ z. window_line z) (sym e.2) ∙ said d n e.0 v.connection v.there;
       }
 
   no_slot : (o n : ℕ) (u : SlotUse) → SaysWindow (slot_line o n u) → ⊥
@@ -189,8 +184,7 @@ module _ (t : Tables) (can : CanMap t) where
 
   every : (line : MapLine) → IsWindowLine t line → IsIn line (map_lines t)
   every line w =
-      let d = w.domain in
-      let x = window_domain d w.number w.e w.here in
+      let d = w.domain in let x = window_domain d w.number w.e w.here in
       let made = window_at (system t) d w.number w.e in
       let k : ℕ → EndAt → Window = λ n z. window_at (system t) d n z in
       let at = ap (λ z. slice_get z w.number) (windows_are d x.0 x.1) ∙ get_ones k (windows_of (system t) d) w.number
@@ -198,10 +192,9 @@ module _ (t : Tables) (can : CanMap t) where
       let f : ℕ → Domain → List MapLine = λ d x. domain_windows t d in
       let g : ℕ → Window → List MapLine = λ n w. window_line w ∷ [] in
       let said_is = said d w.number w.e w.connection w.of_connection ∙ sym w.is in
-      let inner = in_gather g line (windows_at t d) w.number made at (inl said_is) in
       in_right line (domain_lines t) (thread_lines t ++ (slot_lines t ++ window_lines t))
       (in_right line (thread_lines t) (slot_lines t ++ window_lines t) (in_right line (slot_lines t) (window_lines t)
-      (in_gather f line t.flat.domains d x.0 x.1 inner)))
+      (in_gather f line t.flat.domains d x.0 x.1 (in_gather g line (windows_at t d) w.number made at (inl said_is)))))
 
   pub regions_are : AreRegions t (spec_of t) (root_of t) (map_lines t)
   regions_are = record {

@@ -33,30 +33,24 @@ module _ (s : Source) (typed : AreTyped s (flat_of s)) (settings : AreSettingsSo
       → (end_setting f.found).paddr ≡ device_paddr (hierarchy_of s) Mmio None f.found.joint.leaf f.found.joint.interface
   unfolding device_paddr
   paddr_here k n c e f is =
-      let h = hierarchy_of s in
-      let j = f.found.joint in
+      let h = hierarchy_of s in let j = f.found.joint in
       ap (λ z. (end_setting z).paddr) f.values
       ∙ ap (λ (z : FlatConnection). device_paddr h z.connector (value_at h j.connection.path (codes "size")) j.leaf
-      j.interface) f.connection
-      ∙ ap (λ z. device_paddr h z (value_at h j.connection.path (codes "size")) j.leaf j.interface) is
+      j.interface) f.connection ∙ ap (λ z. device_paddr h z (value_at h j.connection.path (codes "size")) j.leaf j.interface) is
 
   pub same_paddr : (k n : ℕ) (c d : FlatConnection) (e f : FlatEnd) → slice_get (flat_of s).connections k ≡ Some c
       → slice_get (flat_of s).connections n ≡ Some d → registers c ≡ Some e → registers d ≡ Some f
       → e.leaf ≡ f.leaf → e.member ≡ f.member → memory_paddr (settled_of s) k c ≡ memory_paddr (settled_of s) n d
   same_paddr k n c d e f at there has also leaf_is member_is =
-      let h = hierarchy_of s in
-      let a = from_registers c e has in
-      let b = from_registers d f also in
-      let x = end_found s typed settings k a.1 c e at a.3 in
+      let h = hierarchy_of s in let a = from_registers c e has in
+      let b = from_registers d f also in let x = end_found s typed settings k a.1 c e at a.3 in
       let y = end_found s typed settings n b.1 d f there b.3 in
       let leaf : x.found.joint.leaf ≡ y.found.joint.leaf =
       same_Some _ _ (sym x.leaf ∙ ap (slice_get (flat_of s).leaves) leaf_is ∙ y.leaf) in
       let interface : x.found.joint.interface ≡ y.found.joint.interface =
       interface_same _ _ (sym x.interface ∙ ap (λ (z : Leaf). slice_get (members_at s z.component) e.member) leaf
       ∙ ap (slice_get (members_at s y.found.joint.leaf.component)) member_is ∙ y.interface) in
-      paddr_by (settled_of s) k a.1 c (end_setting x.found) a.0 a.2 x.setting
-      ∙ paddr_here k a.1 c e x a.0
+      paddr_by (settled_of s) k a.1 c (end_setting x.found) a.0 a.2 x.setting ∙ paddr_here k a.1 c e x a.0
       ∙ ap (λ z. device_paddr h Mmio None z x.found.joint.interface) leaf
-      ∙ ap (λ z. device_paddr h Mmio None y.found.joint.leaf z) interface
-      ∙ sym (paddr_here n b.1 d f y b.0)
+      ∙ ap (λ z. device_paddr h Mmio None y.found.joint.leaf z) interface ∙ sym (paddr_here n b.1 d f y b.0)
       ∙ sym (paddr_by (settled_of s) n b.1 d (end_setting y.found) b.0 b.2 y.setting)

@@ -35,26 +35,21 @@ count_tables : (l : Level) (d : ℕ) (g : ℕ → ℕ) (os : List Object)
 count_tables l d g [] = refl
 count_tables l d g (o ∷ os) =
     count_cons (is_of l) (page_table d (g 0) (level_of o)) (gather (λ j z. page_table d (g (suc j)) (level_of z) ∷ []) os)
-    ∙ ap (λ z. ones (at_level l) o + z) (count_tables l d (λ j. g (suc j)) os)
-    ∙ sym (count_cons (at_level l) o os)
+    ∙ ap (λ z. ones (at_level l) o + z) (count_tables l d (λ j. g (suc j)) os) ∙ sym (count_cons (at_level l) o os)
 
 count_all : (l : Level) (s : Shape) (link : ℕ) (rs : List (List Mapping)) → (level_number s.level == level_number l) ≡ true
     → count_by (at_level l) (map (table_of s link) rs) ≡ length rs
 count_all l s link [] h = refl
 count_all l s link (r ∷ rs) h =
-    let ih = count_all l s link rs h in
-    let c = count_cons (at_level l) (table_of s link r) (map (table_of s link) rs) in
     let one : ones (at_level l) (table_of s link r) ≡ 1 = ap (λ b. cond b 1 0) h in
-    omega (arith, ih, c, one)
+    omega (arith, count_all l s link rs h, count_cons (at_level l) (table_of s link r) (map (table_of s link) rs), one)
 
 count_none : (l : Level) (s : Shape) (link : ℕ) (rs : List (List Mapping)) → (level_number s.level == level_number l) ≡ false
     → count_by (at_level l) (map (table_of s link) rs) ≡ 0
 count_none l s link [] h = refl
 count_none l s link (r ∷ rs) h =
-    let ih = count_none l s link rs h in
-    let c = count_cons (at_level l) (table_of s link r) (map (table_of s link) rs) in
     let no : ones (at_level l) (table_of s link r) ≡ 0 = ap (λ b. cond b 1 0) h in
-    omega (arith, ih, c, no)
+    omega (arith, count_none l s link rs h, count_cons (at_level l) (table_of s link r) (map (table_of s link) rs), no)
 
 -- ---- mappings below a bound, one at least
 
@@ -104,9 +99,8 @@ first_table Arm11 first xs f =
     (r.0, ap (λ z. slice_get (tables_of first (shapes Arm11) z) 0) f.is ∙ r.1)
 first_table Aarch64 first xs f =
     let l = shape Global (2 ^ 39) 512 in
-    let P : List Mapping → Type 0 = λ z. (y : Mapping) → IsIn y z → y.at < span l in
     let r = root_first (shape Table (2 ^ 12) 512 ∷ shape Directory (2 ^ 21) 512 ∷ shape Upper (2 ^ 30) 512 ∷ []) l f.first f.rest
-    first (subst P f.is f.low) in
+    first (subst (λ z. (y : Mapping) → IsIn y z → y.at < span l) f.is f.low) in
     (r.0, ap (λ z. slice_get (tables_of first (shapes Aarch64) z) 0) f.is ∙ r.1)
 
 -- a lower level adds none
@@ -114,8 +108,7 @@ lower : (l : Level) (first link : ℕ) (y : Layer) (ys : List Layer) → (level_
     → count_by (at_level l) (numbered first link (y ∷ ys)) ≡ count_by (at_level l) (numbered first (first + sizes ys) ys)
 lower l first link y ys h =
     let c = count_append (at_level l) (numbered first (first + sizes ys) ys) (map (table_of y.shape link) y.tables) in
-    let none = count_none l y.shape link y.tables h in
-    omega (arith, c, none)
+    omega (arith, c, count_none l y.shape link y.tables h)
 
 last : (l : Level) (first link : ℕ) (y : Layer) → (level_number y.shape.level == level_number l) ≡ true
     → count_by (at_level l) (numbered first link (y ∷ [])) ≡ length y.tables
@@ -124,32 +117,22 @@ last l first link y h = count_all l y.shape link y.tables h
 pub one_of_level : (a : Arch) (xs : List Mapping) → Fine (root_span (shapes a)) xs
     → count_by (at_level (root_level a)) (tables_of 0 (shapes a) xs) ≡ 1
 one_of_level Arm11 xs f =
-    let s = shape Table (2 ^ 12) 256 in
-    let r = shape Directory (2 ^ 20) 4096 in
+    let s = shape Table (2 ^ 12) 256 in let r = shape Directory (2 ^ 20) 4096 in
     let a = up s xs in
     let ys = layer r (runs (span r) a) ∷ [] in
-    lower Directory 0 0 (layer s (runs (span s) xs)) ys refl
-    ∙ last Directory 0 (0 + sizes ys) (layer r (runs (span r) a)) refl
+    lower Directory 0 0 (layer s (runs (span s) xs)) ys refl ∙ last Directory 0 (0 + sizes ys) (layer r (runs (span r) a)) refl
     ∙ fine_one r a (fine_up s (span r) xs (omega arith) f)
 one_of_level Aarch64 xs f =
-    let s = shape Table (2 ^ 12) 512 in
-    let d = shape Directory (2 ^ 21) 512 in
-    let u = shape Upper (2 ^ 30) 512 in
-    let r = shape Global (2 ^ 39) 512 in
-    let a = up s xs in
-    let b = up d a in
+    let s = shape Table (2 ^ 12) 512 in let d = shape Directory (2 ^ 21) 512 in
+    let u = shape Upper (2 ^ 30) 512 in let r = shape Global (2 ^ 39) 512 in
+    let a = up s xs in let b = up d a in
     let c = up u b in
     let top = layer r (runs (span r) c) ∷ [] in
-    let high = layer u (runs (span u) b) ∷ top in
-    let mid = layer d (runs (span d) a) ∷ high in
+    let high = layer u (runs (span u) b) ∷ top in let mid = layer d (runs (span d) a) ∷ high in
     let fa = fine_up s (span r) xs (omega arith) f in
-    let fb = fine_up d (span r) a (omega arith) fa in
-    let fc = fine_up u (span r) b (omega arith) fb in
-    lower Global 0 0 (layer s (runs (span s) xs)) mid refl
-    ∙ lower Global 0 (0 + sizes mid) (layer d (runs (span d) a)) high refl
-    ∙ lower Global 0 (0 + sizes high) (layer u (runs (span u) b)) top refl
-    ∙ last Global 0 (0 + sizes top) (layer r (runs (span r) c)) refl
-    ∙ fine_one r c fc
+    lower Global 0 0 (layer s (runs (span s) xs)) mid refl ∙ lower Global 0 (0 + sizes mid) (layer d (runs (span d) a)) high refl
+    ∙ lower Global 0 (0 + sizes high) (layer u (runs (span u) b)) top refl ∙ last Global 0 (0 + sizes top)
+    (layer r (runs (span r) c)) refl ∙ fine_one r c (fine_up u (span r) b (omega arith) (fine_up d (span r) a (omega arith) fa))
 
 -- ---- over domains
 
@@ -166,8 +149,7 @@ take_before f [] (suc k) = refl
 take_before {X} {Y} f (x ∷ xs) (suc k) =
     let g : ℕ → X → List Y = λ n z. f (suc n) z in
     ap (λ z. take z (f 0 x ++ gather g xs)) (length_append (f 0 x) (gather g (take k xs)))
-    ∙ take_more (f 0 x) (gather g xs) (before g xs k)
-    ∙ ap (λ z. f 0 x ++ z) (take_before g xs k)
+    ∙ take_more (f 0 x) (gather g xs) (before g xs k) ∙ ap (λ z. f 0 x ++ z) (take_before g xs k)
 
 pub count_each : {X Y : Type 0} (p : Y → Bool) (f : ℕ → X → List Y) (xs : List X) (k : ℕ)
     → ((n : ℕ) (x : X) → slice_get xs n ≡ Some x → count_by p (f n x) ≡ 1) → k ≤ length xs → count_by p (gather f (take k xs)) ≡ k
@@ -176,9 +158,7 @@ count_each p f [] (suc k) h l = absurd (omega (arith, l))
 count_each {X} {Y} p f (x ∷ xs) (suc k) h l =
     let g : ℕ → X → List Y = λ n z. f (suc n) z in
     let ih = count_each p g xs k (λ n z e. h (suc n) z e) (omega (arith, l)) in
-    let c = count_append p (f 0 x) (gather g (take k xs)) in
-    let one = h 0 x refl in
-    omega (arith, ih, c, one)
+    omega (arith, ih, count_append p (f 0 x) (gather g (take k xs)), h 0 x refl)
 
 pub one_in_domain : (a : Arch) (d : ℕ) (xs : List Mapping) → Fine (root_span (shapes a)) xs
     → count_by (is_of (root_level a)) (page_tables d (tables_of 0 (shapes a) xs)) ≡ 1

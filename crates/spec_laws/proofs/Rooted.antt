@@ -29,14 +29,12 @@ module _ (t : Tables) (d : ℕ) (x : Domain) (h : slice_get t.flat.domains d ≡
   object_there j o e =
       let long : length (tables_of_domain t d) ≡ length (tables_at t 0 0 d) = tables_counted t (root_of t d) (frames_from t) d
       ∙ sym (tables_counted t 0 0 d) in
-      let l = below (tables_of_domain t d) j o e in
-      let q = at_place (tables_at t 0 0 d) j (omega (arith, long, l)) in
+      let q = at_place (tables_at t 0 0 d) j (omega (arith, long, below (tables_of_domain t d) j o e)) in
       let p = table_part (all_tables t) (before (domain_tables t) t.flat.domains d + j) (page_table d j (level_of q.0)) in
-      let there = stands t p (table_in j q.0 q.1) in
       let at : place t (TableOf d j) ≡ root_of t d + j = omega arith in
       let f : Entry → Object = λ z. z.object in
       let got = get_map f (map (entry t) (parts t)) (place t (TableOf d j)) (entry t p)
-      (get_map (entry t) (parts t) (place t (TableOf d j)) p there) in
+      (get_map (entry t) (parts t) (place t (TableOf d j)) p (stands t p (table_in j q.0 q.1))) in
       ap (λ z. slice_get (map f (spec_of t).entries) z) (sym at) ∙ got
       ∙ ap (λ z. Some z) (index_is (tables_of_domain t d) j Endpoint o e)
 

@@ -24,8 +24,7 @@ module _ (t : Tables) (can : CanMap t) where
       let q = from_map (page_mapping frames) z (pages_at t d) i in
       let l = maps_below t can d x h (page_mapping (frames_from t) q.0) (in_map (page_mapping (frames_from t)) q.0
       (pages_at t d) q.1) in
-      let P : ℕ → Type 0 = λ w. w < root_span (shapes (arch t)) in
-      subst P (ap (λ (w : Mapping). w.at) q.2) l))
+      subst (λ w. w < root_span (shapes (arch t))) (ap (λ (w : Mapping). w.at) q.2) l))
 
   -- the root's part: its number is that of the domain
   pub record RootPart (d : ℕ) : Type 0 where
@@ -43,14 +42,12 @@ module _ (t : Tables) (can : CanMap t) where
       let o : Object = Pages (root_level a) first.0 in
       let m = before (domain_tables t) t.flat.domains d + 0 in
       let at : m ≡ before (domain_tables t) t.flat.domains d = omega arith in
-      let long = below t.flat.domains d x h in
       let each : (n : ℕ) (y : Domain) → slice_get t.flat.domains n ≡ Some y
       → count_by (is_of (root_level a)) (domain_tables t n y) ≡ 1 =
       λ n y g. one_in_domain a n (map (page_mapping 0) (pages_at t n)) (fine 0 n y g) in
-      let number : of_level (root_level a) (all_tables t) m ≡ d =
-      ap (λ z. of_level (root_level a) (all_tables t) z) at
+      let number : of_level (root_level a) (all_tables t) m ≡ d = ap (λ z. of_level (root_level a) (all_tables t) z) at
       ∙ ap (λ z. count_by (is_of (root_level a)) z) (take_before (domain_tables t) t.flat.domains d)
-      ∙ count_each (is_of (root_level a)) (domain_tables t) t.flat.domains d each (omega (arith, long)) in
+      ∙ count_each (is_of (root_level a)) (domain_tables t) t.flat.domains d each (omega (arith, below t.flat.domains d x h)) in
       record {
         part = table_part (all_tables t) m (page_table d 0 (level_of o));
         there = table_in t d x h 0 o first.1;
@@ -62,8 +59,7 @@ module _ (t : Tables) (can : CanMap t) where
 
   root_is : (d : ℕ) (x : Domain) → slice_get t.flat.domains d ≡ Some x → IsRootOf (spec_of t) d (root_of t d)
   root_is d x h =
-      let a = arch t in
-      let r = root_part d x h in
+      let a = arch t in let r = root_part d x h in
       let o = first_table a (root_of t d) (map (page_mapping (frames_from t)) (pages_at t d)) (fine (frames_from t) d x h) in
       let at : place t r.part.what ≡ root_of t d = ap (λ z. place t z) r.what in
       record {
@@ -79,12 +75,10 @@ module _ (t : Tables) (can : CanMap t) where
   apart : (d e : ℕ) (x y : Domain) → slice_get t.flat.domains d ≡ Some x → slice_get t.flat.domains e ≡ Some y
       → root_of t d ≡ root_of t e → d ≡ e
   apart d e x y h g same =
-      let r = root_part d x h in
-      let s = root_part e y g in
+      let r = root_part d x h in let s = root_part e y g in
       let at : place t r.part.what ≡ place t s.part.what = ap (λ z. place t z) r.what ∙ same ∙ ap (λ z. place t z) (sym s.what) in
-      let P : ℕ → Type 0 = λ z. slice_get (parts t) z ≡ Some r.part in
       let parts_same : r.part ≡ s.part = some (slice_get (parts t) (place t s.part.what)) r.part s.part
-      (subst P at (stands t r.part r.there)) (stands t s.part s.there) in
+      (subst (λ z. slice_get (parts t) z ≡ Some r.part) at (stands t r.part r.there)) (stands t s.part s.there) in
       sym r.number ∙ ap (λ (z : Part). z.number) parts_same ∙ s.number
 
   pub roots_are : AreRoots t (spec_of t) (root_of t)

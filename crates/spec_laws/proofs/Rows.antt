@@ -1,5 +1,5 @@
 -- What ends are given over the objects of their connections, by the table and by the rights of their capabilities.
-use Rattle.spec_laws.proofs.Common.{AsyncSend, Authority, Bool, Connector, Direct, EndSetting, From, Handle, Interrupt, Kind, Mmio, NONE, Notification, ObjectKind, OfDevice, OfEndpoint, OfFrames, OfIrq, OfNotification, Option, Read, Role, Rpc}
+use Rattle.spec_laws.proofs.Common.{AsyncSend, Authority, Bool, Connector, EndSetting, From, Handle, Interrupt, Kind, Mmio, NONE, Notification, ObjectKind, OfDevice, OfEndpoint, OfFrames, OfIrq, OfNotification, Option, Read, Role, Rpc}
 use Rattle.spec_laws.proofs.Common.{SharedMemory, To, Write, and_parts, end_rights, end_rule, false, gives, has_label, inl, inr, is_object, is_window, kind_confers, not, or_cases, plain_kind, refl, same_object, sym, true, true≢false, ◌&&◌, ◌==◌}
 use Rattle.spec_laws.proofs.Common.{◌||◌, ◌∙◌, ◌≡◌, ◌⊎◌}
 use Rattle.authorities.specs.Authorities.{number_of}
@@ -12,19 +12,11 @@ use Rattle.spec_laws.proofs.Used.{has_slot}
 -- the object that the capability of an end leads to
 abbrev pub joint_kind : Connector → Kind
 joint_kind Rpc = kinds.Endpoint
-joint_kind Notification = kinds.Notification
-joint_kind SharedMemory = kinds.Notification
-joint_kind Mmio = kinds.Notification
-joint_kind Interrupt = kinds.Notification
-joint_kind Direct = kinds.Notification
+joint_kind _ = kinds.Notification
 
 abbrev pub joint_object : Connector → ObjectKind
 joint_object Rpc = OfEndpoint
-joint_object Notification = OfNotification
-joint_object SharedMemory = OfNotification
-joint_object Mmio = OfNotification
-joint_object Interrupt = OfNotification
-joint_object Direct = OfNotification
+joint_object _ = OfNotification
 
 abbrev same_truth : Bool → Bool → Bool
 same_truth true b = b
@@ -184,15 +176,8 @@ pub window_sees : (c : Connector) (r : Role) → is_window c r ≡ true → ((c 
 window_sees SharedMemory From h = inl (refl, refl)
 window_sees SharedMemory To h = inl (refl, refl)
 window_sees Mmio From h = inr (refl, refl, refl)
-window_sees Mmio To h = absurd (true≢false (sym h))
-window_sees Rpc From h = absurd (true≢false (sym h))
-window_sees Rpc To h = absurd (true≢false (sym h))
-window_sees Notification From h = absurd (true≢false (sym h))
-window_sees Notification To h = absurd (true≢false (sym h))
-window_sees Interrupt From h = absurd (true≢false (sym h))
-window_sees Interrupt To h = absurd (true≢false (sym h))
-window_sees Direct From h = absurd (true≢false (sym h))
-window_sees Direct To h = absurd (true≢false (sym h))
+window_sees _ From h = absurd (true≢false (sym h))
+window_sees _ To h = absurd (true≢false (sym h))
 
 pub seen_window : (c : Connector) (r : Role) (o : ObjectKind) → gives c r o Read ≡ true → is_window c r ≡ true
 seen_window c r o h =
@@ -209,13 +194,5 @@ pub device_role : (c : Connector) (r : Role) → (end_rule c r).hardware ≡ tru
     ⊎ ((c ≡ Mmio) × (r ≡ To))
 device_role Interrupt From h = inl (refl, refl)
 device_role Mmio To h = inr (refl, refl)
-device_role Interrupt To h = absurd (true≢false (sym h))
-device_role Mmio From h = absurd (true≢false (sym h))
-device_role Rpc From h = absurd (true≢false (sym h))
-device_role Rpc To h = absurd (true≢false (sym h))
-device_role Notification From h = absurd (true≢false (sym h))
-device_role Notification To h = absurd (true≢false (sym h))
-device_role SharedMemory From h = absurd (true≢false (sym h))
-device_role SharedMemory To h = absurd (true≢false (sym h))
-device_role Direct From h = absurd (true≢false (sym h))
-device_role Direct To h = absurd (true≢false (sym h))
+device_role _ From h = absurd (true≢false (sym h))
+device_role _ To h = absurd (true≢false (sym h))

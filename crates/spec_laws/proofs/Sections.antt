@@ -54,9 +54,8 @@ one_part : (t : Tables) (f : ℕ → FlatConnection → List Part) (name : Serie
     → j ≡ before f t.flat.connections k + i → x.series ≡ name → x.number ≡ k → OfConnections t f name j p
 one_part t f name k i j c x p here is h at series number =
     let s = single x p i h in
-    let first = s.0 in
     let n : k ≡ p.number = sym number ∙ ap (λ (q : Part). q.number) s.1 in
-    let stands : j ≡ before f t.flat.connections k = omega (arith, at, first) in
+    let stands : j ≡ before f t.flat.connections k = omega (arith, at, s.0) in
     let P : ℕ → Type 0 = λ m. length (f m c) ≡ 1 in
     record {
       series = sym series ∙ ap (λ (q : Part). q.series) s.1;
@@ -112,10 +111,7 @@ told_connections t s f name bound few at = record {
       | inr (inl l) ↦ l
       | inr (inr more) ↦
           let over = behind f t.flat.connections q.number p.number b.connection b.here more in
-          let one = b.one in
-          let first = a.place in
-          let second = b.place in
-          absurd (omega (arith, over, one, first, second, less))
+          absurd (omega (arith, over, b.one, a.place, b.place, less))
     ]
 
 -- ---- page tables
@@ -145,14 +141,11 @@ count_rises {X} test (y ∷ xs) zero (suc j) x e p l =
     let count : X → ℕ = λ z. cond (test z) 1 0 in
     let once : ℕ = 1 in
     let one : count y ≡ once = ap count same ∙ ap (λ b. cond b 1 0) p in
-    let more = sum_by-cons count y (take j xs) in
-    omega (arith, one, more)
+    omega (arith, one, sum_by-cons count y (take j xs))
 count_rises {X} test (y ∷ xs) (suc i) (suc j) x e p l =
     let ih : count_by test (take i xs) < count_by test (take j xs) = count_rises test xs i j x e p (omega (arith, l)) in
     let count : X → ℕ = λ z. cond (test z) 1 0 in
-    let a = sum_by-cons count y (take i xs) in
-    let b = sum_by-cons count y (take j xs) in
-    omega (arith, ih, a, b)
+    omega (arith, ih, sum_by-cons count y (take i xs), sum_by-cons count y (take j xs))
 
 told_tables : (all : List PageTable) (bound : ℕ) → length all ≤ bound → Told (table_parts all) rank 6 bound
 told_tables all bound few = record {
@@ -172,9 +165,7 @@ told_tables all bound few = record {
     number : (x : PageTable) (j : ℕ) (p : Part) → slice_get all j ≡ Some x → of_level x.level all j ≡ p.number → p.number < bound
     number x j p e n =
         let l = slice_get_within all j x e in
-        let c = count_by-le-length (is_of x.level) (take j all) in
-        let k = length-take-le j all (omega (arith, l)) in
-        omega (arith, l, c, k, n, few)
+        omega (arith, l, count_by-le-length (is_of x.level) (take j all), length-take-le j all (omega (arith, l)), n, few)
 
     rise : (p q : Part) (x y : PageTable) (i j : ℕ) → slice_get all i ≡ Some x → slice_get all j ≡ Some y
         → level_number x.level ≡ level_number y.level → of_level x.level all i ≡ p.number → of_level y.level all j ≡ q.number
@@ -198,24 +189,19 @@ section_within {X} (r ∷ ss) zero s e =
     let long = length_append r (flat_map (λ z. z) ss) in
     let here : length r ≡ length s = ap (λ (z : List X). length z) same in
     omega (arith, long, here)
-section_within (r ∷ ss) (suc n) s e =
-    let ih = section_within ss n s e in
-    let long = length_append r (flat_map (λ z. z) ss) in
-    omega (arith, ih, long)
+section_within (r ∷ ss) (suc n) s e = omega (arith, section_within ss n s e, length_append r (flat_map (λ z. z) ss))
 
 module _ (t : Tables) (bound : ℕ) (few : length t.flat.connections ≤ bound) (all : length (parts t) ≤ bound) where
   few_owned : (n : ℕ) (s : Series) (xs : List Owned) → slice_get (sections t) n ≡ Some (numbered s xs) → length xs ≤ bound
   few_owned n s xs e =
-      let l = section_within (sections t) n (numbered s xs) e in
       let m : length (numbered s xs) ≡ length xs = gather_ones (λ k (x : Owned). part s k x.owner x.what) xs in
-      omega (arith, all, l, m)
+      omega (arith, all, section_within (sections t) n (numbered s xs) e, m)
 
   few_tables : length (all_tables t) ≤ bound
   few_tables =
-      let l = section_within (sections t) 6 (table_parts (all_tables t)) refl in
       let m : length (table_parts (all_tables t)) ≡ length (all_tables t) =
       gather_ones (λ k (x : PageTable). table_part (all_tables t) k x) (all_tables t) in
-      omega (arith, all, l, m)
+      omega (arith, all, section_within (sections t) 6 (table_parts (all_tables t)) refl, m)
 
   abbrev Tells : ℕ → List Part → Type 0
   Tells n s = Told s rank n bound
@@ -257,15 +243,12 @@ in_section {X} (r ∷ ss) m y e = elim (split_get r (flat_map (λ z. z) ss) m y 
   | inl h ↦ record { section = 0; list = r; place = m; is = refl; stands = h; sum = omega arith }
   | inr h ↦
       let k : InSection ss h.0 y = in_section ss h.0 y h.2 in
-      let long = length_append r (flat_map (λ z. z) (take k.section ss)) in
-      let p = h.1 in
-      let q = k.sum in
       record {
         section = suc k.section;
         list = k.list;
         place = k.place;
         is = k.is;
         stands = k.stands;
-        sum = omega (arith, long, p, q);
+        sum = omega (arith, length_append r (flat_map (λ z. z) (take k.section ss)), h.1, k.sum);
       }
 ]

@@ -1,6 +1,6 @@
 -- Frames are no more than pages: own frames are pages of their own, and memory is seen through a window.
-use Rattle.spec_laws.proofs.Common.{Bool, Buffer, Connector, Content, Direct, Domain, EndAt, FlatConnection, FlatEnd, Given, HasMemory, Interrupt, IsIn, IsSeen, List, MappedPage, Memory, Mmio, None, Notification, Option, Own, Region, Rpc, Settled}
-use Rattle.spec_laws.proofs.Common.{SharedMemory, Shown, Some, Stack, Window, [], ap, arith, base, cond, connection_frames, device_frame, eq-eqb, eqb-true, false, false_from_ne_true, first_to_end, flat_map, frame, frames, frames_at, from_map, gather}
+use Rattle.spec_laws.proofs.Common.{Bool, Connector, Content, Domain, EndAt, FlatConnection, FlatEnd, Given, HasMemory, IsIn, IsSeen, List, MappedPage, Memory, Mmio, None, Option, Own, Region, Settled}
+use Rattle.spec_laws.proofs.Common.{SharedMemory, Shown, Some, Window, [], ap, arith, base, cond, connection_frames, device_frame, eq-eqb, eqb-true, false, false_from_ne_true, first_to_end, flat_map, frame, frames, frames_at, from_map, gather}
 use Rattle.spec_laws.proofs.Common.{in_gather, inl, inr, is_first, is_shared, leaves_of, length, length_append, map, mapped_pages, memory_paddr, memory_pages, memory_part, option_map_or, own_frame, own_frames, own_part, page_counts, page_of}
 use Rattle.spec_laws.proofs.Common.{pages_from, pages_of_region, range_with_len, refl, region_page, region_part, region_start, regions, register_frames, register_part, registers_in, section_part, shared_frames, shared_part, slice_get, suc, sum, sym}
 use Rattle.spec_laws.proofs.Common.{thread_regions, threads_of, true, window_pages, window_region, windows_of, ℕ, ◌*◌, ◌+◌, ◌==◌, ◌∙◌, ◌∷◌, ◌≡◌, ◌≤◌}
@@ -35,18 +35,15 @@ own_length d (Memory k j) = refl
 
 -- the pages of a region that are seen memory
 abbrev window_size : Content → ℕ → ℕ
-window_size Stack n = 0
-window_size Buffer n = 0
 window_size (Window e) n = n
+window_size _ n = 0
 
 region_seen : (settled : Settled) (start : ℕ) (r : Region) (c : Content) → r.content ≡ c
     → window_size c r.pages ≤ total (λ (p : MappedPage). is_seen p.shown) (pages_from settled start r)
 region_seen settled start r (Window w) e =
     let ps = pages_from settled start r in
     let n = length-map-range_with_len (page_of settled start r) 0 r.pages in
-    let a = length_is ps in
-    let b = total_most (λ (p : MappedPage). 1) (λ p. is_seen p.shown) ps (λ p i. one p i) in
-    omega (arith, n, a, b)
+    omega (arith, n, length_is ps, total_most (λ (p : MappedPage). 1) (λ p. is_seen p.shown) ps (λ p i. one p i))
   where
     one : (p : MappedPage) → IsIn p (pages_from settled start r) → 1 ≤ is_seen p.shown
     one p i =
@@ -77,8 +74,7 @@ once_hit {X} w n f (x ∷ xs) h =
         → cond b w 0 + totals (λ k (y : X). cond (n == f (suc k)) w 0) xs ≤ w
     by_test true e more =
         let none = none_hit w n (λ k. f (suc k)) xs (λ k s. let z : 0 ≡ suc k = h 0 (suc k) (sym (eqb-true n (f 0) e) ∙ s) in
-        absurd (omega (arith, z))) in
-        omega (arith, none)
+        absurd (omega (arith, z))) in omega (arith, none)
     by_test false e more = omega (arith, more)
 
 module _ (g : Given) where
@@ -92,17 +88,15 @@ module _ (g : Given) where
   domain_seen d =
       let seen : MappedPage → ℕ = λ p. is_seen p.shown in
       let size : Region → ℕ = λ r. window_size r.content r.pages in
-      let rs = regions g d in
-      let threads = flat_map (thread_regions g.settled) (threads_of g d) in
+      let rs = regions g d in let threads = flat_map (thread_regions g.settled) (threads_of g d) in
       let a = total_append seen (section_part g.images (leaves_of g.flat d)) (region_part g.settled (base g) rs) in
       let b = total_gather seen (pages_of_region g.settled (base g) rs) rs in
       let c = totals_most (λ n (r : Region). size r) (λ n r. total seen (pages_of_region g.settled (base g) rs n r)) rs
       (λ n r e. region_seen g.settled (region_start (base g) rs n) r r.content refl) in
       let d1 = totals_flat size rs in
-      let e = total_append size threads (map (window_region g.flat g.settled) (windows_of g d)) in
       let f : total size (map (window_region g.flat g.settled) (windows_of g d)) ≡ total wide (windows_of g d) =
       total_map size (window_region g.flat g.settled) (windows_of g d) in
-      omega (arith, a, b, c, d1, e, f)
+      omega (arith, a, b, c, d1, total_append size threads (map (window_region g.flat g.settled) (windows_of g d)), f)
 
   abbrev all_windows : List EndAt
   all_windows = gather (λ d (x : Domain). windows_of g d) g.flat.domains
@@ -119,15 +113,13 @@ module _ (g : Given) where
       let e = totals_add own seen g.flat.domains in
       let f = totals_same (λ d (x : Domain). own d x + seen d x) (λ d x. length (mapped_pages g d)) g.flat.domains
       (λ d x e. all_pages (mapped_pages g d)) in
-      let h = sum_ones (λ d (x : Domain). length (mapped_pages g d)) g.flat.domains in
-      omega (arith, a, b, c, d, e, f, h)
+      omega (arith, a, b, c, d, e, f, sum_ones (λ d (x : Domain). length (mapped_pages g d)) g.flat.domains)
     where
       own_is : (d : ℕ) (x : Domain) → length (own_frames g d x) ≡ total (λ (p : MappedPage). is_own p.shown) (mapped_pages g d)
       own_is d x =
           length_gather (λ n (p : MappedPage). own_frame d p.shown) (mapped_pages g d)
           ∙ totals_same (λ n (p : MappedPage). length (own_frame d p.shown)) (λ n p. is_own p.shown) (mapped_pages g d)
-          (λ n p e. own_length d p.shown)
-          ∙ totals_flat (λ (p : MappedPage). is_own p.shown) (mapped_pages g d)
+          (λ n p e. own_length d p.shown) ∙ totals_flat (λ (p : MappedPage). is_own p.shown) (mapped_pages g d)
 
   -- ---- memory
 
@@ -143,8 +135,7 @@ module _ (g : Given) where
   register_most k c None = omega arith
   register_most k c (Some f) = by_test (is_first g.flat k f)
     where
-      by_test : (b : Bool)
-          → length
+      by_test : (b : Bool) → length
           (cond b (map (device_frame f.leaf (memory_paddr g.settled k c)) (range_with_len 0 (memory_pages g.settled k c))) [])
           ≤ memory_pages g.settled k c
       by_test true = let n = length-map-range_with_len (device_frame f.leaf (memory_paddr g.settled k c)) 0
@@ -161,8 +152,7 @@ module _ (g : Given) where
       → by_connector k c x ≤ n
   frames_most k c n SharedMemory h =
       let l = length-map-range_with_len (λ j. frame (OfConnection k) None None) 0 (memory_pages g.settled k c) in
-      let m = h (inl refl) in
-      omega (arith, l, m)
+      omega (arith, l, h (inl refl))
   frames_most k c n Mmio h = let l = register_most k c (first_to_end c.ends) in let m = h (inr refl) in omega (arith, l, m)
   frames_most k c n _ h = omega arith
 
@@ -177,19 +167,17 @@ module _ (g : Given) where
       by_window s =
           let e = s.end in
           let i = in_gather (λ d (x : Domain). windows_of g d) e g.flat.domains s.place s.domain s.here s.window in
-          let one = total_one (hit k) all_windows e i in
           let here : hit k e ≡ wide e = ap (λ b. cond b (wide e) 0) (eq-eqb e.connection k s.joins) in
           let size : wide e ≡ memory_pages g.settled k c =
           ap (λ j. option_map_or (memory_pages g.settled j) (slice_get g.flat.connections j) 0) s.joins
           ∙ ap (λ o. option_map_or (memory_pages g.settled k) o 0) h in
-          omega (arith, one, here, size)
+          omega (arith, total_one (hit k) all_windows e i, here, size)
 
   memory_few : ((k : ℕ) (c : FlatConnection) → slice_get g.flat.connections k ≡ Some c → HasMemory c.connector → IsSeen g k)
       → length (memory_part g.flat g.settled) ≤ total wide all_windows
   memory_few seen =
       let cs = g.flat.connections in
       let a = length_append (shared_part g.flat g.settled) (register_part g.flat g.settled) in
-      let b = length_gather (shared_frames g.settled) cs in
       let c = length_gather (register_frames g.flat g.settled) cs in
       let d = totals_add (λ k (c : FlatConnection). length (shared_frames g.settled k c))
       (λ k c. length (register_frames g.flat g.settled k c)) cs in
@@ -197,11 +185,8 @@ module _ (g : Given) where
       let f = totals_swap (λ k (c : FlatConnection) (x : EndAt). hit k x) cs all_windows in
       let m = total_most (λ x. totals (λ k (c : FlatConnection). hit k x) cs) wide all_windows
       (λ x i. once_hit (wide x) x.connection (λ k. k) cs (λ j k e. e)) in
-      omega (arith, a, b, c, d, e, f, m)
+      omega (arith, a, length_gather (shared_frames g.settled) cs, c, d, e, f, m)
 
   pub frames_few : ((k : ℕ) (c : FlatConnection) → slice_get g.flat.connections k ≡ Some c → HasMemory c.connector → IsSeen g k)
       → length (frames g) ≤ sum (page_counts g)
-  frames_few seen =
-      let a = length_append (own_part g) (memory_part g.flat g.settled) in
-      let b = memory_few seen in
-      omega (arith, a, b, own_and_seen)
+  frames_few seen = omega (arith, length_append (own_part g) (memory_part g.flat g.settled), memory_few seen, own_and_seen)

@@ -1,9 +1,10 @@
 -- The memory of each connection is seen in the domain of its first `from` end.
-use Rattle.spec_laws.proofs.Common.{AreDotted, AreNamesSound, Connector, Domain, EndAt, FlatConnection, FlatEnd, From, HasMemory, Images, IsIn, IsSeen, Leaf, Member, None, Some, Source, [], and_from, ap, cond, domain_number, domain_of, end_here}
-use Rattle.spec_laws.proofs.Common.{end_in, end_rule, end_window, ends, ends_at, ends_in, ends_of, ends_typed, eq-eqb, false, first_type_fault, flat_of, from_get_map, gather, get_ones, given, hardware_fits, hierarchy_of, in_flat_map, in_gather, inl}
-use Rattle.spec_laws.proofs.Common.{inr, is_hardware, is_window, joins, leaf_ends, leaf_listed, leaf_of, leaf_windows, leaves, leaves_of, member_ends, members_at, option_and_then, option_map, option_map_or, refl, sees_memory, settled_of, slice_get}
-use Rattle.spec_laws.proofs.Common.{some_end, subst, sym, true, ℕ, ◌==◌, ◌∙◌, ◌∷◌, ◌≡◌}
+use Rattle.spec_laws.proofs.Common.{AreDotted, AreNamesSound, Connector, Domain, EndAt, FlatConnection, FlatEnd, From, HasMemory, Images, IsIn, IsSeen, Leaf, None, Some, Source, [], ap, cond, domain_number, domain_of}
+use Rattle.spec_laws.proofs.Common.{end_in, end_rule, end_window, ends, ends_at, ends_typed, false, first_type_fault, flat_of, from_get_map, given, hardware_fits, hierarchy_of, in_flat_map, inl}
+use Rattle.spec_laws.proofs.Common.{inr, is_hardware, is_window, joins, leaf_listed, leaf_of, leaf_windows, leaves, leaves_of, option_and_then, option_map, option_map_or, refl, sees_memory, settled_of, slice_get}
+use Rattle.spec_laws.proofs.Common.{some_end, subst, sym, true, ℕ, ◌∙◌, ◌∷◌, ◌≡◌}
 use Rattle.adl_ast.specs.declared.component.Member.TheVariants as members
+use Rattle.spec_laws.proofs.EndsHere.{in_its_ends}
 
 -- ---- `from` ends are of software
 
@@ -19,58 +20,35 @@ window_from c (inr is) = ap (λ z. is_window z From) is
 pub has_domain : (s : Source) (l : ℕ) (leaf : Leaf) → slice_get (flat_of s).leaves l ≡ Some leaf → leaf.hardware ≡ false
     → (d : ℕ) × (leaf.domain ≡ Some d)
 has_domain s l leaf at soft =
-    let h = hierarchy_of s in
-    let x = from_get_map (leaf_of h) (leaves h) l leaf at in
+    let h = hierarchy_of s in let x = from_get_map (leaf_of h) (leaves h) l leaf at in
     let hard : is_hardware h x.0.part ≡ false = ap (λ (z : Leaf). z.hardware) x.2 ∙ soft in
     let number = domain_number h (domain_of h x.0.path) in
     (number, ap (λ (z : Leaf). z.domain) (sym x.2) ∙ ap (λ b. cond b None (Some number)) hard)
 
--- ---- it stands among the ends of its leaf, and its window among those of the domain
-
-end_listed : (s : Source) (k n : ℕ) (c : FlatConnection) (e : FlatEnd) (leaf : Leaf) (m : Member)
-    → slice_get (flat_of s).connections k ≡ Some c → slice_get c.ends n ≡ Some e → slice_get (flat_of s).leaves e.leaf ≡ Some leaf
-    → slice_get (members_at s leaf.component) e.member ≡ Some m
-    → IsIn (record { connection = k; end = n }) (ends_at (ends_of s (flat_of s)) e.leaf)
-end_listed s k n c e leaf m at is here there =
-    let cs = (flat_of s).connections in
-    let x : EndAt = record { connection = k; end = n } in
-    let joined : joins e.leaf e.member e ≡ true = and_from (e.leaf == e.leaf) (e.member == e.member) (eq-eqb e.leaf e.leaf refl)
-    (eq-eqb e.member e.member refl) in
-    let first : IsIn x (end_here e.leaf e.member k n e) = subst (λ b. IsIn x (cond b (x ∷ []) [])) (sym joined) (inl refl) in
-    let inner : IsIn x (gather (λ i f. end_here e.leaf e.member k i f) c.ends) = in_gather (λ i f. end_here e.leaf e.member k i f)
-    x c.ends n e is first in
-    let member : IsIn x (member_ends cs e.leaf e.member) =
-    in_gather (λ j (d : FlatConnection). gather (λ i f. end_here e.leaf e.member j i f) d.ends) x cs k c at inner in
-    let all : IsIn x (leaf_ends cs e.leaf (members_at s leaf.component)) = in_gather (λ i (z : Member). member_ends cs e.leaf i) x
-    (members_at s leaf.component) e.member m there member in
-    let stands : slice_get (ends_of s (flat_of s)) e.leaf ≡ Some (leaf_ends cs e.leaf (members_at s leaf.component)) =
-    get_ones (λ l (z : Leaf). leaf_ends cs l (members_at s z.component)) (flat_of s).leaves e.leaf leaf here in
-    subst (λ o. IsIn x (ends_in o)) (sym stands) all
+-- ---- its window stands among those of the domain
 
 pub memory_seen : (s : Source) (images : Images) → AreNamesSound s → AreDotted (hierarchy_of s) → first_type_fault s ≡ None
     → (k : ℕ) (c : FlatConnection) → slice_get (flat_of s).connections k ≡ Some c → HasMemory c.connector
     → IsSeen (given s (flat_of s) (settled_of s) images) k
 memory_seen s images sound dotted none k c at t =
     let g = given s (flat_of s) (settled_of s) images in
-    let f = some_end s sound dotted none k c at From in
-    let e = f.1 in
+    let f = some_end s sound dotted none k c at From in let e = f.1 in
     let y = ends_typed s sound dotted none k f.0 c e at f.2 in
-    let soft : y.leaf.hardware ≡ false =
-    hardware_fits (end_rule c.connector e.role) (record { interface = y.interface; hardware = y.leaf.hardware }) y.kind
-    ∙ ap (λ r. (end_rule c.connector r).hardware) f.3
-    ∙ soft_from c.connector t in
+    let soft : y.leaf.hardware ≡ false = hardware_fits (end_rule c.connector e.role) (record {
+      interface = y.interface;
+      hardware = y.leaf.hardware;
+    }) y.kind ∙ ap (λ r. (end_rule c.connector r).hardware) f.3 ∙ soft_from c.connector t in
     let d = has_domain s e.leaf y.leaf y.here soft in
     let home = leaf_listed (hierarchy_of s) e.leaf d.0 y.leaf y.here d.1 in
     let x : EndAt = record { connection = k; end = f.0 } in
     let sees : sees_memory g.flat x ≡ true =
     ap (λ o. option_map_or (λ (z : Connector × FlatEnd). is_window z.0 z.1.role) (option_and_then (end_in f.0) o) false) at
     ∙ ap (λ o. option_map_or (λ (z : Connector × FlatEnd). is_window z.0 z.1.role) (option_map (λ (i : FlatEnd). (c.connector, i))
-    o) false) f.2
-    ∙ ap (λ r. is_window c.connector r) f.3
-    ∙ window_from c.connector t in
+    o) false) f.2 ∙ ap (λ r. is_window c.connector r) f.3 ∙ window_from c.connector t in
     let window : IsIn x (end_window g.flat x) = subst (λ b. IsIn x (cond b (x ∷ []) [])) (sym sees) (inl refl) in
     let among : IsIn x (leaf_windows g.flat (ends g) e.leaf) = in_flat_map (end_window g.flat) x x (ends_at (ends g) e.leaf)
-    (end_listed s k f.0 c e y.leaf (members.Interface y.interface) at f.2 y.here y.joined) window in
+    (in_its_ends g (record { place = k; connection = c; here = at; number = f.0; end = e; stands = f.2 }) y.leaf
+    (members.Interface y.interface) y.here y.joined) window in
     let inside : IsIn e.leaf (leaves_of g.flat d.0) = subst (λ o. IsIn e.leaf (option_map_or (λ (z : Domain). z.leaves) o []))
     (sym home.1) home.2 in
     record {

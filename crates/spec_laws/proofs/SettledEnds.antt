@@ -17,8 +17,7 @@ setting_from s k n e at = by_connection (slice_get (settled_of s).connections k)
     by_connection None is at = cc
     by_connection (Some z) is at =
         let x = from_get_map end_settings (founds_in (hierarchy_of s) s (flat_of s)) k z is in
-        let there : slice_get (end_settings x.0).ends n ≡ Some e = ap (λ (w : EndSettings). slice_get w.ends n) x.2 ∙ at in
-        let y = from_get_map end_setting x.0 n e there in
+        let y = from_get_map end_setting x.0 n e (ap (λ (w : EndSettings). slice_get w.ends n) x.2 ∙ at) in
         (y.0, y.2)
 
 -- end n of connection k, with its settings
@@ -41,8 +40,7 @@ pub record IsEndFound (s : Source) (k n : ℕ) (c : FlatConnection) (e : FlatEnd
 pub end_found : (s : Source) → AreTyped s (flat_of s) → AreSettingsSound s → (k n : ℕ) (c : FlatConnection) (e : FlatEnd)
     → slice_get (flat_of s).connections k ≡ Some c → slice_get c.ends n ≡ Some e → IsEndFound s k n c e
 end_found s typed sound k n c e at is =
-    let h = hierarchy_of s in
-    let there = found_there s typed k n c e at is in
+    let h = hierarchy_of s in let there = found_there s typed k n c e at is in
     let f = there.2 in
     let joint : Joint = record {
       connection = c;
@@ -51,15 +49,12 @@ end_found s typed sound k n c e at is =
       leaf = f.joined.leaf;
       interface = f.joined.interface;
     } in
-    let es = found_on h s (flat_of s) c in
-    let fs = founds_in h s (flat_of s) in
+    let es = found_on h s (flat_of s) c in let fs = founds_in h s (flat_of s) in
     let listed : slice_get es n ≡ Some (found_at h joint) = there.3 ∙ ap (λ z. Some z) f.at in
     let one : IsIn (found_at h joint) es = in_get es n (found_at h joint) listed in
     let all : slice_get fs k ≡ Some es = get_map (found_on h s (flat_of s)) (flat_of s).connections k c at in
-    let bad = bad_in_connection es in
-    let missing = missing_in es in
-    let badges = badges_twice_in es in
-    let none = none_left (bad ++ missing) badges (none_in faults_on fs es sound.connections (in_get fs k es all)) in
+    let bad = bad_in_connection es in let missing = missing_in es in
+    let none = none_left (bad ++ missing) (badges_twice_in es) (none_in faults_on fs es sound.connections (in_get fs k es all)) in
     record {
       found = found_at h joint;
       connection = refl;

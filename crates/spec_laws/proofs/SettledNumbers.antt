@@ -52,9 +52,8 @@ numbers_small s k c = by_place (device_place c.connector c.ends)
     by_setting n None e = omega arith
     by_setting n (Some x) e =
         let f = setting_from s k n x e in
-        let most = irq_most f.0.irq in
         let is : x.irq ≡ unwrap_or (irq_of f.0) 0 = ap (λ (z : EndSetting). z.irq) (sym f.1) in
-        omega (arith, most, is)
+        omega (arith, irq_most f.0.irq, is)
 
     by_place : (o : Option ℕ) → option_map_or (λ z. z.irq) (option_and_then (setting_of (settled_of s) k) o) 0 < 2 ^ 64
     by_place None = omega arith
@@ -113,22 +112,16 @@ badges_small s short k n = by_connection (slice_get (settled_of s).connections k
     by_found fs c at are None e = omega arith
     by_found fs c at are (Some x) e =
         let f = from_get_map end_setting fs n x e in
-        let P : List Found → Type 0 = λ z. IsIn f.0 z in
         let y = from_filter_map (found_of (hierarchy_of s) s (flat_of s) c) f.0 (positioned c.ends)
-        (subst P (sym are) (in_get fs n f.0 f.1)) in
-        let p = position_is s c y.0 f.0 y.2 in
-        let q = position_most 0 c.ends y.0 y.1 in
-        let b = badge_most f.0 in
+        (subst (λ z. IsIn f.0 z) (sym are) (in_get fs n f.0 f.1)) in
         let is : x.badge ≡ badge_at f.0 = ap (λ (z : EndSetting). z.badge) (sym f.2) in
-        let l = short k c at in
-        omega (arith, p, q, b, is, l)
+        omega (arith, position_is s c y.0 f.0 y.2, position_most 0 c.ends y.0 y.1, badge_most f.0, is, short k c at)
 
     by_connection : (o : Option EndSettings) → slice_get (settled_of s).connections k ≡ o
         → option_map_or (λ z. z.badge) (option_and_then (λ z. slice_get z.ends n) o) 0 < 2 ^ 64
     by_connection None e = omega arith
     by_connection (Some z) e =
-        let h = hierarchy_of s in
-        let x = from_get_map end_settings (founds_in h s (flat_of s)) k z e in
+        let h = hierarchy_of s in let x = from_get_map end_settings (founds_in h s (flat_of s)) k z e in
         let c = from_get_map (found_on h s (flat_of s)) (flat_of s).connections k x.0 x.1 in
         let P : EndSettings → Type 0 = λ w. option_map_or (λ y. y.badge) (slice_get w.ends n) 0 < 2 ^ 64 in
         subst P x.2 (by_found x.0 c.0 c.1 c.2 (slice_get (end_settings x.0).ends n) refl)

@@ -7,7 +7,7 @@ use Rattle.vspace_layout.specs.declared.owner.Owner.TheVariants.{OfConnection}
 use Rattle.vspace_layout.specs.Regions.{domain_windows}
 use Rattle.vspace_layout.specs.Threads.{domain_threads}
 use Rattle.spec_laws.proofs.Blocks.{apart, as_long, inside}
-use Rattle.spec_laws.proofs.Framing.{FirstTo, IsMemoryFrame, first_is, frame_there, memory_frame, memory_of, registers_there}
+use Rattle.spec_laws.proofs.Framing.{FirstTo, IsMemoryFrame, first_is, frame_there, memory_frame, memory_of, one_device, registers_there}
 use Rattle.spec_laws.proofs.Paging.{has_domain, region_in}
 use Rattle.spec_laws.proofs.Rooted.{frames_from}
 use Rattle.spec_laws.proofs.SlotLists.{some}
@@ -23,8 +23,7 @@ in_domain t d n r e = has_domain t d not_none
         let all = ends (system t) in
         let none : regions (system t) d ≡ [] =
         ap (λ ls. regions_in t.flat t.settled (domain_threads t.flat all ls) (domain_windows t.flat all ls)) leaves in
-        let P : List Region → Type 0 = λ z. slice_get z n ≡ Some r in
-        let f = subst P none e in
+        let f = subst (λ z. slice_get z n ≡ Some r) none e in
         cc
 
 -- ---- where the frames of memory stand
@@ -77,28 +76,16 @@ module _ (t : Tables) where
   pub memory_at : CanMap t → (k j : ℕ) (c : FlatConnection) → slice_get cs k ≡ Some c → (c.connector ≡ SharedMemory)
       ⊎ (c.connector ≡ Mmio) → j < memory_pages t.settled k c → MemoryPlace k j c
   memory_at can k j c h (inl m) l =
-      let none : registers c ≡ None = ap (λ z. registers_in z c.ends) m in
       let front : memory_before t.flat t.settled k c ≡ before shared_by cs k =
-      ap (λ r. option_map_or (registers_before t.flat t.settled) r (before shared_by cs k)) none in
-      let long = shared_long k c m in
-      at_shared (number_at k j c h ∙ ap (λ z. own + z + j) front) (omega (arith, long, l))
+      ap (λ r. option_map_or (registers_before t.flat t.settled) r (before shared_by cs k)) (ap (λ z. registers_in z c.ends) m) in
+      at_shared (number_at k j c h ∙ ap (λ z. own + z + j) front) (omega (arith, shared_long k c m, l))
   memory_at can k j c h (inr m) l =
-      let r = registers_there t k j c m l in
-      let f = first_is t k c r.0 h r.1 in
-      let one : OneDevice c f.connection = record {
-        port = r.0;
-        first = r.1;
-        other = f.end;
-        second = f.leads;
-        leaf = sym f.leaf;
-        member = sym f.member;
-      } in
-      let pages = can.memory.pages k f.number c f.connection h f.here one in
-      let long = registers_long r.0 f in
+      let r = registers_there t k j c m l in let f = first_is t k c r.0 h r.1 in
+      let pages = can.memory.pages k f.number c f.connection h f.here (one_device t c r.0 r.1 f) in
       let front : memory_before t.flat t.settled k c ≡ length (shared_part t.flat t.settled) + before registers_by cs f.number =
       ap (λ o. option_map_or (registers_before t.flat t.settled) o (before shared_by cs k)) r.1
       ∙ ap (λ o. length (shared_part t.flat t.settled) + option_map_or (before registers_by cs) o 0) f.first in
-      at_device r.0 r.1 f (number_at k j c h ∙ ap (λ z. own + z + j) front) (omega (arith, long, pages, l))
+      at_device r.0 r.1 f (number_at k j c h ∙ ap (λ z. own + z + j) front) (omega (arith, registers_long r.0 f, pages, l))
 
   one_memory : (k l i j : ℕ) (c e : FlatConnection) → slice_get cs k ≡ Some c → slice_get cs l ≡ Some e → MemoryPlace k i c
       → MemoryPlace l j e → memory_number (system t) k i ≡ memory_number (system t) l j → OneMemory k c l e × (i ≡ j)
@@ -111,9 +98,8 @@ module _ (t : Tables) where
   one_memory k l i j c e h g (at_device p r f n a) (at_device q v w m b) same =
       let u = apart registers_by cs f.number w.number i j f.connection w.connection f.here w.here a b
       (omega (arith, n, m, same)) in
-      let P : ℕ → Type 0 = λ z. slice_get cs z ≡ Some f.connection in
       let conn : f.connection ≡ w.connection = some (slice_get cs w.number) f.connection w.connection
-      (subst P u.0 f.here) w.here in
+      (subst (λ z. slice_get cs z ≡ Some f.connection) u.0 f.here) w.here in
       let end : f.end ≡ w.end = some (registers w.connection) f.end w.end (ap registers (sym conn) ∙ f.leads) w.leads in
       let leaf : p.leaf ≡ q.leaf = sym f.leaf ∙ ap (λ (z : FlatEnd). z.leaf) end ∙ w.leaf in
       let member : p.member ≡ q.member = sym f.member ∙ ap (λ (z : FlatEnd). z.member) end ∙ w.member in
@@ -127,10 +113,9 @@ module _ (t : Tables) where
       → i ≡ j → memory_number (system t) k i ≡ memory_number (system t) l j
   same_number k l i j c e h g (inl p) q = ap (λ z. memory_number (system t) z i) p ∙ ap (λ z. memory_number (system t) l z) q
   same_number k l i j c e h g (inr o) q =
-      let first : first_to t.flat o.port ≡ first_to t.flat o.other = first_same t.flat o.other o.port o.leaf o.member in
       let same : memory_before t.flat t.settled k c ≡ memory_before t.flat t.settled l e =
       before_device k c o.port o.first ∙ ap (λ z. length (shared_part t.flat t.settled) + option_map_or (before registers_by cs) z
-      0) first ∙ sym (before_device l e o.other o.second) in
+      0) (first_same t.flat o.other o.port o.leaf o.member) ∙ sym (before_device l e o.other o.second) in
       number_at k i c h ∙ ap (λ z. own + z + i) same ∙ ap (λ z. own + memory_before t.flat t.settled l e + z) q
       ∙ sym (number_at l j e g)
 
@@ -154,7 +139,6 @@ module _ (t : Tables) (can : CanMap t) where
       let Q : FlatConnection → Type 0 = λ z. (z.connector ≡ SharedMemory) ⊎ (z.connector ≡ Mmio) in
       let pages : w.region.pages ≡ memory_pages t.settled k c = m.pages ∙ ap (λ z. memory_pages t.settled z m.connection)
       w.of_connection ∙ ap (λ z. memory_pages t.settled k z) same in
-      let l = w.page.within in
       let q = region_page t.settled (Window w.e) (begins t d w.number + 4096 * j) j in
       let n = place_of q (mapped_pages (system t) d) (region_in t can.settled d w.number w.v j w.region (Window w.e) w.page
       w.content) in
@@ -163,7 +147,7 @@ module _ (t : Tables) (can : CanMap t) where
         domain = x.0;
         here = x.1;
         kind = subst Q same m.kind;
-        within = omega (arith, pages, l);
+        within = omega (arith, pages, w.page.within);
         is = sym w.names ∙ ap (λ (z : Cap). z.object) cap ∙ ap (λ z. frames_from t + memory_number (system t) z j)
             w.of_connection;
       }
@@ -171,8 +155,7 @@ module _ (t : Tables) (can : CanMap t) where
   pub memory_object : (d k j at : ℕ) (c : FlatConnection) → slice_get t.flat.connections k ≡ Some c → MemoryShown t d k j at c
       → (info : FrameInfo) × (object_at (spec_of t) at ≡ Some (frame_object info)) × IsMemoryFrame t k j c info
   memory_object d k j at c h m =
-      let g = memory_frame t can k j c h m.kind m.within in
-      let f = memory_number (system t) k j in
+      let g = memory_frame t can k j c h m.kind m.within in let f = memory_number (system t) k j in
       let there : place t (FrameOf f) ≡ frames_from t + f = omega arith in (
         g.0,
         ap (λ z. object_at (spec_of t) z) (m.is ∙ sym there)
@@ -202,13 +185,11 @@ module _ (t : Tables) (can : CanMap t) where
   pub memory_frames : AreMemoryFrames t (spec_of t) (root_of t)
   memory_frames = record {
     shared = λ d e k l i j m n c f h g v w. (
-        let a = memory_shown d k i m c h v in
-        let b = memory_shown e l j n f g w in
-        let p = a.is in
+        let a = memory_shown d k i m c h v in let b = memory_shown e l j n f g w in
         let q = b.is in (
           λ same. one_memory t k l i j c f h g (memory_at t can k i c h a.kind a.within) (memory_at t can l j f g b.kind b.within)
-              (omega (arith, p, q, same)),
-          λ one. let u = same_number t k l i j c f h g one.0 one.1 in p ∙ ap (λ z. frames_from t + z) u ∙ sym q,
+              (omega (arith, a.is, q, same)),
+          λ one. let u = same_number t k l i j c f h g one.0 one.1 in a.is ∙ ap (λ z. frames_from t + z) u ∙ sym q,
         ));
     registers = registers_are;
     plain = plain_are;

@@ -63,8 +63,7 @@ pub size_of_end : (f : Found) → bad_at_end f ≡ [] → (is_shared f.joint.con
     → IsSize (end_setting f).bytes
 size_of_end f good on =
     let b = bytes_there f (good_size f good) in
-    let is : (end_setting f).bytes ≡ b.0 = ap (λ t. cond t (unwrap_or (bytes_of f) 0) 0) on ∙ ap (λ o. unwrap_or o 0) b.1 in
-    subst IsSize (sym is) (bytes_are f b.0 b.1)
+    subst IsSize (sym (ap (λ t. cond t (unwrap_or (bytes_of f) 0) 0) on ∙ ap (λ o. unwrap_or o 0) b.1)) (bytes_are f b.0 b.1)
 
 -- ---- without regard to faults
 
@@ -119,10 +118,8 @@ record IsSettled (bytes at settled : ℕ) : Type 0 where
 
 pub measured : (f : Found) → IsMeasured (end_setting f)
 measured f =
-    let bytes = unwrap_or (bytes_of f) 0 in
-    let at = unwrap_or (paddr_of f) 0 in
-    let r = bytes_round f in
-    let p = paddr_is bytes f.paddr r.most in
+    let bytes = unwrap_or (bytes_of f) 0 in let at = unwrap_or (paddr_of f) 0 in
+    let r = bytes_round f in let p = paddr_is bytes f.paddr r.most in
     let s : IsSettled bytes at (end_setting f).bytes =
     cond_both (is_shared f.joint.connection.connector || is_device_memory f.joint) bytes 0 (IsSettled bytes at)
     (λ e. record { most = r.most; whole = r.whole; fits = p.fits })

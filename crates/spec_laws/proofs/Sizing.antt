@@ -17,9 +17,7 @@ two_each : (settled : Settled) (ts : List ThreadOf) → ((x : ThreadOf) → IsIn
 two_each settled [] h = omega arith
 two_each settled (x ∷ ts) h =
     let ih = two_each settled ts (λ y i. h y (inr i)) in
-    let one = h x (inl refl) in
-    let both = pages_append (thread_regions settled x) (flat_map (thread_regions settled) ts) in
-    omega (arith, ih, one, both)
+    omega (arith, ih, h x (inl refl), pages_append (thread_regions settled x) (flat_map (thread_regions settled) ts))
 
 module _ (source : Source) (flat : Flat) (settled : Settled) (images : Images) where
   abbrev g : Given
@@ -50,8 +48,7 @@ module _ (source : Source) (flat : Flat) (settled : Settled) (images : Images) w
 
   table_sum : length (all_tables t) ≡ sum (table_counts g)
   table_sum =
-      sym (all_tables_are t)
-      ∙ totals_same (λ d (x : Domain). length (tables_at t 0 0 d)) (λ d x. tables_needed g d) flat.domains
+      sym (all_tables_are t) ∙ totals_same (λ d (x : Domain). length (tables_at t 0 0 d)) (λ d x. tables_needed g d) flat.domains
       (λ d x e. tables_counted t 0 0 d ∙ ap (λ z. table_count (shapes (arch t)) z) (addresses d x e))
       ∙ sym (sum_ones (λ d (x : Domain). tables_needed g d) flat.domains)
     where
@@ -62,44 +59,46 @@ module _ (source : Source) (flat : Flat) (settled : Settled) (images : Images) w
 
   use_sum : use_count t ≡ sum (counts (slots_of source flat))
   use_sum =
-      sum_ones (λ d (x : Domain). length (uses_at t d)) flat.domains
-      ∙ totals_same (λ d (x : Domain). length (uses_at t d)) (λ d x. length (domain_uses source flat x.leaves)) flat.domains
-      (λ d x e. ap (λ z. length z) (uses_are t refl d x e))
+      sum_ones (λ d (x : Domain). length (uses_at t d)) flat.domains ∙ totals_same (λ d (x : Domain). length (uses_at t d))
+      (λ d x. length (domain_uses source flat x.leaves)) flat.domains (λ d x e. ap (λ z. length z) (uses_are t refl d x e))
       ∙ totals_flat (λ (x : Domain). length (domain_uses source flat x.leaves)) flat.domains
       ∙ sym (sum_map (λ (p : SlotPlan). length p.uses) (map (λ (x : Domain). plan_of (domain_uses source flat x.leaves))
-      flat.domains) ∙ total_map (λ (p : SlotPlan). length p.uses)
-      (λ (x : Domain). plan_of (domain_uses source flat x.leaves)) flat.domains)
+      flat.domains) ∙ total_map (λ (p : SlotPlan). length p.uses) (λ (x : Domain). plan_of (domain_uses source flat x.leaves))
+      flat.domains)
 
   -- a thread has two pages at least
   threads_few : ((d : ℕ) (x : ThreadOf) → IsIn x (threads_of g d) → 1 ≤ stack_pages settled x.leaf)
       → 2 * thread_count t ≤ sum (page_counts g)
   threads_few stacks =
-      let a = sum_ones (λ d (x : Domain). length (threads_at t d)) flat.domains in
-      let b = totals_times 2 (λ d (x : Domain). length (threads_at t d)) flat.domains in
-      let c = totals_most (λ d (x : Domain). 2 * length (threads_at t d)) (λ d x. length (mapped_pages g d))
-      flat.domains domain in
-      let d = sum_ones (λ d (x : Domain). length (mapped_pages g d)) flat.domains in
-      omega (arith, a, b, c, d)
+      omega (
+        arith,
+        (sum_ones (λ d (x : Domain). length (threads_at t d)) flat.domains),
+        (totals_times 2 (λ d (x : Domain). length (threads_at t d)) flat.domains),
+        totals_most (λ d (x : Domain). 2 * length (threads_at t d)) (λ d x. length (mapped_pages g d))
+            flat.domains domain,
+        sum_ones (λ d (x : Domain). length (mapped_pages g d)) flat.domains,
+      )
     where
       domain : (d : ℕ) (x : Domain) → slice_get flat.domains d ≡ Some x → 2 * length (threads_at t d) ≤ length (mapped_pages g d)
       domain d x e =
-          let same = threads_same d x e in
-          let two = two_each settled (threads_of g d) (stacks d) in
-          let parts = pages_append (flat_map (thread_regions settled) (threads_of g d))
-          (map (window_region flat settled) (windows_of g d)) in
-          let whole = length_append (section_part images (leaves_of flat d)) (region_part settled (base g) (regions g d)) in
-          let region = length-region_part settled (base g) (regions g d) in
-          omega (arith, same, two, parts, whole, region)
+          omega (
+            arith,
+            threads_same d x e,
+            (two_each settled (threads_of g d) (stacks d)),
+            pages_append (flat_map (thread_regions settled) (threads_of g d))
+                (map (window_region flat settled) (windows_of g d)),
+            (length_append (section_part images (leaves_of flat d)) (region_part settled (base g) (regions g d))),
+            length-region_part settled (base g) (regions g d),
+          )
 
   pub tables_sized : IsLimited g → IsSized t
   tables_sized limited =
-      let pages = limited.pages in
       record {
         domains = limited.domains;
         connections = limited.connections;
         uses = (let u = limited.uses in omega (arith, u, use_sum));
-        pages = omega (arith, pages, page_sum);
-        threads = (let h = threads_few limited.stacks in omega (arith, h, pages));
+        pages = omega (arith, limited.pages, page_sum);
+        threads = (let h = threads_few limited.stacks in omega (arith, h, limited.pages));
         tables = (let n = limited.tables in omega (arith, n, table_sum));
-        frames = (let f = frames_few g limited.seen in omega (arith, f, pages));
+        frames = (let f = frames_few g limited.seen in omega (arith, f, limited.pages));
       }

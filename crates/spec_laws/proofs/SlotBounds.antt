@@ -11,10 +11,8 @@ pub record AreFewSlots (s : Source) (flat : Flat) : Type 0 where
 pub few_slots : (s : Source) (flat : Flat) (a : ItemAt × Assembly) → assemblies s ≡ a ∷ [] → first_slot_fault s flat ≡ None
     → AreFewSlots s flat
 few_slots s flat a one none =
-    let ns = counts (slots_of s flat) in
-    let empty = least-empty (slot_faults s flat) none in
-    let here : limits_passed ns a ++ [] ≡ [] = sym (ap (λ xs. flat_map (limits_passed ns) xs) one) ∙ empty in
-    let both = none_left (limits_passed ns a) [] here in
+    let ns = counts (slots_of s flat) in let empty = least-empty (slot_faults s flat) none in
+    let both = none_left (limits_passed ns a) [] (sym (ap (λ xs. flat_map (limits_passed ns) xs) one) ∙ empty) in
     let each = limit_passed a (codes "slots") 4095 (greatest ns) in
     let all = limit_passed a (codes "all slots") 65536 (sum ns) in
     record {
@@ -38,5 +36,4 @@ pub few_uses : (s : Source) (flat : Flat) → AreFewSlots s flat → (d : ℕ) (
     → slice_get (slots_of s flat).domains d ≡ Some plan → length plan.uses ≤ 4095
 few_uses s flat few d plan e =
     let l = below_greatest (counts (slots_of s flat)) d (length plan.uses) (count_at (slots_of s flat).domains d plan e) in
-    let each = few.each in
-    omega (arith, l, each)
+    omega (arith, l, few.each)

@@ -17,7 +17,7 @@ order_has y [] i = i
 order_has y (x ∷ xs) (inl e) = put_has x y (by_number xs) (inl e)
 order_has y (x ∷ xs) (inr i) = put_has x y (by_number xs) (inr (order_has y xs i))
 
-from_put : (x y : ℕ × ℕ) (xs : List (ℕ × ℕ)) → IsIn y (put_line x xs) → IsIn y (x ∷ xs)
+pub from_put : (x y : ℕ × ℕ) (xs : List (ℕ × ℕ)) → IsIn y (put_line x xs) → IsIn y (x ∷ xs)
 from_put x y [] i = i
 from_put x y (z ∷ zs) i = by_test (leb x.0 z.0) i (λ j. from_put x y zs j)
   where

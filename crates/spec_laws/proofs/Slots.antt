@@ -6,7 +6,8 @@ use Rattle.spec_laws.proofs.Common.{thread_lines, use_cap, uses_at, window_lines
 use Rattle.cap_model.specs.declared.object.Object.TheVariants as objects
 use Rattle.spec_laws.proofs.MapLines.{by_line}
 use Rattle.spec_laws.proofs.SlotLists.{from_order, some}
-use Rattle.spec_laws.proofs.Slotting.{cnode_object, irq_is, slotted, uses_are}
+use Rattle.spec_laws.proofs.Slotting.{cnode_object, irq_is, slotted}
+use Rattle.spec_laws.proofs.Uses.{uses_are}
 
 module _ (t : Tables) (can : CanSlot t) where
   abbrev spec : Spec
@@ -18,8 +19,7 @@ module _ (t : Tables) (can : CanSlot t) where
   set_number : (k at : ℕ) (c : FlatConnection) → slice_get t.flat.connections k ≡ Some c → (w : IsIrqOf t spec k at)
       → irq_number t.settled k c ≡ w.setting.irq
   set_number k at c h w =
-      let same : w.connection ≡ c = some (slice_get t.flat.connections k) w.connection c w.here h in
-      ap (irq_number t.settled k) (sym same)
+      ap (irq_number t.settled k) (sym (some (slice_get t.flat.connections k) w.connection c w.here h))
       ∙ ap (λ o. option_map_or (λ (z : EndSetting). z.irq) (option_and_then (setting_of t.settled k) o) 0) w.device
       ∙ ap (λ o. option_map_or (λ (z : EndSetting). z.irq) o 0) w.settled
 
@@ -33,9 +33,7 @@ module _ (t : Tables) (can : CanSlot t) where
           → IsIn (n, at) (line_by t k c m) → IsIrqLine t spec n at
       by_kind k c h Interrupt e j =
           let line : ℕ × ℕ = (irq_number t.settled k c, place t (IrqOf k)) in
-          let same : line ≡ (n, at) = single line (n, at) j in
-          let P : ℕ × ℕ → Type 0 = λ z. IsIrqLine t spec z.0 z.1 in
-          subst P same (record {
+          subst (λ (z : ℕ × ℕ). IsIrqLine t spec z.0 z.1) (single line (n, at) j) (record {
             k = k;
             connection = c;
             here = h;
@@ -59,19 +57,18 @@ module _ (t : Tables) (can : CanSlot t) where
   used : (d : ℕ) (x : Domain) (n : ℕ) (u : SlotUse) → slice_get t.flat.domains d ≡ Some x → slice_get (uses_at t d) n ≡ Some u
       → IsUsed t spec (slot_line (use_cap t d n u).object n u)
   used d x n u h e =
-      let f : ℕ → SlotUse → List (ℕ × Cap) = λ n u. (n + 1, use_cap t d n u) ∷ [] in
       record {
         domain = d;
         leaves = x;
         here = h;
         before = n;
         used = u;
-        at = ap (λ z. slice_get z n) (sym (uses_are t can d x h)) ∙ e;
+        at = ap (λ z. slice_get z n) (sym (uses_are t can.slots d x h)) ∙ e;
         bits = bits_for (length (uses_at t d));
         slots = slots_at t d;
         is = cnode_object t can d x h;
         cap = use_cap t d n u;
-        holds = in_gather f (n + 1, use_cap t d n u) (uses_at t d) n u e (inl refl);
+        holds = in_gather (λ n u. (n + 1, use_cap t d n u) ∷ []) (n + 1, use_cap t d n u) (uses_at t d) n u e (inl refl);
         said = said d n u;
       }
 
@@ -88,26 +85,22 @@ module _ (t : Tables) (can : CanSlot t) where
       let d = w.domain in
       let same : w.slots ≡ slots_at t d = ap slots_of_cnode (sym w.is ∙ cnode_object t can d w.leaves w.here) in
       let f : ℕ → SlotUse → List (ℕ × Cap) = λ n u. (n + 1, use_cap t d n u) ∷ [] in
-      let P : List (ℕ × Cap) → Type 0 = λ z. IsIn (w.before + 1, w.cap) z in
-      let a = from_gather f (w.before + 1, w.cap) (uses_at t d) (subst P same w.holds) in
+      let a = from_gather f (w.before + 1, w.cap) (uses_at t d) (subst (λ z. IsIn (w.before + 1, w.cap) z) same w.holds) in
       let slot : ℕ × Cap = (a.0 + 1, use_cap t d a.0 a.1) in
       let eq : slot ≡ (w.before + 1, w.cap) = single slot (w.before + 1, w.cap) a.3 in
       let number : a.0 + 1 ≡ w.before + 1 = ap (λ (z : ℕ × Cap). z.0) eq in
       let at : a.0 ≡ w.before = omega (arith, number) in
       let mine : slice_get (uses_at t d) w.before ≡ Some w.used =
-      ap (λ z. slice_get z w.before) (uses_are t can d w.leaves w.here) ∙ w.at in
+      ap (λ z. slice_get z w.before) (uses_are t can.slots d w.leaves w.here) ∙ w.at in
       let Q : ℕ → Type 0 = λ n. slice_get (uses_at t d) n ≡ Some a.1 in
-      let use_same : a.1 ≡ w.used = some (slice_get (uses_at t d) w.before) a.1 w.used (subst Q at a.2) mine in
       let cap : use_cap t d w.before w.used ≡ w.cap = ap (λ n. use_cap t d n w.used) (sym at) ∙ ap (λ u. use_cap t d a.0 u)
-      (sym use_same) ∙ ap (λ (z : ℕ × Cap). z.1) eq in
-      let R : Cap → Type 0 = λ z. IsLineOf w.used (w.before + 1) z line in
-      let is = line_is d w.before w.used line (subst R (sym cap) w.said) in
+      (sym (some (slice_get (uses_at t d) w.before) a.1 w.used (subst Q at a.2) mine)) ∙ ap (λ (z : ℕ × Cap). z.1) eq in
+      let is = line_is d w.before w.used line (subst (λ z. IsLineOf w.used (w.before + 1) z line) (sym cap) w.said) in
       let h : ℕ → SlotUse → List MapLine = λ n u. slot_line (use_cap t d n u).object n u ∷ [] in
       let F : ℕ → Domain → List MapLine = λ d x. domain_slots t d in
-      let inner = in_gather h line (uses_at t d) w.before w.used mine (inl is) in
       in_right line (domain_lines t) (thread_lines t ++ (slot_lines t ++ window_lines t))
       (in_right line (thread_lines t) (slot_lines t ++ window_lines t) (in_left line (slot_lines t) (window_lines t)
-      (in_gather F line t.flat.domains d w.leaves w.here inner)))
+      (in_gather F line t.flat.domains d w.leaves w.here (in_gather h line (uses_at t d) w.before w.used mine (inl is)))))
 
   has_slots : HasSlots t spec (map_lines t)
   has_slots = record {

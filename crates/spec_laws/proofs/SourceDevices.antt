@@ -1,6 +1,6 @@
 -- The flat system of a source in which no fault of names or types stands has its devices where the connector table has them.
-use Rattle.spec_laws.proofs.Common.{AreDotted, Connector, Direct, FlatConnection, FlatEnd, HasDevice, Interrupt, IsFlat, IsIn, Leaf, Mmio, None, Notification, Rpc, SharedMemory, Some, allowed, allows, alone, and_parts, ap, arith, at_place, cond}
-use Rattle.spec_laws.proofs.Common.{count_of, end_rule, ends_typed, false, first_type_fault, from_get_map, hardware_fits, in_get, is_at_device, leaf_listed, leaf_owned, leb_tells, length, nat_le, refl, same_role, same_role_self, slice_get_within}
+use Rattle.spec_laws.proofs.Common.{AreDotted, Connector, FlatConnection, FlatEnd, HasDevice, Interrupt, IsFlat, IsIn, Leaf, Mmio, None, Some, allowed, allows, alone, and_parts, ap, arith, at_place, cond}
+use Rattle.spec_laws.proofs.Common.{count_of, end_rule, ends_typed, false, first_type_fault, from_get_map, hardware_fits, in_get, is_at_device, leaf_listed, leaf_owned, leb_tells, nat_le, refl, same_role, same_role_self, slice_get_within}
 use Rattle.spec_laws.proofs.Common.{some_end, strung_of, subst, sym, true, true≢false, ℕ, ◌<◌, ◌∙◌, ◌≡◌}
 use Rattle.adl_meaning.specs.Prelude.{AreNamesSound, End, From, Role, Source, Strung, To, connections, domain_number, domain_of, flat_connection, flat_end, flat_ends, flat_of, hierarchy_of, is_hardware, leaf_of, leaves, slice_get}
 use Rattle.adl_ast.specs.declared.component.Member.TheVariants as members
@@ -25,16 +25,8 @@ just_one n low high = grind (arith, leb_tells 1 n, leb_tells n 1)
 one_allowed : (c : Connector) (r : Role) (n : ℕ) → (end_rule c r).hardware ≡ true → allows (end_rule c r) n ≡ true → n ≡ 1
 one_allowed Mmio To n h a = let w = and_parts (nat_le 1 n) (nat_le n 1) a in just_one n w.0 w.1
 one_allowed Interrupt From n h a = let w = and_parts (nat_le 1 n) (nat_le n 1) a in just_one n w.0 w.1
-one_allowed Rpc From n h a = absurd (true≢false (sym h))
-one_allowed Rpc To n h a = absurd (true≢false (sym h))
-one_allowed Notification From n h a = absurd (true≢false (sym h))
-one_allowed Notification To n h a = absurd (true≢false (sym h))
-one_allowed SharedMemory From n h a = absurd (true≢false (sym h))
-one_allowed SharedMemory To n h a = absurd (true≢false (sym h))
-one_allowed Mmio From n h a = absurd (true≢false (sym h))
-one_allowed Interrupt To n h a = absurd (true≢false (sym h))
-one_allowed Direct From n h a = absurd (true≢false (sym h))
-one_allowed Direct To n h a = absurd (true≢false (sym h))
+one_allowed _ From n h a = absurd (true≢false (sym h))
+one_allowed _ To n h a = absurd (true≢false (sym h))
 
 module _ (s : Source) (sound : AreNamesSound s) (dotted : AreDotted (hierarchy_of s)) (types : first_type_fault s ≡ None) where
   -- ---- leaves
@@ -42,8 +34,7 @@ module _ (s : Source) (sound : AreNamesSound s) (dotted : AreDotted (hierarchy_o
   domain_of_software : (n : ℕ) (leaf : Leaf) → slice_get (flat_of s).leaves n ≡ Some leaf → leaf.hardware ≡ false
       → (d : ℕ) × (leaf.domain ≡ Some d)
   domain_of_software n leaf e soft =
-      let h = hierarchy_of s in
-      let x = from_get_map (leaf_of h) (leaves h) n leaf e in
+      let h = hierarchy_of s in let x = from_get_map (leaf_of h) (leaves h) n leaf e in
       let d = domain_number h (domain_of h x.0.path) in
       let hard : is_hardware h x.0.part ≡ false = ap (λ (z : Leaf). z.hardware) x.2 ∙ soft in
       (d, ap (λ (z : Leaf). z.domain) (sym x.2) ∙ ap (λ b. cond b None (Some d)) hard)
@@ -51,8 +42,7 @@ module _ (s : Source) (sound : AreNamesSound s) (dotted : AreDotted (hierarchy_o
   domain_of_hardware : (n : ℕ) (leaf : Leaf) → slice_get (flat_of s).leaves n ≡ Some leaf → leaf.hardware ≡ true
       → leaf.domain ≡ None
   domain_of_hardware n leaf e hard =
-      let h = hierarchy_of s in
-      let x = from_get_map (leaf_of h) (leaves h) n leaf e in
+      let h = hierarchy_of s in let x = from_get_map (leaf_of h) (leaves h) n leaf e in
       let is : is_hardware h x.0.part ≡ true = ap (λ (z : Leaf). z.hardware) x.2 ∙ hard in
       ap (λ (z : Leaf). z.domain) (sym x.2) ∙ ap (λ b. cond b None (Some (domain_number h (domain_of h x.0.path)))) is
 
@@ -99,9 +89,8 @@ module _ (s : Source) (sound : AreNamesSound s) (dotted : AreDotted (hierarchy_o
       let h = hierarchy_of s in
       let stands : slice_get (flat_ends h y) x.number ≡ Some x.end = ap (λ (c : FlatConnection). slice_get c.ends x.number) same
       ∙ x.stands in
-      let short : x.number < length y.wire.1.ends = subst (λ n. x.number < n) (ends_kept s sound dotted y i)
-      (slice_get_within (flat_ends h y) x.number x.end stands) in
-      let end = at_place y.wire.1.ends x.number short in
+      let end = at_place y.wire.1.ends x.number (subst (λ n. x.number < n) (ends_kept s sound dotted y i)
+      (slice_get_within (flat_ends h y) x.number x.end stands)) in
       let r = all_joined s sound dotted y end.0 i (in_get y.wire.1.ends x.number end.0 end.1) in
       let both : Some (flat_end h y.path end.0 r.0) ≡ Some x.end =
       sym (end_numbers_kept s sound dotted y x.number end.0 r.0 i end.1 r.1) ∙ stands in
@@ -114,8 +103,7 @@ module _ (s : Source) (sound : AreNamesSound s) (dotted : AreDotted (hierarchy_o
       let both : Some x.connection ≡ Some z.connection = sym x.here ∙ ap (slice_get (flat_of s).connections)
       (sym place) ∙ z.here in
       let connection : x.connection ≡ z.connection = cc in
-      let e = end_of y.0 y.1 x y.2 in
-      let f = end_of y.0 y.1 z (y.2 ∙ connection) in
+      let e = end_of y.0 y.1 x y.2 in let f = end_of y.0 y.1 z (y.2 ∙ connection) in
       let role : z.end.role ≡ x.end.role = one_role x.connection.connector z.end.role x.end.role
       (ap (λ (c : FlatConnection). (end_rule c.connector z.end.role).hardware) connection ∙ b) a in
       let one = one_end y.0 y.1 x.end.role (ap (λ c. (end_rule c x.end.role).hardware) (connector_is y.0 x.connection y.2) ∙ a) in

@@ -13,10 +13,8 @@ programs_there : (s : Source) (images : Images) → AreFilesShort s → AreNames
     → HasProgram (given s (flat_of s) (settled_of s) images) x.leaf
 programs_there s images short sound d x i =
     let g = given s (flat_of s) (settled_of s) images in
-    let t : (leaf : ℕ) × IsIn leaf (leaves_of g.flat d) × IsIn x (leaf_threads g.flat (ends g) leaf) =
-    from_flat_map (leaf_threads g.flat (ends g)) x (leaves_of g.flat d) i in
-    let y = domain_there g d t.0 t.1 in
-    let own = leaf_owned (hierarchy_of s) d t.0 y.0 y.1 y.2 in
+    let t = from_flat_map (leaf_threads g.flat (ends g)) x (leaves_of g.flat d) i in
+    let y = domain_there g d t.0 t.1 in let own = leaf_owned (hierarchy_of s) d t.0 y.0 y.1 y.2 in
     subst (HasProgram g) (sym (thread_leaf g t.0 x t.2)) (record {
       found = own.0;
       here = own.1;

@@ -9,9 +9,11 @@ use Rattle.spec_laws.proofs.Interrupts.{device_there}
 uses_few : (s : Source) → AreNamesSound s → first_slot_fault s (flat_of s) ≡ None → (d : ℕ) (x : Domain)
     → slice_get (flat_of s).domains d ≡ Some x → length (domain_uses s (flat_of s) x.leaves) < 2 ^ 16
 uses_few s sound none d x at =
-    let l = slots.few_uses s (flat_of s) (few_uses s sound none) d (plan_of (domain_uses s (flat_of s) x.leaves))
-    (get_map (λ (y : Domain). plan_of (domain_uses s (flat_of s) y.leaves)) (flat_of s).domains d x at) in
-    omega (arith, l)
+    omega (
+      arith,
+      slots.few_uses s (flat_of s) (few_uses s sound none) d (plan_of (domain_uses s (flat_of s) x.leaves))
+          (get_map (λ (y : Domain). plan_of (domain_uses s (flat_of s) y.leaves)) (flat_of s).domains d x at),
+    )
 
 pub tables_have_slots : (s : Source) (images : Images) → AreFilesShort s → AreNamesSound s → first_type_fault s ≡ None
     → first_setting_fault s ≡ None → first_slot_fault s (flat_of s) ≡ None

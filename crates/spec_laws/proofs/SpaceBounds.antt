@@ -22,8 +22,7 @@ pub record HaveRegisters (flat : Flat) (settled : Settled) : Type 0 where
 pub at_position : {X : Type 0} (is : X → Bool) (xs : List X) (n : ℕ) (d : X) → position is xs ≡ Some n
     → (x : X) × (slice_get xs n ≡ Some x) × (is x ≡ true)
 at_position is xs n d e =
-    let p = position-Some is xs n d e in
-    let x = at_place xs n p.0 in
+    let p = position-Some is xs n d e in let x = at_place xs n p.0 in
     (x.0, x.1, ap is (sym (get_or_from_slice_get xs n x.0 d x.1)) ∙ p.1)
 
 pub led_to : (e : FlatEnd) (c : FlatConnection) → leads_to e c ≡ true → (f : FlatEnd) × (registers c ≡ Some f)
@@ -38,13 +37,9 @@ led_to e c l = by_end (registers c) refl l
 module _ (g : Given) (can : CanLay g) (few : sum (page_counts g) ≤ 65536) where
   pub frames_most : length (frames g) ≤ 65536 + 2 * 268435456
   frames_most =
-      let a = own_few g in
-      let b = shared_few g can in
-      let d = registers_few g can in
-      let e = can.connections in
-      let f = length_append (own_part g) (memory_part g.flat g.settled) in
-      let h = length_append (shared_part g.flat g.settled) (register_part g.flat g.settled) in
-      omega (arith, few, a, b, d, e, f, h)
+      let b = shared_few g can in let d = registers_few g can in
+      let e = can.connections in let f = length_append (own_part g) (memory_part g.flat g.settled) in
+      omega (arith, few, own_few g, b, d, e, f, length_append (shared_part g.flat g.settled) (register_part g.flat g.settled))
 
   -- ---- each domain
 
@@ -54,11 +49,9 @@ module _ (g : Given) (can : CanLay g) (few : sum (page_counts g) ≤ 65536) wher
 
   pub threads_most : (d : ℕ) (x : Domain) → slice_get g.flat.domains d ≡ Some x → length (threads_of g d) ≤ 262144
   threads_most d x e =
-      let a = few_at g can few d x e in
-      let b = length_threads g.settled (threads_of g d) in
       let c = length_append (flat_map (thread_regions g.settled) (threads_of g d))
       (map (window_region g.flat g.settled) (windows_of g d)) in
-      omega (arith, a, b, c)
+      omega (arith, few_at g can few d x e, length_threads g.settled (threads_of g d), c)
 
 -- ---- spaces
 
@@ -79,18 +72,12 @@ module _ (g : Given) where
       → length (option_map_or (λ (s : Space). s.threads) (slice_get (spaces_of g).spaces d) []) ≤ 262144
   few_threads can few d =
       space_cases (λ o. length (option_map_or (λ (s : Space). s.threads) o []) ≤ 262144) d (omega arith)
-      (λ x e.
-      let a = threads_most g can few d x e in
-      let b = gather_ones (thread_place g d) (threads_of g d) in
-      omega (arith, a, b))
+      (λ x e. omega (arith, threads_most g can few d x e, gather_ones (thread_place g d) (threads_of g d)))
 
   pub few_pages : CanLay g → sum (page_counts g) ≤ 65536 → (d : ℕ) → length (pages_in d) ≤ 65536
   few_pages can few d =
       space_cases (λ o. length (option_map_or (λ (s : Space). s.pages) o []) ≤ 65536) d (omega arith)
-      (λ x e.
-      let a = pages_most g can few d x e in
-      let b = gather_ones (page g d) (mapped_pages g d) in
-      omega (arith, a, b))
+      (λ x e. omega (arith, pages_most g can few d x e, gather_ones (page g d) (mapped_pages g d)))
 
   pub pages_rising : ((d : ℕ) → SectionsStand g d) → (d : ℕ) → Rises (map (λ (p : Page). p.vaddr) (pages_in d))
   pages_rising stand d =
@@ -102,11 +89,9 @@ module _ (g : Given) where
       → IsIn w (option_map_or (λ (s : Space). s.windows) (slice_get (spaces_of g).spaces d) []) → w.pages ≤ 65536
   few_window_pages fits d w i =
       space_cases (λ o. IsIn w (option_map_or (λ (s : Space). s.windows) o []) → w.pages ≤ 65536) d (λ j. absurd j)
-      (λ x e j.
-      let n = place_of w (gather (λ n q. window_at g d n q ∷ []) (windows_of g d)) j in
+      (λ x e j. let n = place_of w (gather (λ n q. window_at g d n q ∷ []) (windows_of g d)) j in
       let q = from_ones (window_at g d) (windows_of g d) n.0 w n.1 in
-      subst (λ (z : Window). z.pages ≤ 65536) q.2 (by_connection q.0 (slice_get g.flat.connections q.0.connection) refl))
-      i
+      subst (λ (z : Window). z.pages ≤ 65536) q.2 (by_connection q.0 (slice_get g.flat.connections q.0.connection) refl)) i
     where
       by_connection : (e : EndAt) (o : Option FlatConnection) → slice_get g.flat.connections e.connection ≡ o
           → option_map_or (memory_pages g.settled e.connection) o 0 ≤ 65536
@@ -124,15 +109,12 @@ module _ (g : Given) where
         let first = position_found (leads_to r) g.flat.connections k c at led in
         let d = at_position (leads_to r) g.flat.connections first.0 c first.1 in
         let f = led_to r d.0 d.2 in
-        let same = have.same k first.0 c d.0 r f.0 at d.1 has f.1 f.2 in
         below (frames g) (memory_number g k j) _ ((frames_stand g).registers k j first.0 c d.0 r f.0 at has first.1 d.1 f.1
-        (omega (arith, l, same)))
+        (omega (arith, l, have.same k first.0 c d.0 r f.0 at d.1 has f.1 f.2)))
 
     memory_below : (e : EndAt) → IsSeen g e → (j : ℕ) → j < window_pages g.flat g.settled e
         → memory_number g e.connection j < length (frames g)
-    memory_below e s j l =
-        let here : j < memory_pages g.settled e.connection s.connection = subst (λ n. j < n) (seen_pages g e s) l in
-        by_connector s.connection.connector refl s.window here
+    memory_below e s j l = by_connector s.connection.connector refl s.window (subst (λ n. j < n) (seen_pages g e s) l)
       where
         by_connector : (c : Connector) → s.connection.connector ≡ c → is_window c s.end.role ≡ true
             → j < memory_pages g.settled e.connection s.connection → memory_number g e.connection j < length (frames g)
@@ -150,15 +132,12 @@ module _ (g : Given) where
         by_shown (Own fill) is w = below (frames g) (number_shown g d n p.shown) _
             ((frames_stand g).own d n p fill at is (below g.flat.domains d x e))
         by_shown (Memory k j) is w =
-            let m = memory_below w.0 (seen g d w.0 w.1) j w.3 in
             subst (λ z. number_shown g d n z < length (frames g)) (sym is)
-            (subst (λ z. memory_number g z j < length (frames g)) w.2 m)
+            (subst (λ z. memory_number g z j < length (frames g)) w.2 (memory_below w.0 (seen g d w.0 w.1) j w.3))
 
     pub frames_there : (d : ℕ) (p : Page) → IsIn p (pages_in d) → p.frame < length (frames g)
     frames_there d p i =
         space_cases (λ o. IsIn p (option_map_or (λ (s : Space). s.pages) o []) → p.frame < length (frames g)) d (λ j. absurd j)
-        (λ x e j.
-        let n = place_of p (gather (λ n q. page g d n q ∷ []) (mapped_pages g d)) j in
-        let q = from_ones (page g d) (mapped_pages g d) n.0 p n.1 in
-        subst (λ (z : Page). z.frame < length (frames g)) q.2 (number_below d n.0 x q.0 e q.1))
-        i
+        (λ x e j. let n = place_of p (gather (λ n q. page g d n q ∷ []) (mapped_pages g d)) j in
+        let q = from_ones (page g d) (mapped_pages g d) n.0 p n.1 in subst (λ (z : Page). z.frame < length (frames g)) q.2
+        (number_below d n.0 x q.0 e q.1)) i

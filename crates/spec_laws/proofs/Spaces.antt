@@ -12,42 +12,30 @@ use Rattle.spec_laws.proofs.SlotLists.{some}
 
 above_all : (a : ℕ) (xs : List ℕ) (n x : ℕ) → Rises (a ∷ xs) → slice_get xs n ≡ Some x → a < x
 above_all a [] n x r e = cc
-above_all a (y ∷ xs) zero x r e =
-    let same : y ≡ x = cc in
-    let l = r.0 in omega (arith, same, l)
-above_all a (y ∷ xs) (suc n) x r e =
-    let l = above_all y xs n x r.1 e in
-    let k = r.0 in omega (arith, k, l)
+above_all a (y ∷ xs) zero x r e = let same : y ≡ x = cc in let l = r.0 in omega (arith, same, l)
+above_all a (y ∷ xs) (suc n) x r e = let k = r.0 in omega (arith, k, above_all y xs n x r.1 e)
 
 pub rises_tell : (xs : List ℕ) (n m x : ℕ) → Rises xs → slice_get xs n ≡ Some x → slice_get xs m ≡ Some x → n ≡ m
 rises_tell [] n m x r e f = cc
 rises_tell (a ∷ xs) zero zero x r e f = refl
-rises_tell (a ∷ xs) zero (suc m) x r e f =
-    let l = above_all a xs m x r f in
-    let same : a ≡ x = cc in absurd (omega (arith, l, same))
-rises_tell (a ∷ xs) (suc n) zero x r e f =
-    let l = above_all a xs n x r e in
-    let same : a ≡ x = cc in absurd (omega (arith, l, same))
+rises_tell (a ∷ xs) zero (suc m) x r e f = let same : a ≡ x = cc in absurd (omega (arith, above_all a xs m x r f, same))
+rises_tell (a ∷ xs) (suc n) zero x r e f = let same : a ≡ x = cc in absurd (omega (arith, above_all a xs n x r e, same))
 rises_tell (a ∷ xs) (suc n) (suc m) x r e f = ap suc (rises_tell xs n m x r.1 e f)
 
 module _ (t : Tables) (can : CanMap t) (d : ℕ) (x : Domain) (h : slice_get t.flat.domains d ≡ Some x) where
   -- the page that is found is the one that begins the address's page
   pub begins_page : (v : ℕ) (cap : Cap) (f : Found t can d x h v cap) → f.shown.at ≡ 4096 * (v / 4096)
   begins_page v cap f =
-      let a = (rise t can d x h).aligned f.shown (in_place f.shown (mapped_pages (system t) d) f.number f.here) in
-      let s = f.same in
-      omega (arith, a, s)
+      omega (arith, (rise t can d x h).aligned f.shown (in_place f.shown (mapped_pages (system t) d) f.number f.here), f.same)
 
   one_is : (v : ℕ) (cap more : Cap) → Found t can d x h v cap → Found t can d x h v more → cap ≡ more
   one_is v cap more f g =
-      let s = system t in
-      let pages = mapped_pages s d in
+      let pages = mapped_pages (system t) d in
       let at : ℕ → ℕ = λ n. n in
-      let same : f.shown.at ≡ g.shown.at = begins_page v cap f ∙ sym (begins_page v more g) in
       let a = get_map (λ (p : MappedPage). p.at) pages f.number f.shown f.here in
       let b = get_map (λ (p : MappedPage). p.at) pages g.number g.shown g.here in
       let number : f.number ≡ g.number = rises_tell (map (λ (p : MappedPage). p.at) pages) f.number g.number f.shown.at
-      (rise t can d x h).rise a (b ∙ ap (λ z. Some z) (sym same)) in
+      (rise t can d x h).rise a (b ∙ ap (λ z. Some z) (sym (begins_page v cap f ∙ sym (begins_page v more g)))) in
       let there : slice_get pages g.number ≡ Some f.shown = ap (λ n. slice_get pages n) (sym number) ∙ f.here in
       let shown : f.shown ≡ g.shown = some (slice_get pages g.number) f.shown g.shown there g.here in
       f.is ∙ ap (λ n. page_cap t can d x h n f.shown) number ∙ ap (λ p. page_cap t can d x h g.number p) shown ∙ sym g.is
@@ -56,8 +44,7 @@ module _ (t : Tables) (can : CanMap t) (d : ℕ) (x : Domain) (h : slice_get t.f
   pub cap_is : (v n : ℕ) (p : MappedPage) (cap : Cap) → slice_get (mapped_pages (system t) d) n ≡ Some p → p.at / 4096 ≡ v / 4096
       → IsAt (spec_of t) (root_of t d) v cap → cap ≡ page_cap t can d x h n p
   cap_is v n p cap e same i =
-      let l = within t can d x h v n p e same in
-      one_is v cap (page_cap t can d x h n p) (found t can d x h v cap l i) (record {
+      one_is v cap (page_cap t can d x h n p) (found t can d x h v cap (within t can d x h v n p e same) i) (record {
         number = n;
         shown = p;
         here = e;
@@ -85,8 +72,7 @@ module _ (t : Tables) (can : CanMap t) (d : ℕ) (x : Domain) (h : slice_get t.f
     every = λ v read write m. (
         let p = is_mapped t can.settled d (4096 * (v / 4096)) read write m in
         let n = place_of p.page (mapped_pages (system t) d) p.there in
-        let e = p.at in
-        let same : p.page.at / 4096 ≡ v / 4096 = ap (λ z. z / 4096) e ∙ whole v in
+        let same : p.page.at / 4096 ≡ v / 4096 = ap (λ z. z / 4096) p.at ∙ whole v in
         let l = within t can d x h v n.0 p.page n.1 same in
         let cap = page_cap t can d x h n.0 p.page in (
           l,

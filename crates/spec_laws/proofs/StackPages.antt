@@ -2,25 +2,20 @@
 use Rattle.spec_laws.proofs.Common.{Bool, Domain, EndAt, Given, Images, IsIn, Leaf, LeafFound, None, Option, Some, Source, Value, [], and_parts, ap, arith, bad_in_leaf, bad_value, cond, domain_number, domain_of, ends, ends_at, false}
 use Rattle.spec_laws.proofs.Common.{first_setting_fault, flat_of, from_flat_map, from_get_map, get_map, given, hierarchy_of, in_get, inl, inr, is_hardware, is_some, is_there, leaf_found, leaf_of, leaf_owned, leaf_setting, leaf_threads, leaves}
 use Rattle.spec_laws.proofs.Common.{leaves_found, leaves_of, leb-true, meant, nat_le, none_in, none_right, number_in, option_and_then, option_map, option_map_or, priority_in, refl, server, serves, settings_sound, settled_of, slice_get, so, stack_in}
-use Rattle.spec_laws.proofs.Common.{stack_pages, subst, sym, thread, threads_of, true, unwrap_or, whole_pages, within, ℕ, ◌&&◌, ◌*◌, ◌+◌, ◌/◌, ◌∙◌, ◌∷◌, ◌≡◌, ◌≤◌}
+use Rattle.spec_laws.proofs.Common.{stack_pages, subst, sym, thread, threads_of, true, unwrap_or, whole_pages, within, ℕ, ◌&&◌, ◌*◌, ◌+◌, ◌/◌, ◌∙◌, ◌≡◌, ◌≤◌}
 use Rattle.adl_meaning.specs.Values.{Given as Value_given}
 use Rattle.vspace_layout.specs.declared.thread.ThreadOf.{ThreadOf}
+use Rattle.spec_laws.proofs.Lists.{shown_if}
 
 -- ---- threads are of leaves of their domain
 
 server_leaf : (g : Given) (leaf : ℕ) (e : EndAt) (x : ThreadOf) → IsIn x (server g.flat leaf e) → x.leaf ≡ leaf
-server_leaf g leaf e x i = by_test (serves g.flat e) i
-  where
-    by_test : (b : Bool) → IsIn x (cond b (thread leaf (Some e) ∷ []) []) → x.leaf ≡ leaf
-    by_test true (inl same) = ap (λ (z : ThreadOf). z.leaf) (sym same)
-    by_test true (inr j) = absurd j
-    by_test false j = absurd j
+server_leaf g leaf e x i = ap (λ (z : ThreadOf). z.leaf) (sym (shown_if (serves g.flat e) (thread leaf (Some e)) x i).1)
 
 pub thread_leaf : (g : Given) (leaf : ℕ) (x : ThreadOf) → IsIn x (leaf_threads g.flat (ends g) leaf) → x.leaf ≡ leaf
 thread_leaf g leaf x (inl same) = ap (λ (z : ThreadOf). z.leaf) (sym same)
 thread_leaf g leaf x (inr i) =
-    let e : (e : EndAt) × IsIn e (ends_at (ends g) leaf) × IsIn x (server g.flat leaf e) =
-    from_flat_map (server g.flat leaf) x (ends_at (ends g) leaf) i in
+    let e = from_flat_map (server g.flat leaf) x (ends_at (ends g) leaf) i in
     server_leaf g leaf e.0 x e.2
 
 -- a domain with a leaf is there
@@ -41,9 +36,8 @@ stack_sized n b e = by_test (nat_le 1 n && nat_le n 16777216) refl e
     by_test : (t : Bool) → (nat_le 1 n && nat_le n 16777216) ≡ t → option_map whole_pages (cond t (Some n) None) ≡ Some b
         → 4096 ≤ b
     by_test true t e =
-        let low = leb-true 1 n (and_parts (nat_le 1 n) (nat_le n 16777216) t).0 in
         let is : (n + 4095) / 4096 * 4096 ≡ b = cc in
-        omega (arith, low, is)
+        omega (arith, leb-true 1 n (and_parts (nat_le 1 n) (nat_le n 16777216) t).0, is)
     by_test false t e = cc
 
 stack_is : (v : Value) (b : ℕ) → stack_in v ≡ Some b → 4096 ≤ b
@@ -57,23 +51,20 @@ stack_meant : (o : Option Value_given) → bad_value stack_in o ≡ [] → 4096 
 stack_meant None good = omega arith
 stack_meant (Some g) good =
     let b = is_there (stack_in g.value) (so (is_some (stack_in g.value)) _ good) in
-    let l = stack_is g.value b.0 b.1 in
     let is : unwrap_or (stack_in g.value) 0 ≡ b.0 = ap (λ o. unwrap_or o 0) b.1 in
-    omega (arith, l, is)
+    omega (arith, stack_is g.value b.0 b.1, is)
 
 leaf_stack : (f : LeafFound) → f.leaf.hardware ≡ false → bad_in_leaf f ≡ [] → 4096 ≤ (leaf_setting f).stack
 leaf_stack f soft good =
     let is : (leaf_setting f).stack ≡ unwrap_or (meant stack_in 16384 f.stack) 0 =
     ap (λ b. cond b 0 (unwrap_or (meant stack_in 16384 f.stack) 0)) soft in
-    let l = stack_meant f.stack (none_right (bad_value priority_in f.priority) (bad_value stack_in f.stack) good) in
-    omega (arith, is, l)
+    omega (arith, is, stack_meant f.stack (none_right (bad_value priority_in f.priority) (bad_value stack_in f.stack) good))
 
 -- a leaf of a domain is software
 pub soft_leaf : (s : Source) (l d : ℕ) (leaf : Leaf) → slice_get (flat_of s).leaves l ≡ Some leaf → leaf.domain ≡ Some d
     → leaf.hardware ≡ false
 soft_leaf s l d leaf at is =
-    let h = hierarchy_of s in
-    let x = from_get_map (leaf_of h) (leaves h) l leaf at in
+    let h = hierarchy_of s in let x = from_get_map (leaf_of h) (leaves h) l leaf at in
     let own : (leaf_of h x.0).domain ≡ Some d = ap (λ (z : Leaf). z.domain) x.2 ∙ is in
     ap (λ (z : Leaf). z.hardware) (sym x.2) ∙ by_test (is_hardware h x.0.part) (domain_number h (domain_of h x.0.path)) own
   where
@@ -84,23 +75,18 @@ soft_leaf s l d leaf at is =
 stack_some : (s : Source) → first_setting_fault s ≡ None → (l d : ℕ) (leaf : Leaf) → slice_get (flat_of s).leaves l ≡ Some leaf
     → leaf.domain ≡ Some d → 1 ≤ stack_pages (settled_of s) l
 stack_some s none l d leaf at own =
-    let h = hierarchy_of s in
-    let fs = leaves_found h (flat_of s) in
+    let h = hierarchy_of s in let fs = leaves_found h (flat_of s) in
     let f = leaf_found h leaf in
     let found : slice_get fs l ≡ Some f = get_map (leaf_found h) (flat_of s).leaves l leaf at in
-    let settled : slice_get (settled_of s).leaves l ≡ Some (leaf_setting f) = get_map leaf_setting fs l f found in
     let good = none_in bad_in_leaf fs f (settings_sound s none).leaves (in_get fs l f found) in
-    let most = leaf_stack f (soft_leaf s l d leaf at own) good in
     let is : stack_pages (settled_of s) l ≡ (leaf_setting f).stack / 4096 =
-    ap (λ o. option_map_or (λ z. z.stack / 4096) o 0) settled in
-    omega (arith, most, is)
+    ap (λ o. option_map_or (λ z. z.stack / 4096) o 0) (get_map leaf_setting fs l f found) in
+    omega (arith, leaf_stack f (soft_leaf s l d leaf at own) good, is)
 
 pub stacks_some : (s : Source) (images : Images) → first_setting_fault s ≡ None → (d : ℕ) (x : ThreadOf)
     → IsIn x (threads_of (given s (flat_of s) (settled_of s) images) d) → 1 ≤ stack_pages (settled_of s) x.leaf
 stacks_some s images none d x i =
     let g = given s (flat_of s) (settled_of s) images in
-    let t : (leaf : ℕ) × IsIn leaf (leaves_of g.flat d) × IsIn x (leaf_threads g.flat (ends g) leaf) =
-    from_flat_map (leaf_threads g.flat (ends g)) x (leaves_of g.flat d) i in
-    let y = domain_there g d t.0 t.1 in
-    let own = leaf_owned (hierarchy_of s) d t.0 y.0 y.1 y.2 in
+    let t = from_flat_map (leaf_threads g.flat (ends g)) x (leaves_of g.flat d) i in
+    let y = domain_there g d t.0 t.1 in let own = leaf_owned (hierarchy_of s) d t.0 y.0 y.1 y.2 in
     subst (λ n. 1 ≤ stack_pages (settled_of s) n) (sym (thread_leaf g t.0 x t.2)) (stack_some s none t.0 d own.0 own.1 own.2)

@@ -1,15 +1,16 @@
 -- Kind stands behind kind, and each kind by its numbers
-use Rattle.spec_laws.proofs.Common.{CNodeOf, CanSlot, Connector, Direct, Directory, Domain, EndpointOf, FlatConnection, FrameOf, Global, Handler, HasNumber, Interrupt, IsIn, Level, List, Mmio, NotificationOf, OfConnection, OfDomain, OfEnd, OwnLock}
-use Rattle.spec_laws.proofs.Common.{Owned, Owner, PageTable, Part, Rpc, Series, SharedMemory, SlotUse, Some, StandInOrder, Table, Tables, Upper, [], all_tables, ap, arith, before, by_section, cnodes, domain_locks, endpoint, endpoint_by, endpoints}
-use Rattle.spec_laws.proofs.Common.{entry, entry_name, frame_parts, from_gather, from_place, gather_ones, get_map, get_or, in_place, inl, inr, irq, irq_by, irq_owner, irqs, length, length-map, level_series, lock, locks, map, notification}
-use Rattle.spec_laws.proofs.Common.{notification_by, notifications, numbered, owned, part, parts, place_of, rank, refl, sections, single, slice_get, slice_get-get_or, slice_get_within, spec_of, split_get, subst, suc, table_part, table_parts, tcbs}
-use Rattle.spec_laws.proofs.Common.{uses_at, ℕ, ◌++◌, ◌+◌, ◌<◌, ◌∷◌, ◌≡◌, ◌≤◌}
-use Rattle.adl_meaning.specs.declared.connector.Connector.TheVariants.{Notification as Notifies}
+use Rattle.spec_laws.proofs.Common.{CanSlot, Directory, FrameOf, HasNumber, IsIn, Level, List, OfDomain}
+use Rattle.spec_laws.proofs.Common.{Part, Some, StandInOrder, Tables, [], ap, arith, endpoint}
+use Rattle.spec_laws.proofs.Common.{entry, entry_name, get_map, get_or, in_place, inl, inr, irq, length, length-map, level_series, lock, map, notification}
+use Rattle.spec_laws.proofs.Common.{part, parts, place_of, rank, refl, sections, slice_get, slice_get-get_or, slice_get_within, spec_of, split_get, subst, suc}
+use Rattle.spec_laws.proofs.Common.{ℕ, ◌++◌, ◌+◌, ◌<◌, ◌∷◌, ◌≡◌, ◌≤◌, below, sym, table_part, all_tables, page_table}
 use Rattle.system_spec.specs.declared.series.Series.TheVariants as series
 use Rattle.spec_laws.proofs.Numbering.{irqs_before, lock_numbered}
 use Rattle.spec_laws.proofs.Sections.{in_section, told}
 use Rattle.spec_laws.proofs.Uses.{uses_are}
 use Rattle.system_spec.specs.Parts.{together}
+use Rattle.spec_laws.proofs.EachPart.{of_every}
+use Rattle.page_tables.specs.Levels.{level_of}
 
 -- ---- order
 
@@ -31,13 +32,9 @@ rise_together ps qs a b cross i j p q e f less = elim (split_get ps qs i p e) [
   ]
   | inr first ↦ elim (split_get ps qs j q f) [
     | inl second ↦
-        let within = slice_get_within ps j q second in
-        let behind = first.1 in
-        absurd (omega (arith, within, behind, less))
+        absurd (omega (arith, slice_get_within ps j q second, first.1, less))
     | inr second ↦
-        let x = first.1 in
-        let y = second.1 in
-        b first.0 second.0 p q first.2 second.2 (omega (arith, x, y, less))
+        b first.0 second.0 p q first.2 second.2 (omega (arith, first.1, second.1, less))
   ]
 ]
 
@@ -54,8 +51,7 @@ sections_rise n (ps ∷ ss) each =
     let behind : (k : ℕ) (qs : List Part) → slice_get ss k ≡ Some qs → IsSection (suc n + k) qs =
     λ k qs e. subst (λ m. IsSection m qs) {x = n + suc k} (omega arith) (each (suc k) qs e) in
     rise_together ps (together ss) here.rises (sections_rise (suc n) ss behind) (λ p q a b.
-    let at = place_of q (together ss) b in
-    let s = in_section ss at.0 q at.1 in
+    let at = place_of q (together ss) b in let s = in_section ss at.0 q at.1 in
     let low = here.ranked p a in
     let high = (behind s.section s.list s.is).ranked q (in_place q s.list s.place s.stands) in
     record {
@@ -65,8 +61,7 @@ sections_rise n (ps ∷ ss) each =
 
 parts_rise : (t : Tables) → Rise (parts t)
 parts_rise t = sections_rise 0 (sections t) (λ k ps e.
-    let bound = length t.flat.connections + length (parts t) in
-    let tells = told t bound (omega arith) (omega arith) k ps e in
+    let tells = told t (length t.flat.connections + length (parts t)) (omega arith) (omega arith) k ps e in
     let ranked : (p : Part) → IsIn p ps → rank p.series ≡ k = λ p i. let at = place_of p ps i in tells.series at.0 p at.1 in
     record {
       ranked = λ p i. let r = ranked p i in omega (arith, r);
@@ -82,90 +77,22 @@ module _ (t : Tables) (can : CanSlot t) where
   abbrev Numbered : Part → Type 0
   Numbered p = HasNumber t p.series p.number
 
-  of_numbered : (s : Series) (xs : List Owned) → ((n : ℕ) (x : Owned) → slice_get xs n ≡ Some x → HasNumber t s n)
-      → (p : Part) → IsIn p (numbered s xs) → Numbered p
-  of_numbered s xs h p i =
-      let f : ℕ → Owned → List Part = λ n x. part s n x.owner x.what ∷ [] in
-      let g = from_gather f p xs i in
-      subst Numbered (single (part s g.0 g.1.owner g.1.what) p g.3) (h g.0 g.1 g.2)
-
-  of_cnode : (n : ℕ) (x : Owned) → slice_get (cnodes t.flat.domains) n ≡ Some x → n < length t.flat.domains
-  of_cnode n x e =
-      let within = slice_get_within (cnodes t.flat.domains) n x e in
-      let long = gather_ones (λ d (z : Domain). owned (OfDomain d) (CNodeOf d)) t.flat.domains in
-      omega (arith, within, long)
-
-  of_endpoint : (p : Part) → IsIn p (endpoints t) → Numbered p
-  of_endpoint p i = let g = from_gather endpoint p t.flat.connections i in by_kind g.1.connector g.0 g.1 g.2 refl g.3
-    where
-      by_kind : (m : Connector) (k : ℕ) (c : FlatConnection) → slice_get t.flat.connections k ≡ Some c → c.connector ≡ m
-          → IsIn p (endpoint_by k m) → Numbered p
-      by_kind Rpc k c h e i = subst Numbered (single (part series.Ep k (OfConnection k) (EndpointOf k)) p i) (c, h, e)
-      by_kind _ k c h e i = absurd i
-
-  of_notification : (p : Part) → IsIn p (notifications t) → Numbered p
-  of_notification p i = let g = from_gather notification p t.flat.connections i in by_kind g.1.connector g.0 g.1 g.2 refl g.3
-    where
-      by_kind : (m : Connector) (k : ℕ) (c : FlatConnection) → slice_get t.flat.connections k ≡ Some c → c.connector ≡ m
-          → IsIn p (notification_by k m) → Numbered p
-      by_kind Notifies k c h e i =
-          subst Numbered (single (part series.Ntfn k (OfConnection k) (NotificationOf k)) p i) (c, h, inl e)
-      by_kind Interrupt k c h e i =
-          subst Numbered (single (part series.Ntfn k (OfConnection k) (NotificationOf k)) p i) (c, h, inr e)
-      by_kind _ k c h e i = absurd i
-
-  of_lock : (n : ℕ) (x : Owned) → slice_get (locks t) n ≡ Some x → HasNumber t series.Lock n
-  of_lock n x e =
-      let g = from_place (domain_locks t) t.flat.domains n x e in
-      let w = from_place (lock g.place) (uses_at t g.place) g.number x g.stands in
-      by_use g.place w.place g.item g.here w.item w.here w.number w.stands (let a = g.sum in let b = w.sum in omega (arith, a, b))
-    where
-      by_use : (d k : ℕ) (z : Domain) → slice_get t.flat.domains d ≡ Some z → (u : SlotUse) → slice_get (uses_at t d) k ≡ Some u
-          → (i : ℕ) → slice_get (lock d k u) i ≡ Some x
-          → n ≡ before (domain_locks t) t.flat.domains d + before (lock d) (uses_at t d) k + i → HasNumber t series.Lock n
-      by_use d k z h (OfEnd c m) s i there sum = cc
-      by_use d k z h (Handler c m) s i there sum = cc
-      by_use d k z h (OwnLock leaf m) s i there sum =
-          let within = slice_get_within (lock d k (OwnLock leaf m)) i x there in
-          subst (HasNumber t series.Lock) {x = before (domain_locks t) t.flat.domains d + before (lock d) (uses_at t d) k}
-          (omega (arith, sum, within)) (leaf, m, lock_numbered t (uses_are t can.slots) d k leaf m z h s)
-
-  of_irq : (n : ℕ) (x : Owned) → slice_get (irqs t) n ≡ Some x → HasNumber t series.Irq n
-  of_irq n x e =
-      let g = from_place irq t.flat.connections n x e in
-      by_kind g.item.connector g.place g.item g.here refl (irq_owner g.place g.item) g.number g.stands g.sum
-    where
-      by_kind : (m : Connector) (k : ℕ) (c : FlatConnection) → slice_get t.flat.connections k ≡ Some c → c.connector ≡ m
-          → (o : Owner) (i : ℕ) → slice_get (irq_by k o m) i ≡ Some x → n ≡ before irq t.flat.connections k + i
-          → HasNumber t series.Irq n
-      by_kind Interrupt k c h e o i there sum =
-          let within = slice_get_within (irq_by k o Interrupt) i x there in
-          let same = irqs_before t k in
-          (k, c, h, e, omega (arith, sum, within, same))
-      by_kind _ k c h e o i there sum = cc
-
   of_level : (l : Level) (n : ℕ) → HasNumber t (level_series l) n
   of_level Directory n = tt
   of_level _ n = tt
 
-  of_table : (p : Part) → IsIn p (table_parts (all_tables t)) → Numbered p
-  of_table p i =
-      let f : ℕ → PageTable → List Part = λ m z. table_part (all_tables t) m z ∷ [] in
-      let g = from_gather f p (all_tables t) i in
-      let mine = table_part (all_tables t) g.0 g.1 in
-      subst Numbered {x = mine} (single mine p g.3) (of_level g.1.level mine.number)
-
   parts_numbered : (p : Part) → IsIn p (parts t) → Numbered p
-  parts_numbered =
-      by_section t Numbered
-      (of_numbered series.CNode (cnodes t.flat.domains) of_cnode)
-      (of_numbered series.Tcb (tcbs t) (λ n x e. tt))
-      of_endpoint
-      of_notification
-      (of_numbered series.Lock (locks t) of_lock)
-      (of_numbered series.Irq (irqs t) of_irq)
-      of_table
-      (of_numbered series.Frame (frame_parts t.spaces.frames) (λ n x e. tt))
+  parts_numbered = of_every t Numbered (record {
+    cnode = λ d x e. below t.flat.domains d x e;
+    thread = λ n d i x e. tt;
+    endpoint = λ k c h e. (c, h, e);
+    notification = λ k c h e. (c, h, e);
+    lock = λ n d i leaf m x h s is.
+        subst (HasNumber t series.Lock) (sym is) (leaf, m, lock_numbered t (uses_are t can.slots) d i leaf m x h s);
+    irq = λ n k c h e is. (k, c, h, e, omega (arith, is, irqs_before t k));
+    table = λ n d j o e. of_level (level_of o) (table_part (all_tables t) n (page_table d j (level_of o))).number;
+    frame = λ f x e. tt;
+  })
 
   -- ---- all
 
@@ -188,5 +115,4 @@ module _ (t : Tables) (can : CanSlot t) where
   }
     where
       rise : (p q : ℕ) → p < q → q < length (spec_of t).entries → ComesBefore (part_of p) (part_of q)
-      rise p q less l =
-          parts_rise t p q (part_of p) (part_of q) (part_at p (omega (arith, less, l))) (part_at q l) less
+      rise p q less l = parts_rise t p q (part_of p) (part_of q) (part_at p (omega (arith, less, l))) (part_at q l) less

@@ -28,19 +28,15 @@ spans_many (suc j) l (k ∷ ks) m ls s e =
 -- so what begins at the table of an address stands under the same table above it
 starts_under : (s n m a : ℕ) → 0 < s → m ≡ s * n → (a / s * s) / m ≡ a / m
 starts_under s n m a pos e =
-    ap (λ z. (a / s * s) / z) e
-    ∙ sym (div-div-eq-div-mul (a / s * s) s n)
-    ∙ ap (λ z. z / n) (mul-div_cancel (a / s) pos)
-    ∙ div-div-eq-div-mul a s n
-    ∙ ap (λ z. a / z) (sym e)
+    ap (λ z. (a / s * s) / z) e ∙ sym (div-div-eq-div-mul (a / s * s) s n) ∙ ap (λ z. z / n) (mul-div_cancel (a / s) pos)
+    ∙ div-div-eq-div-mul a s n ∙ ap (λ z. a / z) (sym e)
 
 -- ---- what is mapped above stands for what is mapped below
 
 pub upper_of : (l : Shape) (xs : List Mapping) (x : Mapping) → IsIn x xs → (u : Mapping) × IsIn u (uppers l (runs (span l) xs))
     × (u.at ≡ x.at / span l * span l)
 upper_of l xs x i =
-    let r = in_runs (span l) x xs i in
-    let p = place_of r.0 (runs (span l) xs) r.1 in
+    let r = in_runs (span l) x xs i in let p = place_of r.0 (runs (span l) xs) r.1 in
     let u = upper l p.0 r.0 in
     let F : ℕ → List Mapping → List Mapping = λ j r. upper l j r ∷ [] in (
       u,
@@ -53,8 +49,7 @@ lower_of : (l : Shape) (xs : List Mapping) (u : Mapping) → IsIn u (uppers l (r
     → (x : Mapping) × IsIn x xs × (u.at ≡ x.at / span l * span l)
 lower_of l xs u i =
     let rs = runs (span l) xs in
-    let F : ℕ → List Mapping → List Mapping = λ j r. upper l j r ∷ [] in
-    let g = from_gather F u rs i in
+    let g = from_gather (λ j r. upper l j r ∷ []) u rs i in
     let x = (tables_exact (span l) xs (head_of (span l) g.1)).0 (in_map (head_of (span l)) g.1 rs (in_place g.1 rs g.0 g.2)) in
     elim g.3 [
       | inl e ↦ (x.0, x.1, ap (λ (z : Mapping). z.at) (sym e) ∙ ap (λ z. z * span l) (sym x.2))
@@ -74,20 +69,17 @@ lowest : (l : Shape) (ls : List Shape) (xs : List Mapping) (y : Mapping) (first 
     → ((x : Mapping) → IsIn x xs → x.at < root_span (l ∷ ls)) → v < root_span (l ∷ ls)
     → T ≡ numbered first link (layers (l ∷ ls) xs) ++ back → Tabled first T (l ∷ ls) xs v (sizes (layers (l ∷ ls) xs))
 lowest l ls xs y first link T back v stacked fit i h b t =
-    let rs = runs (span l) xs in
-    let at = arrives l ls xs y first link T back v stacked fit i h b t in
+    let rs = runs (span l) xs in let at = arrives l ls xs y first link T back v stacked fit i h b t in
     let exact = tables_exact (span l) xs (v / span l) in
     let to : ((n : ℕ) × Arrives first T (l ∷ ls) v n) → (x : Mapping) × IsIn x xs × (x.at / span l ≡ v / span l) =
     λ a. let p = (at a.0).0 a.1 in
     exact.0 (subst (λ z. IsIn z (heads (span l) rs)) p.head
     (in_map (head_of (span l)) p.run rs (in_place p.run rs p.number p.at))) in
-    let from : ((x : Mapping) × IsIn x xs × (x.at / span l ≡ v / span l)) → (n : ℕ) × Arrives first T (l ∷ ls) v n =
-    λ q. let r = from_map (head_of (span l)) (v / span l) rs (exact.1 q) in
-    let p = place_of r.0 rs r.1 in
+    let from : ((x : Mapping) × IsIn x xs × (x.at / span l ≡ v / span l)) → (n : ℕ) × Arrives first T (l ∷ ls) v n = λ q. let r =
+    from_map (head_of (span l)) (v / span l) rs (exact.1 q) in let p = place_of r.0 rs r.1 in
     (above l ls xs + p.0, (at (above l ls xs + p.0)).1 (record { number = p.0; run = r.0; at = p.1; head = r.2; is = refl })) in
-    let low : (n : ℕ) → Arrives first T (l ∷ ls) v n → n < sizes (layers (l ∷ ls) xs) =
-    λ n a. let p = (at n).0 a in let is = p.is in let few = below rs p.number p.run p.at in omega (arith, is, few) in
-    ((to, from), low)
+    let low : (n : ℕ) → Arrives first T (l ∷ ls) v n → n < sizes (layers (l ∷ ls) xs) = λ n a. let p = (at n).0 a in
+    let is = p.is in let few = below rs p.number p.run p.at in omega (arith, is, few) in ((to, from), low)
 
 tabled : (j : ℕ) (ks : List Shape) (l : Shape) (ls : List Shape) (xs : List Mapping) (y : Mapping) (first link : ℕ)
     (T back : List Object) (v : ℕ) → drop j ks ≡ l ∷ ls → AreStacked ks → AreShapes ks → IsIn y xs
@@ -99,26 +91,21 @@ tabled zero (k ∷ ks) l ls xs y first link T back v e stacked fit i h b t =
 tabled (suc j) [] l ls xs y first link T back v e stacked fit i h b t = cc
 tabled (suc j) (k ∷ []) l ls xs y first link T back v e stacked fit i h b t = absurd (no_level j l ls e)
 tabled (suc j) (k ∷ m ∷ ks) l ls xs y first link T back v e stacked fit i h b t =
-    let rs = runs (span k) xs in
-    let U = uppers k rs in
-    let next = first + sizes (layers (m ∷ ks) U) in
-    let mine = map (table_of k link) rs in
-    let split : T ≡ numbered first next (layers (m ∷ ks) U) ++ (mine ++ back) =
-    t ∙ append_assoc (numbered first next (layers (m ∷ ks) U)) mine back in
+    let rs = runs (span k) xs in let U = uppers k rs in
+    let next = first + sizes (layers (m ∷ ks) U) in let mine = map (table_of k link) rs in
     let low : 0 < span k = span_some k (fit k (inl refl)) in
     let bound : 0 < root_span (m ∷ ks) = omega (arith, b) in
     let up = upper_of k xs y i in
     let ih = tabled j (m ∷ ks) l ls U up.0 first next T (mine ++ back) v e stacked.1 (λ s q. fit s (inr q)) up.1
-    (upper_below k xs (root_span (m ∷ ks)) bound h) b split in
+    (upper_below k xs (root_span (m ∷ ks)) bound h) b (t ∙ append_assoc (numbered first next (layers (m ∷ ks) U)) mine back) in
     let many = spans_many (suc j) k (m ∷ ks) l ls stacked e in
     let under : (a : ℕ) → (a / span k * span k) / span l ≡ a / span l = λ a. starts_under (span k) many.0 (span l) a low many.1 in
     let to : ((n : ℕ) × Arrives first T (l ∷ ls) v n) → (x : Mapping) × IsIn x xs × (x.at / span l ≡ v / span l) =
     λ a. let u = ih.0.0 a in let x = lower_of k xs u.0 u.1 in
     (x.0, x.1, sym (under x.0.at) ∙ ap (λ z. z / span l) (sym x.2) ∙ u.2) in
-    let from : ((x : Mapping) × IsIn x xs × (x.at / span l ≡ v / span l)) → (n : ℕ) × Arrives first T (l ∷ ls) v n =
-    λ q. let u = upper_of k xs q.0 q.1 in ih.0.1 (u.0, u.1, ap (λ z. z / span l) u.2 ∙ under q.0.at ∙ q.2) in
-    let all : (n : ℕ) → Arrives first T (l ∷ ls) v n → n < sizes (layers (k ∷ m ∷ ks) xs) = λ n a. let few = ih.1 n a in
-    omega (arith, few) in
+    let from : ((x : Mapping) × IsIn x xs × (x.at / span l ≡ v / span l)) → (n : ℕ) × Arrives first T (l ∷ ls) v n = λ q. let u =
+    upper_of k xs q.0 q.1 in ih.0.1 (u.0, u.1, ap (λ z. z / span l) u.2 ∙ under q.0.at ∙ q.2) in let all : (n : ℕ)
+    → Arrives first T (l ∷ ls) v n → n < sizes (layers (k ∷ m ∷ ks) xs) = λ n a. let few = ih.1 n a in omega (arith, few) in
     ((to, from), all)
 
 -- ---- in a spec
@@ -167,8 +154,7 @@ module _ (t : Tables) (can : CanMap t) where
   table_labels : AreTableLabels t (spec_of t) (root_of t) (labels_of t)
   table_labels = λ d v j n x l ls h b e a.
       let low = (there d j v x l ls h e b).1 n a in
-      let many = as_many (root_of t d) 0 (layers (shapes (arch t)) (maps t can d x h)) in
-      table_label d n x h (omega (arith, low, many))
+      table_label d n x h (omega (arith, low, as_many (root_of t d) 0 (layers (shapes (arch t)) (maps t can d x h))))
 
   pub tables_are : AreTables t (spec_of t) (root_of t) (labels_of t)
   tables_are = record { each = tables_of_are; labels_are = table_labels }

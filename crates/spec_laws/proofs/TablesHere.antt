@@ -42,8 +42,7 @@ module _ (t : Tables) where
       record { page = p.0; there = p.1; object = omega (arith, object); rights = ap (λ (z : Mapping). z.cap.rights) (sym p.2) }
 
   of_slot : (d : ℕ) (x : Domain) (level : Level) (slots : List (ℕ × Cap)) (slot : ℕ × Cap) → slice_get t.flat.domains d ≡ Some x
-      → IsIn (objects.Pages level slots) (standing t d) → IsIn slot slots
-      → IsPageCap d slot.1 ⊎ IsTableCap d slot.1
+      → IsIn (objects.Pages level slots) (standing t d) → IsIn slot slots → IsPageCap d slot.1 ⊎ IsTableCap d slot.1
   of_slot d x level slots slot e there i =
       let first = place t (TableOf d 0) in
       elim (slots_lead (arch t) (mappings d) first level slots slot there i) [
@@ -60,16 +59,14 @@ module _ (t : Tables) where
   from_pages : (o i : ℕ) (held : Cap) (level : Level) (slots : List (ℕ × Cap)) → IsAt t o (objects.Pages level slots)
       → Contains slots (i, held) → InDomain o held
   from_pages o i held level slots at there =
-      let w = of_pages at.what at.sort in
-      let d = w.0 in
+      let w = of_pages at.what at.sort in let d = w.0 in
       let j = w.1 in
       let here : IsThere t (TableOf d j) = subst (λ z. IsThere t z) w.2 at.there in
       let is : object t (TableOf d j) ≡ objects.Pages level slots =
       subst (λ z. object t z ≡ objects.Pages level slots) w.2 at.is in
       let m = moved t 0 0 (place t (TableOf d 0)) (place t (FrameOf 0)) d j here.1.0 here.1.1 in
-      let same : m.0 ≡ objects.Pages level slots = sym (object_is t d j m.0 m.1) ∙ is in
       let table : IsIn (objects.Pages level slots) (standing t d) =
-      subst (λ z. IsIn z (standing t d)) same (in_place m.0 (standing t d) j m.1) in
+      subst (λ z. IsIn z (standing t d)) (sym (object_is t d j m.0 m.1) ∙ is) (in_place m.0 (standing t d) j m.1) in
       let k = contains_at slots (i, held) there in
       record {
         domain = d;
@@ -106,17 +103,14 @@ module _ (t : Tables) where
 
   pub page_held : (d : ℕ) (x : Domain) (p : Page) → slice_get t.flat.domains d ≡ Some x → IsIn p (pages_at t d) → HeldIn d p
   page_held d x p e i =
-      let s = some_shapes (arch t) in
-      let first = place t (TableOf d 0) in
+      let s = some_shapes (arch t) in let first = place t (TableOf d 0) in
       let m = page_mapping frame_first p in
       let w = in_tables s.0 s.1 (mappings d) first 0 m (in_map (page_mapping frame_first) p (pages_at t d) i) in
-      let among : IsIn w.0 (standing t d) = subst (λ ls. IsIn w.0 (tables_of first ls (mappings d))) (sym s.2) w.1 in
-      let n = place_of w.0 (standing t d) among in
+      let n = place_of w.0 (standing t d) (subst (λ ls. IsIn w.0 (tables_of first ls (mappings d))) (sym s.2) w.1) in
       let there = stands_there t d n.0 x w.0 e n.1 in
       let is : object_at (spec_of t) (place t (TableOf d n.0)) ≡ Some w.0 = object_there t (TableOf d n.0) there
       ∙ ap (λ z. Some z) (object_is t d n.0 w.0 n.1) in
-      let slot = slot_of s.0 0 m in
-      let k = place_of slot (slots_of (Some w.0)) w.2 in
+      let slot = slot_of s.0 0 m in let k = place_of slot (slots_of (Some w.0)) w.2 in
       let inside : Contains (slots_of (Some w.0)) slot = at_contains (slots_of (Some w.0)) slot k.0 k.1 in
       let same : slot ≡ (slot.0, m.cap) = ap (λ z. (slot.0, z)) (linked_none m.cap) in
       let exact : Contains (slots_of (Some w.0)) (slot.0, m.cap) = subst (λ z. Contains (slots_of (Some w.0)) z) same inside in

@@ -36,11 +36,9 @@ here : (k : Shape) (ks : List Shape) (xs : List Mapping) (y : Mapping) (first li
     → ((x : Mapping) → IsIn x xs → x.at < root_span (k ∷ ks)) → T ≡ numbered first link (layers (k ∷ ks) xs) ++ back
     → above k ks xs ≤ n → n < sizes (layers (k ∷ ks) xs) → Reached first T (k ∷ ks) n
 here k ks xs y first link T back n stacked fit i h t low l =
-    let rs = runs (span k) xs in
-    let p = n - above k ks xs in
+    let rs = runs (span k) xs in let p = n - above k ks xs in
     let r = at_place rs p (omega (arith, low, l)) in
-    let o = one_table (span k) xs r.0 (in_place r.0 rs p r.1) in
-    let x = o.some in
+    let o = one_table (span k) xs r.0 (in_place r.0 rs p r.1) in let x = o.some in
     let there = from_runs (span k) x.0 xs r.0 (in_place r.0 rs p r.1) x.1 in
     let is : n ≡ above k ks xs + p = omega (arith, low) in
     record {
@@ -60,21 +58,17 @@ here k ks xs y first link T back n stacked fit i h t low l =
     }
 
 reached : (ks : List Shape) (xs : List Mapping) (y : Mapping) (first link : ℕ) (T back : List Object) (n : ℕ) → AreStacked ks
-    → AreShapes ks → IsIn y xs
-    → ((x : Mapping) → IsIn x xs → x.at < root_span ks) → T ≡ numbered first link (layers ks xs) ++ back
-    → n < sizes (layers ks xs) → Reached first T ks n
+    → AreShapes ks → IsIn y xs → ((x : Mapping) → IsIn x xs → x.at < root_span ks)
+    → T ≡ numbered first link (layers ks xs) ++ back → n < sizes (layers ks xs) → Reached first T ks n
 reached [] xs y first link T back n stacked fit i h t l = absurd (omega (arith, l))
 reached (k ∷ []) xs y first link T back n stacked fit i h t l = here k [] xs y first link T back n stacked fit i h t
     (omega arith) l
 reached (k ∷ m ∷ ks) xs y first link T back n stacked fit i h t l =
-    let rs = runs (span k) xs in
-    let U = uppers k rs in
-    let next = first + sizes (layers (m ∷ ks) U) in
-    let mine = map (table_of k link) rs in
+    let rs = runs (span k) xs in let U = uppers k rs in
+    let next = first + sizes (layers (m ∷ ks) U) in let mine = map (table_of k link) rs in
     let split : T ≡ numbered first next (layers (m ∷ ks) U) ++ (mine ++ back) =
     t ∙ append_assoc (numbered first next (layers (m ∷ ks) U)) mine back in
-    let low = h y i in
-    let bound : 0 < root_span (m ∷ ks) = omega (arith, low) in
+    let bound : 0 < root_span (m ∷ ks) = omega (arith, h y i) in
     let up = upper_of k xs y i in
     elim (cases_lt n (above k (m ∷ ks) xs)) [
       | inl f ↦
@@ -112,19 +106,14 @@ lowest : (l : Shape) (ls : List Shape) (xs : List Mapping) (y : Mapping) (first 
     → ((x : Mapping) → IsIn x xs → x.at < root_span (l ∷ ls)) → v < root_span (l ∷ ls) → w < root_span (l ∷ ls)
     → T ≡ numbered first link (layers (l ∷ ls) xs) ++ back → Sorted first T (l ∷ ls) v w m n
 lowest l ls xs y first link T back v w m n stacked fit i asc h b c t a e less =
-    let rs = runs (span l) xs in
     let p = (arrives l ls xs y first link T back v stacked fit i h b t m).0 a in
     let q = (arrives l ls xs y first link T back w stacked fit i h c t n).0 e in
-    let mine = p.head in
-    let other = q.head in
-    let at = p.is in
-    let to = q.is in
     elim (cases_lt p.number q.number) [
-      | inl f ↦ omega (arith, f, at, to)
+      | inl f ↦ omega (arith, f, p.is, q.is)
       | inr f ↦
-          let le = not_above (head_of (span l)) rs q.number p.number q.run p.run
+          let le = not_above (head_of (span l)) (runs (span l) xs) q.number p.number q.run p.run
           (tables_rise (span l) (span_some l (fit l (inl refl))) xs asc) q.at p.at (omega (arith, f)) in
-          absurd (omega (arith, le, less, mine, other))
+          absurd (omega (arith, le, less, p.head, q.head))
     ]
 
 sorted : (j : ℕ) (ks : List Shape) (l : Shape) (ls : List Shape) (xs : List Mapping) (y : Mapping) (first link : ℕ)
@@ -137,17 +126,13 @@ sorted zero (k ∷ ks) l ls xs y first link T back v w m n e stacked fit i asc h
 sorted (suc j) [] l ls xs y first link T back v w m n e stacked fit i asc h b c t = absurd (no_level (suc j) l ls e)
 sorted (suc j) (k ∷ []) l ls xs y first link T back v w m n e stacked fit i asc h b c t = absurd (no_level j l ls e)
 sorted (suc j) (k ∷ o ∷ ks) l ls xs y first link T back v w m n e stacked fit i asc h b c t =
-    let rs = runs (span k) xs in
-    let U = uppers k rs in
-    let next = first + sizes (layers (o ∷ ks) U) in
-    let mine = map (table_of k link) rs in
-    let split : T ≡ numbered first next (layers (o ∷ ks) U) ++ (mine ++ back) =
-    t ∙ append_assoc (numbered first next (layers (o ∷ ks) U)) mine back in
+    let rs = runs (span k) xs in let U = uppers k rs in
+    let next = first + sizes (layers (o ∷ ks) U) in let mine = map (table_of k link) rs in
     let bound : 0 < root_span (o ∷ ks) = omega (arith, b) in
     let up = upper_of k xs y i in
     let rising = ascends_up k (λ j. j) rs (tables_rise (span k) (span_some k (fit k (inl refl))) xs asc) in
     sorted j (o ∷ ks) l ls U up.0 first next T (mine ++ back) v w m n e stacked.1 (λ s q. fit s (inr q)) up.1 rising
-    (upper_below k xs (root_span (o ∷ ks)) bound h) b c split
+    (upper_below k xs (root_span (o ∷ ks)) bound h) b c (t ∙ append_assoc (numbered first next (layers (o ∷ ks) U)) mine back)
 
 -- ---- counts of page tables
 
@@ -168,19 +153,13 @@ attained p (y ∷ ys) (suc a) n l = by_test (p y) refl n l (λ m k. attained p y
         → (b : ℕ) × (x : PageTable) × (slice_get (y ∷ ys) b ≡ Some x) × (p x ≡ true) × (count_by p (take b (y ∷ ys)) ≡ n)
     by_test true e zero l more = (0, y, refl, e, refl)
     by_test true e (suc n) l more =
-        let c = count_cons p y (take a ys) in
         let one : ones p y ≡ 1 = ap (λ z. cond z 1 0) e in
-        let r = more n (omega (arith, l, c, one)) in
-        let d = count_cons p y (take r.0 ys) in
-        let is = r.4 in
-        (suc r.0, r.1, r.2, r.3, omega (arith, d, one, is))
+        let r = more n (omega (arith, l, count_cons p y (take a ys), one)) in
+        (suc r.0, r.1, r.2, r.3, omega (arith, count_cons p y (take r.0 ys), one, r.4))
     by_test false e n l more =
-        let c = count_cons p y (take a ys) in
         let no : ones p y ≡ 0 = ap (λ z. cond z 1 0) e in
-        let r = more n (omega (arith, l, c, no)) in
-        let d = count_cons p y (take r.0 ys) in
-        let is = r.4 in
-        (suc r.0, r.1, r.2, r.3, omega (arith, d, no, is))
+        let r = more n (omega (arith, l, count_cons p y (take a ys), no)) in
+        (suc r.0, r.1, r.2, r.3, omega (arith, count_cons p y (take r.0 ys), no, r.4))
 
 -- an object of a level's kind is a table of the level
 from_kind : (o : Object) (l : Level) → kind_of_object o ≡ kinds.Pages l → (slots : List (ℕ × Cap)) × (o ≡ objects.Pages l slots)
@@ -200,9 +179,7 @@ ascends_map f g at [] r = tt
 ascends_map f g at (p ∷ []) r = (tt, tt)
 ascends_map f g at (p ∷ q ∷ ps) r =
     let less : p.at < q.at = r.0 in
-    let a = at 0 p in
-    let b = at 1 q in
-    (omega (arith, less, a, b), ascends_map f (λ n. g (suc n)) (λ n. at (suc n)) (q ∷ ps) r.1)
+    (omega (arith, less, at 0 p, at 1 q), ascends_map f (λ n. g (suc n)) (λ n. at (suc n)) (q ∷ ps) r.1)
 
 module _ (t : Tables) (can : CanMap t) where
   -- what is mapped in a space stands in order
@@ -229,13 +206,10 @@ module _ (t : Tables) (can : CanMap t) where
   all : (at : ℕ) (level : Level) (slots : List (ℕ × Cap)) → object_at (spec_of t) at ≡ Some (objects.Pages level slots)
       → IsTableOfSpace t (spec_of t) (root_of t) at
   all at level slots o =
-      let p = object_stands t at (objects.Pages level slots) o in
-      let w = of_pages p.what p.sort in
+      let p = object_stands t at (objects.Pages level slots) o in let w = of_pages p.what p.sort in
       let is : IsThere t (TableOf w.0 w.1) = subst (λ z. IsThere t z) w.2 p.there in
       let x = is.0 in
-      let long = as_long w.0 in
-      let l = below (tables_at t 0 0 w.0) w.1 is.1.0 is.1.1 in
-      let r = needed w.0 w.1 x.0 x.1 (omega (arith, long, l)) in
+      let r = needed w.0 w.1 x.0 x.1 (omega (arith, as_long w.0, below (tables_at t 0 0 w.0) w.1 is.1.0 is.1.1)) in
       let stands : place t (TableOf w.0 w.1) ≡ root_of t w.0 + w.1 = omega arith in
       record {
         domain = w.0;
@@ -260,11 +234,9 @@ module _ (t : Tables) (can : CanMap t) where
   before_next d e x h l =
       let ones : length (domain_tables t d x) ≡ length (tables_at t 0 0 d) =
       gather_ones (λ j (o : Object). page_table d j (level_of o)) (tables_at t 0 0 d) in
-      let long = as_long d in
-      let next = behind (domain_tables t) t.flat.domains d e x h l in
       let mine : root_of t d ≡ first_of t 6 + before (domain_tables t) t.flat.domains d = omega arith in
       let other : root_of t e ≡ first_of t 6 + before (domain_tables t) t.flat.domains e = omega arith in
-      omega (arith, ones, long, next, mine, other)
+      omega (arith, ones, as_long d, behind (domain_tables t) t.flat.domains d e x h l, mine, other)
 
   order : (d e v w j m n : ℕ) (x y : Domain) (l : Shape) (ls : List Shape) → slice_get t.flat.domains d ≡ Some x
       → slice_get t.flat.domains e ≡ Some y → drop j (shapes (arch t)) ≡ l ∷ ls
@@ -273,17 +245,13 @@ module _ (t : Tables) (can : CanMap t) where
       → IsBefore d (v / span l) e (w / span l) → root_of t d + m < root_of t e + n
   order d e v w j m n x y l ls h g s b c a o (inl less) =
       let low = (there t can d j v x l ls h s b).1 m a in
-      let many = as_many (root_of t d) 0 (layers (shapes (arch t)) (maps t can d x h)) in
-      let next = before_next d e x h less in
-      omega (arith, low, many, next)
+      omega (arith, low, as_many (root_of t d) 0 (layers (shapes (arch t)) (maps t can d x h)), before_next d e x h less)
   order d e v w j m n x y l ls h g s b c a o (inr r) =
       let z = some_map t can d x h in
-      let P : ℕ → Type 0 = λ k. IsTableFor (spec_of t) (root_of t k) (l ∷ ls) w n in
-      let less =
-      sorted j (shapes (arch t)) l ls (maps t can d x h) z.0 (root_of t d) 0 (objects_from (spec_of t) (root_of t d))
-      (drop (length (tables_of_domain t d)) (objects_from (spec_of t) (root_of t d))) v w m n s
-      (shapes_stack (arch t)) (shapes_fit (arch t)) z.1 (in_order d x h) (maps_below t can d x h) b c (from_root t d x h) a
-      (subst P (sym r.0) o) r.1 in
+      let less = sorted j (shapes (arch t)) l ls (maps t can d x h) z.0 (root_of t d) 0 (objects_from (spec_of t) (root_of t d))
+      (drop (length (tables_of_domain t d)) (objects_from (spec_of t) (root_of t d))) v w m n s (shapes_stack (arch t))
+      (shapes_fit (arch t)) z.1 (in_order d x h) (maps_below t can d x h) b c (from_root t d x h) a
+      (subst (λ k. IsTableFor (spec_of t) (root_of t k) (l ∷ ls) w n) (sym r.0) o) r.1 in
       let root : root_of t d ≡ root_of t e = ap (root_of t) r.0 in
       omega (arith, less, root)
 
@@ -302,11 +270,9 @@ module _ (t : Tables) (can : CanMap t) where
   stands_among : (at : ℕ) (l : Level) (slots : List (ℕ × Cap)) → object_at (spec_of t) at ≡ Some (objects.Pages l slots)
       → Stands at l
   stands_among at l slots o =
-      let p = object_stands t at (objects.Pages l slots) o in
-      let w = of_pages p.what p.sort in
+      let p = object_stands t at (objects.Pages l slots) o in let w = of_pages p.what p.sort in
       let is : IsThere t (TableOf w.0 w.1) = subst (λ z. IsThere t z) w.2 p.there in
-      let x = is.0 in
-      let e = is.1 in
+      let x = is.0 in let e = is.1 in
       let m = before (domain_tables t) t.flat.domains w.0 + w.1 in
       let y = page_table w.0 w.1 (level_of e.0) in
       let g : ℕ → Object → PageTable = λ n z. page_table w.0 n (level_of z) in
@@ -330,28 +296,22 @@ module _ (t : Tables) (can : CanMap t) where
   named : (at : ℕ) (l : Level) (slots : List (ℕ × Cap)) → object_at (spec_of t) at ≡ Some (objects.Pages l slots)
       → IsNamed (spec_of t) at (level_series l) (number_at l at)
   named at l slots o =
-      let s = stands_among at l slots o in
-      let p = table_part (all_tables t) s.among s.table in
-      let is = s.is in
-      let index : at - first_of t 6 ≡ s.among = omega (arith, is) in
-      let name = (objects_stand t).name p s.part in
+      let s = stands_among at l slots o in let p = table_part (all_tables t) s.among s.table in
+      let index : at - first_of t 6 ≡ s.among = omega (arith, s.is) in
       let P : Level → Type 0 = λ z. name_at (spec_of t) at ≡ name_of (level_series z) (of_level z (all_tables t) s.among) in
-      let here : P s.table.level = ap (name_at (spec_of t)) (sym s.stands) ∙ name in
+      let here : P s.table.level = ap (name_at (spec_of t)) (sym s.stands) ∙ ((objects_stand t).name p s.part) in
       subst P s.level here ∙ ap (λ z. name_of (level_series l) (of_level l (all_tables t) z)) (sym index)
 
   rising : (at to : ℕ) (l : Level) (slots more : List (ℕ × Cap)) → object_at (spec_of t) at ≡ Some (objects.Pages l slots)
       → object_at (spec_of t) to ≡ Some (objects.Pages l more) → at < to → number_at l at < number_at l to
   rising at to l slots more o u less =
-      let a = stands_among at l slots o in
-      let b = stands_among to l more u in
-      let p = a.is in
-      let q = b.is in
-      let low : at - first_of t 6 ≡ a.among = omega (arith, p) in
-      let high : to - first_of t 6 ≡ b.among = omega (arith, q) in
+      let a = stands_among at l slots o in let b = stands_among to l more u in
+      let low : at - first_of t 6 ≡ a.among = omega (arith, a.is) in
+      let high : to - first_of t 6 ≡ b.among = omega (arith, b.is) in
       let mine : number_at l at ≡ of_level l (all_tables t) a.among = ap (of_level l (all_tables t)) low in
       let other : number_at l to ≡ of_level l (all_tables t) b.among = ap (of_level l (all_tables t)) high in
       let passes : is_of l a.table ≡ true = eq-eqb (level_number a.table.level) (level_number l) (ap level_number a.level) in
-      let r = count_rises (is_of l) (all_tables t) a.among b.among a.table a.listed passes (omega (arith, p, q, less)) in
+      let r = count_rises (is_of l) (all_tables t) a.among b.among a.table a.listed passes (omega (arith, a.is, b.is, less)) in
       subst (λ z. z < number_at l to) (sym mine) (subst (λ z. of_level l (all_tables t) a.among < z) (sym other) r)
 
   filled : (at n : ℕ) (l : Level) (slots : List (ℕ × Cap)) → object_at (spec_of t) at ≡ Some (objects.Pages l slots)
@@ -360,8 +320,7 @@ module _ (t : Tables) (can : CanMap t) where
   filled at n l slots o less =
       let b = attained (is_of l) (all_tables t) (at - first_of t 6) n less in
       let f = from_place (domain_tables t) t.flat.domains b.0 b.1 b.2 in
-      let h : ℕ → Object → PageTable = λ i z. page_table f.place i (level_of z) in
-      let e = from_ones h (tables_at t 0 0 f.place) f.number b.1 f.stands in
+      let e = from_ones (λ i z. page_table f.place i (level_of z)) (tables_at t 0 0 f.place) f.number b.1 f.stands in
       let w = TableOf f.place f.number in
       let sum : b.0 ≡ before (domain_tables t) t.flat.domains f.place + f.number = f.sum in
       let q = first_of t 6 + b.0 in
@@ -370,11 +329,10 @@ module _ (t : Tables) (can : CanMap t) where
       ∙ same_level b.1.level l (eqb-true (level_number b.1.level) (level_number l) b.3) in
       let kind = table_kind t f.place f.number e.0 e.1 ∙ sym (series_kind (level_of e.0)) ∙ ap (λ z. kinds.Pages z) level in
       let is = from_kind (object t w) l kind in
-      let there : IsThere t w = ((f.item, f.here), (e.0, e.1)) in
       let index : q - first_of t 6 ≡ b.0 = omega arith in (
         q,
         is.0,
-        ap (object_at (spec_of t)) (sym stand) ∙ object_there t w there ∙ ap (λ z. Some z) is.1,
+        ap (object_at (spec_of t)) (sym stand) ∙ object_there t w ((f.item, f.here), (e.0, e.1)) ∙ ap (λ z. Some z) is.1,
         ap (of_level l (all_tables t)) index ∙ b.4,
       )
 
@@ -382,10 +340,5 @@ module _ (t : Tables) (can : CanMap t) where
   tables_in_order = record {
     all = all;
     order = order;
-    numbered = record {
-      number = number_at;
-      named = named;
-      rise = rising;
-      from_0 = filled;
-    };
+    numbered = record { number = number_at; named = named; rise = rising; from_0 = filled };
   }

@@ -51,12 +51,9 @@ pages_rise : (frames : ℕ) (ps : List Page) → ((p : Page) → IsIn p ps → p
 pages_rise frames [] whole r = r
 pages_rise frames (p ∷ []) whole r = (tt, tt)
 pages_rise frames (p ∷ q ∷ ps) whole r =
-    let a = div-add-mod p.vaddr 4096 in
-    let b = div-add-mod q.vaddr 4096 in
+    let a = div-add-mod p.vaddr 4096 in let b = div-add-mod q.vaddr 4096 in
     let c = whole p (inl refl) in
-    let d = whole q (inr (inl refl)) in
-    let l = r.0 in
-    (omega (arith, a, b, c, d, l), pages_rise frames (q ∷ ps) (λ z i. whole z (inr i)) r.1)
+    (omega (arith, a, b, c, whole q (inr (inl refl)), r.0), pages_rise frames (q ∷ ps) (λ z i. whole z (inr i)) r.1)
 
 -- ---- the root
 
@@ -82,8 +79,7 @@ module _ (t : Tables) where
       → (p : Object) × (slice_get (tables_at t a b d) j ≡ Some p)
   moved first frames a b d j o e =
       let l = slice_get_within (tables_at t first frames d) j o e in
-      let same = as_long first frames a b d in
-      at_place (tables_at t a b d) j (omega (arith, l, same))
+      at_place (tables_at t a b d) j (omega (arith, l, as_long first frames a b d))
 
   -- the tables of a domain, as they stand in the spec
   abbrev pub standing : ℕ → List Object
@@ -153,12 +149,11 @@ module _ (t : Tables) where
         → fits_as (spec_of t) (child level) c ≡ true
     page_fits level c lowest y i same =
         let m = from_map (page_mapping (place t (FrameOf 0))) y (pages_at t d) i in
-        let f = frame_fits m.0.frame (page_rights m.0) ((fit.domains d x here).pages m.0 m.1).frame (page_suits m.0) in
         let at : place t (FrameOf m.0.frame) ≡ place t (FrameOf 0) + m.0.frame = omega arith in
         let moved_cap : cap (place t (FrameOf m.0.frame)) (page_rights m.0) 0 ≡ c = ap (λ o. cap o (page_rights m.0) 0) at
         ∙ ap (λ (z : Mapping). z.cap) m.2 ∙ sym same in
-        subst (λ l. fits_as (spec_of t) (child l) c ≡ true) (sym lowest)
-        (subst (λ z. fits_as (spec_of t) kinds.Frame z ≡ true) moved_cap f)
+        subst (λ l. fits_as (spec_of t) (child l) c ≡ true) (sym lowest) (subst (λ z. fits_as (spec_of t) kinds.Frame z ≡ true)
+        moved_cap (frame_fits m.0.frame (page_rights m.0) ((fit.domains d x here).pages m.0 m.1).frame (page_suits m.0)))
 
     table_fits : (level : Level) (c : Cap) → IsChild (place t (TableOf d 0)) (standing d) level c
         → fits_as (spec_of t) (child level) c ≡ true
@@ -169,9 +164,8 @@ module _ (t : Tables) where
         (stands_there d k.place x (objects.Pages k.below k.slots) here k.there) kind
         (eq-eqb (kind_number (kinds.Pages k.below)) (kind_number (kinds.Pages k.below)) refl) (refl, refl) in
         let at : place t (TableOf d k.place) ≡ place t (TableOf d 0) + k.place = omega arith in
-        let moved_cap : cap (place t (TableOf d k.place)) NONE 0 ≡ c = ap (λ o. cap o NONE 0) at ∙ sym k.is in
         subst (λ l. fits_as (spec_of t) l c ≡ true) (sym k.child)
-        (subst (λ z. fits_as (spec_of t) (kinds.Pages k.below) z ≡ true) moved_cap f)
+        (subst (λ z. fits_as (spec_of t) (kinds.Pages k.below) z ≡ true) (ap (λ o. cap o NONE 0) at ∙ sym k.is) f)
 
     -- ---- tables
 

@@ -32,18 +32,14 @@ module _ (t : Tables) (few : length t.flat.connections < 2 ^ 32) (all : length (
   pub names_tell : (m n : ℕ) (p q : Part) → slice_get (parts t) m ≡ Some p → slice_get (parts t) n ≡ Some q
       → part_name p ≡ part_name q → m ≡ n
   names_tell m n p q e f same =
-      let a = in_section (sections t) m p e in
-      let b = in_section (sections t) n q f in
-      let ta = section_told a.section a.list a.is in
-      let tb = section_told b.section b.list b.is in
+      let a = in_section (sections t) m p e in let b = in_section (sections t) n q f in
+      let ta = section_told a.section a.list a.is in let tb = section_told b.section b.list b.is in
       let s = same_series p.series q.series p.number q.number same in
-      let la = ta.number a.place p a.stands in
-      let lb = tb.number b.place q b.stands in
+      let la = ta.number a.place p a.stands in let lb = tb.number b.place q b.stands in
       let k = same_number p.series q.series p.number q.number (omega (arith, la)) (omega (arith, lb)) same in
       let section : b.section ≡ a.section = sym (tb.series b.place q b.stands) ∙ ap rank (sym s) ∙ ta.series a.place p a.stands in
       let list : b.list ≡ a.list = same_Some _ _ (sym b.is ∙ ap (λ z. slice_get (sections t) z) section ∙ a.is) in
-      let place : a.place ≡ b.place =
-      told_place a.list rank a.section (2 ^ 32) ta a.place b.place p q a.stands
+      let place : a.place ≡ b.place = told_place a.list rank a.section (2 ^ 32) ta a.place b.place p q a.stands
       (subst (λ (z : List Part). slice_get z b.place ≡ Some q) list b.stands) s k in
       a.sum ∙ ap (λ z. length (flat_map (λ z. z) (take z (sections t))) + a.place) (sym section)
       ∙ ap (λ z. length (flat_map (λ z. z) (take b.section (sections t))) + z) place ∙ sym b.sum
@@ -51,8 +47,7 @@ module _ (t : Tables) (few : length t.flat.connections < 2 ^ 32) (all : length (
   -- parts have numbers of 32 bits
   pub number_few : (p : Part) → IsIn p (parts t) → p.number < 2 ^ 32
   number_few p i =
-      let m = place_of p (parts t) i in
-      let a = in_section (sections t) m.0 p m.1 in
+      let m = place_of p (parts t) i in let a = in_section (sections t) m.0 p m.1 in
       (section_told a.section a.list a.is).number a.place p a.stands
 
   names_apart : differ bytes_eq (map part_name (parts t)) ≡ true

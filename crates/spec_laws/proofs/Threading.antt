@@ -24,8 +24,7 @@ module _ (t : Tables) (can : CanMap t) where
   thread_is : (d i : ℕ) (x : Domain) (y : ThreadOf) → slice_get t.flat.domains d ≡ Some x
       → slice_get (threads_of (system t) d) i ≡ Some y → IsThreadOf t (spec_of t) (root_of t) y.leaf (place t (OfThread d i))
   thread_is d i x y h e =
-      let w = has_thread t can d x h y (in_place y (threads_of (system t) d) i e) in
-      let g = can.grouped.listed d y.leaf x h w.1 in
+      let g = can.grouped.listed d y.leaf x h (has_thread t can d x h y (in_place y (threads_of (system t) d) i e)).1 in
       let m = can.settled.image y.leaf d g.0 g.1 g.2 in
       let image = at_place t.images.images m.0 (can.numbered.runs y.leaf m.0 m.1) in
       let s = can.settled.leaf y.leaf g.0 g.1 in
@@ -82,8 +81,7 @@ module _ (t : Tables) (can : CanMap t) where
   pub same_thread : (at again leaf : ℕ) (end : Option EndAt) (l : Line t can at leaf end) (m : Line t can again leaf end)
       → (l.domain ≡ m.domain) × (l.number ≡ m.number)
   same_thread at again leaf end l m =
-      let a = domain_is at leaf end l in
-      let b = domain_is again leaf end m in
+      let a = domain_is at leaf end l in let b = domain_is again leaf end m in
       let found : a.0 ≡ b.0 = same_some a.0 b.0 (slice_get t.flat.leaves leaf) a.1 b.1 in
       let domain : l.domain ≡ m.domain = same_some l.domain m.domain a.0.domain a.2 (ap (λ (z : Leaf). z.domain) found ∙ b.2) in
       let y : l.y ≡ m.y = ap (λ z. thread z l.y.end) (l.leaf_is ∙ sym m.leaf_is) ∙ ap (λ z. thread m.y.leaf z)
@@ -97,29 +95,25 @@ module _ (t : Tables) (can : CanMap t) where
   pub one_line : (at again leaf : ℕ) (end : Option EndAt) → IsIn (ThreadLine at leaf end) (map_lines t)
       → IsIn (ThreadLine again leaf end) (map_lines t) → at ≡ again
   one_line at again leaf end i j =
-      let l = the_line at leaf end i in
-      let m = the_line again leaf end j in
+      let l = the_line at leaf end i in let m = the_line again leaf end j in
       let s = same_thread at again leaf end l m in
       sym l.at_is ∙ ap (λ z. place t (OfThread z l.number)) s.0 ∙ ap (λ z. place t (OfThread m.domain z)) s.1 ∙ m.at_is
 
   apart : (at leaf other : ℕ) (end more : Option EndAt) → IsIn (ThreadLine at leaf end) (map_lines t)
       → IsIn (ThreadLine at other more) (map_lines t) → (leaf ≡ other) × (end ≡ more)
   apart at leaf other end more i j =
-      let l = the_line at leaf end i in
-      let m = the_line at other more j in
+      let l = the_line at leaf end i in let m = the_line at other more j in
       let a = thread_part t can l.domain l.number l.leaves l.y l.here l.stands in
-      let b = thread_part t can m.domain m.number m.leaves m.y m.here m.stands in
       let p = part series.Tcb (threads_before t can l.domain l.number) (OfDomain l.domain) (OfThread l.domain l.number) in
       let q = part series.Tcb (threads_before t can m.domain m.number) (OfDomain m.domain) (OfThread m.domain m.number) in
       let place_same : place t (OfThread l.domain l.number) ≡ place t (OfThread m.domain m.number) = l.at_is ∙ sym m.at_is in
       let P : ℕ → Type 0 = λ z. slice_get (parts t) z ≡ Some p in
       let same : p ≡ q = some (slice_get (parts t) (place t (OfThread m.domain m.number))) p q (subst P place_same (stands t p a))
-      (stands t q b) in
+      (stands t q (thread_part t can m.domain m.number m.leaves m.y m.here m.stands)) in
       let w = threads_same l.domain l.number m.domain m.number (ap (λ (z : Part). z.what) same) in
       let Q : ℕ → Type 0 = λ z. slice_get (threads_of (system t) z) l.number ≡ Some l.y in
-      let R : ℕ → Type 0 = λ z. slice_get (threads_of (system t) m.domain) z ≡ Some l.y in
       let y : l.y ≡ m.y = some (slice_get (threads_of (system t) m.domain) m.number) l.y m.y
-      (subst R w.1 (subst Q w.0 l.stands)) m.stands in
+      (subst (λ z. slice_get (threads_of (system t) m.domain) z ≡ Some l.y) w.1 (subst Q w.0 l.stands)) m.stands in
       (sym l.leaf_is ∙ ap (λ (z : ThreadOf). z.leaf) y ∙ m.leaf_is, sym l.end_is ∙ ap (λ (z : ThreadOf). z.end) y ∙ m.end_is)
 
   -- ---- their numbers
@@ -130,9 +124,7 @@ module _ (t : Tables) (can : CanMap t) where
     where
       not_none : leaves_of t.flat d ≡ [] → ⊥
       not_none leaves =
-          let none : threads_of (system t) d ≡ [] = ap (λ ls. threads_in t.flat (ends (system t)) ls) leaves in
-          let P : List ThreadOf → Type 0 = λ z. slice_get z i ≡ Some y in
-          let f = subst P none e in cc
+          let f = subst (λ z. slice_get z i ≡ Some y) (ap (λ ls. threads_in t.flat (ends (system t)) ls) leaves) e in cc
 
   numbers_are : AreThreadsNumbered t (spec_of t) (map_lines t)
   numbers_are = λ d i at y e j.
@@ -148,8 +140,7 @@ module _ (t : Tables) (can : CanMap t) where
   all : (at : ℕ) (c : Tcb) → object_at (spec_of t) at ≡ Some (objects.Thread c) → (leaf : ℕ) × (end : Option EndAt)
       × IsIn (ThreadLine at leaf end) (map_lines t)
   all at c o =
-      let x = object_stands t at (objects.Thread c) o in
-      let w = of_tcb x.what x.sort in
+      let x = object_stands t at (objects.Thread c) o in let w = of_tcb x.what x.sort in
       let d = w.0 in
       let is : IsThere t (OfThread d w.1) = subst (λ z. IsThere t z) w.2 x.there in
       let k : ℕ → ThreadOf → ThreadPlace = λ n z. thread_place (system t) d n z in

@@ -1,5 +1,5 @@
 -- Threads and their lines
-use Rattle.spec_laws.proofs.Common.{Bool, CanMap, Connector, Domain, EndAt, FlatConnection, FlatEnd, HasThread, IsIn, Leaf, List, MapLine, None, OfDomain, Option, OwnLock}
+use Rattle.spec_laws.proofs.Common.{CanMap, Connector, Domain, EndAt, FlatConnection, FlatEnd, HasThread, IsIn, Leaf, List, MapLine, None, OfDomain, Option, OwnLock}
 use Rattle.spec_laws.proofs.Common.{Owned, Part, Role, Rpc, Serves, SlotUse, Some, Space, Spaces, Tables, ThreadLine, ThreadPlace, To, [], ap, arith, before, cond, domain_lines, domain_tcbs, domain_threads}
 use Rattle.spec_laws.proofs.Common.{end_rule, ends, ends_at, false, flat_map, from_flat_map, from_ones, gather, gather_ones, gathered, get_ones, in_flat_map, in_gather, in_left, in_right, in_together, inl, inr, is_called}
 use Rattle.spec_laws.proofs.Common.{leaf_members, leaf_threads, leaves_of, length, map_lines, numbered, object_at, objects_stand, option_map_or, owned, part, parts, place, refl, sections, server, serves, slice_get, slot_line, slot_lines}
@@ -12,8 +12,10 @@ use Rattle.spec_laws.proofs.CapsFit.{end_is as end_there}
 use Rattle.spec_laws.proofs.MapLines.{by_line}
 use Rattle.spec_laws.proofs.Numbering.{before_same}
 use Rattle.spec_laws.proofs.EndsAt.{end_of_leaf, ends_are, in_leaf_ends, once_leaf}
-use Rattle.spec_laws.proofs.Once.{Once, once_cons, once_flat, once_none, once_one}
-use Rattle.spec_laws.proofs.Paging.{shown_if}
+use Rattle.spec_laws.proofs.Once.{Once, once_cons, once_flat, once_if}
+use Rattle.spec_laws.proofs.Lists.{shown_if}
+use Rattle.spec_laws.proofs.EndsHere.{leaves_are}
+use Rattle.spec_laws.proofs.StackPages.{thread_leaf}
 
 called : (c : Connector) (r : Role) → is_called c r ≡ true → (c ≡ Rpc) × (r ≡ To)
 called Rpc To h = (refl, refl)
@@ -28,27 +30,17 @@ module _ (t : Tables) (can : CanMap t) where
   abbrev all : List (List EndAt)
   all = ends (system t)
 
-  leaves_are : (d : ℕ) (x : Domain) → slice_get t.flat.domains d ≡ Some x → leaves_of t.flat d ≡ x.leaves
-  leaves_are d x h = ap (λ o. option_map_or (λ (z : Domain). z.leaves) o []) h
-
   -- ---- the threads of a domain
 
   server_is : (leaf : ℕ) (e : EndAt) (y : ThreadOf) → IsIn y (server t.flat leaf e)
       → (serves t.flat e ≡ true) × (thread leaf (Some e) ≡ y)
   server_is leaf e y i = shown_if (serves t.flat e) (thread leaf (Some e)) y i
 
-  leaf_of : (leaf : ℕ) (y : ThreadOf) → IsIn y (leaf_threads t.flat all leaf) → leaf ≡ y.leaf
-  leaf_of leaf y (inl e) = ap (λ (z : ThreadOf). z.leaf) e
-  leaf_of leaf y (inr i) =
-      let b = from_flat_map (server t.flat leaf) y (ends_at all leaf) i in
-      ap (λ (z : ThreadOf). z.leaf) (server_is leaf b.0 y b.2).1
-
   pub has_thread : (d : ℕ) (x : Domain) → slice_get t.flat.domains d ≡ Some x → (y : ThreadOf) → IsIn y (threads_of (system t) d)
       → HasThread t y.leaf y.end × IsIn y.leaf x.leaves
   has_thread d x h y i =
       let a = from_flat_map (leaf_threads t.flat all) y (leaves_of t.flat d) i in
-      let P : List ℕ → Type 0 = λ z. IsIn a.0 z in
-      let l = subst P (leaves_are d x h) a.1 in
+      let l = subst (λ z. IsIn a.0 z) (leaves_are (system t) d x h) a.1 in
       let g = can.grouped.listed d a.0 x h l in
       let Q : ThreadOf → Type 0 = λ z. HasThread t z.leaf z.end × IsIn z.leaf x.leaves in
       elim a.2 [
@@ -82,33 +74,26 @@ module _ (t : Tables) (can : CanMap t) where
       → found.domain ≡ Some d → IsIn (thread leaf end) (leaf_threads t.flat all leaf) → Home leaf end
   in_home leaf end found d h e i =
       let g = can.grouped.inside leaf d found h e in
-      let P : List ℕ → Type 0 = λ z. IsIn leaf z in
       record {
         domain = d;
         leaves = g.0;
         here = g.1;
         there = in_flat_map (leaf_threads t.flat all) leaf (thread leaf end)
-            (leaves_of t.flat d) (subst P (sym (leaves_are d g.0 g.1)) g.2) i;
+            (leaves_of t.flat d) (subst (λ z. IsIn leaf z) (sym (leaves_are (system t) d g.0 g.1)) g.2) i;
       }
 
   serving : (e : EndAt) (leaf : ℕ) (v : Serves t leaf e) → Home v.end.leaf (Some e)
   serving e leaf v =
-      let c = v.connection in
-      let x = v.end in
-      let soft : (end_rule c.connector x.role).hardware ≡ false = ap (λ z. (end_rule z x.role).hardware) v.is_rpc
-      ∙ ap (λ z. (end_rule Rpc z).hardware) v.is_to in
-      let w = can.joined.software e.connection e.end c x v.here v.stands soft in
-      let members = leaf_members t.source t.flat x.leaf in
-      let i = in_leaf_ends t x.leaf e.connection e.end c x members v.here v.stands refl (can.joined.member e.connection e.end c x
-      v.here v.stands) in
-      let R : List EndAt → Type 0 = λ z. IsIn e z in
-      let j = subst R (sym (ends_are t x.leaf w.0 w.2)) i in
+      let c = v.connection in let x = v.end in
+      let w = can.joined.software e.connection e.end c x v.here v.stands (ap (λ z. (end_rule z x.role).hardware) v.is_rpc
+      ∙ ap (λ z. (end_rule Rpc z).hardware) v.is_to) in
+      let j = subst (λ z. IsIn e z) (sym (ends_are t x.leaf w.0 w.2)) (in_leaf_ends t x.leaf e.connection e.end c x
+      (leaf_members t.source t.flat x.leaf) v.here v.stands refl (can.joined.member e.connection e.end c x v.here v.stands)) in
       let yes : serves t.flat e ≡ true = serves_by t e c x v.here v.stands ∙ ap (λ z. is_called z x.role) v.is_rpc
       ∙ ap (λ z. is_called Rpc z) v.is_to in
-      let P : Bool → Type 0 = λ b. IsIn (thread x.leaf (Some e)) (cond b (thread x.leaf (Some e) ∷ []) []) in
       in_home x.leaf (Some e) w.0 w.1 w.2 w.3
       (inr (in_flat_map (server t.flat x.leaf) e (thread x.leaf (Some e)) (ends_at all x.leaf) j
-      (subst P (sym yes) (inl refl))))
+      (subst (λ b. IsIn (thread x.leaf (Some e)) (cond b (thread x.leaf (Some e) ∷ []) [])) (sym yes) (inl refl))))
 
   pub at_home : (leaf : ℕ) (end : Option EndAt) → HasThread t leaf end → Home leaf end
   at_home leaf None h = in_home leaf None h.0 h.1 h.2 h.3 (inl refl)
@@ -116,25 +101,19 @@ module _ (t : Tables) (can : CanMap t) where
 
   pub once_threads : (d : ℕ) (x : Domain) → slice_get t.flat.domains d ≡ Some x → Once (threads_of (system t) d)
   once_threads d x h =
-      let P : List ℕ → Type 0 = λ z. Once z in
-      let leaves = subst P (sym (leaves_are d x h)) (λ i j leaf a b. can.grouped.once d i j leaf x h a b) in
+      let leaves = subst (λ z. Once z) (sym (leaves_are (system t) d x h)) (λ i j leaf a b. can.grouped.once d i j leaf x h a b) in
       once_flat (leaf_threads t.flat all) (leaves_of t.flat d) leaves
       (λ leaf i. (
-      let Q : List ℕ → Type 0 = λ z. IsIn leaf z in
-      let g = can.grouped.listed d leaf x h (subst Q (leaves_are d x h) i) in
+      let g = can.grouped.listed d leaf x h (subst (λ z. IsIn leaf z) (leaves_are (system t) d x h) i) in
       of_leaf leaf g.0 g.1))
-      (λ l m y i j. leaf_of l y i ∙ sym (leaf_of m y j))
+      (λ l m y i j. sym (thread_leaf (system t) l y i) ∙ thread_leaf (system t) m y j)
     where
       none : (leaf : ℕ) (y : ThreadOf) → thread leaf None ≡ y → (e : EndAt) → thread leaf (Some e) ≡ y → ⊥
       none leaf y a e b = let nothing : Option EndAt = None in let f : nothing ≡ Some e =
           ap (λ (z : ThreadOf). z.end) (a ∙ sym b) in cc
 
       once_server : (leaf : ℕ) (e : EndAt) → Once (server t.flat leaf e)
-      once_server leaf e = by_test (serves t.flat e)
-        where
-          by_test : (b : Bool) → Once (cond b (thread leaf (Some e) ∷ []) [])
-          by_test true = once_one (thread leaf (Some e))
-          by_test false = once_none
+      once_server leaf e = once_if (serves t.flat e) (thread leaf (Some e))
 
       of_leaf : (leaf : ℕ) (found : Leaf) → slice_get t.flat.leaves leaf ≡ Some found → Once (leaf_threads t.flat all leaf)
       of_leaf leaf found g =
@@ -223,8 +202,7 @@ module _ (t : Tables) (can : CanMap t) where
       → slice_get (threads_of (system t) d) i ≡ Some y
       → IsIn (part series.Tcb (threads_before d i) (OfDomain d) (OfThread d i)) (parts t)
   thread_part d i x y h e =
-      let z = owned (OfDomain d) (OfThread d i) in
-      let n = threads_before d i in
+      let z = owned (OfDomain d) (OfThread d i) in let n = threads_before d i in
       let f : ℕ → ThreadPlace → Owned = λ n w. owned (OfDomain d) (OfThread d n) in
       let inner = get_ones f (threads_at t d) i (thread_place (system t) d i y) (thread_at d i x y h e) in
       let many : (d : ℕ) (x : Domain) → slice_get t.flat.domains d ≡ Some x

@@ -33,14 +33,11 @@ module _ (t : Tables) (h : IsConnected t) where
 
   has_buffer : (d i : ℕ) (x : Described) → slice_get (threads_of (laid t h) d) i ≡ Some x → HasBuffer d i
   has_buffer d i x e =
-      let g = laid t h in
-      let n = 2 * i + 1 in
+      let g = laid t h in let n = 2 * i + 1 in
       let r : Region = region Buffer 1 in
-      let there : slice_get (regions g d) n ≡ Some r =
-      get_front (flat_map (thread_regions g.settled) (threads_of g d)) (map (window_region g.flat g.settled) (windows_of g d)) n r
-      (buffer_region g (threads_of g d) i n x e refl) in
-      let start = region_start (base g) (regions g d) n in
-      let p : MappedPage = page_of g.settled start r 0 in
+      let there : slice_get (regions g d) n ≡ Some r = get_front (flat_map (thread_regions g.settled) (threads_of g d))
+      (map (window_region g.flat g.settled) (windows_of g d)) n r (buffer_region g (threads_of g d) i n x e refl) in
+      let p : MappedPage = page_of g.settled (region_start (base g) (regions g d) n) r 0 in
       let m = place_of p (mapped_pages g d) (first_page g d n r there (omega arith)) in
       record { number = m.0; mapped = p; here = m.1; at = omega arith; own = refl }
 
@@ -58,14 +55,12 @@ module _ (t : Tables) (h : IsConnected t) where
 
   thread_is : (o : ℕ) (x : Tcb) → IsAt t o (objects.Thread x) → IsThread o x
   thread_is o x at =
-      let w = of_tcb at.what at.sort in
-      let d = w.0 in
+      let w = of_tcb at.what at.sort in let d = w.0 in
       let i = w.1 in
       let here : IsThere t (ThreadOf d i) = subst (λ z. IsThere t z) w.2 at.there in
       let is : object t (ThreadOf d i) ≡ objects.Thread x = subst (λ z. object t z ≡ objects.Thread x) w.2 at.is in
-      let made : object t (ThreadOf d i) ≡ objects.Thread (tcb t d here.1.0) =
-      ap (λ z. option_map_or (λ y. objects.Thread (tcb t d y)) z objects.Endpoint) here.1.1 in
-      let both : objects.Thread (tcb t d here.1.0) ≡ objects.Thread x = sym made ∙ is in
+      let both : objects.Thread (tcb t d here.1.0) ≡ objects.Thread x =
+      sym (ap (λ z. option_map_or (λ y. objects.Thread (tcb t d y)) z objects.Endpoint) here.1.1) ∙ is in
       record {
         domain = d;
         found = here.0.0;
@@ -125,12 +120,10 @@ module _ (t : Tables) (h : IsConnected t) where
   buffer_own : (o : ℕ) (held : Cap) (x : Tcb) → IsThread o x → x.buffer ≡ Some held
       → label_of (labels t) o ≡ label_of (labels t) held.object
   buffer_own o held x w e =
-      let g = laid t h in
-      let d = w.domain in
+      let g = laid t h in let d = w.domain in
       let f = from_threads t h d w.number w.found w.thread w.here w.stands in
       let b = has_buffer d w.number f.0 f.1 in
-      let has : buffer_cap t d w.thread.buffer ≡ Some held = ap (λ (z : Tcb). z.buffer) w.is ∙ e in
-      let p = from_frame d (pages_at t d) w.thread.buffer held has in
+      let p = from_frame d (pages_at t d) w.thread.buffer held (ap (λ (z : Tcb). z.buffer) w.is ∙ e) in
       let q = from_pages t h d w.found p.0 w.here p.1 in
       let start : buffer_start g d w.number ≡ w.thread.buffer = ap (λ (z : ThreadPlace). z.buffer) f.2 in
       let address : q.mapped.at ≡ b.mapped.at = ap (λ (z : Page). z.vaddr) q.is ∙ p.2 ∙ sym start ∙ sym b.at in
@@ -139,9 +132,8 @@ module _ (t : Tables) (h : IsConnected t) where
       let own = own_frame t h d q.number w.found q.mapped w.here q.here (None, ap (λ (z : MappedPage). z.shown) one ∙ b.own) in
       let n = number_shown g d q.number q.mapped.shown in
       let frame : n ≡ p.0.frame = ap (λ (z : Page). z.frame) q.is in
-      let label : label_of (labels t) (place t (FrameOf n)) ≡ domain_label (policy_tables t) d = label_there t (FrameOf n) own.0
-      ∙ ap (number_of t.numbers) own.1 in
-      w.label ∙ sym label ∙ ap (λ z. label_of (labels t) (place t (FrameOf z))) frame ∙ ap (label_of (labels t)) (sym p.3)
+      w.label ∙ sym (label_there t (FrameOf n) own.0 ∙ ap (number_of t.numbers) own.1)
+      ∙ ap (λ z. label_of (labels t) (place t (FrameOf z))) frame ∙ ap (label_of (labels t)) (sym p.3)
 
   buffer_label : (o : ℕ) (held : Cap) → buffer_of (object_at (spec_of t) o) ≡ Some held
       → label_of (labels t) o ≡ label_of (labels t) held.object

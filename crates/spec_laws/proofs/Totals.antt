@@ -22,17 +22,13 @@ pub total_gather : {X Y : Type 0} (g : Y → ℕ) (f : ℕ → X → List Y) (xs
 total_gather g f [] = refl
 total_gather {X} {Y} g f (x ∷ xs) =
     let rest : ℕ → X → List Y = λ k y. f (suc k) y in
-    let ih : total g (gather rest xs) ≡ totals (λ k x. total g (rest k x)) xs = total_gather g rest xs in
-    total_append g (f 0 x) (gather rest xs) ∙ ap (λ n. total g (f 0 x) + n) ih
+    total_append g (f 0 x) (gather rest xs) ∙ ap (λ n. total g (f 0 x) + n) (total_gather g rest xs)
 
 -- one thing of each element
 pub total_ones : {X Y : Type 0} (g : Y → ℕ) (f : ℕ → X → Y) (xs : List X) → total g (gather (λ k x. f k x ∷ []) xs) ≡ totals
     (λ k x. g (f k x)) xs
 total_ones g f [] = refl
-total_ones {X} {Y} g f (x ∷ xs) =
-    let rest : ℕ → X → Y = λ k y. f (suc k) y in
-    let ih : total g (gather (λ k y. rest k y ∷ []) xs) ≡ totals (λ k y. g (rest k y)) xs = total_ones g rest xs in
-    ap (λ n. g (f 0 x) + n) ih
+total_ones {X} {Y} g f (x ∷ xs) = ap (λ n. g (f 0 x) + n) (total_ones g (λ k y. f (suc k) y) xs)
 
 pub total_map : {X Y : Type 0} (g : Y → ℕ) (f : X → Y) (xs : List X) → total g (map f xs) ≡ total (λ x. g (f x)) xs
 total_map g f [] = refl
@@ -59,8 +55,7 @@ length_gather f [] = refl
 length_gather {X} {Y} f (x ∷ xs) =
     let rest : ℕ → X → List Y = λ k y. f (suc k) y in
     let ih : length (gather rest xs) ≡ totals (λ k y. length (rest k y)) xs = length_gather rest xs in
-    let a = length_append (f 0 x) (gather rest xs) in
-    omega (arith, a, ih)
+    omega (arith, length_append (f 0 x) (gather rest xs), ih)
 
 pub length_flat_map : {X Y : Type 0} (f : X → List Y) (xs : List X) → length (flat_map f xs) ≡ total (λ x. length (f x)) xs
 length_flat_map f [] = refl
@@ -76,10 +71,9 @@ pub totals_most : {X : Type 0} (f g : ℕ → X → ℕ) (xs : List X) → ((k :
     → totals f xs ≤ totals g xs
 totals_most f g [] h = omega arith
 totals_most {X} f g (x ∷ xs) h =
-    let a = h 0 x refl in
     let ih : totals (λ k y. f (suc k) y) xs ≤ totals (λ k y. g (suc k) y) xs =
     totals_most (λ k y. f (suc k) y) (λ k y. g (suc k) y) xs (λ k y e. h (suc k) y e) in
-    omega (arith, a, ih)
+    omega (arith, h 0 x refl, ih)
 
 pub total_add : {X : Type 0} (f g : X → ℕ) (xs : List X) → total (λ x. f x + g x) xs ≡ total f xs + total g xs
 total_add f g [] = refl
@@ -99,8 +93,7 @@ total_times c f (x ∷ xs) = ap (λ n. c * f x + n) (total_times c f xs) ∙ sym
 pub totals_times : {X : Type 0} (c : ℕ) (f : ℕ → X → ℕ) (xs : List X) → totals (λ k x. c * f k x) xs ≡ c * totals f xs
 totals_times c f [] = omega arith
 totals_times {X} c f (x ∷ xs) =
-    let ih : totals (λ k y. c * f (suc k) y) xs ≡ c * totals (λ k y. f (suc k) y) xs = totals_times c (λ k y. f (suc k) y) xs in
-    ap (λ n. c * f 0 x + n) ih ∙ sym (mul-add c (f 0 x) (totals (λ k y. f (suc k) y) xs))
+    ap (λ n. c * f 0 x + n) (totals_times c (λ k y. f (suc k) y) xs) ∙ sym (mul-add c (f 0 x) (totals (λ k y. f (suc k) y) xs))
 
 swap : (a b : ℕ) → a + b ≡ b + a
 swap a b = omega arith

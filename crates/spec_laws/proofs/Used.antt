@@ -1,11 +1,12 @@
 -- The uses of a domain are those of the ends that join its leaves, and its locks.
-use Rattle.spec_laws.proofs.Common.{Bool, Connector, Direct, Flat, FlatConnection, FlatEnd, From, Handler, Interrupt, IsIn, Leaf, List, Member, Mmio, Notification, OfEnd, Option, OwnLock, Role, Rpc, SharedMemory, SlotUse, Some, Source, To, []}
+use Rattle.spec_laws.proofs.Common.{Bool, Connector, Flat, FlatConnection, FlatEnd, Handler, Interrupt, IsIn, Leaf, List, Member, Notification, OfEnd, OwnLock, Role, Rpc, SlotUse, Some, Source, To, []}
 use Rattle.spec_laws.proofs.Common.{and_from, and_parts, ap, cond, domain_uses, end_uses, eq-eqb, eqb-true, false, from_gather, gather, in_append, in_gather, in_left, in_place, in_right, inl, inr, is_lock, joined_uses, joins, leaf_members, leaf_uses}
-use Rattle.spec_laws.proofs.Common.{lock_uses, member_uses, members_at, members_of_leaf, place_of, refl, slice_get, subst, sym, true, true≢false, ℕ, ◌∙◌, ◌∷◌, ◌≡◌, ◌⊎◌}
+use Rattle.spec_laws.proofs.Common.{lock_uses, member_uses, members_at, members_of_leaf, place_of, refl, slice_get, subst, sym, true, true≢false, ℕ, ◌∙◌, ◌≡◌, ◌⊎◌}
 use lib.Dec.{eqb}
 use Rattle.adl_ast.specs.declared.component.Lock.{Lock}
 use Rattle.adl_ast.specs.declared.component.Member.TheVariants as members
 use Rattle.arch_policy.proofs.Listed.{lock_of_member}
+use Rattle.spec_laws.proofs.Lists.{from_if, shown_if}
 
 pub record UseOf (cs : List FlatConnection) (leaf : ℕ) (u : SlotUse) : Type 0 where
   pub place : ℕ
@@ -23,20 +24,15 @@ IsLock ms leaf u = (m : ℕ) × (u ≡ OwnLock leaf m) × (x : Lock) × (slice_g
 
 from_joined : (leaf m k n : ℕ) (c : FlatConnection) (e : FlatEnd) (u : SlotUse) → IsIn u (joined_uses leaf m k c.connector n e)
     → (e.leaf ≡ leaf) × IsIn u (end_uses c.connector e.role k n)
-from_joined leaf m k n c e u i = by_test (joins leaf m e) refl i
-  where
-    by_test : (b : Bool) → joins leaf m e ≡ b → IsIn u (cond b (end_uses c.connector e.role k n) [])
-        → (e.leaf ≡ leaf) × IsIn u (end_uses c.connector e.role k n)
-    by_test true q i = (eqb-true e.leaf leaf (and_parts (eqb e.leaf leaf) (eqb e.member m) q).0, i)
-    by_test false q i = absurd i
+from_joined leaf m k n c e u i =
+    let q = from_if (joins leaf m e) (end_uses c.connector e.role k n) u i in
+    (eqb-true e.leaf leaf (and_parts (eqb e.leaf leaf) (eqb e.member m) q.0).0, q.1)
 
 in_joined : (leaf m k n : ℕ) (c : FlatConnection) (e : FlatEnd) (u : SlotUse) → e.leaf ≡ leaf → e.member ≡ m
     → IsIn u (end_uses c.connector e.role k n) → IsIn u (joined_uses leaf m k c.connector n e)
 in_joined leaf m k n c e u l q i =
-    let yes_it : joins leaf m e ≡ true = and_from (eqb e.leaf leaf) (eqb e.member m) (eq-eqb e.leaf leaf l)
-    (eq-eqb e.member m q) in
-    let P : Bool → Type 0 = λ b. IsIn u (cond b (end_uses c.connector e.role k n) []) in
-    subst P (sym yes_it) i
+    subst (λ b. IsIn u (cond b (end_uses c.connector e.role k n) []))
+    (sym (and_from (eqb e.leaf leaf) (eqb e.member m) (eq-eqb e.leaf leaf l) (eq-eqb e.member m q))) i
 
 from_member : (cs : List FlatConnection) (leaf m : ℕ) (u : SlotUse) → IsIn u (member_uses cs leaf m) → UseOf cs leaf u
 from_member cs leaf m u i =
@@ -48,19 +44,15 @@ from_member cs leaf m u i =
 in_member : (cs : List FlatConnection) (leaf m : ℕ) (u : SlotUse) (o : UseOf cs leaf u) → o.end.member ≡ m
     → IsIn u (member_uses cs leaf m)
 in_member cs leaf m u o q =
-    in_gather (λ k (c : FlatConnection). gather (λ n e. joined_uses leaf m k c.connector n e) c.ends) u cs o.place
-    o.connection o.here
-    (in_gather (λ n e. joined_uses leaf m o.place o.connection.connector n e) u o.connection.ends o.number o.end o.stands
+    in_gather (λ k (c : FlatConnection). gather (λ n e. joined_uses leaf m k c.connector n e) c.ends) u cs o.place o.connection
+    o.here (in_gather (λ n e. joined_uses leaf m o.place o.connection.connector n e) u o.connection.ends o.number o.end o.stands
     (in_joined leaf m o.place o.number o.connection o.end u o.joins q o.use_is))
 
 from_lock : (ms : List Member) (leaf m : ℕ) (member : Member) (u : SlotUse) → slice_get ms m ≡ Some member
     → IsIn u (lock_uses leaf m member) → IsLock ms leaf u
-from_lock ms leaf m member u s i = by_test (is_lock member) refl i
-  where
-    by_test : (b : Bool) → is_lock member ≡ b → IsIn u (cond b (OwnLock leaf m ∷ []) []) → IsLock ms leaf u
-    by_test true q (inl e) = let w = lock_of_member member q in (m, sym e, w.0, s ∙ ap (λ z. Some z) w.1)
-    by_test true q (inr i) = absurd i
-    by_test false q i = absurd i
+from_lock ms leaf m member u s i =
+    let q = shown_if (is_lock member) (OwnLock leaf m) u i in
+    let w = lock_of_member member q.0 in (m, sym q.1, w.0, s ∙ ap (λ z. Some z) w.1)
 
 pub from_leaf : (cs : List FlatConnection) (leaf : ℕ) (ms : List Member) (u : SlotUse) → IsIn u (leaf_uses cs leaf ms)
     → UseOf cs leaf u ⊎ IsLock ms leaf u
@@ -82,8 +74,7 @@ in_leaf cs leaf ms u o member s =
 pub from_domain : (source : Source) (flat : Flat) (leaves : List ℕ) (u : SlotUse) → IsIn u (domain_uses source flat leaves)
     → (leaf : ℕ) × IsIn leaf leaves × (UseOf flat.connections leaf u ⊎ IsLock (leaf_members source flat leaf) leaf u)
 from_domain source flat leaves u i =
-    let F : ℕ → ℕ → List SlotUse = λ i leaf. leaf_uses flat.connections leaf (leaf_members source flat leaf) in
-    let l = from_gather F u leaves i in
+    let l = from_gather (λ i leaf. leaf_uses flat.connections leaf (leaf_members source flat leaf)) u leaves i in
     (l.1, in_place l.1 leaves l.0 l.2, from_leaf flat.connections l.1 (leaf_members source flat l.1) u l.3)
 
 pub in_domain : (source : Source) (flat : Flat) (leaves : List ℕ) (u : SlotUse) (leaf : ℕ) (found : Leaf)
@@ -92,23 +83,21 @@ pub in_domain : (source : Source) (flat : Flat) (leaves : List ℕ) (u : SlotUse
 in_domain source flat leaves u leaf found o member here is s =
     let F : ℕ → ℕ → List SlotUse = λ i leaf. leaf_uses flat.connections leaf (leaf_members source flat leaf) in
     let p = place_of leaf leaves here in
-    let P : Option Leaf → Type 0 = λ x. IsIn u (leaf_uses flat.connections leaf (members_of_leaf source x)) in
-    in_gather F u leaves p.0 leaf p.1 (subst P (sym is) (in_leaf flat.connections leaf (members_at source found.component)
-    u o member s))
+    in_gather F u leaves p.0 leaf p.1 (subst (λ x. IsIn u (leaf_uses flat.connections leaf (members_of_leaf source x))) (sym is)
+    (in_leaf flat.connections leaf (members_at source found.component) u o member s))
 
 -- a declared lock has a slot
 pub lock_used : (source : Source) (flat : Flat) (leaves : List ℕ) (leaf m : ℕ) (found : Leaf) (x : Lock) → IsIn leaf leaves
     → slice_get flat.leaves leaf ≡ Some found → slice_get (members_at source found.component) m ≡ Some (members.Lock x)
     → IsIn (OwnLock leaf m) (domain_uses source flat leaves)
 lock_used source flat leaves leaf m found x i here declared =
-    let E : ℕ → ℕ → List SlotUse = λ i at. leaf_uses flat.connections at (leaf_members source flat at) in
     let F : ℕ → Member → List SlotUse = λ m member. member_uses flat.connections leaf m in
     let G : ℕ → Member → List SlotUse = λ m member. lock_uses leaf m member in
     let ms = leaf_members source flat leaf in
     let there : slice_get ms m ≡ Some (members.Lock x) = ap (λ z. slice_get (members_of_leaf source z) m) here ∙ declared in
     let p = place_of leaf leaves i in
-    in_gather E (OwnLock leaf m) leaves p.0 leaf p.1 (in_right (OwnLock leaf m) (gather F ms) (gather G ms)
-    (in_gather G (OwnLock leaf m) ms m (members.Lock x) there (inl refl)))
+    in_gather (λ i at. leaf_uses flat.connections at (leaf_members source flat at)) (OwnLock leaf m) leaves p.0 leaf p.1
+    (in_right (OwnLock leaf m) (gather F ms) (gather G ms) (in_gather G (OwnLock leaf m) ms m (members.Lock x) there (inl refl)))
 
 -- ---- what the slots of an end are
 
@@ -116,10 +105,7 @@ abbrev pub has_slot : Connector → Role → Bool
 has_slot Rpc role = true
 has_slot Notification role = true
 has_slot Interrupt To = true
-has_slot Interrupt From = false
-has_slot SharedMemory role = false
-has_slot Mmio role = false
-has_slot Direct role = false
+has_slot _ _ = false
 
 pub record IsHandler (c : Connector) (r : Role) (k n : ℕ) (u : SlotUse) : Type 0 where
   pub interrupt : c ≡ Interrupt

@@ -33,14 +33,14 @@ Whose t p = p.owner ≡ owner_of t p.what
 
 pub whose : (t : Tables) (p : Part) → IsIn p (parts t) → Whose t p
 whose t = of_every t (Whose t) (record {
-  cnode = λ n d. refl;
+  cnode = λ d x e. refl;
   thread = λ n d i x e. refl;
-  endpoint = λ k. refl;
-  notification = λ k. refl;
-  lock = λ n d i. refl;
-  irq = λ n k c e. ap (λ o. option_map_or (irq_owner k) o (OfConnection k)) (sym e);
+  endpoint = λ k c h e. refl;
+  notification = λ k c h e. refl;
+  lock = λ n d i leaf m x h s is. refl;
+  irq = λ n k c h e is. ap (λ o. option_map_or (irq_owner k) o (OfConnection k)) (sym h);
   table = λ n d j o e. refl;
-  frame = λ n f x e. ap (λ o. option_map_or (λ (y : FrameInfo). frame_owner y.owner) o (OfLeaf 0)) (sym e);
+  frame = λ f x e. ap (λ o. option_map_or (λ (y : FrameInfo). frame_owner y.owner) o (OfLeaf 0)) (sym e);
 })
 
 -- ---- labels
@@ -95,10 +95,8 @@ pub classed : (t : Tables) (w : What) → IsThere t w → class_of (object t w) 
 classed t (ThreadOf d i) h = ap (λ z. class_of (option_map_or (λ x. objects.Thread (tcb t d x)) z objects.Endpoint)) h.1.1
 classed t (TableOf d j) h =
     let m = moved t 0 0 (place t (TableOf d 0)) (place t (FrameOf 0)) d j h.1.0 h.1.1 in
-    let first = place t (TableOf d 0) in
-    let xs = map (page_mapping (place t (FrameOf 0))) (pages_at t d) in
-    ap class_of (object_is t d j m.0 m.1) ∙ are_pages first 0 (layers (shapes (arch t)) xs) m.0
-    (in_place m.0 (standing t d) j m.1)
+    ap class_of (object_is t d j m.0 m.1) ∙ are_pages (place t (TableOf d 0)) 0
+    (layers (shapes (arch t)) (map (page_mapping (place t (FrameOf 0))) (pages_at t d))) m.0 (in_place m.0 (standing t d) j m.1)
 classed t (FrameOf f) h = ap (λ z. class_of (option_map_or frame_object z objects.Endpoint)) h.1
 classed t _ h = refl
 
@@ -112,8 +110,7 @@ pub record IsAt (t : Tables) (o : ℕ) (x : Object) : Type 0 where
 
 pub entry_is : (t : Tables) (o : ℕ) (e : Entry) → slice_get (spec_of t).entries o ≡ Some e → IsAt t o e.object
 entry_is t o e h =
-    let p = from_get_map (entry t) (parts t) o e h in
-    let i = in_place p.0 (parts t) o p.1 in
+    let p = from_get_map (entry t) (parts t) o e h in let i = in_place p.0 (parts t) o p.1 in
     let is : object t p.0.what ≡ e.object = ap (λ (z : Entry). z.object) p.2 in
     record {
       what = p.0.what;

@@ -1,9 +1,10 @@
 -- The ends that see memory, and the pages of a space that show it.
-use Rattle.spec_laws.proofs.Common.{Bool, Connector, EndAt, FlatConnection, FlatEnd, Given, IsIn, List, MappedPage, Memory, None, Option, Own, Region, SectionPage, Shown, Some, [], ap, arith, base, cond, end_in, end_window, ends, ends_at, false}
+use Rattle.spec_laws.proofs.Common.{Connector, EndAt, FlatConnection, FlatEnd, Given, IsIn, List, MappedPage, Memory, None, Option, Own, Region, Shown, Some, [], ap, arith, base, end_in, end_window, ends, ends_at, false}
 use Rattle.spec_laws.proofs.Common.{flat_map, from_flat_map, from_gather, from_map, from_range, in_append, in_place, inl, inr, is_window, leaf_windows, leaves_of, map, mapped_pages, memory_pages, option_and_then, option_map, option_map_or, page_of}
 use Rattle.spec_laws.proofs.Common.{pages_of_region, range_with_len, refl, region_part, regions, section_page, section_pages, section_part, sees_memory, slice_get, subst, thread_regions, threads_of, true, window_pages, window_region, windows_of, ℕ}
 use Rattle.spec_laws.proofs.Common.{⊎_elim, ◌<◌, ◌∷◌, ◌≡◌}
 use Rattle.vspace_layout.specs.declared.thread.ThreadOf.{ThreadOf}
+use Rattle.spec_laws.proofs.Lists.{shown_if}
 
 -- an end that sees memory is one of a connection, and has a window there
 pub record IsSeen (g : Given) (e : EndAt) : Type 0 where
@@ -30,16 +31,9 @@ sees g e s = by_connection (slice_get g.flat.connections e.connection) refl s
 
 pub seen : (g : Given) (d : ℕ) (e : EndAt) → IsIn e (windows_of g d) → IsSeen g e
 seen g d e i =
-    let a : (leaf : ℕ) × IsIn leaf (leaves_of g.flat d) × IsIn e (leaf_windows g.flat (ends g) leaf) =
-    from_flat_map (leaf_windows g.flat (ends g)) e (leaves_of g.flat d) i in
-    let b : (x : EndAt) × IsIn x (ends_at (ends g) a.0) × IsIn e (end_window g.flat x) =
-    from_flat_map (end_window g.flat) e (ends_at (ends g) a.0) a.2 in
-    sees g e (by_test b.0 (sees_memory g.flat b.0) refl b.2)
-  where
-    by_test : (x : EndAt) (b : Bool) → sees_memory g.flat x ≡ b → IsIn e (cond b (x ∷ []) []) → sees_memory g.flat e ≡ true
-    by_test x true t (inl same) = subst (λ z. sees_memory g.flat z ≡ true) same t
-    by_test x true t (inr j) = absurd j
-    by_test x false t j = absurd j
+    let a = from_flat_map (leaf_windows g.flat (ends g)) e (leaves_of g.flat d) i in
+    let b = from_flat_map (end_window g.flat) e (ends_at (ends g) a.0) a.2 in
+    let w = shown_if (sees_memory g.flat b.0) b.0 e b.2 in sees g e (subst (λ z. sees_memory g.flat z ≡ true) w.1 w.0)
 
 -- its pages are those of the connection's memory
 pub seen_pages : (g : Given) (e : EndAt) (s : IsSeen g e) → window_pages g.flat g.settled e ≡ memory_pages g.settled
@@ -65,31 +59,21 @@ threads_show g d (t ∷ ts) r (inr (inr i)) = threads_show g d ts r i
 
 regions_show : (g : Given) (d : ℕ) (r : Region) → IsIn r (regions g d) → PagesShow g d r
 regions_show g d r i =
-    ⊎_elim (threads_show g d (threads_of g d) r)
-    (λ j.
-    let w : (e : EndAt) × IsIn e (windows_of g d) × (window_region g.flat g.settled e ≡ r) =
-    from_map (window_region g.flat g.settled) r (windows_of g d) j in
+    ⊎_elim (threads_show g d (threads_of g d) r) (λ j. let w = from_map (window_region g.flat g.settled) r (windows_of g d) j in
     subst (PagesShow g d) w.2 (λ start n l. (w.0, w.1, refl, l)))
     (in_append r (flat_map (thread_regions g.settled) (threads_of g d)) (map (window_region g.flat g.settled) (windows_of g d)) i)
 
 pub pages_show : (g : Given) (d : ℕ) (p : MappedPage) → IsIn p (mapped_pages g d) → ShowsHere g d p.shown
 pages_show g d p i =
-    ⊎_elim
-    (λ j.
-    let s : (x : SectionPage) × IsIn x (section_pages g.images (leaves_of g.flat d)) × (section_page x ≡ p) =
-    from_map section_page p (section_pages g.images (leaves_of g.flat d)) j in
-    subst (λ (z : MappedPage). ShowsHere g d z.shown) s.2 tt)
-    (λ j.
-    let k : (k : ℕ) × (r : Region) × (slice_get (regions g d) k ≡ Some r)
-    × IsIn p (pages_of_region g.settled (base g) (regions g d) k r) =
-    from_gather (pages_of_region g.settled (base g) (regions g d)) p (regions g d) j in
-    by_page k.1 (in_place k.1 (regions g d) k.0 k.2) _ k.3)
-    (in_append p (section_part g.images (leaves_of g.flat d)) (region_part g.settled (base g) (regions g d)) i)
+    ⊎_elim (λ j. let s = from_map section_page p (section_pages g.images (leaves_of g.flat d)) j in
+    subst (λ (z : MappedPage). ShowsHere g d z.shown) s.2 tt) (λ j. let k = from_gather
+    (pages_of_region g.settled (base g) (regions g d)) p (regions g d) j in
+    by_page k.1 (in_place k.1 (regions g d) k.0 k.2) _ k.3) (in_append p (section_part g.images (leaves_of g.flat d))
+    (region_part g.settled (base g) (regions g d)) i)
   where
     by_page : (r : Region) → IsIn r (regions g d) → (start : ℕ)
         → IsIn p (map (page_of g.settled start r) (range_with_len 0 r.pages)) → ShowsHere g d p.shown
     by_page r is start i =
-        let m : (j : ℕ) × IsIn j (range_with_len 0 r.pages) × (page_of g.settled start r j ≡ p) =
-        from_map (page_of g.settled start r) p (range_with_len 0 r.pages) i in
+        let m = from_map (page_of g.settled start r) p (range_with_len 0 r.pages) i in
         let l = from_range 0 r.pages m.0 m.1 in
         subst (λ (z : MappedPage). ShowsHere g d z.shown) m.2 (regions_show g d r is start m.0 (omega (arith, l)))

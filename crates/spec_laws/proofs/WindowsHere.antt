@@ -32,9 +32,8 @@ module _ (t : Tables) (h : IsConnected t) where
       → label_of (labels t) p ≡ leaf_label (policy_tables t) x.end.leaf
       → IsWindow (policy_tables t) (spec_of t) (labels t) x o p held
   to_window x o f p held s leads rights from =
-      let info = s.there in
       let kind : kind_of_object (object t (FrameOf f)) ≡ kinds.Frame =
-      ap (λ z. kind_of_object (option_map_or frame_object z objects.Endpoint)) info.1 in
+      ap (λ z. kind_of_object (option_map_or frame_object z objects.Endpoint)) s.there.1 in
       record {
         memory = s.memory;
         frame = ap (kind_at (spec_of t)) leads ∙ kind_there t (FrameOf f) s.there ∙ ap (λ z. Some z) kind;
@@ -46,8 +45,7 @@ module _ (t : Tables) (h : IsConnected t) where
 
   -- what an end with a window sees
   seen : (x : EndAt t.flat) (j : ℕ) → is_window x.connection.connector x.end.role ≡ true
-      → j < memory_pages t.settled x.place x.connection
-      → (o : ObjectKind) × Sees t h x o (memory_number (laid t h) x.place j)
+      → j < memory_pages t.settled x.place x.connection → (o : ObjectKind) × Sees t h x o (memory_number (laid t h) x.place j)
   seen x j w l = elim (window_sees x.connection.connector x.end.role w) [
     | inl e ↦ (OfFrames, sees_shared t h x j e.0 l)
     | inr e ↦ (OfDevice, sees_device t h x j e.0 e.1 l)
@@ -59,18 +57,15 @@ module _ (t : Tables) (h : IsConnected t) where
   -- ---- only windows lead out
 
   window_only : (d p : ℕ) (x : Domain) (held : Cap) (g : Page) → slice_get t.flat.domains d ≡ Some x
-      → label_of (labels t) p ≡ domain_label (policy_tables t) d
-      → (q : IsPage t h d g) → held.object ≡ place t (FrameOf g.frame) → held.rights ≡ page_rights g
-      → OfWindow (laid t h) d q.mapped
+      → label_of (labels t) p ≡ domain_label (policy_tables t) d → (q : IsPage t h d g) → held.object ≡ place t (FrameOf g.frame)
+      → held.rights ≡ page_rights g → OfWindow (laid t h) d q.mapped
       → (y : EndAt t.flat) × (o : ObjectKind) × IsWindow (policy_tables t) (spec_of t) (labels t) y o p held
   window_only d p x held g e from q leads rights w =
-      let v = from_windows (laid t h) d w.end w.there in
-      let y = v.at in
+      let v = from_windows (laid t h) d w.end w.there in let y = v.at in
       let k : y.place ≡ w.end.connection = ap (λ (z : Joined). z.connection) v.is in
       let size : window_pages t.flat t.settled w.end ≡ memory_pages t.settled y.place y.connection =
       ap (window_pages t.flat t.settled) (sym v.is) ∙ window_size y in
-      let below = w.below in
-      let s = seen y w.number v.sees (omega (arith, below, size)) in
+      let s = seen y w.number v.sees (omega (arith, w.below, size)) in
       let frame : g.frame ≡ memory_number (laid t h) y.place w.number =
       ap (λ (z : Page). z.frame) (sym q.is) ∙ ap (number_shown (laid t h) d q.number) w.shown
       ∙ ap (λ z. memory_number (laid t h) z w.number) (sym k) in
@@ -90,15 +85,13 @@ module _ (t : Tables) (h : IsConnected t) where
   only : (p i : ℕ) (held : Cap) → InTable (spec_of t) p i held → label_of (labels t) p ≢ label_of (labels t) held.object
       → (x : EndAt t.flat) × (o : ObjectKind) × IsWindow (policy_tables t) (spec_of t) (labels t) x o p held
   only p i held there differ =
-      let b = in_table t p i held there in
-      let d = b.domain in
+      let b = in_table t p i held there in let d = b.domain in
       elim b.holds [
         | inr table ↦
             absurd
             (differ (b.label ∙ sym (ap (label_of (labels t)) table.object ∙ label_there t (TableOf d table.number) table.there)))
         | inl page ↦
-            let g = page.page in
-            let q = from_pages t h d b.found g b.here page.there in
+            let g = page.page in let q = from_pages t h d b.found g b.here page.there in
             elim (from_mapped (laid t h) d q.mapped (in_place q.mapped (mapped_pages (laid t h) d) q.number q.here)) [
               | inl own ↦
                   let f = own_frame t h d q.number b.found q.mapped b.here q.here own in
@@ -123,8 +116,7 @@ module _ (t : Tables) (h : IsConnected t) where
         | inl s ↦ elim (seen_by x.connection.connector x.end.role q b) [
           | inl r ↦
               let left = subst (λ z. LeadsTo (policy_tables t) x z l) s.object u in
-              let right = subst (λ z. LeadsTo (policy_tables t) x z m) r.object v in
-              (r.object ∙ sym s.object, left ∙ sym right)
+              (r.object ∙ sym s.object, left ∙ sym (subst (λ z. LeadsTo (policy_tables t) x z m) r.object v))
           | inr r ↦ absurd (let e = sym s.connector ∙ r.connector in cc)
         ]
         | inr s ↦ elim (seen_by x.connection.connector x.end.role q b) [
@@ -150,24 +142,18 @@ module _ (t : Tables) (h : IsConnected t) where
   every : (x : EndAt t.flat) (o : ObjectKind) (label : ℕ) → gives x.connection.connector x.end.role o Read ≡ true
       → LeadsTo (policy_tables t) x o label → HasPage (policy_tables t) (spec_of t) (labels t) x o label
   every x o label given to =
-      let g = laid t h in
-      let w = seen_window x.connection.connector x.end.role o given in
+      let g = laid t h in let w = seen_window x.connection.connector x.end.role o given in
       let i = in_its_domain t h x (window_soft x.connection.connector x.end.role w) in
-      let d = i.domain in
-      let e = joined x in
+      let d = i.domain in let e = joined x in
       let listed = subst (λ z. IsIn x.end.leaf z) (sym (leaves_are g d i.found i.here)) i.listed in
-      let window = in_windows g h.flat d x listed w in
       let r = window_region t.flat t.settled e in
-      let n = place_of r (regions g d) (window_there g d e window) in
-      let size = window_size x in
+      let n = place_of r (regions g d) (window_there g d e (in_windows g h.flat d x listed w)) in
       let some = h.seen x w in
       let front : MappedPage = page_of t.settled (region_start (base g) (regions g d) n.0) r 0 in
-      let m = place_of front (mapped_pages g d) (first_page g d n.0 r n.1 (omega (arith, size, some))) in
-      let there = in_pages t h d m.0 i.found front i.here m.1 in
+      let m = place_of front (mapped_pages g d) (first_page g d n.0 r n.1 (omega (arith, window_size x, some))) in
       let shown : Page = page g d m.0 front in
-      let held = page_held t d i.found shown i.here there in
-      let s = seen x 0 w some in
-      let f = memory_number g x.place 0 in
+      let held = page_held t d i.found shown i.here (in_pages t h d m.0 i.found front i.here m.1) in
+      let s = seen x 0 w some in let f = memory_number g x.place 0 in
       let same = one_label x o s.0 label (number_of t.numbers (owner_of t (FrameOf f))) given s.1.memory to s.1.leads in
       let c : Cap = (page_mapping (place t (FrameOf 0)) shown).cap in
       let leads : c.object ≡ place t (FrameOf f) = omega arith in

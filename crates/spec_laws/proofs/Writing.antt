@@ -1,5 +1,5 @@
 -- The spec of laid-out tables can be written and read back.
-use Rattle.spec_laws.proofs.Common.{Bool, Connector, Direct, Entry, FlatConnection, FrameInfo, FrameOf, Interrupt, IsFit, IsIn, IsSized, IsWritable, IsWritten, List, Mmio, None, Notification, Object, Option, Part, Rpc, SharedMemory, Some, TableOf}
+use Rattle.spec_laws.proofs.Common.{Bool, Entry, FlatConnection, FrameInfo, FrameOf, IsFit, IsIn, IsSized, IsWritable, IsWritten, List, None, Object, Option, Part, Some, TableOf}
 use Rattle.spec_laws.proofs.Common.{Tables, ThreadPlace, What, [], ap, arch, arith, by_number, canonical, cap_count, caps_of, cond, entry, entry_line, entry_name, entry_text, false, flat_map, frame_object, gather, in_place, irq_line, irq_number}
 use Rattle.spec_laws.proofs.Common.{is_laid, is_number, is_word, layers, le-ltb, leb, length, length-map, line_by, lines, list_all-map, map, name_at, object, option_map_or, page_mapping, pages_at, part_name, parts, place, put_line, refl, shapes}
 use Rattle.spec_laws.proofs.Common.{slice_get, slice_get-map, spec_of, subst, sym, table_of, tables_at, tcb, there, thread_count, threads_at, true, ℕ, ◌*◌, ◌+◌, ◌<◌, ◌^◌, ◌∙◌, ◌∷◌, ◌≡◌, ◌≤◌}
@@ -13,7 +13,7 @@ use Rattle.spec_laws.proofs.Few.{caps_within, objects_within}
 use Rattle.spec_laws.proofs.Keeping.{kept, spec_kept}
 use Rattle.spec_laws.proofs.Laid.{fine_there, number_is, part_short, part_word}
 use Rattle.spec_laws.proofs.Lengths.{canonical_short, extra, holder_short, irq_short, line_short}
-use Rattle.spec_laws.proofs.Lines.{lined}
+use Rattle.spec_laws.proofs.Lines.{lined, one_each}
 use Rattle.spec_laws.proofs.TablesKept.{as_long, from_tables, standing}
 use Rattle.spec_laws.proofs.Telling.{number_few}
 use Rattle.spec_laws.proofs.Totals.{length_flat_map, length_gather, sum_map, total, total_add, total_const, total_each, total_map, total_most, total_times, totals, totals_const, totals_each}
@@ -36,14 +36,8 @@ sorted_length (x ∷ xs) = let a = put_length x (by_number xs) in let ih = sorte
 lines_few : (t : Tables) → length (lines t) ≤ length t.flat.connections
 lines_few t =
     let f : ℕ → FlatConnection → List (ℕ × ℕ) = λ k (c : FlatConnection). line_by t k c c.connector in
-    let a = sorted_length (gather f t.flat.connections) in
-    let b = length_gather f t.flat.connections in
-    let c = totals_each (λ k (c : FlatConnection). length (f k c)) 1 t.flat.connections (λ k c e. by_kind k c c.connector) in
-    omega (arith, a, b, c)
-  where
-    by_kind : (k : ℕ) (c : FlatConnection) (x : Connector) → length (line_by t k c x) ≤ 1
-    by_kind k c Notification = omega arith
-    by_kind k c _ = omega arith
+    let c = totals_each (λ k (c : FlatConnection). length (f k c)) 1 t.flat.connections (λ k c e. one_each t k c c.connector) in
+    omega (arith, sorted_length (gather f t.flat.connections), length_gather f t.flat.connections, c)
 
 module _ (t : Tables) where
   -- ---- how much longer the lines of threads and frames are
@@ -62,16 +56,13 @@ module _ (t : Tables) where
 
   table_longer : (d : ℕ) → totals (λ j (o : Object). longer (TableOf d j)) (tables_at t 0 0 d) ≤ 0
   table_longer d =
-      let first = place t (TableOf d 0) in
-      let frames = place t (FrameOf 0) in
-      let long = as_long t 0 0 first frames d in
+      let first = place t (TableOf d 0) in let frames = place t (FrameOf 0) in
       let all : totals (λ j (o : Object). longer (TableOf d j)) (tables_at t 0 0 d) ≡ total extra (standing t d) =
-      looked_up extra objects.Endpoint (tables_at t 0 0 d) (standing t d) long in
+      looked_up extra objects.Endpoint (tables_at t 0 0 d) (standing t d) (as_long t 0 0 first frames d) in
       let none = total_each extra 0 (standing t d) (λ o i.
       let r = from_tables first 0 (layers (shapes (arch t)) (map (page_mapping frames) (pages_at t d))) o i in
       let e : extra (table_of r.layer.shape r.link r.run) ≡ extra o = ap extra r.is in
-      omega (arith, e)) in
-      omega (arith, all, none)
+      omega (arith, e)) in omega (arith, all, none)
 
   longer_most : Most t longer (λ d. 0) 209 0 0 0 (λ d. 0) 229
   longer_most = record {
@@ -86,10 +77,7 @@ module _ (t : Tables) where
   }
 
   longer_few : total (λ (p : Part). longer p.what) (parts t) ≤ 209 * thread_count t + 229 * length t.spaces.frames
-  longer_few =
-      let a = parts_most t longer (λ d. 0) 209 0 0 0 (λ d. 0) 229 longer_most in
-      let b = totals_const 0 t.flat.domains in
-      omega (arith, a, b)
+  longer_few = omega (arith, parts_most t longer (λ d. 0) 209 0 0 0 (λ d. 0) 229 longer_most, totals_const 0 t.flat.domains)
 
   -- ---- the text
 
@@ -125,41 +113,36 @@ module _ (t : Tables) where
         let b = total_map (λ (e : Entry). length (entry_line e)) (entry t) (parts t) in
         let c = total_most (λ (p : Part). length (entry_line (entry t p))) (λ p. 53 + longer p.what) (parts t) line_of in
         let d = total_add (λ (p : Part). 53) (λ p. longer p.what) (parts t) in
-        let e = total_const 53 (parts t) in
-        let threads = sized.threads in
-        let frames = sized.frames in
-        omega (arith, a, b, c, d, e, longer_few, many, threads, frames)
+        omega (arith, a, b, c, d, total_const 53 (parts t), longer_few, many, sized.threads, sized.frames)
 
     texts_long : length (flat_map (entry_text (spec_of t)) (spec_of t).entries) ≤ 26838016
     texts_long =
         let text : Entry → ℕ = λ e. length (entry_text (spec_of t) e) in
         let caps : Part → ℕ = λ p. caps_of (object t p.what) in
         let a = length_flat_map (entry_text (spec_of t)) (spec_of t).entries in
-        let b = total_map text (entry t) (parts t) in
         let c = total_most (λ p. text (entry t p)) (λ p. 21 + 73 * caps p) (parts t) text_of in
         let d = total_add (λ (p : Part). 21) (λ p. 73 * caps p) (parts t) in
         let e = total_const 21 (parts t) in
-        let f = total_times 73 caps (parts t) in
         let g : cap_count (spec_of t) ≡ total caps (parts t) = sum_map (λ (e : Entry). caps_of e.object) (map (entry t) (parts t))
         ∙ total_map (λ (e : Entry). caps_of e.object) (entry t) (parts t) in
-        let few = caps_within t sized in
-        omega (arith, a, b, c, d, e, f, g, few, many)
+        omega (arith, a, total_map text (entry t) (parts t), c, d, e, total_times 73 caps (parts t), g, caps_within t sized, many)
 
     number_in : (l : ℕ × ℕ) → IsIn l (lines t) → l.0 < 2 ^ 64
     number_in l i =
         let a = lined t fit l i in
-        let n = written.numbers a.number a.there.0 a.there.1 in
         let e : irq_number t.settled a.number a.there.0 ≡ l.0 = ap (λ (z : ℕ × ℕ). z.0) a.is in
-        omega (arith, n, e)
+        omega (arith, written.numbers a.number a.there.0 a.there.1, e)
 
     irqs_long : length (flat_map (irq_line (spec_of t)) (spec_of t).irqs) ≤ 159744
     irqs_long =
-        let a = length_flat_map (irq_line (spec_of t)) (lines t) in
-        let b = total_each (λ l. length (irq_line (spec_of t) l)) 39 (lines t)
-        (λ l i. irq_short (spec_of t) short_at l (number_in l i)) in
-        let c = lines_few t in
-        let d = sized.connections in
-        omega (arith, a, b, c, d)
+        omega (
+          arith,
+          length_flat_map (irq_line (spec_of t)) (lines t),
+          total_each (λ l. length (irq_line (spec_of t) l)) 39
+              (lines t) (λ l i. irq_short (spec_of t) short_at l (number_in l i)),
+          lines_few t,
+          sized.connections,
+        )
 
     text_few : is_long (canonical (spec_of t)) ≡ false
     text_few =
