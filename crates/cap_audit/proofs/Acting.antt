@@ -34,15 +34,13 @@ module _ (m : Made) (so : IsSoFar m) where
       → OfDeed m.spec m.labels deed from.cap to.cap e
       → Shows m.spec m.labels (boot m.spec) (m.steps ++ deed_step deed t from to ∷ []) e.from e.authority e.to
   act_shows deeds.Map t from to o e of =
-      rw (of.from_is, of.to_is)
-      ((made_map m.spec m.labels m.found m.edges m.steps m.nexts so.made t o.node to.number from.number to.cap from.cap o.root
-      o.own_to o.is_to o.own_from o.is_from).1 e.authority of.conferred)
+      rw (of.from_is, of.to_is) ((made_map m.spec m.labels m.found m.edges m.steps m.nexts so.made t o.node to.number from.number
+      to.cap from.cap o.root o.own_to o.is_to o.own_from o.is_from).1 e.authority of.conferred)
   act_shows deeds.Bind t from to o e of =
       let parts = and_parts (is_at m.spec kinds.Notification to.cap.object) to.cap.rights.write o.is_to in
       subst (λ (x : Edge). Shows m.spec m.labels (boot m.spec) (m.steps ++ moves.Bind t from.number to.number ∷ []) x.from
-      x.authority x.to) (sym of)
-      (made_bind m.spec m.labels m.found m.edges m.steps m.nexts so.made t o.node from.number to.number from.cap to.cap o.root
-      o.own_from o.is_from o.own_to parts.0 parts.1).1
+      x.authority x.to) (sym of) (made_bind m.spec m.labels m.found m.edges m.steps m.nexts so.made t o.node from.number
+      to.number from.cap to.cap o.root o.own_from o.is_from o.own_to parts.0 parts.1).1
 
   module _ (caller listener : Party) (p : AreParties m.spec m.found caller listener) where
     listener_inside : listener.node < length m.nexts
@@ -56,16 +54,13 @@ module _ (m : Made) (so : IsSoFar m) where
         (slice_set m.nexts listener.node (slice_index m.nexts listener.node + 1))
     call_made =
         (made_call m.spec m.labels m.found m.edges m.steps m.nexts so.made caller.thread listener.thread caller.node listener.node
-        caller.number listener.number p.to p.from p.roots p.meet p.may p.own p.listens
-        listener_inside).0
+        caller.number listener.number p.to p.from p.roots p.meet p.may p.own p.listens listener_inside).0
 
     pub call_shows : (e : Edge) → OfParties m.labels caller listener e
         → Shows m.spec m.labels (boot m.spec) (m.steps ++ call_steps m.nexts caller listener) e.from e.authority e.to
     call_shows e of =
-        let made =
-        made_call m.spec m.labels m.found m.edges m.steps m.nexts so.made caller.thread listener.thread caller.node listener.node
-        caller.number listener.number p.to p.from p.roots p.meet p.may p.own p.listens
-        listener_inside in
+        let made = made_call m.spec m.labels m.found m.edges m.steps m.nexts so.made caller.thread listener.thread caller.node
+        listener.node caller.number listener.number p.to p.from p.roots p.meet p.may p.own p.listens listener_inside in
         elim of [
           | inl same ↦ subst (λ (x : Edge). Shows m.spec m.labels (boot m.spec) (m.steps ++ call_steps m.nexts caller listener)
               x.from x.authority x.to) (sym same) made.1
@@ -90,9 +85,8 @@ module _ (m new : Made) (so : IsSoFar m) where
       → Notes (λ e. has slice e ≡ true) m new → Gains (OfCap m.spec m.labels (label_of m.labels node) pick.cap) m new
   hold_gains node pick at from from_is edges slice are slice_is notes =
       shown_gains (OfCap m.spec m.labels (label_of m.labels node) pick.cap) m so edges
-      (λ e. subst (λ (l : ℕ). (has edges e ≡ true) ↔ OfCap m.spec m.labels l pick.cap e) from_is (are e)) m.steps
-      m.nexts so.made refl
-      (hold_shows m so node pick at) new (subst (λ (xs : List Edge). Notes (λ e. has xs e ≡ true) m new) slice_is notes)
+      (λ e. subst (λ (l : ℕ). (has edges e ≡ true) ↔ OfCap m.spec m.labels l pick.cap e) from_is (are e)) m.steps m.nexts so.made
+      refl (hold_shows m so node pick at) new (subst (λ (xs : List Edge). Notes (λ e. has xs e ≡ true) m new) slice_is notes)
 
   module _ (mid : Made) (edges slice : List Edge) (slice_is : slice ≡ edges)
       (notes : Notes (λ e. has slice e ≡ true) mid new) where
@@ -109,12 +103,10 @@ module _ (m new : Made) (so : IsSoFar m) where
         (subst (λ (x : Made). Notes (λ e. has slice e ≡ true) x new) same notes))
 
     pub call_gains : (caller listener : Party) → AreParties m.spec m.found caller listener
-        → ((e : Edge) → (has edges e ≡ true) ↔ OfParties m.labels caller listener e)
-        → (let after : Made = record m {
+        → ((e : Edge) → (has edges e ≡ true) ↔ OfParties m.labels caller listener e) → (let after : Made = record m {
           steps = m.steps ++ call_steps m.nexts caller listener;
           nexts = slice_set m.nexts listener.node (slice_index m.nexts listener.node + 1);
-        } in mid ≡ after)
-        → Gains (OfParties m.labels caller listener) m new
+        } in mid ≡ after) → Gains (OfParties m.labels caller listener) m new
     call_gains caller listener p are mid_is =
         let after : Made = record m {
           steps = m.steps ++ call_steps m.nexts caller listener;

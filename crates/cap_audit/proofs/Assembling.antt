@@ -1,5 +1,5 @@
 -- What was found makes all edges of an audit.
-use Rattle.cap_audit.proofs.Common.{AreGates, AreHeadRoots, AreKinds, AreReady, AreStandIns, AsyncSend, Audited, Between, Cap, Contains, Deed, Edge, Found, Gains, HasRoot, HoldsNoThread, IsAll, IsBegun, IsClosed, IsFound, IsFoundAt, IsHeld, IsKept}
+use Rattle.cap_audit.proofs.Common.{AreGates, AreHeadRoots, AreKinds, AreReady, AreStandIns, AsyncSend, Audited, Between, Cap, Deed, Edge, Found, Gains, HasRoot, HoldsNoThread, IsAll, IsBegun, IsClosed, IsFound, IsFoundAt, IsHeld, IsKept}
 use Rattle.cap_audit.proofs.Common.{IsMade, IsQueued, IsReport, List, Made, MeetBy, None, OfAllCalls, OfAllDeeds, OfBoot, OfCall, OfCap, OfDeeds, OfFace, OfKinds, OfListening, OfPair, OfRoot, OfRoots, OfSome, Option, Pair, Reply, Some, Spec, Spread}
 use Rattle.cap_audit.proofs.Common.{Step, [], and_parts, ap, arith, at_boot, bare, by_bind, by_map, contains_at, edge, edges_same, get_or, has, held_by, inl, inr, is_at, is_wanted, label_of, length, of_bind, of_call, of_map, of_save, of_spread, refl}
 use Rattle.cap_audit.proofs.Common.{row_at, slice_get, slice_get_within, stand_in, subst, sym, true, ℕ, ◌&&◌, ◌<◌, ◌||◌, ◌∙◌, ◌≡◌, ◌⊎◌}
@@ -33,9 +33,7 @@ made_first spec labels f found = record {
 }
 
 pub begun : (spec : Spec) (labels : List ℕ) (f : Found) (m : Made) → IsFound spec f → IsClosed spec (IsFoundAt f) → IsKept spec
-    → length labels ≡ length spec.entries
-    → (faces heads : List ℕ) → AreKinds spec labels (bare f) faces heads
-    → m ≡ record {
+    → length labels ≡ length spec.entries → (faces heads : List ℕ) → AreKinds spec labels (bare f) faces heads → m ≡ record {
       spec = spec;
       labels = labels;
       found = bare f;
@@ -61,8 +59,7 @@ module _ (spec : Spec) (f : Found) (all : IsAll spec f) where
   pub is_held : (c : ℕ) (cap : Cap) → Spread spec c cap → IsHeld f c cap
   is_held c cap has =
       let k = all.every c cap has in
-      let there : Contains (held_by f k.1.node) k.1.held = all.queued k.0 k.1 k.2 in
-      let at = contains_at (held_by f k.1.node) k.1.held there in
+      let at = contains_at (held_by f k.1.node) k.1.held (all.queued k.0 k.1 k.2) in
       record {
         place = at.0;
         held = k.1.held;
@@ -93,8 +90,7 @@ module _ (spec : Spec) (f : Found) (all : IsAll spec f) where
 
     -- what a face confers, all do that it stands for
     pub of_faces : (faces : List ℕ) → AreStandIns f faces → ((c : ℕ) → label_of labels (stand_in faces c) ≡ label_of labels c)
-        → (e : Edge) → OfSome (OfPair spec labels f) f.queue e
-        → OfSome (OfFace spec labels f faces) f.queue e
+        → (e : Edge) → OfSome (OfPair spec labels f) f.queue e → OfSome (OfFace spec labels f faces) f.queue e
     of_faces faces alike labelled e x =
         let pair : Pair = x.by.item in
         let q = alike.held_there pair.node pair.held.value (record {
@@ -151,8 +147,7 @@ module _ (spec : Spec) (f : Found) (all : IsAll spec f) where
 
   -- each edge of an audit is of one of the parts
   pub audited_parts : (labels faces heads : List ℕ) → AreKinds spec labels f faces heads → (e : Edge)
-      → Audited spec labels e.from e.authority e.to
-      → OfBoot spec labels e ⊎ (OfSome (OfPair spec labels f) f.queue e
+      → Audited spec labels e.from e.authority e.to → OfBoot spec labels e ⊎ (OfSome (OfPair spec labels f) f.queue e
       ⊎ (OfAllDeeds spec labels f heads e ⊎ OfAllCalls spec labels e))
   audited_parts labels faces heads kinds e (at_boot structural) = inl (inr structural)
   audited_parts labels faces heads kinds e (of_spread (c, cap, has, confers, from, to)) =
@@ -225,8 +220,7 @@ module _ (spec : Spec) (labels : List ℕ) (f : Found) (heads : List ℕ) (roste
   pub of_listeners : (e : Edge) → OfAllCalls spec labels e
       → OfSome (OfListening spec labels f heads rosters members gates) f.queue e
   of_listeners e x =
-      let a = r.all.every x.c x.to x.has in
-      let b = r.all.every x.d x.from x.peer_has in
+      let a = r.all.every x.c x.to x.has in let b = r.all.every x.d x.from x.peer_has in
       let p = r.alike.held_there x.c a.1.held.value (record { place = a.0; pair = a.1; there = a.2; at = a.3; of = refl }) in
       let q = r.alike.held_there x.d b.1.held.value (record { place = b.0; pair = b.1; there = b.2; at = b.3; of = refl }) in
       let p_is : slice_get f.values p.pair.held.value ≡ Some x.to = subst (λ (v : ℕ). slice_get f.values v ≡ Some x.to)
@@ -245,31 +239,21 @@ module _ (spec : Spec) (labels : List ℕ) (f : Found) (heads : List ℕ) (roste
       wanted p_itself in
       let gate_there : slice_get (row_at gates x.from.object) gate.0 ≡ Some gate.1 =
       subst (λ (n : ℕ). slice_get (row_at gates n) gate.0 ≡ Some gate.1) (sym x.meet.same) gate.2 in
-      let gate_node : gate.1.node ≡ stand_in heads x.c = gate.3 ∙ p.at in
       let tk = r.are_rosters.every x.c x.t (thread_inside spec x.t x.c x.roots.root) x.roots.root in
       let uk = r.are_rosters.every x.d x.u (thread_inside spec x.u x.d x.roots.peer_root) x.roots.peer_root in
       let inner : OfSome (OfCall labels x.u x.d) (row_at rosters x.c) e =
       record {
         at = tk.0;
         less = slice_get_within (row_at rosters x.c) tk.0 x.t tk.1;
-        by = record {
-          item = x.t;
-          there = tk.1;
-          by = (x.roots.other, x.is);
-        };
+        by = record { item = x.t; there = tk.1; by = (x.roots.other, x.is) };
       } in
       let between : Between labels rosters x.c x.d e =
       record {
         at = uk.0;
         less = slice_get_within (row_at rosters x.d) uk.0 x.u uk.1;
-        by = record {
-          item = x.u;
-          there = uk.1;
-          by = inner;
-        };
+        by = record { item = x.u; there = uk.1; by = inner };
       } in
-      let ck = member_at x.t x.c x.roots.root in
-      let dk = member_at x.u x.d x.roots.peer_root in
+      let ck = member_at x.t x.c x.roots.root in let dk = member_at x.u x.d x.roots.peer_root in
       let of_callers : OfSome (λ (y : ℕ). Between labels rosters y x.d) (row_at members (stand_in heads x.c)) e =
       record {
         at = ck.0;
@@ -283,7 +267,7 @@ module _ (spec : Spec) (labels : List ℕ) (f : Found) (heads : List ℕ) (roste
         by = record { item = x.d; there = dk.1; by = of_callers };
       } in
       let here : OfKinds labels rosters members gate.1.node q.pair.node e =
-      subst (λ (n : ℕ). OfKinds labels rosters members n q.pair.node e) (sym gate_node)
+      subst (λ (n : ℕ). OfKinds labels rosters members n q.pair.node e) (sym (gate.3 ∙ p.at))
       (subst (λ (n : ℕ). OfKinds labels rosters members (stand_in heads x.c) n e) (sym q.at) of_kinds) in
       record {
         at = q.place;
@@ -312,7 +296,6 @@ pub gate_meets : (spec : Spec) (f : Found) (heads : List ℕ) (gates : List (Lis
     → IsQueued f door.node door.held.value × MeetBy spec f door.held.value pair.held.value
 gate_meets spec f heads gates n g pair from is listens k door there =
     let may = g.may from.object k door there in
-    let reads = and_parts (is_at spec kinds.Endpoint from.object) from.rights.read listens in
     let calls = and_parts (is_at spec kinds.Endpoint may.cap.object) (may.cap.rights.write
     && (may.cap.rights.grant || may.cap.rights.reply)) may.wanted in (
       record { place = may.place; pair = door; there = may.there; at = refl; of = refl },
@@ -324,7 +307,7 @@ gate_meets spec f heads gates n g pair from is listens k door there =
         meet = record {
           is = calls.0;
           same = sym may.to;
-          reads = reads.1;
+          reads = (and_parts (is_at spec kinds.Endpoint from.object) from.rights.read listens).1;
         };
         may = calls.1;
       },
@@ -354,10 +337,8 @@ pub all_shown : (m a b c d : Made) → IsBegun m → Gains (OfBoot m.spec m.labe
     → Gains (OfAllDeeds b.spec b.labels b.found b.heads) b c
     → Gains (OfAllCalls c.spec c.labels) c d → Gains (λ e. Audited m.spec m.labels e.from e.authority e.to) m d
 all_shown m a b c d begun g h k l =
-    let P = OfBoot m.spec m.labels in
-    let Q = OfSome (OfPair m.spec m.labels m.found) m.found.queue in
-    let R = OfAllDeeds m.spec m.labels m.found m.heads in
-    let S = OfAllCalls m.spec m.labels in
+    let P = OfBoot m.spec m.labels in let Q = OfSome (OfPair m.spec m.labels m.found) m.found.queue in
+    let R = OfAllDeeds m.spec m.labels m.found m.heads in let S = OfAllCalls m.spec m.labels in
     let F = OfSome (OfFace m.spec m.labels m.found m.faces) m.found.queue in
     let h_f : Gains F a b = subst (λ (x : Made). Gains (OfSome (OfFace x.spec x.labels x.found x.faces) x.found.queue) a
     b) g.same h in
@@ -380,9 +361,8 @@ pub reported : (old new : Made) (edges : List Edge) (steps : List Step) → Hold
     → Gains (λ e. Audited old.spec old.labels e.from e.authority e.to) old new → ((e : Edge) → has edges e ≡ has new.edges e)
     → steps ≡ new.steps → IsReport old.spec old.labels edges steps
 reported old new edges steps none g same steps_are =
-    let made_new : IsMade new.spec new.labels new.found new.edges new.steps new.nexts = g.so_far.made in
     let made_old : IsMade old.spec old.labels old.found new.edges new.steps new.nexts =
-    subst (λ (x : Made). IsMade x.spec x.labels x.found new.edges new.steps new.nexts) g.same made_new in
+    subst (λ (x : Made). IsMade x.spec x.labels x.found new.edges new.steps new.nexts) g.same g.so_far.made in
     let made : IsMade old.spec old.labels old.found edges new.steps new.nexts = record {
       state = made_old.state;
       run = made_old.run;

@@ -1,5 +1,5 @@
 -- A state that lies in the Spread has no edges but those of an audit.
-use Rattle.cap_audit.proofs.Common.{AddedBy, Audited, Auth, Authority, Cap, Capability, Holds, HoldsNoThread, IsWithin, List, Owed, Reaches, Rights, Saved, SavedReply, Some, Spec, State, Structural, ap, at_boot, confers, inl, inr, kind_at}
+use Rattle.cap_audit.proofs.Common.{AddedBy, Audited, Auth, Authority, Cap, Capability, Holds, HoldsNoThread, IsWithin, List, Owed, Reaches, Rights, Saved, SavedReply, Spec, State, Structural, ap, at_boot, confers, inl, inr}
 use Rattle.cap_audit.proofs.Common.{kind_confers, kind_is, label_of, lessened_confers, lessened_kind, of_bind, of_buffer, of_call, of_irq, of_map, of_mapped, of_reply, of_root, of_save, of_saved, of_space, of_spread, of_table, subst, sym, true, ℕ}
 use Rattle.cap_audit.proofs.Common.{◌∙◌, ◌≡◌}
 use Rattle.cap_model.specs.Auth.{Held}
@@ -39,8 +39,7 @@ module _ (spec : Spec) (labels : List ℕ) (s : State) (w : IsWithin spec s) whe
         by.maps,
         (let whole : kind_confers kinds.Frame by.frame.rights a ≡ true = lessened_kind kinds.Frame by.frame.rights by.rights a
             (subst (λ (r : Rights). kind_confers kinds.Frame r a ≡ true) by.with_rights conf) in
-            let k : kind_at spec by.frame.object ≡ Some kinds.Frame = kind_is spec kinds.Frame by.frame.object by.maps.is_frame in
-            rw k whole),
+            rw (kind_is spec kinds.Frame by.frame.object by.maps.is_frame) whole),
         from ∙ ap (λ (n : ℕ). label_of labels n) by.to,
         to ∙ ap (λ (n : ℕ). label_of labels n) by.of,
       )

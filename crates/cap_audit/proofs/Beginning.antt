@@ -1,7 +1,7 @@
 -- How a search begins.
 use Rattle.cap_audit.proofs.Common.{AreRoots, Bool, Cap, Contains, Doors, Entry, Found, Gathering, HasRoot, HasSlots, HasValue, Held, HoldsAt, InClass, IsCounted, IsFound, IsHub, IsKept, IsSearch, Lanes, List, Marks, None, Object, Option, Pair}
 use Rattle.cap_audit.proofs.Common.{Passage, Path, Queued, Run, Some, Spec, Starts, Step, Way, [], ap, arith, at_contains, at_end, at_object, blank_row, blank_rows, blanks, boot, boot_node, cases_lt, contains_at, empties, entry_at, false, get_or}
-use Rattle.cap_audit.proofs.Common.{get_or-before_last, get_or-last, get_or-set_same, held_by, hub_at, hubs_of, inl, inr, is_at, is_at_below, is_known, kind_at, kind_is, kind_of_object, length, length-append, length-map, length-set, map, marks_of}
+use Rattle.cap_audit.proofs.Common.{get_or-before_last, get_or-last, get_or-set_same, held_by, hub_at, hubs_of, inl, inr, is_at, is_at_below, is_known, kind_is, kind_of_object, length, length-append, length-map, length-set, map, marks_of}
 use Rattle.cap_audit.proofs.Common.{no_node, nobody, object_at, owned, pushed_last, read_written, refl, repeated, root_of, rooted, set, slice_get, slice_get-get_or, slice_get_within, slots_at, slots_of, subst, suc, sym, true, ways_from, with_mark}
 use Rattle.cap_audit.proofs.Common.{with_rows, with_value, zero, ℕ, ◌++◌, ◌+◌, ◌<◌, ◌∙◌, ◌∷◌, ◌≡◌, ◌≤◌, ◌⊎◌}
 use Rattle.cap_model.specs.declared.kind.Kind.{Kind}
@@ -56,18 +56,16 @@ empties_length zero = refl
 empties_length (suc n) = ap (λ k. suc k) (empties_length n)
 
 empty_at : (n c : ℕ) → get_or (empties n) c [] ≡ []
-empty_at zero c = refl
-empty_at (suc n) zero = refl
 empty_at (suc n) (suc c) = empty_at n c
+empty_at _ _ = refl
 
 blanks_length : (n : ℕ) → length (blanks n) ≡ n
 blanks_length zero = refl
 blanks_length (suc n) = ap (λ k. suc k) (blanks_length n)
 
 blank_at : (n c : ℕ) → get_or (blanks n) c false ≡ false
-blank_at zero c = refl
-blank_at (suc n) zero = refl
 blank_at (suc n) (suc c) = blank_at n c
+blank_at _ _ = refl
 
 row_blank : (width : ℕ) (object : Object) (v : ℕ) → get_or (blank_row width object) v false ≡ false
 row_blank width (objects.CNode bits slots) v = blank_at width v
@@ -80,9 +78,8 @@ rows_blank width (e ∷ entries) (suc c) v = rows_blank width entries c v
 
 next_at : (entries : List Entry) (c : ℕ) → (get_or (map (λ (e : Entry). boot_node e.object) entries) c no_node).next ≡ get_or
     (map (λ (e : Entry). (boot_node e.object).next) entries) c 0
-next_at [] c = refl
-next_at (e ∷ entries) zero = refl
 next_at (e ∷ entries) (suc c) = next_at entries c
+next_at _ _ = refl
 
 none_held : (n c : ℕ) (held : Held) → Contains (get_or (empties n) c []) held → ⊥
 none_held n c held there = let x : Contains [] held = subst (λ (row : List Held). Contains row held) (empty_at n c) there in
@@ -165,8 +162,7 @@ module _ (spec : Spec) (f : Found) (n m : ℕ) (s : Starts spec f n m) (slot : �
     | inl old ↦ s.own c i cap (record { value = at.value; held = old; is = at.is })
     | inr new ↦ (
         let number : slot.0 ≡ i = ap (λ (h : Held). h.number) new.1 in
-        let place : v ≡ at.value = ap (λ (h : Held). h.value) new.1 in
-        let both : Some slot.1 ≡ Some cap = sym value ∙ ap (slice_get f.values) place ∙ at.is in
+        let both : Some slot.1 ≡ Some cap = sym value ∙ ap (slice_get f.values) (ap (λ (h : Held). h.value) new.1) ∙ at.is in
         let same : slot.1 ≡ cap = cc in
         rw (new.0, ← number, ← same) (at_contains (slots_at spec n) slot m here))
   ]
@@ -239,12 +235,7 @@ next_object spec f n m s all = record {
 cnode_row : (width : ℕ) (object : Object) → ◌≡◌ {A = Option Kind} (Some (kind_of_object object)) (Some kinds.CNode)
     → length (blank_row width object) ≡ width
 cnode_row width (objects.CNode bits slots) h = blanks_length width
-cnode_row width objects.Endpoint h = absurd cc
-cnode_row width objects.Notification h = absurd cc
-cnode_row width (objects.Thread tcb) h = absurd cc
-cnode_row width (objects.Frame paddr fill) h = absurd cc
-cnode_row width (objects.Pages level slots) h = absurd cc
-cnode_row width (objects.Irq notification) h = absurd cc
+cnode_row width _ h = absurd cc
 
 row_width : (spec : Spec) (width c : ℕ) → is_at spec kinds.CNode c ≡ true
     → length (get_or (blank_rows width spec.entries) c []) ≡ width
@@ -252,9 +243,8 @@ row_width spec width c is = go (slice_get spec.entries c) refl where
   go : (e : Option Entry) → slice_get spec.entries c ≡ e → length (get_or (blank_rows width spec.entries) c []) ≡ width
   go None h = absurd (let w : is_at spec kinds.CNode c ≡ false = rw h refl in cc)
   go (Some entry) h =
-      let kind : kind_at spec c ≡ Some kinds.CNode = kind_is spec kinds.CNode c is in
       ap (λ (row : List Bool). length row) (entry_at (blank_row width) spec.entries c [] entry h) ∙ cnode_row width entry.object
-      (sym (at_object spec c entry entry.object h refl) ∙ kind)
+      (sym (at_object spec c entry entry.object h refl) ∙ kind_is spec kinds.CNode c is)
 
 pub rows_marks : (spec : Spec) (f : Found) → Starts spec f (length spec.entries) 0
     → Marks spec (with_rows f (blank_rows (length f.values) spec.entries)) 0
@@ -298,11 +288,7 @@ module _ (spec : Spec) (f : Found) (done : ℕ) (m : Marks spec f done) (pair : 
       nexts = m.starts.nexts;
       row_nexts = m.starts.row_nexts;
       row_held = m.starts.row_held;
-      own = λ c i cap at. m.starts.own c i cap (record {
-        value = at.value;
-        held = at.held;
-        is = at.is;
-      });
+      own = λ c i cap at. m.starts.own c i cap (record { value = at.value; held = at.held; is = at.is });
       queued = m.starts.queued;
       valued = m.starts.valued;
       slots = λ c k slot h b. (let q = m.starts.slots c k slot h b in record {
@@ -381,9 +367,8 @@ repeated_length x zero = refl
 repeated_length x (suc n) = ap (λ k. suc k) (repeated_length x n)
 
 pub repeated_at : {A : Type 0} (x : A) (n c : ℕ) → get_or (repeated x n) c x ≡ x
-repeated_at x zero c = refl
-repeated_at x (suc n) zero = refl
 repeated_at x (suc n) (suc c) = repeated_at x n c
+repeated_at x _ _ = refl
 
 pub counted_more : (numbers new : List ℕ) (n : ℕ) → IsCounted numbers n → new ≡ numbers ++ n ∷ [] → IsCounted new (n + 1)
 counted_more numbers new n c made = record {
@@ -450,10 +435,9 @@ roots_more spec roots new n (Some d) kept r is made = rw made (record {
           let at : HasRoot spec n c = subst (λ (k : ℕ). HasRoot spec k c) same root in
           let d_is : d ≡ c = (let x : ◌≡◌ {A = Option ℕ} (Some d) (Some c) = sym is ∙ at in cc) in
           let inside : d < length roots = (let a = root_inside spec n d kept is in let b = r.as_many in omega arith) in
-          let there : get_or (set roots d (Some n)) d None ≡ Some n = get_or-set_same roots d (Some n) None inside in
           let missing : get_or (set roots d (Some n)) d None ≡ None =
           subst (λ (k : ℕ). get_or (set roots d (Some n)) k None ≡ None) (sym d_is) none in
-          let x : ◌≡◌ {A = Option ℕ} (Some n) None = sym there ∙ missing in
+          let x : ◌≡◌ {A = Option ℕ} (Some n) None = sym (get_or-set_same roots d (Some n) None inside) ∙ missing in
           cc)
     ]
   ];
@@ -494,8 +478,7 @@ blank_search spec f net doors F out counted empty = record {
   no_way : (c : ℕ) (way : Way) → Contains (ways_from net c) way → ⊥
   no_way c way there =
       let e : ways_from net c ≡ [] = ap (λ (o : List (List Way)). get_or o c []) out ∙ repeated_at [] (length spec.entries) c in
-      let x : Contains [] way = subst (λ (ws : List Way). Contains ws way) e there in
-      let w = x.1 in
+      let w = (subst (λ (ws : List Way). Contains ws way) e there).1 in
       omega arith
 
   same_class : (c d : ℕ) → InClass net c d → c ≡ d
@@ -519,14 +502,12 @@ blank_search spec f net doors F out counted empty = record {
     met = λ x y a b. absurd (let w = a.1 in omega arith);
   }
 
-  empty_hub : (passage : Passage) (e : ℕ)
-      → IsHub spec f net passage e
+  empty_hub : (passage : Passage) (e : ℕ) → IsHub spec f net passage e
       (hub_at (record { grants = repeated nobody (length spec.entries); replies = repeated nobody (length spec.entries) }) passage
       e)
   empty_hub passage e = subst (λ (h : Gathering). IsHub spec f net passage e h) (sym (hub_none passage e)) (nobody_hub passage e)
 
-  many : (passage : Passage)
-      → length
+  many : (passage : Passage) → length
       (hubs_of (record { grants = repeated nobody (length spec.entries); replies = repeated nobody (length spec.entries) })
       passage) ≡ length spec.entries
   many passages.Grant = repeated_length nobody (length spec.entries)

@@ -44,9 +44,8 @@ boot_slots spec c = go (slice_get spec.entries c) refl where
 pub boot_content : (spec : Spec) (c i : ℕ) (content : Content) → Contains (node_at (boot spec) c).slots (i, content)
     → (cap : Cap) × Contains (slots_at spec c) (i, cap) × (Capability cap ≡ content)
 boot_content spec c i content there =
-    let here : Contains (map boot_slot (slots_at spec c)) (i, content) =
-    subst (λ (xs : List (ℕ × Content)). Contains xs (i, content)) (boot_slots spec c) there in
-    let k = contains_at (map boot_slot (slots_at spec c)) (i, content) here in
+    let k = contains_at (map boot_slot (slots_at spec c)) (i, content)
+    (subst (λ (xs : List (ℕ × Content)). Contains xs (i, content)) (boot_slots spec c) there) in
     let s = slot_of (slots_at spec c) k.0 i content k.1 in
     (s.0.1, at_contains (slots_at spec c) (i, s.0.1) k.0 (s.1 ∙ ap (λ (n : ℕ). Some (n, s.0.1)) s.3), s.2)
 

@@ -172,8 +172,7 @@ module _ (spec : Spec) (f : Found) (F : IsFound spec f) where
               let l = less in omega arith))))
           | inr other ↦
               ap (λ (n : Node). n.next) (get_or-set_other F.state.nodes way.to k (grown (get_or F.state.nodes way.to no_node)
-              (Capability value_is.0)) no_node other)
-              ∙ (F.nexts k ∙ sym (get_or-set_other f.nexts way.to k (next + 1) 0 other))
+              (Capability value_is.0)) no_node other) ∙ (F.nexts k ∙ sym (get_or-set_other f.nexts way.to k (next + 1) 0 other))
         ]
 
     there_after : (k i : ℕ) (cap : Cap) → HoldsAt (landed f way held) k i cap → content_in lands.new k i ≡ Some (Capability cap)

@@ -9,8 +9,7 @@ use Rattle.cap_model.specs.declared.object.Object.TheVariants as objects
 few_rising : (fit : Cap → Bool) (size : ℕ) (x : ℕ × Cap) (xs : List (ℕ × Cap)) → rise (x ∷ xs) ≡ true
     → list_all (λ (slot : ℕ × Cap). nat_lt slot.0 size && fit slot.1) (x ∷ xs) ≡ true → x.0 + length (x ∷ xs) ≤ size
 few_rising fit size x [] up all =
-    let parts = and_parts (nat_lt x.0 size && fit x.1) true all in
-    let below = (and_parts (nat_lt x.0 size) (fit x.1) parts.0).0 in
+    let below = (and_parts (nat_lt x.0 size) (fit x.1) (and_parts (nat_lt x.0 size && fit x.1) true all).0).0 in
     grind arith
 few_rising fit size x (y ∷ ys) up all =
     let rises = and_parts (nat_lt x.0 y.0) (rise (y ∷ ys)) up in

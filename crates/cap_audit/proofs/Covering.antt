@@ -126,10 +126,7 @@ module _ (spec : Spec) (f : Found) (net : Lanes) (doors : Doors) (H : AreHubs sp
       → Opens spec f net doors new wide (record { grants = filled; replies = doors.replies })
   grants_open a = record {
     widened = a.comes.widened;
-    hubs = record {
-      each = λ passage k. each_hub passage k;
-      as_many = λ passage. many passage;
-    };
+    hubs = record { each = λ passage k. each_hub passage k; as_many = λ passage. many passage };
     fills = record { each = λ passage k. each_fill passage k };
   } where
     each_hub : (passage : Passage) (k : ℕ)
@@ -151,10 +148,7 @@ module _ (spec : Spec) (f : Found) (net : Lanes) (doors : Doors) (H : AreHubs sp
       → Opens spec f net doors new wide (record { grants = doors.grants; replies = filled })
   replies_open a = record {
     widened = a.comes.widened;
-    hubs = record {
-      each = λ passage k. each_hub passage k;
-      as_many = λ passage. many passage;
-    };
+    hubs = record { each = λ passage k. each_hub passage k; as_many = λ passage. many passage };
     fills = record { each = λ passage k. each_fill passage k };
   } where
     each_hub : (passage : Passage) (k : ℕ)
@@ -204,9 +198,8 @@ module _ (spec : Spec) (f : Found) (net : Lanes) (doors : Doors) (H : AreHubs sp
   pub grant_stands : passage ≡ passages.Grant → AddedAt spec f net passage side e member doors.grants new wide filled
       → StandsAt side wide (hub_at (record { grants = filled; replies = doors.replies }) passage e) member.node
   grant_stands is a =
-      subst (λ (p : Passage). StandsAt side wide (hub_at (record { grants = filled; replies = doors.replies }) p e)
-      member.node) (sym is)
-      (stands_here spec f net doors H side e member new wide filled less passages.Grant
+      subst (λ (p : Passage). StandsAt side wide (hub_at (record { grants = filled; replies = doors.replies }) p e) member.node)
+      (sym is) (stands_here spec f net doors H side e member new wide filled less passages.Grant
       (subst (λ (p : Passage). AddedAt spec f net p side e member doors.grants new wide filled) is a))
 
   pub reply_added : passage ≡ passages.Reply → AddedAt spec f net passage side e member doors.replies new wide filled
@@ -218,9 +211,8 @@ module _ (spec : Spec) (f : Found) (net : Lanes) (doors : Doors) (H : AreHubs sp
   pub reply_stands : passage ≡ passages.Reply → AddedAt spec f net passage side e member doors.replies new wide filled
       → StandsAt side wide (hub_at (record { grants = doors.grants; replies = filled }) passage e) member.node
   reply_stands is a =
-      subst (λ (p : Passage). StandsAt side wide (hub_at (record { grants = doors.grants; replies = filled }) p e)
-      member.node) (sym is)
-      (stands_here spec f net doors H side e member new wide filled less passages.Reply
+      subst (λ (p : Passage). StandsAt side wide (hub_at (record { grants = doors.grants; replies = filled }) p e) member.node)
+      (sym is) (stands_here spec f net doors H side e member new wide filled less passages.Reply
       (subst (λ (p : Passage). AddedAt spec f net p side e member doors.replies new wide filled) is a))
 
 -- a root that came to all four

@@ -40,9 +40,8 @@ module _ {A : Type 0} (P : A → Edge → Type 0) (items : List A) where
   pub some_more : (n : ℕ) (item : A) (a b c : Made) → slice_get items n ≡ Some item → Gains (Below (AtPlace P items) n) a b
       → Gains (P item) b c → Gains (Below (AtPlace P items) (n + 1)) a c
   some_more n item a b c here before now =
-      below_more (AtPlace P items) n a b c before
-      (gains_by (P item) (AtPlace P items n) (λ e x. let there = x.there in let is : x.item ≡ item = cc in
-      subst (λ (y : A). P y e) is x.by) b c now)
+      below_more (AtPlace P items) n a b c before (gains_by (P item) (AtPlace P items n) (λ e x. let there = x.there in
+      let is : x.item ≡ item = cc in subst (λ (y : A). P y e) is x.by) b c now)
 
   pub some_all : (n : ℕ) (a b : Made) → length items ≤ n → Gains (Below (AtPlace P items) n) a b → Gains (OfSome P items) a b
   some_all n a b le grown =
@@ -160,8 +159,7 @@ module _ (edges : List Edge) where
   before_all n a b le notes =
       notes_by (IsBefore edges n) (λ e. has edges e ≡ true) (λ e x. has_at edges x.place e x.there)
       (λ e h. let at = at_has edges e h in let l = slice_get_within edges at.0 e at.1 in
-      record { place = at.0; less = omega arith; there = at.1 })
-      a b notes
+      record { place = at.0; less = omega arith; there = at.1 }) a b notes
 
 pub link_only : (labels : List ℕ) (from : ℕ) (a : Authority) (object : ℕ) (none edges : List Edge) → none ≡ []
     → Adds (OfLink labels from a object) none edges

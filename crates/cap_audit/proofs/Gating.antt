@@ -139,8 +139,7 @@ gates_more spec f heads gates new n pair None at before is same =
             let one : pair ≡ other = same_Some pair other (sym at ∙ there_n) in
             let none : ◌≡◌ {A = Option Pick} None (caller_of spec f heads other) =
             subst (λ (p : Pair). ◌≡◌ {A = Option Pick} None (caller_of spec f heads p)) one is in
-            let some = picked spec f wants.Caller other.held cap of wanted in
-            let e = none ∙ (caller_itself spec f heads other itself ∙ some) in
+            let e = none ∙ (caller_itself spec f heads other itself ∙ picked spec f wants.Caller other.held cap of wanted) in
             cc)
       ];
     })

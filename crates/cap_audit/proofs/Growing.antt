@@ -17,8 +17,7 @@ shows_more spec labels s steps more l a m h =
     record {
       front = h.front;
       back = h.back ++ more;
-      parts = ap (λ (xs : List Step). xs ++ more) h.parts
-          ∙ append_assoc h.front h.back more;
+      parts = ap (λ (xs : List Step). xs ++ more) h.parts ∙ append_assoc h.front h.back more;
       state = h.state;
       run = h.run;
       auth = h.auth;
@@ -26,8 +25,7 @@ shows_more spec labels s steps more l a m h =
 
 -- steps behind a run
 pub shows_behind : (spec : Spec) (labels : List ℕ) (s mid : State) (before steps : List Step) (l : ℕ) (a : Authority) (m : ℕ)
-    → Run spec s before mid → Shows spec labels mid steps l a m
-    → Shows spec labels s (before ++ steps) l a m
+    → Run spec s before mid → Shows spec labels mid steps l a m → Shows spec labels s (before ++ steps) l a m
 shows_behind spec labels s mid before steps l a m run h = record {
   front = before ++ h.front;
   back = h.back;
@@ -143,15 +141,13 @@ module _ (spec : Spec) (labels : List ℕ) (f : Found) where
       call_steps = moves.Call t i u j ∷ (moves.Save u ∷ (moves.ReplyTo u (get_or nexts d 0) None ∷ []))
 
       numbers_after : (new : State) (x : Content) → new.nodes ≡ without_at (grown_at made.state.nodes d x) d
-          (node_at made.state d).next → (k : ℕ)
-          → (node_at new k).next ≡ get_or (set nexts d (get_or nexts d 0 + 1)) k 0
+          (node_at made.state d).next → (k : ℕ) → (node_at new k).next ≡ get_or (set nexts d (get_or nexts d 0 + 1)) k 0
       numbers_after new x nodes k =
           let less : d < length made.state.nodes = quiet_node spec made.state made.quiet d (quiet_cnode spec made.state made.quiet
           u d roots.peer_root) in
           let grew : length (grown_at made.state.nodes d x) ≡ length made.state.nodes =
           length-set made.state.nodes d (grown (get_or made.state.nodes d no_node) x) in
-          ap (λ (ns : List Node). (get_or ns k no_node).next) nodes
-          ∙ elim (cases_eq k d) [
+          ap (λ (ns : List Node). (get_or ns k no_node).next) nodes ∙ elim (cases_eq k d) [
             | inl same ↦ rw same (
                 ap (λ (n : Node). n.next) (get_or-set_same (grown_at made.state.nodes d x) d
                 (without (get_or (grown_at made.state.nodes d x) d no_node) (node_at made.state d).next) no_node
@@ -163,8 +159,7 @@ module _ (spec : Spec) (labels : List ℕ) (f : Found) where
                 ap (λ (n : Node). n.next) (get_or-set_other (grown_at made.state.nodes d x) d k
                 (without (get_or (grown_at made.state.nodes d x) d no_node) (node_at made.state d).next) no_node other)
                 ∙ (ap (λ (n : Node). n.next) (get_or-set_other made.state.nodes d k (grown (get_or made.state.nodes d no_node) x)
-                no_node other)
-                ∙ (made.numbers k ∙ sym (get_or-set_other nexts d k (get_or nexts d 0 + 1) 0 other)))
+                no_node other) ∙ (made.numbers k ∙ sym (get_or-set_other nexts d k (get_or nexts d 0 + 1) 0 other)))
           ]
 
       pub made_call : IsMade spec labels f edges (steps ++ call_steps) (set nexts d (get_or nexts d 0 + 1))
@@ -201,9 +196,8 @@ module _ (spec : Spec) (labels : List ℕ) (f : Found) where
 
 -- a report with all edges of an audit between different labels, and no others, is exact
 pub report_exact : (spec : Spec) (labels : List ℕ) (f : Found) (edges : List Edge) (steps : List Step) (nexts : List ℕ)
-    → HoldsNoThread spec → IsMade spec labels f edges steps nexts
-    → ((l : ℕ) (a : Authority) (m : ℕ) → Has edges l a m → l ≢ m) → ((l : ℕ) (a : Authority) (m : ℕ) → Audited spec labels l a m
-    → l ≢ m → Has edges l a m) → IsReport spec labels edges steps
+    → HoldsNoThread spec → IsMade spec labels f edges steps nexts → ((l : ℕ) (a : Authority) (m : ℕ) → Has edges l a m → l ≢ m)
+    → ((l : ℕ) (a : Authority) (m : ℕ) → Audited spec labels l a m → l ≢ m → Has edges l a m) → IsReport spec labels edges steps
 report_exact spec labels f edges steps nexts none made differ all = record {
   reached = λ l a m. (
     λ h. (shows_reach spec labels steps l a m (made.shown l a m h), differ l a m h),

@@ -203,8 +203,7 @@ members_none heads members is = record {
 }
 
 pub members_more : (heads : List ℕ) (members new : List (List ℕ)) (n head : ℕ) → AreMembers heads members n
-    → head ≡ stand_in heads n → new ≡ with_more members head n
-    → AreMembers heads new (n + 1)
+    → head ≡ stand_in heads n → new ≡ with_more members head n → AreMembers heads new (n + 1)
 members_more heads members new n head before head_is is_head =
     let is : new ≡ with_more members (stand_in heads n) n = is_head ∙ ap (λ (x : ℕ). with_more members x n) head_is in
     subst (λ (rows : List (List ℕ)). AreMembers heads rows (n + 1)) (sym is) (record {

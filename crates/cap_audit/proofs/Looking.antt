@@ -66,9 +66,8 @@ link_covers spec f net doors c cap new wide H is links = record {
 
 -- a capability to neither asks for nothing
 pub nothing_covers : (spec : Spec) (f : Found) (net : Lanes) (doors : Doors) (c : ℕ) (cap : Cap) → IsFound spec f
-    → AreWays spec f net → AreHubs spec f net doors
-    → (is_at spec kinds.CNode cap.object ≡ true → ⊥) → (is_at spec kinds.Endpoint cap.object ≡ true → ⊥)
-    → Covers spec f net doors c cap f net doors
+    → AreWays spec f net → AreHubs spec f net doors → (is_at spec kinds.CNode cap.object ≡ true → ⊥)
+    → (is_at spec kinds.Endpoint cap.object ≡ true → ⊥) → Covers spec f net doors c cap f net doors
 nothing_covers spec f net doors c cap F A H none never = record {
   opens = opens_none spec f net doors F A H;
   covered = record {
@@ -178,9 +177,8 @@ module _ (spec : Spec) (f : Found) (net : Lanes) (doors : Doors) (s : IsSearch s
   unfolding HaveGone
   goes_on v c way known there =
       let k = s.found.known c v known in
-      let less : k.0 < length f.queue = slice_get_within f.queue k.0 k.1 k.2 in
-      subst (λ (n : ℕ). is_known f way.to n ≡ true) k.4
-      (s.gone k.0 k.1 way less k.2 (subst (λ (n : ℕ). Contains (ways_from net n) way) (sym k.3) there))
+      subst (λ (n : ℕ). is_known f way.to n ≡ true) k.4 (s.gone k.0 k.1 way (slice_get_within f.queue k.0 k.1 k.2) k.2
+      (subst (λ (n : ℕ). Contains (ways_from net n) way) (sym k.3) there))
 
   by_path : (c d : ℕ) (cap : Cap) → Path net c d → IsFoundAt f c cap → IsFoundAt f d cap
   by_path c d cap path at = record {
@@ -193,9 +191,8 @@ module _ (spec : Spec) (f : Found) (net : Lanes) (doors : Doors) (s : IsSearch s
   is_covered : (c : ℕ) (cap : Cap) → IsFoundAt f c cap → Covered spec net doors c cap
   is_covered c cap at =
       let k = s.found.known c at.value at.known in
-      let less : k.0 < length f.queue = slice_get_within f.queue k.0 k.1 k.2 in
-      subst (λ (n : ℕ). Covered spec net doors n cap) k.3
-      (s.covered k.0 k.1 cap less k.2 (subst (λ (n : ℕ). slice_get f.values n ≡ Some cap) (sym k.4) at.is))
+      subst (λ (n : ℕ). Covered spec net doors n cap) k.3 (s.covered k.0 k.1 cap (slice_get_within f.queue k.0 k.1 k.2) k.2
+      (subst (λ (n : ℕ). slice_get f.values n ≡ Some cap) (sym k.4) at.is))
 
   pub all_found : IsClosed spec (IsFoundAt f)
   all_found = record {

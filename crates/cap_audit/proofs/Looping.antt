@@ -6,8 +6,7 @@ use Rattle.cap_audit.proofs.Gaining.{gains_by, gains_none}
 use Rattle.cap_audit.proofs.Picking.{picked, picked_from}
 
 pub pair_gains : (m new : Made) (pair : Pair) (cap : Cap) → slice_get m.found.values pair.held.value ≡ Some cap
-    → Gains (OfCap m.spec m.labels (label_of m.labels pair.node) cap) m new
-    → Gains (OfPair m.spec m.labels m.found pair) m new
+    → Gains (OfCap m.spec m.labels (label_of m.labels pair.node) cap) m new → Gains (OfPair m.spec m.labels m.found pair) m new
 pair_gains m new pair cap is g =
     gains_by (OfCap m.spec m.labels (label_of m.labels pair.node) cap) (OfPair m.spec m.labels m.found pair)
     (λ e x. subst (λ (y : Cap). OfCap m.spec m.labels (label_of m.labels pair.node) y e) (same_Some x.cap cap (sym x.is ∙ is))
@@ -35,17 +34,14 @@ module _ (m : Made) (rosters members : List (List ℕ)) (gates : List (List Pair
       → OfListening m.spec m.labels m.found m.heads rosters members gates pair e
       → OfSome (λ (door : Pair). OfKinds m.labels rosters members door.node pair.node) (row_at gates pick.cap.object) e
   listen_by pick is e x =
-      let same : x.cap ≡ pick.cap =
-      same_Some x.cap pick.cap (sym x.is ∙ (picked_from m.spec m.found wants.Listener pair.held pick is).0) in
-      subst (λ (y : Cap). OfSome (λ (door : Pair). OfKinds m.labels rosters members door.node pair.node)
-      (row_at gates y.object) e) same x.by
+      subst (λ (y : Cap). OfSome (λ (door : Pair). OfKinds m.labels rosters members door.node pair.node) (row_at gates y.object)
+      e) (same_Some x.cap pick.cap (sym x.is ∙ (picked_from m.spec m.found wants.Listener pair.held pick is).0)) x.by
 
   -- and one whose doesn't
   pub listen_none : pick_of m.spec m.found wants.Listener pair.held ≡ None → (e : Edge)
       → OfListening m.spec m.labels m.found m.heads rosters members gates pair e → e.from ≢ e.to → has m.edges e ≡ true
   listen_none is e x differ = absurd (
-      let some = picked m.spec m.found wants.Listener pair.held x.cap x.is x.wanted in
-      let h = sym is ∙ some in
+      let h = sym is ∙ picked m.spec m.found wants.Listener pair.held x.cap x.is x.wanted in
       cc)
 
   pub no_head : (stand_in m.heads pair.node == pair.node) ≡ false → (e : Edge)

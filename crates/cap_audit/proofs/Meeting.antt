@@ -78,9 +78,8 @@ module _ (spec : Spec) (f : Found) (heads : List ℕ) (rosters members : List (L
   member_place c v nodes places q is are k y there =
       let here : IsQueued f y v =
       r.alike.held_here y v (subst (λ (n : ℕ). IsQueued f n v) (sym (r.are_members.stands c k y there)) q) in
-      let held : Contains (held_by f y) here.pair.held = subst (λ (n : ℕ). Contains (held_by f n) here.pair.held) here.at
-      (r.all.queued here.place here.pair here.there) in
-      are.every k y here.pair.held (subst (λ (xs : List ℕ). slice_get xs k ≡ Some y) (sym is) there) held here.of
+      are.every k y here.pair.held (subst (λ (xs : List ℕ). slice_get xs k ≡ Some y) (sym is) there)
+      (subst (λ (n : ℕ). Contains (held_by f n) here.pair.held) here.at (r.all.queued here.place here.pair here.there)) here.of
 
   module _ (c d v w : ℕ) (nodes others : List ℕ) (callers peers : List Place) (q : IsQueued f c v) (p : IsQueued f d w)
       (is : nodes ≡ row_at members c) (peer_is : others ≡ row_at members d)
@@ -90,8 +89,7 @@ module _ (spec : Spec) (f : Found) (heads : List ℕ) (rosters members : List (L
     kinds_by_places labels e x =
         let b = member_place d w others peers p peer_is are_peers x.at x.by.item x.by.there in
         let a = member_place c v nodes callers q is are x.by.by.at x.by.by.by.item x.by.by.by.there in
-        let here : Between labels rosters a.1.node b.1.node e =
-        subst (λ (n : ℕ). Between labels rosters n b.1.node e) (sym a.3)
+        let here : Between labels rosters a.1.node b.1.node e = subst (λ (n : ℕ). Between labels rosters n b.1.node e) (sym a.3)
         (subst (λ (n : ℕ). Between labels rosters x.by.by.by.item n e) (sym b.3) x.by.by.by.by) in
         record {
           at = b.0;
@@ -140,8 +138,7 @@ module _ (rosters members : List (List ℕ)) (m : Made) (met : List (List ℕ))
       (λ e of differ. are.shown c k.0 d e (subst (λ (xs : List ℕ). slice_get xs k.0 ≡ Some d) is k.1) of differ)
 
   pub greets_new : (c d : ℕ) (new : Made) (more : List (List ℕ)) → Gains (OfKinds m.labels rosters members c d) m new
-      → more ≡ with_more met c d
-      → Greets rosters members (OfKinds m.labels rosters members c d) m new more
+      → more ≡ with_more met c d → Greets rosters members (OfKinds m.labels rosters members c d) m new more
   greets_new c d new more g is = record {
     gains = g;
     are = subst (λ (xs : List (List ℕ)). AreMet m.labels rosters members xs new.edges) (sym is) (record {
@@ -171,15 +168,13 @@ module _ (rosters members : List (List ℕ)) {A : Type 0} (P : A → Edge → Ty
   greets_all n a b met le g = record { gains = some_all P items n a b le g.gains; are = g.are }
 
 pub greets_by : (rosters members : List (List ℕ)) (P Q : Edge → Type 0) → ((e : Edge) → Q e → P e)
-    → (m new : Made) (met : List (List ℕ)) → Greets rosters members P m new met
-    → Greets rosters members Q m new met
+    → (m new : Made) (met : List (List ℕ)) → Greets rosters members P m new met → Greets rosters members Q m new met
 greets_by rosters members P Q from m new met g = record { gains = gains_by P Q from m new g.gains; are = g.are }
 
 -- the first place of a node, one item after the other
 
 pub place_past : (node value : ℕ) (helds : List Held) (i : ℕ) (d : Held) → i < length helds
-    → ((get_or helds i d).value == value) ≡ false
-    → place_in node value (drop i helds) ≡ place_in node value (drop (i + 1) helds)
+    → ((get_or helds i d).value == value) ≡ false → place_in node value (drop i helds) ≡ place_in node value (drop (i + 1) helds)
 place_past node value helds i d less fails =
     let past : place_in node value (get_or helds i d ∷ drop (suc i) helds) ≡ place_in node value (drop (suc i) helds) =
     rw fails refl in

@@ -211,8 +211,7 @@ each_more {A} P xs i d old here k x less h = elim (cases_lt k i) [
   | inl below ↦ old k x below h
   | inr ge ↦ (
       let same : k ≡ i = omega arith in
-      let item : get_or xs k d ≡ x = get_or_from_slice_get xs k x d h in
-      subst (λ (y : A). P y) item (subst (λ (n : ℕ). P (get_or xs n d)) (sym same) here))
+      subst (λ (y : A). P y) (get_or_from_slice_get xs k x d h) (subst (λ (n : ℕ). P (get_or xs n d)) (sym same) here))
 ]
 
 -- a fact on each item
@@ -229,9 +228,8 @@ near_path spec f net c d A (inr joined) = A.joined c d joined
 
 pub lead_path : (spec : Spec) (f : Found) (net : Lanes) (c d : ℕ) → AreWays spec f net → LeadsTo net c d → Path net c d
 lead_path spec f net c d A l =
-    let way = l.has.way in
     path_then net c l.by d (near_path spec f net c l.by A l.from)
-    (along way l.has.there (near_path spec f net way.to d A l.has.to))
+    (along l.has.way l.has.there (near_path spec f net l.has.way.to d A l.has.to))
 
 pub lead_connects : (spec : Spec) (f : Found) (net : Lanes) (c d : ℕ) → IsFound spec f → AreWays spec f net → LeadsTo net c d
     → Connects spec f net c d f net
@@ -257,8 +255,7 @@ module _ (spec : Spec) (f : Found) (net : Lanes) (c d : ℕ) (new : Found) (wide
   joined_both : LeadsTo wide d c → joined.out ≡ wide.out → Unites wide.classes c d joined.classes
       → Connects spec f net c d new joined
   joined_both back out u =
-      let many = x.ways.as_many_classes in
-      let to_back = lead_path spec new wide d c x.ways back in
+      let many = x.ways.as_many_classes in let to_back = lead_path spec new wide d c x.ways back in
       let renamed : Lanes = record { out = wide.out; classes = joined.classes } in
       let same : renamed ≡ joined = ap (λ (o : List (List Way)). record { out = o; classes = joined.classes }) (sym out) in
       subst (λ (n : Lanes). Connects spec f net c d new n) same

@@ -100,11 +100,7 @@ module _ (spec : Spec) (labels : List ℕ) (f : Found) (deed : Deed) (c : ℕ) (
           by = record {
             at = y.0;
             less = slice_get_within tos y.0 y.1 there;
-            by = record {
-              item = y.1;
-              there = there;
-              by = by_both;
-            };
+            by = record { item = y.1; there = there; by = by_both };
           };
         };
       }

@@ -115,9 +115,8 @@ object_found : (spec : Spec) (object : Object) (i : ℕ) (cap : Cap) → keeps s
     → Contains (slots_of (Some object)) (i, cap)
     → (i < (boot_node object).next) × (content_at (boot_node object) i ≡ Some (Capability cap))
 object_found spec (objects.CNode bits slots) i cap kept there =
-    let all = and_parts (nat_lt 0 bits && leb bits 16) (keeps_slots (fits spec) (2 ^ bits) slots) kept in
     let of_slots = and_parts (rise slots) (list_all (λ (slot : ℕ × Cap). nat_lt slot.0 (2 ^ bits) && fits spec slot.1)
-    slots) all.1 in
+    slots) (and_parts (nat_lt 0 bits && leb bits 16) (keeps_slots (fits spec) (2 ^ bits) slots) kept).1 in
     (all_below spec (2 ^ bits) slots i cap of_slots.1 there, slot_found slots i cap of_slots.0 there)
 object_found spec _ i cap kept there = absurd (let w = there.1 in omega arith)
 

@@ -59,17 +59,15 @@ module _ (spec : Spec) (kept : IsKept spec) where
       let b : Gets spec a.new c cap = spread_gets c cap has a.new a.onward.quiet in
       let on = put_on spec b.new b.onward.quiet t c a.number b.number to cap root (stays spec a.new b.new c a.number to b.onward
       a.there) is b.there in
-      subst (λ (n : ℕ). Gets spec s n cap) same
-      (later spec s a.new to.object cap a.onward
+      subst (λ (n : ℕ). Gets spec s n cap) same (later spec s a.new to.object cap a.onward
       (later spec a.new b.new to.object cap b.onward (gets_landed b.new b.onward.quiet to.object cap _ is on)))
   spread_gets d cap (spread.grant t u c to from roots of peer meet may has) s q =
       let a : Gets spec s c to = spread_gets c to of s q in
       let b : Gets spec a.new d from = spread_gets d from peer a.new a.onward.quiet in
       let e : Gets spec b.new c cap = spread_gets c cap has b.new b.onward.quiet in
       let own = stays spec b.new e.new c a.number to e.onward (stays spec a.new b.new c a.number to b.onward a.there) in
-      let listens = stays spec b.new e.new d b.number from e.onward b.there in
       let on = grant_on spec e.new e.onward.quiet t u c d a.number b.number e.number to from cap roots meet may own
-      listens e.there in
+      (stays spec b.new e.new d b.number from e.onward b.there) e.there in
       later spec s a.new d cap a.onward
       (later spec a.new b.new d cap b.onward
       (later spec b.new e.new d cap e.onward (gets_landed e.new e.onward.quiet d cap _ (quiet_cnode spec e.new e.onward.quiet u d
@@ -79,9 +77,8 @@ module _ (spec : Spec) (kept : IsKept spec) where
       let b : Gets spec a.new d from = spread_gets d from peer a.new a.onward.quiet in
       let e : Gets spec b.new d cap = spread_gets d cap has b.new b.onward.quiet in
       let own = stays spec b.new e.new c a.number to e.onward (stays spec a.new b.new c a.number to b.onward a.there) in
-      let listens = stays spec b.new e.new d b.number from e.onward b.there in
-      let on = reply_on spec e.new e.onward.quiet t u c d a.number b.number to from roots meet may own listens e.number cap
-      back e.there in
+      let on = reply_on spec e.new e.onward.quiet t u c d a.number b.number to from roots meet may own
+      (stays spec b.new e.new d b.number from e.onward b.there) e.number cap back e.there in
       later spec s a.new c cap a.onward
       (later spec a.new b.new c cap b.onward
       (later spec b.new e.new c cap e.onward (gets_landed e.new e.onward.quiet c cap _ (quiet_cnode spec e.new e.onward.quiet t c
@@ -143,8 +140,7 @@ module _ (spec : Spec) (kept : IsKept spec) where
       let x : Gets spec (boot spec) maps.root frame = spread_gets maps.root frame maps.has_frame (boot spec)
       (boot_quiet spec kept) in
       let y : Gets spec x.new maps.root space = spread_gets maps.root space maps.has x.new x.onward.quiet in
-      let on =
-      map_on spec y.new y.onward.quiet labels maps.thread maps.root x.number y.number frame space maps.rooted
+      let on = map_on spec y.new y.onward.quiet labels maps.thread maps.root x.number y.number frame space maps.rooted
       (stays spec x.new y.new maps.root x.number frame y.onward x.there) maps.is_frame y.there maps.is in
       rw (from, to) (reaches labels on.0 (label_of labels space.object) a (label_of labels frame.object)
       (onward_then spec (boot spec) y.new on.0 (onward_then spec (boot spec) x.new y.new x.onward y.onward) on.1) (on.4 a conf))
@@ -152,10 +148,9 @@ module _ (spec : Spec) (kept : IsKept spec) where
       let x : Gets spec (boot spec) binds.root binds.irq = spread_gets binds.root binds.irq binds.has_irq (boot spec)
       (boot_quiet spec kept) in
       let y : Gets spec x.new binds.root binds.bound = spread_gets binds.root binds.bound binds.has x.new x.onward.quiet in
-      let on =
-      bind_on spec y.new y.onward.quiet labels binds.thread binds.root x.number y.number binds.irq binds.bound binds.rooted
-      (stays spec x.new y.new binds.root x.number binds.irq y.onward x.there)
-      binds.is_irq y.there binds.is binds.writes in
+      let on = bind_on spec y.new y.onward.quiet labels binds.thread binds.root x.number y.number binds.irq binds.bound
+      binds.rooted (stays spec x.new y.new binds.root x.number binds.irq y.onward x.there) binds.is_irq y.there binds.is
+      binds.writes in
       rw (from, is, to, ← binds.of_irq, ← binds.of_bound) (reaches labels on.0 (label_of labels binds.irq.object)
       authorities.AsyncSend (label_of labels binds.bound.object)
       (onward_then spec (boot spec) y.new on.0 (onward_then spec (boot spec) x.new y.new x.onward y.onward) on.1) on.4)

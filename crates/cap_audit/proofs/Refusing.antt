@@ -22,13 +22,12 @@ slots_rise spec c kept = go (object_at spec c) refl where
 later_number : (slots : List (ℕ × Cap)) (j k : ℕ) (x y : ℕ × Cap) → rise slots ≡ true → j < k → slice_get slots j ≡ Some x
     → slice_get slots k ≡ Some y → x.0 < y.0
 later_number [] j k x y rises less h g = absurd cc
-later_number (z ∷ slots) zero zero x y rises less h g = absurd (omega arith)
-later_number (z ∷ slots) (suc j) zero x y rises less h g = absurd (omega arith)
 later_number (z ∷ slots) zero (suc k) x y rises less h g =
     let same : z ≡ x = cc in
     subst (λ (w : ℕ × Cap). w.0 < y.0) same (above z slots y.0 y.1 rises (at_contains slots y k g))
 later_number (z ∷ slots) (suc j) (suc k) x y rises less h g = later_number slots j k x y (rest_rises z slots rises)
     (omega arith) h g
+later_number (z ∷ slots) _ zero x y rises less h g = absurd (omega arith)
 
 -- no CNode before c holds one
 pub NoneBefore : Spec → ℕ → Type 0

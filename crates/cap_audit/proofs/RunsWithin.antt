@@ -1,6 +1,6 @@
 -- Every step keeps what lies in the Spread there, and so every run from the boot state lies in it.
-use Rattle.cap_audit.proofs.Common.{Acts, AddedBy, Authority, Binds, Bool, Cap, Capability, Contains, Contains-from_lookup, Contains-push_cases, Content, ContentWithin, HasRoot, HaveRoots, Holds, HoldsNoThread, IsWithin, List, Mapped, MayCall}
-use Rattle.cap_audit.proofs.Common.{MayGrant, Meet, Node, None, Option, Owed, Own, Peer, Pending, Rights, Run, Saved, SavedReply, Some, Spec, Spread, State, Step, StepTo, ThreadState, [], added, and_parts, ap, arith, boot, both_rights, called}
+use Rattle.cap_audit.proofs.Common.{Acts, AddedBy, Authority, Binds, Bool, Cap, Capability, Contains, Contains-from_lookup, Contains-push_cases, Content, ContentWithin, HasRoot, HaveRoots, Holds, HoldsNoThread, IsWithin, List, Mapped}
+use Rattle.cap_audit.proofs.Common.{Meet, Node, None, Option, Owed, Own, Peer, Pending, Rights, Run, Saved, SavedReply, Some, Spec, Spread, State, Step, StepTo, ThreadState, [], added, and_parts, ap, arith, boot, both_rights, called}
 use Rattle.cap_audit.proofs.Common.{content_in, dropped, false, from_filter, get_or, grown, grown_at, inl, inr, is_at, is_space_root, kind_confers, lessened, lessened_kind, no_node, no_thread, node_at, nothing_pending, read_write, read_written, refl}
 use Rattle.cap_audit.proofs.Common.{released, replied, saved, set, subst, sym, thread_at, true, waiting, with_pending, without, without_at, ℕ, ◌&&◌, ◌++◌, ◌==◌, ◌||◌, ◌∙◌, ◌∷◌, ◌≡◌}
 use Rattle.authorities.specs.declared.authority.Authority.TheVariants as authorities
@@ -89,8 +89,7 @@ module _ (spec : Spec) where
 
     -- one CNode anew
     node_within : (c : ℕ) (node : Node) → ((i : ℕ) (content : Content) → Contains node.slots (i, content)
-        → ContentWithin spec c content)
-        → IsWithin spec (record s { nodes = set s.nodes c node })
+        → ContentWithin spec c content) → IsWithin spec (record s { nodes = set s.nodes c node })
     node_within c node fine = record {
       contents = λ k i content there. elim (read_written s.nodes c k node no_node) [
         | inl e ↦ w.contents k i content (subst (λ (x : Node). Contains x.slots (i, content)) e there)
@@ -199,9 +198,8 @@ module _ (spec : Spec) where
       (holds_at s w c j cap there)))
 
   grant_within : (s : State) (t c i u j k d : ℕ) (to cap from : Cap) (r : Rights) → IsWithin spec s → Acts s t c
-      → Own (is_at spec kinds.Endpoint) s c i to
-      → to.rights.write && to.rights.grant ≡ true → content_in s c k ≡ Some (Capability cap) → Peer spec s t u j to.object d from
-      → IsWithin spec (added s d (lessened cap r))
+      → Own (is_at spec kinds.Endpoint) s c i to → to.rights.write && to.rights.grant ≡ true
+      → content_in s c k ≡ Some (Capability cap) → Peer spec s t u j to.object d from → IsWithin spec (added s d (lessened cap r))
   grant_within s t c i u j k d to cap from r w acts own may there peer =
       let h : Holds spec c to = holds_at s w c i to own.there in
       let q : Holds spec d from = holds_at s w d j from peer.own.there in
@@ -213,9 +211,8 @@ module _ (spec : Spec) where
 
   -- u owes t a reply
   call_within : (s : State) (t c i u j d : ℕ) (to from : Cap) → IsWithin spec s → Acts s t c
-      → Own (is_at spec kinds.Endpoint) s c i to
-      → to.rights.write && (to.rights.grant || to.rights.reply) ≡ true → Peer spec s t u j to.object d from
-      → IsWithin spec (called s t u from.rights.grant)
+      → Own (is_at spec kinds.Endpoint) s c i to → to.rights.write && (to.rights.grant || to.rights.reply) ≡ true
+      → Peer spec s t u j to.object d from → IsWithin spec (called s t u from.rights.grant)
   call_within s t c i u j d to from w acts own may peer =
       let h : Holds spec c to = holds_at s w c i to own.there in
       let q : Holds spec d from = holds_at s w d j from peer.own.there in
@@ -245,17 +242,13 @@ module _ (spec : Spec) where
   back u c d reply cap rooted caller_rooted owed grants h =
       let callers : owed.calls.root ≡ d = (let e = owed.calls.roots.root in cc) in
       let listeners : owed.calls.peer_root ≡ c = (let e = owed.calls.roots.peer_root in cc) in
-      moves c d cap
-      (λ whole of. subst (λ (n : ℕ). Spread spec n whole) callers
-      (spread.reply reply.caller u owed.calls.peer_root owed.to owed.from owed.calls.roots owed.calls.has owed.calls.peer_has
-      owed.calls.meet owed.calls.may (owed.grants grants)
-      (subst (λ (n : ℕ). Spread spec n whole) (sym listeners) of)))
-      h
+      moves c d cap (λ whole of. subst (λ (n : ℕ). Spread spec n whole) callers (spread.reply reply.caller u owed.calls.peer_root
+      owed.to owed.from owed.calls.roots owed.calls.has owed.calls.peer_has owed.calls.meet owed.calls.may
+      (owed.grants grants) (subst (λ (n : ℕ). Spread spec n whole) (sym listeners) of))) h
 
   reply_within : (s : State) (t c k d : ℕ) (reply : Pending) (cap : Cap) (r : Rights) → IsWithin spec s → Acts s t c
-      → (thread_at s t).pending ≡ Some reply → reply.grants ≡ true
-      → content_in s c k ≡ Some (Capability cap) → (thread_at s reply.caller).root ≡ Some d
-      → IsWithin spec (added (replied s t reply.caller) d (lessened cap r))
+      → (thread_at s t).pending ≡ Some reply → reply.grants ≡ true → content_in s c k ≡ Some (Capability cap)
+      → (thread_at s reply.caller).root ≡ Some d → IsWithin spec (added (replied s t reply.caller) d (lessened cap r))
   reply_within s t c k d reply cap r w acts owes grants there root =
       grows (replied s t reply.caller) (replied_within s t reply.caller w) d (Capability (lessened cap r))
       (lessen d cap r (back t c d reply cap (rooted s w t c acts.root) (rooted s w reply.caller d root) (w.pending t reply owes)
@@ -268,9 +261,8 @@ module _ (spec : Spec) where
       (grows s w c (SavedReply reply) (record { thread = t; root = rooted s w t c acts.root; owed = w.pending t reply owes })) t
 
   saved_within : (s : State) (c i k d : ℕ) (reply : Pending) (cap : Cap) (r : Rights) → IsWithin spec s
-      → content_in s c i ≡ Some (SavedReply reply) → reply.grants ≡ true
-      → content_in s c k ≡ Some (Capability cap) → (thread_at s reply.caller).root ≡ Some d
-      → IsWithin spec (released (added s d (lessened cap r)) c i reply.caller)
+      → content_in s c i ≡ Some (SavedReply reply) → reply.grants ≡ true → content_in s c k ≡ Some (Capability cap)
+      → (thread_at s reply.caller).root ≡ Some d → IsWithin spec (released (added s d (lessened cap r)) c i reply.caller)
   saved_within s c i k d reply cap r w there grants has root =
       let saved : Saved spec c reply = content_at s w c i (SavedReply reply) there in
       released_within (added s d (lessened cap r)) c i reply.caller
@@ -279,8 +271,7 @@ module _ (spec : Spec) where
       (holds_at s w c k cap has))))
 
   map_within : (s : State) (t c i j : ℕ) (frame cap : Cap) (r : Rights) → IsWithin spec s → Acts s t c
-      → Own (is_at spec kinds.Frame) s c i frame → Own (is_space_root spec) s c j cap
-      → IsWithin spec (record s {
+      → Own (is_at spec kinds.Frame) s c i frame → Own (is_space_root spec) s c j cap → IsWithin spec (record s {
         mapped = s.mapped ++ record {
           space = cap.object;
           frame = frame.object;
@@ -396,12 +387,7 @@ module _ (spec : Spec) where
     contents = λ c i content there. (
         let b = boot_content spec c i content there in
         subst (λ (x : Content). ContentWithin spec c x) b.2
-        (record {
-          whole = b.0;
-          rights = b.0.rights;
-          spread = spread.own i b.1;
-          is = sym (lessened_itself b.0);
-        }));
+        (record { whole = b.0; rights = b.0.rights; spread = spread.own i b.1; is = sym (lessened_itself b.0) }));
     roots = λ t. refl;
     spaces = λ t. refl;
     pending = λ u reply is. (let none = nothing_pending spec u in absurd cc);

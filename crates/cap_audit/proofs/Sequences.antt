@@ -63,15 +63,13 @@ module _ (threads : List ThreadState) (t u : ℕ) (g : Bool) (other : t ≢ u) (
   unfolding owing
   called_t =
       get_or-set_same owing t (record (get_or owing t no_thread) { waits = true }) no_thread
-      (subst (λ (n : ℕ). t < n) (sym owing_length) t_less)
-      ∙ ap (λ (x : ThreadState). record x { waits = true }) owing_t
+      (subst (λ (n : ℕ). t < n) (sym owing_length) t_less) ∙ ap (λ (x : ThreadState). record x { waits = true }) owing_t
 
   called_k : (k : ℕ) → k ≢ t → k ≢ u → get_or (called_threads threads t u g) k no_thread ≡ get_or threads k no_thread
   unfolding owing
   called_k k not_t not_u =
-      get_or-set_other owing t k (record (get_or owing t no_thread) { waits = true }) no_thread not_t
-      ∙ get_or-set_other threads u k (record (get_or threads u no_thread) { pending = Some (record { caller = t; grants = g }) })
-      no_thread not_u
+      get_or-set_other owing t k (record (get_or owing t no_thread) { waits = true }) no_thread not_t ∙ get_or-set_other threads u
+      k (record (get_or threads u no_thread) { pending = Some (record { caller = t; grants = g }) }) no_thread not_u
 
   module _ (none : (get_or threads u no_thread).pending ≡ None) (runs : (get_or threads t no_thread).waits ≡ false) where
     answered : List ThreadState
@@ -119,8 +117,7 @@ module _ (spec : Spec) (s : State) (q : Quiet spec s) where
       let is : is_at spec kinds.Thread t ≡ true = (elim (q.fits.threads t).kind [
         | inl none ↦ absurd (
             let a : (thread_at s t).root ≡ Some c = (quiet_acts spec s q t c root).root in
-            let b : (thread_at s t).root ≡ None = ap (λ (x : ThreadState). x.root) none in
-            let e : ◌≡◌ {A = Option ℕ} None (Some c) = sym b ∙ a in
+            let e : ◌≡◌ {A = Option ℕ} None (Some c) = sym (ap (λ (x : ThreadState). x.root) none) ∙ a in
             cc)
         | inr is ↦ is
       ]) in
@@ -169,9 +166,8 @@ module _ (spec : Spec) (s : State) (q : Quiet spec s) where
   }
 
   pub grant_on : (t u c d i j k : ℕ) (to from cap : Cap) → HaveRoots spec t u c d → Meet spec to from → MayGrant to
-      → content_in s c i ≡ Some (Capability to)
-      → content_in s d j ≡ Some (Capability from) → content_in s c k ≡ Some (Capability cap)
-      → Lands spec s d cap (steps.Grant t i u j k all_rights ∷ [])
+      → content_in s c i ≡ Some (Capability to) → content_in s d j ≡ Some (Capability from)
+      → content_in s c k ≡ Some (Capability cap) → Lands spec s d cap (steps.Grant t i u j k all_rights ∷ [])
   grant_on t u c d i j k to from cap roots meet may own listens there =
       copied spec s q d cap (steps.Grant t i u j k all_rights) (
         c,
@@ -274,16 +270,14 @@ module _ (spec : Spec) (s : State) (q : Quiet spec s) where
     abbrev saving : State
     saving = saved (called s t u from.rights.grant) u d owed_reply
 
-    pub save_on : (labels : List ℕ)
-        → (new : State) × (more : Onward spec s new)
+    pub save_on : (labels : List ℕ) → (new : State) × (more : Onward spec s new)
         × (more.steps ≡ steps.Call t i u j ∷ (steps.Save u ∷ (steps.ReplyTo u (node_at s d).next None ∷ [])))
         × Shows spec labels s more.steps (label_of labels u) authorities.Reply (label_of labels t)
         × Shows spec labels s more.steps (label_of labels d) authorities.Reply (label_of labels t)
         × (new.nodes ≡ without_at (grown_at s.nodes d (SavedReply (record { caller = t; grants = from.rights.grant }))) d
         (node_at s d).next)
     save_on labels =
-        let mid = called s t u from.rights.grant in
-        let n = (node_at s d).next in
+        let mid = called s t u from.rights.grant in let n = (node_at s d).next in
         let kept = saved (called s t u from.rights.grant) u d owed_reply in
         let new = released (saved (called s t u from.rights.grant) u d owed_reply) d (node_at s d).next t in
         let less : d < length s.nodes = quiet_node spec s q d (quiet_cnode spec s q u d roots.peer_root) in
@@ -362,10 +356,7 @@ module _ (spec : Spec) (s : State) (q : Quiet spec s) where
         space,
         quiet_acts spec s q t c root,
         record { there = own; is = is },
-        record {
-          there = of;
-          is = is_space;
-        },
+        record { there = of; is = is_space },
         refl,
       ) in (
         new,

@@ -13,7 +13,8 @@ use cap_model::{Cap, Object, Spec};
 use std::alloc::Global;
 use std::collections::BTreeMap;
 
-fn root_of(object: &Object) -> Option<u32>
+/// The root of a thread, none of another object.
+pub(crate) fn root_of(object: &Object) -> Option<u32>
     ensures { result ≡ root_of (Some object.now) }
 {
     match object {

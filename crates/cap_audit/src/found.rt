@@ -135,7 +135,8 @@ fn put_mark(rows: &mut [Marks], c: u32, value: usize)
     }
 }
 
-fn put_next(nexts: &mut [u64], c: u32, next: u64)
+/// Puts the next number of a CNode.
+pub(crate) fn put_next(nexts: &mut [u64], c: u32, next: u64)
     ensures { nexts.new ≡ slice_set nexts.old c next }
 {
     let c = c as usize;

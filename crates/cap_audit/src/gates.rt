@@ -4,15 +4,15 @@ ghost use Rattle.cap_audit.specs.Gains.{IsAll};
 ghost use Rattle.cap_audit.specs.Gates.{AreGates, AreRosters, caller_of, enrolled, gated, with_more};
 ghost use Rattle.cap_audit.specs.Rows.{row_at};
 ghost use Rattle.cap_model.specs.Kept.{IsKept};
-ghost use Rattle.cap_audit.specs.Spread.{root_of};
 ghost use Rattle.cap_audit.specs.Start.{repeated};
-ghost use Rattle.std.specs.Prelude.{◌≡◌, ◌++◌, ◌∷◌, [], IfOk, OnOk, Some, length};
+ghost use Rattle.std.specs.Prelude.{◌≡◌, ◌++◌, ◌∷◌, [], IfOk, OnOk, length};
 
+use crate::begin::root_of;
 use crate::kinds::stand_in;
 use crate::picks::{Pick, Wanted, picked};
 use crate::{Findings, Pair};
 use cam_base::NoMemory;
-use cap_model::{Object, Spec};
+use cap_model::Spec;
 use std::alloc::Global;
 use std::marker::Model;
 
@@ -138,15 +138,6 @@ fn no_gates(alloc: Global, n: usize) -> Result<Vec<Gate>, NoMemory>
         })?;
     }
     Ok(gates)
-}
-
-fn root_of(object: &Object) -> Option<u32>
-    ensures { result ≡ root_of (Some object.now) }
-{
-    match object {
-        Object::Thread(tcb) => tcb.get().cspace,
-        _ => None,
-    }
 }
 
 fn enrol(rosters: &mut [Roster], root: Option<u32>, t: u32) -> Result<(), NoMemory>

@@ -306,31 +306,17 @@ impl Model for Hubs {
     ghost view = { λ h. record { grants = h.grants.items; replies = h.replies.items } };
 }
 
-fn gives(passage: Passage, cap: Cap) -> bool
-    ensures { IsTrue result ↔ Gives passage cap }
-{
-    match passage {
-        Passage::Grant => cap.rights.write && cap.rights.grant,
-        Passage::Reply => cap.rights.read && cap.rights.grant,
-    }
-}
-
-fn takes(passage: Passage, cap: Cap) -> bool
-    ensures { IsTrue result ↔ Takes passage cap }
-{
-    match passage {
-        Passage::Grant => cap.rights.read,
-        Passage::Reply => cap.rights.write && (cap.rights.grant || cap.rights.reply),
-    }
-}
-
 /// Whether a capability to an endpoint allows this.
 fn allows(role: Role, cap: Cap) -> bool
     ensures { IsTrue result ↔ Allows role.passage role.side cap }
 {
-    match role.side {
-        Side::Giving => gives(role.passage, cap),
-        Side::Taking => takes(role.passage, cap),
+    match (role.passage, role.side) {
+        (Passage::Grant, Side::Giving) => cap.rights.write && cap.rights.grant,
+        (Passage::Grant, Side::Taking) => cap.rights.read,
+        (Passage::Reply, Side::Giving) => cap.rights.read && cap.rights.grant,
+        (Passage::Reply, Side::Taking) => {
+            cap.rights.write && (cap.rights.grant || cap.rights.reply)
+        }
     }
 }
 

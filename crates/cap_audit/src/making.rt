@@ -20,6 +20,7 @@ ghost use Rattle.cap_audit.specs.Start.{repeated};
 ghost use Rattle.std.specs.List.{filter_map};
 ghost use Rattle.std.specs.Prelude.{Some, ◌≡◌, ◌==◌, ◌≢◌, ◌<◌, ◌+◌, ℕ, length, slice_get, ◌++◌, ◌∷◌, ◌↔◌, [], true, IfOk, IsTrue, OnOk, slice_set, slice_index};
 
+use crate::found::put_next;
 use crate::gates::{Company, Party, Place, Roster, gates, no_rosters, rosters};
 use crate::kinds::{Kinds, head_roots, members, stand_in};
 use crate::picks::{Pick, Wanted, picked, picks, places};
@@ -75,15 +76,6 @@ impl Deed {
                 j: to.number,
             },
         }
-    }
-}
-
-fn put_next(nexts: &mut [u64], c: u32, next: u64)
-    ensures { nexts.new ≡ slice_set nexts.old c next }
-{
-    let c = c as usize;
-    if c < nexts.len() {
-        nexts[c] = next;
     }
 }
 

@@ -1,7 +1,6 @@
 //! The capabilities of one CNode that a kind of step takes.
 
 ghost use Rattle.cap_audit.specs.Picks.{is_wanted, pick_of, place_in, place_of};
-ghost use Rattle.cap_model.specs.Kinds.{is_space_root};
 ghost use Rattle.cap_audit.specs.Search.{held_by};
 ghost use Rattle.std.specs.List.{filter_map};
 ghost use Rattle.std.specs.Prelude.{◌≡◌, IfOk};
@@ -37,7 +36,9 @@ impl Wanted {
     {
         match self {
             Wanted::Frame => is_kind(spec, cap.object, Kind::Frame),
-            Wanted::Space => is_space(spec, cap.object),
+            Wanted::Space => {
+                (cap.object as usize) < spec.entries.len() && is_root(spec, cap.object)
+            }
             Wanted::Irq => is_kind(spec, cap.object, Kind::Irq),
             Wanted::Bound => is_kind(spec, cap.object, Kind::Notification) && cap.rights.write,
             Wanted::Caller => {
@@ -47,12 +48,6 @@ impl Wanted {
             Wanted::Listener => is_kind(spec, cap.object, Kind::Endpoint) && cap.rights.read,
         }
     }
-}
-
-fn is_space(spec: &Spec, object: u32) -> bool
-    ensures { result ≡ is_space_root spec.now object }
-{
-    (object as usize) < spec.entries.len() && is_root(spec, object)
 }
 
 /// The value as a pick, where it is one of those.
