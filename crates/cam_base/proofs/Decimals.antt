@@ -1,4 +1,5 @@
 -- The digits that are written of a number are a number without leading zeros, of this value.
+use Rattle.std.proofs.Common.{rules}
 use Rattle.cam_base.proofs.Common.{Bool, List, Some, [], and_parts, arith, cond, decimal, decimal_by_steps, decimal_digit, decimal_is_IsNumeral, digits_value, false, fits, is_decimal, is_digit, is_hexadecimal, leb, list_all, nat_lt, nat_tests}
 use Rattle.cam_base.proofs.Common.{number_value, refl, suc, true, zero, ℕ, ◌%◌, ◌++◌, ◌+◌, ◌<◌, ◌==◌, ◌^◌, ◌∙◌, ◌∷◌, ◌≡◌}
 use Rattle.std.proofs.Common.{◌&&◌, ◌||◌}
@@ -56,15 +57,8 @@ pick false w x y e = refl
 long_value : (ds : List ℕ) (n : ℕ) → is_long ds ≡ true → digits_value 10 ds ≡ n → n < 2 ^ 64 → number_value ds ≡ Some n
 unfolding is_long
 long_value [] n e v l = absurd cc
-long_value (b ∷ []) n e v l =
-    let k = and_parts (leb 49 b && leb b 57) true e in
-    fits_some (is_decimal (b ∷ [])) (digits_value 10 (b ∷ [])) n (rw (not_zero_first b k.0, digit_first b k.0) refl) v l
-long_value (b ∷ c ∷ ds) n e v l =
-    let k = and_parts (leb 49 b && leb b 57) (list_all is_digit (c ∷ ds)) e in
-    pick (b == 48) (c == 120 || c == 88) (fits (is_hexadecimal ds) (digits_value 16 ds))
-    (fits (is_decimal (b ∷ c ∷ ds)) (digits_value 10 (b ∷ c ∷ ds))) (not_zero_first b k.0)
-    ∙ fits_some (is_decimal (b ∷ c ∷ ds)) (digits_value 10 (b ∷ c ∷ ds)) n
-    (rw (not_zero_first b k.0, digit_first b k.0, k.1) refl) v l
+long_value (b ∷ []) n e v l = search (rules, and_parts, leb, fits_some, not_zero_first, digit_first)
+long_value (b ∷ c ∷ ds) n e v l = search (rules, and_parts, leb, pick, not_zero_first, fits_some, digit_first)
 
 pub number_value-decimal : (n : ℕ) → n < 2 ^ 64 → number_value (decimal n) ≡ Some n
 number_value-decimal zero l = rw (decimal_digit 0 (omega arith)) refl

@@ -1,4 +1,5 @@
 -- Readers that go to different depths, and what they keep.
+use Rattle.std.proofs.Common.{rules}
 use Rattle.cam_base.proofs.Common.{As, Begins, Bool, Each, Err, Form, Give, List, Many, Meaning, Nested, Ok, One, Or, Reader, Result, Spells, Starts, Stop, Then, TooDeep, Unexpected, [], among, ap, arith, can_be_empty, cases_Bool, decides, deep}
 use Rattle.cam_base.proofs.Common.{either, false, first, further, guarded, inl, inr, left, length, read, refl, starts, subst, suc, suc-add, sym, times, too_deep, true, zero, zero-add, ℕ, ◌++◌, ◌+◌, ◌>>=◌, ◌∙◌, ◌∷◌, ◌≡◌, ◌≤◌, ◌⊎◌}
 use Rattle.cam_base.specs.Reading.{many, read_deep}
@@ -71,10 +72,7 @@ bind_agree (Err d) w f g (inr h) each = inr (rw (← h) refl)
 module _ {T : Type 0} (code : T → ℕ) where
   either_agree : {A : Type 0} (cs : List ℕ) (r r' q q' : Reader T A) (ts : List T) → Agree (r ts) (r' ts) → Agree (q ts) (q' ts)
       → Agree (either code cs r q ts) (either code cs r' q' ts)
-  either_agree cs r r' q q' ts a b = elim (cases_Bool (starts code cs ts)) [
-    | inl h ↦ rw h a
-    | inr h ↦ rw h b
-  ]
+  either_agree cs r r' q q' ts a b = search (rules, cases_Bool)
 
   times_agree : {A : Type 0} (n : ℕ) (cs : List ℕ) (r r' : Reader T A) → ((ts : List T) → Agree (r ts) (r' ts)) → (ts : List T)
       → Agree (times code n cs r ts) (times code n cs r' ts)

@@ -1,4 +1,5 @@
 -- A grammar in which no line stands within itself: nothing in it nests too deep.
+use Rattle.std.proofs.Common.{rules}
 use Rattle.cam_base.proofs.Common.{As, Err, Form, Give, IsTooDeep, List, Many, Nested, Ok, One, Or, Reader, Starts, Stop, Then, Unexpected, [], among, both, cases_Bool, deep, either, ended, first, inl, inr, length, mapped, one, read, refl, starts}
 use Rattle.cam_base.proofs.Common.{suc, sym, times, whole, zero, ℕ, ◌++◌, ◌>>=◌, ◌∙◌, ◌∷◌, ◌≡◌}
 use Rattle.cam_base.specs.Reading.{many, read_deep}
@@ -13,26 +14,13 @@ IsFlat {T = T} r = (ts : List T) (e : Stop) → r ts ≡ Err e → e.why ≡ Une
 module _ {T : Type 0} (code : T → ℕ) where
   one_flat : (cs : List ℕ) → IsFlat (one code cs)
   one_flat cs [] e h = why_is {A = T × List T} _ e h
-  one_flat cs (t ∷ ts) e h = elim (cases_Bool (among cs (code t))) [
-    | inl g ↦ ok_is_not_err (t, ts) e (sym (if_true (among cs (code t)) (Ok (t, ts)) _ g) ∙ h)
-    | inr g ↦ why_is {A = T × List T} _ e (sym (if_false (among cs (code t)) (Ok (t, ts)) _ g) ∙ h)
-  ]
+  one_flat cs (t ∷ ts) e h = search (rules, cases_Bool, ok_is_not_err, if_true, why_is, if_false)
 
   both_flat : {A B : Type 0} (r : Reader T A) (q : Reader T B) → IsFlat r → IsFlat q → IsFlat (both code r q)
-  both_flat r q p p' ts e h = elim (bind_err (r ts) (λ x. q x.1 >>= λ y. Ok ((x.0, y.0), y.1)) e h) [
-    | inl k ↦ p ts e k
-    | inr b ↦ elim (bind_err (q b.0.1) (λ y. Ok ((b.0.0, y.0), y.1)) e b.2) [
-      | inl k ↦ p' b.0.1 e k
-      | inr c ↦
-          ok_is_not_err ((b.0.0, c.0.0), c.0.1) e c.2
-    ]
-  ]
+  both_flat r q p p' ts e h = search (rules, bind_err, ok_is_not_err)
 
   either_flat : {A : Type 0} (cs : List ℕ) (r q : Reader T A) → IsFlat r → IsFlat q → IsFlat (either code cs r q)
-  either_flat cs r q p p' ts e h = elim (cases_Bool (starts code cs ts)) [
-    | inl g ↦ p ts e (sym (if_true (starts code cs ts) (r ts) (q ts) g) ∙ h)
-    | inr g ↦ p' ts e (sym (if_false (starts code cs ts) (r ts) (q ts) g) ∙ h)
-  ]
+  either_flat cs r q p p' ts e h = search (rules, cases_Bool, if_true, if_false)
 
   times_flat : {A : Type 0} (cs : List ℕ) (r : Reader T A) → IsFlat r → (n : ℕ) → IsFlat (times code n cs r)
   times_flat cs r p zero ts e h = ok_is_not_err ([], ts) e h
@@ -54,11 +42,7 @@ module _ {T : Type 0} (code : T → ℕ) where
   many_flat cs r p ts e h = times_flat cs r p (length ts) ts e h
 
   mapped_flat : {A B : Type 0} (f : A → B) (r : Reader T A) → IsFlat r → IsFlat (mapped code f r)
-  mapped_flat f r p ts e h = elim (bind_err (r ts) (λ x. Ok (f x.0, x.1)) e h) [
-    | inl k ↦ p ts e k
-    | inr b ↦
-        ok_is_not_err (f b.0.0, b.0.1) e b.2
-  ]
+  mapped_flat f r p ts e h = search (rules, bind_err, ok_is_not_err)
 
 module _ {T V : Type 0} (code : T → ℕ) (deeper : Reader T V) (flat : IsFlat deeper) where
   flat_read : {A : Type 0} (f : Form T V A) → IsFlat (read code [] deeper f)
@@ -84,14 +68,7 @@ module _ {T V A : Type 0} (code : T → ℕ) (line : Form T V V) (f : Form T V A
 
   -- nor does reading all tokens
   pub flat_whole : (ts : List T) (e : Stop) → whole (read code [] (read_deep code line [] 0) f) ts ≡ Err e → e.why ≡ Unexpected
-  flat_whole ts e h = elim (bind_err (read code [] (read_deep code line [] 0) f ts) (λ x. ended x.0 x.1) e h) [
-    | inl k ↦ flat_part ts e k
-    | inr b ↦ ended_flat b.0.0 b.0.1 b.2
-  ]
-    where
-      ended_flat : (x : A) (rest : List T) → ended x rest ≡ Err e → e.why ≡ Unexpected
-      ended_flat x [] h = ok_is_not_err x e h
-      ended_flat x (t ∷ us) h = why_is {A = A} _ e h
+  flat_whole ts e h = search (rules, bind_err, flat_part, ok_is_not_err, why_is)
 
 -- the line that nothing spells is a line
 pub never_line : {T : Type 0} (code : T → ℕ) → IsLine code never []
@@ -114,7 +91,4 @@ module _ {T : Type 0} (code : T → ℕ) where
   -- nothing nests too deep, at any limit
   pub never_too_deep : {A : Type 0} (f : Form T (Unit {0}) A) (limit : ℕ) (ts : List T) (left : ℕ)
       → IsTooDeep code never f limit ts left → ⊥
-  never_too_deep f limit ts left p =
-      let b = p.begun in
-      p.past (begins_up code (deep code never b.0) (deep code never limit) (λ v us s. absurd (never_spells b.0 v us s))
-      (λ us s. rw (never_begins b.0 us s) (never_nil limit)) f (p.before ++ p.token ∷ []) b.1)
+  never_too_deep f limit ts left p = search (rules, begins_up, never_spells, never_begins, never_nil)

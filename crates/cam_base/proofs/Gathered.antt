@@ -1,4 +1,5 @@
 -- On gather
+use Rattle.std.proofs.Common.{rules}
 use Rattle.cam_base.proofs.Common.{IsIn, List, Some, [], add-one, ap, append_assoc, arith, before, flat_map, gather, get_or, inl, inr, length, map, refl, slice_get, slice_get-get_or, slice_get_read, subst, suc, sym, take, zero, ℕ, ◌++◌, ◌+◌, ◌<◌}
 use Rattle.cam_base.proofs.Common.{◌∙◌, ◌∷◌, ◌≡◌, ◌⊎◌}
 use Rattle.std.proofs.Common.{append-nil}
@@ -48,9 +49,7 @@ from_gather {X} {Y} f y (x ∷ xs) h =
 pub in_gather : {X Y : Type 0} (f : ℕ → X → List Y) (y : Y) (xs : List X) (k : ℕ) (x : X) → slice_get xs k ≡ Some x
     → IsIn y (f k x) → IsIn y (gather f xs)
 in_gather f y [] k x e i = cc
-in_gather {X} f y (z ∷ xs) zero x e i =
-    let same : x ≡ z = cc in
-    let P : X → Type 0 = λ w. IsIn y (f 0 w) in in_left y (f 0 z) (gather (λ k z. f (suc k) z) xs) (subst P same i)
+in_gather {X} f y (z ∷ xs) zero x e i = search (rules, in_left)
 in_gather f y (z ∷ xs) (suc k) x e i = in_right y (f 0 z) (gather (λ k z. f (suc k) z) xs)
     (in_gather (λ k z. f (suc k) z) y xs k x e i)
 
@@ -69,12 +68,7 @@ get_front (y ∷ xs) ys (suc n) x e = get_front xs ys n x e
 pub gathered : {X Y : Type 0} (f : ℕ → X → List Y) (xs : List X) (k : ℕ) (x : X) (j : ℕ) (y : Y) (m : ℕ) → slice_get xs k ≡ Some x
     → slice_get (f k x) j ≡ Some y → m ≡ before f xs k + j → slice_get (gather f xs) m ≡ Some y
 gathered f [] k x j y m e i s = cc
-gathered {X} {Y} f (z ∷ xs) zero x j y m e i s =
-    let same : x ≡ z = cc in
-    let P : X → Type 0 = λ w. slice_get (f 0 w) j ≡ Some y in
-    let here : m ≡ j = omega arith in
-    ap (λ n. slice_get (f 0 z ++ gather (λ k z. f (suc k) z) xs) n) here ∙ get_front (f 0 z) (gather (λ k z. f (suc k) z) xs) j y
-    (subst P same i)
+gathered {X} {Y} f (z ∷ xs) zero x j y m e i s = grind (arith, get_front)
 gathered {X} {Y} f (z ∷ xs) (suc k) x j y m e i s =
     let g : ℕ → X → List Y = λ k z. f (suc k) z in
     let long = length_append (f 0 z) (gather g (take k xs)) in
@@ -151,10 +145,7 @@ from_ones f (z ∷ xs) (suc k) y e = from_ones (λ k z. f (suc k) z) xs k y e
 pub gather_turn : {X Y : Type 0} (f : ℕ → X → List Y) (xs ys : List X) (i : ℕ) (x : X) (old mid new : List Y) → ys ≡ xs
     → i < length ys → x ≡ get_or ys i x
     → mid ≡ old ++ gather f (take i xs) → new ≡ mid ++ f i x → new ≡ old ++ gather f (take (i + 1) xs)
-gather_turn f xs ys i x old mid new same l is e g =
-    let at : slice_get xs i ≡ Some x = subst (λ z. slice_get z i ≡ Some x) same (slice_get_read ys (length ys) i x refl l is) in
-    g ∙ ap (λ z. z ++ f i x) e ∙ append_assoc old (gather f (take i xs)) (f i x)
-    ∙ ap (λ z. old ++ z) (sym (ap (λ k. gather f (take k xs)) (add-one i) ∙ gather_more f xs i x at))
+gather_turn f xs ys i x old mid new same l is e g = search (rules, slice_get_read, append_assoc, add-one, gather_more)
 
 pub gather_same : {X Y : Type 0} (f g : ℕ → X → List Y) (xs : List X) → ((k : ℕ) (x : X) → slice_get xs k ≡ Some x
     → f k x ≡ g k x) → gather f xs ≡ gather g xs

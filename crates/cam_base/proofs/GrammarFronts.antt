@@ -1,4 +1,5 @@
 -- What begins a form is begun in each of its fronts, and what spells it begins it. (No form need be decided for this.)
+use Rattle.std.proofs.Common.{rules}
 use Rattle.cam_base.proofs.Common.{As, Begins, Begun, Each, Form, Give, List, Many, Meaning, Nested, One, Or, Spelled, Spells, Starts, Then, [], ap, append-nil, append_assoc, deep, inl, inr, refl, subst, suc, sym, zero, ℕ, ◌++◌, ◌∙◌, ◌∷◌, ◌≡◌, ◌⊎◌}
 use Rattle.cam_base.proofs.Depth.{begins_nil}
 use Rattle.cam_base.proofs.NumberedLists.{none_left}
@@ -55,12 +56,7 @@ module _ {T V : Type 0} (code : T → ℕ) (m : Meaning T V) (m-nil : m.begins [
   begins_front (Give x) a b e = none_left a b e
   begins_front (One cs) a b (inl e) = inl (none_left a b e)
   begins_front (One cs) [] b (inr s) = inl refl
-  begins_front (One cs) (x ∷ a) b (inr s) = inr (
-    s.0,
-    s.1,
-    ap (λ z. x ∷ z) (none_left a b (tail_is x s.0 (a ++ b) [] s.2))
-        ∙ ap (λ z. z ∷ []) (head_is x s.0 (a ++ b) [] s.2),
-  )
+  begins_front (One cs) (x ∷ a) b (inr s) = search (rules, none_left, tail_is, head_is)
   begins_front (Then f g) a b (inl h) = inl (begins_front f a b h)
   begins_front (Then f g) a b (inr s) = elim (cut a b s.1 s.2 s.3) [
     | inl c ↦ inr (s.0, s.1, c.0, c.1, s.4, begins_front g c.0 b (subst (λ (z : List T). Begins code m g z) c.2 s.5))

@@ -37,14 +37,10 @@ hex_push (y ∷ xs) x a b = let k = and_parts (is_hex_digit y) (list_all is_hex_
 -- what the digits are, one by one from the last
 push_is : (n : ℕ) (ds : List ℕ) → is_hexadecimal ds ≡ true → digits_value 16 ds ≡ n / 16
     → (is_hexadecimal (ds ++ glyph (n % 16) ∷ []) ≡ true) × (digits_value 16 (ds ++ glyph (n % 16) ∷ []) ≡ n)
-push_is n ds h v =
-    let g = glyph_is (n % 16) (omega arith) in
-    (hex_push ds (glyph (n % 16)) h g.0, digits_value_push 16 ds (glyph (n % 16)) ∙ rw (v, g.1) (omega arith))
+push_is n ds h v = grind (arith, glyph_is, hex_push, digits_value_push)
 
 one_is : (n : ℕ) → nat_lt n 16 ≡ true → (is_hexadecimal (glyph n ∷ []) ≡ true) × (digits_value 16 (glyph n ∷ []) ≡ n)
-one_is n e =
-    let g = glyph_is n (ltb-true n 16 e) in
-    (rw (g.0) refl, digits_value_push 16 [] (glyph n) ∙ rw (g.1) (let z : 0 * 16 + n ≡ n = omega arith in z))
+one_is n e = grind (arith, glyph_is, ltb-true, digits_value_push)
 
 -- the digits of a number that has no more than so many
 hex_is : (room n : ℕ) → n < 16 ^ suc room → (is_hexadecimal (hex_digits (suc room) n) ≡ true)

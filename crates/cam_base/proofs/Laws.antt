@@ -1,4 +1,5 @@
 -- What a reader of a form keeps, for each kind of form.
+use Rattle.std.proofs.Common.{rules}
 use Rattle.cam_base.proofs.Common.{Bool, Err, List, Ok, Reader, Result, Stop, [], among, ap, apart, append-nil, append_assoc, arith, both, cases_Bool, cond, either, false, inl, inr, left, length, length-append, mapped, one, refl, starts, subst, sym}
 use Rattle.cam_base.proofs.Common.{true, ℕ, ◌&&◌, ◌++◌, ◌<◌, ◌>>=◌, ◌∙◌, ◌∷◌, ◌≡◌, ◌≤◌, ◌⊎◌}
 use Rattle.cam_base.proofs.TerminalCodes.{if_true, if_false, true_is_not_false, among-left, among-right, starts_none-left, starts_none-right, starts_apart_back}
@@ -104,29 +105,18 @@ IsRead-give {T} {A} code y = record {
 module _ {T : Type 0} (code : T → ℕ) (cs : List ℕ) where
   one_sound : (ts : List T) (x : T × List T) → one code cs ts ≡ Ok x → (among cs (code x.0) ≡ true) × (ts ≡ x.0 ∷ x.1)
   one_sound [] x e = absurd cc
-  one_sound (t ∷ ts) x e = elim (cases_Bool (among cs (code t))) [
-    | inl h ↦ let p = ok_is (t, ts) x (sym (if_true (among cs (code t)) (Ok (t, ts)) _ h) ∙ e) in
-        (rw (← p) h, ap (λ (w : T × List T). w.0 ∷ w.1) p)
-    | inr h ↦ absurd (let q = sym (if_false (among cs (code t)) (Ok (t, ts)) _ h) ∙ e in cc)
-  ]
+  one_sound (t ∷ ts) x e = search (rules, cases_Bool, ok_is, if_true, if_false)
 
   one_takes : (t : T) (ts : List T) → among cs (code t) ≡ true → one code cs (t ∷ ts) ≡ Ok (t, ts)
   one_takes t ts h = if_true (among cs (code t)) (Ok (t, ts)) _ h
 
   one_shorter : (ts : List T) → left (one code cs ts) ≤ length ts
   one_shorter [] = omega arith
-  one_shorter (t ∷ ts) = elim (cases_Bool (among cs (code t))) [
-    | inl h ↦ rw h (omega arith)
-    | inr h ↦ rw h (omega arith)
-  ]
+  one_shorter (t ∷ ts) = grind (arith, cases_Bool)
 
   one_stops : (ts : List T) (e : Stop) → one code cs ts ≡ Err e → e.left ≡ length ts
   one_stops [] e h = sym (ap (λ (f : Stop). f.left) (err_is {A = T × List T} _ e h))
-  one_stops (t ∷ ts) e h = elim (cases_Bool (among cs (code t))) [
-    | inl g ↦ ok_is_not_err (t, ts) e (sym (one_takes t ts g) ∙ h)
-    | inr g ↦
-        sym (ap (λ (f : Stop). f.left) (err_is {A = T × List T} _ e (sym (if_false (among cs (code t)) (Ok (t, ts)) _ g) ∙ h)))
-  ]
+  one_stops (t ∷ ts) e h = search (rules, cases_Bool, ok_is_not_err, one_takes, err_is, if_false)
 
   pub IsRead-one : IsRead code (λ (x : T) (ts : List T). (among cs (code x) ≡ true) × (ts ≡ x ∷ []))
       (λ ts. (ts ≡ []) ⊎ ((t : T) × (among cs (code t) ≡ true) × (ts ≡ t ∷ []))) false cs [] (one code cs)
@@ -183,30 +173,18 @@ module _ {T A B : Type 0} (code : T → ℕ) {S : A → List T → Type 0} {B1 :
   -- the first part ends where the second one goes on
   both_between : (y : B) (b rest : List T) → S' y b → starts code (cond n2 (gs1 ++ gs2) gs2) rest ≡ false
       → starts code gs1 (b ++ rest) ≡ false
-  both_between y [] rest s h =
-      let e : n2 ≡ true = g.null y s in
-      let h' : starts code (gs1 ++ gs2) rest ≡ false = rw (← if_true n2 (gs1 ++ gs2) gs2 e) h in
-      starts_none-left code gs1 gs2 rest h'
+  both_between y [] rest s h = search (rules, if_true, starts_none-left)
   both_between y (t ∷ b) rest s h = starts_apart_back code gs1 fs2 (t ∷ b ++ rest) decided (spelled_starts g y t b s)
 
   both_after : (rest : List T) → starts code (cond n2 (gs1 ++ gs2) gs2) rest ≡ false → starts code gs2 rest ≡ false
-  both_after rest h = elim (cases_Bool n2) [
-    | inl e ↦ starts_none-right code gs1 gs2 rest (rw (← if_true n2 (gs1 ++ gs2) gs2 e) h)
-    | inr e ↦ rw (← if_false n2 (gs1 ++ gs2) gs2 e) h
-  ]
+  both_after rest h = search (rules, cases_Bool, starts_none-right, if_true, if_false)
 
   both_step : (x : A) (ts rest : List T) → r ts ≡ Ok (x, rest) → both code r q ts ≡ (q rest >>= λ y. Ok ((x, y.0), y.1))
   both_step x ts rest e = rw e refl
 
   both_complete : (x : A × B) (a b rest : List T) → S x.0 a → S' x.1 b → starts code (cond n2 (gs1 ++ gs2) gs2) rest ≡ false
       → both code r q ((a ++ b) ++ rest) ≡ Ok (x, rest)
-  both_complete x a b rest s s' h =
-      rw (
-        append_assoc a b rest,
-        f.complete x.0 a (b ++ rest) s (both_between x.1 b rest s' h),
-        g.complete x.1 b rest s'
-            (both_after rest h),
-      ) refl
+  both_complete x a b rest s s' h = search (rules, append_assoc, both_between, both_after)
 
   both_passes : (x : A) (a b more : List T) → S x a → B2 b → left (both code r q ((a ++ b) ++ more)) ≤ length more
   both_passes x a [] more s h =
@@ -219,12 +197,7 @@ module _ {T A B : Type 0} (code : T → ℕ) {S : A → List T → Type 0} {B1 :
       → among (cond n1 (fs1 ++ fs2) fs1) (code t) ≡ true
   both_head x t ts [] b e s h =
       rw (if_true n1 (fs1 ++ fs2) fs1 (f.null x s)) (among-right fs1 fs2 (code t) (g.head t ts (rw e h)))
-  both_head x t ts (u ∷ a) b e s h =
-      let same : t ≡ u = cc in
-      rw same (both_first u (f.head u a (f.begun x (u ∷ a) s)))
-    where
-      both_first : (v : T) → among fs1 (code v) ≡ true → among (cond n1 (fs1 ++ fs2) fs1) (code v) ≡ true
-      both_first v k = elim (cases_Bool n1) [ inl p ↦ rw p (among-left fs1 fs2 (code v) k) | inr p ↦ rw p k ]
+  both_head x t ts (u ∷ a) b e s h = search (rules, cases_Bool, among-left)
 
   pub IsRead-then : IsRead code (λ (x : A × B) (ts : List T). (a : List T) × (b : List T) × (ts ≡ a ++ b) × S x.0 a × S' x.1 b)
       (λ ts. B1 ts ⊎ ((x : A) × (a : List T) × (b : List T) × (ts ≡ a ++ b) × S x a × B2 b))
@@ -293,12 +266,7 @@ module _ {T A : Type 0} (code : T → ℕ) {S : A → List T → Type 0} {B1 : L
 
   either_after : (rest : List T) → starts code either_gs rest ≡ false → (starts code gs1 rest ≡ false)
       × (starts code gs2 rest ≡ false)
-  either_after rest h = elim (cases_Bool n2) [
-    | inl e ↦ let h' = starts_none-right code fs1 (gs1 ++ gs2) rest (rw (← if_true n2 (fs1 ++ (gs1 ++ gs2)) (gs1 ++ gs2) e) h) in
-        (starts_none-left code gs1 gs2 rest h', starts_none-right code gs1 gs2 rest h')
-    | inr e ↦ let h' : starts code (gs1 ++ gs2) rest ≡ false = rw (← if_false n2 (fs1 ++ (gs1 ++ gs2)) (gs1 ++ gs2) e) h in
-        (starts_none-left code gs1 gs2 rest h', starts_none-right code gs1 gs2 rest h')
-  ]
+  either_after rest h = search (rules, cases_Bool, starts_none-right, if_true, starts_none-left, if_false)
 
   complete_first : (x : A) (a rest : List T) → S x a → starts code either_gs rest ≡ false
       → either code fs1 r q (a ++ rest) ≡ Ok (x, rest)

@@ -1,4 +1,5 @@
 -- What lists are made of, where std has no such law.
+use Rattle.std.proofs.Common.{rules}
 use Rattle.cam_base.proofs.Common.{Bool, List, None, Option, Some, [], add-one, and_from, ap, arith, cond, cons_option, drop, false, filter_map, find, flat_map, get_or, length, length-append, list_all, list_any, map, option_or, position_from, refl}
 use Rattle.cam_base.proofs.Common.{slice_get, subst, suc, sym, take, true, zero, ℕ, ◌++◌, ◌+◌, ◌-◌, ◌<◌, ◌||◌, ◌∙◌, ◌∷◌, ◌≡◌, ◌≤◌}
 use Rattle.std.proofs.Math.Seq.{drop-cons}
@@ -122,10 +123,7 @@ from_filter_map {A} {B} f (x ∷ xs) k y h = go (f x) refl h (λ j g. from_filte
 pub to_filter_map : {A B : Type 0} (f : A → Option B) (xs : List A) (i : ℕ) (x : A) (y : B) → slice_get xs i ≡ Some x
     → f x ≡ Some y → (k : ℕ) × (slice_get (filter_map f xs) k ≡ Some y)
 to_filter_map f [] i x y h is = absurd cc
-to_filter_map {A} {B} f (z ∷ xs) zero x y h is =
-    let same : z ≡ x = cc in
-    let here : f z ≡ Some y = ap f same ∙ is in
-    (zero, rw here refl)
+to_filter_map {A} {B} f (z ∷ xs) zero x y h is = search (rules)
 to_filter_map {A} {B} f (z ∷ xs) (suc i) x y h is = go (f z) refl (to_filter_map f xs i x y h is) where
   go : (o : Option B) → f z ≡ o → (k : ℕ) × (slice_get (filter_map f xs) k ≡ Some y)
       → (k : ℕ) × (slice_get (filter_map f (z ∷ xs)) k ≡ Some y)

@@ -28,9 +28,7 @@ named_is text = by_test (is_name text) refl
 
 pub name_short : (text : List ℕ) → is_name text ≡ true → length text ≤ 127
 name_short [] h = omega arith
-name_short (b ∷ bs) h =
-    let l = leb-true (length bs) 126 (and_parts (leb (length bs) 126) (is_letter b && list_all is_word_byte bs) h).0 in
-    omega (arith, l)
+name_short (b ∷ bs) h = grind (arith, leb-true, and_parts, leb)
 
 pub parts_short : (front back : List ℕ) → is_name (front ++ back) ≡ true → length front + length back ≤ 127
 parts_short front back h = omega (arith, name_short (front ++ back) h, length-append front back)

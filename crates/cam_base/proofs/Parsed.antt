@@ -1,4 +1,5 @@
 -- What reading gives is what a parser says.
+use Rattle.std.proofs.Common.{rules}
 use Rattle.cam_base.proofs.Common.{Err, Fails, FileStops, Form, Gives, IfOk, IsFileOf, IsPartOf, List, Ok, PartStops, ReadError, Reader, Result, Spelled, Spells, Stop, TooDeep, Unexpected, Why, [], ap, append_assoc, arith, decides, deep, drop}
 use Rattle.cam_base.proofs.Common.{drop_at, false, further, inl, inr, length, length-append, length-drop, read, read_deep, refl, starts, subst, sym, take, take-append-drop, true, whole, ℕ, ◌++◌, ◌+◌, ◌-◌, ◌∙◌, ◌≡◌, ◌≤◌}
 use Rattle.cam_base.specs.declared.grammar_error.ReadError.TheVariants as errors
@@ -93,9 +94,7 @@ module _ {T V : Type 0} (code : T → ℕ) (line : Form T V V) (opens : List ℕ
   -- and ends at a position
   pub part_at : (x : A) (rest : List T) → read code opens (read_deep code line opens limit) f (drop at ts) ≡ Ok (x, rest)
       → (a : List T) × (drop at ts ≡ a ++ drop (length ts - length rest) ts) × Spells code (deep code line limit) f x a
-  part_at x rest e =
-      let s = found code line opens is f d limit (drop at ts) (x, rest) e in
-      (s.0, subst (λ (w : List T). drop at ts ≡ s.0 ++ w) (sym (rest_is ts at s.0 rest s.1)) s.1, s.2)
+  part_at x rest e = search (rules, found, rest_is)
 
 -- where the rest behind a part begins: at the position and as many tokens on as the part has
 pub part_end : {T : Type 0} (ts a : List T) (at end : ℕ) → at ≤ length ts → end ≤ length ts → drop at ts ≡ a ++ drop end ts

@@ -1,4 +1,5 @@
 -- Sets of codes, as lists.
+use Rattle.std.proofs.Common.{rules}
 use Rattle.cam_base.proofs.Common.{Bool, List, [], among, and_parts, apart, cases_Bool, cond, eqb-true, false, inl, inr, refl, same, starts, true, ℕ, ◌++◌, ◌∷◌, ◌≡◌}
 use Rattle.std.specs.Prelude.{◌==◌}
 
@@ -73,8 +74,4 @@ module _ {T : Type 0} (code : T → ℕ) where
 
   pub starts_apart_back : (cs ds : List ℕ) (ts : List T) → apart cs ds ≡ true → starts code ds ts ≡ true
       → starts code cs ts ≡ false
-  starts_apart_back cs ds ts p e = elim (cases_Bool (starts code cs ts)) [
-    | inl h ↦
-        true_is_not_false _ e (starts_apart cs ds ts p h)
-    | inr h ↦ h
-  ]
+  starts_apart_back cs ds ts p e = search (rules, cases_Bool, true_is_not_false, starts_apart)

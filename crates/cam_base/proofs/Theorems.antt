@@ -1,4 +1,5 @@
 -- What reading a form says of all tokens, and of the tokens from a place on.
+use Rattle.std.proofs.Common.{rules}
 use Rattle.cam_base.proofs.Common.{As, Begins, Each, Err, Form, Give, IsSyntaxError, IsTooDeep, List, Many, Meaning, Nested, Ok, One, Or, Reader, Spelled, Spells, Starts, Stop, Then, TooDeep, Unexpected, [], add-one, add_comm, among, and_parts, ap}
 use Rattle.cam_base.proofs.Common.{apart, append-nil, append_assoc, append_cancel_right, arith, both, can_be_empty, cases_Bool, decides, deep, either, ended, false, first, further, guarded, inl, inr, left, length, length-append, mapped, not, one}
 use Rattle.cam_base.proofs.Common.{read, refl, same, starts, subst, suc, sym, times, too_deep, true, whole, zero, ℕ, ◌&&◌, ◌++◌, ◌+◌, ◌>>=◌, ◌∙◌, ◌∷◌, ◌≡◌, ◌≤◌, ◌⊎◌}
@@ -24,10 +25,7 @@ Past {T} B r = (ts : List T) (e : Stop) → r ts ≡ Err e → e.why ≡ TooDeep
 module _ {T : Type 0} (code : T → ℕ) where
   one_past : (cs : List ℕ) (B : List T → Type 0) → Past B (one code cs)
   one_past cs B [] e h w = too_deep_is_not (sym w ∙ why_is {A = T × List T} _ e h)
-  one_past cs B (t ∷ ts) e h w = elim (cases_Bool (among cs (code t))) [
-    | inl g ↦ ok_is_not_err (t, ts) e (sym (if_true (among cs (code t)) (Ok (t, ts)) _ g) ∙ h)
-    | inr g ↦ too_deep_is_not (sym w ∙ why_is {A = T × List T} _ e (sym (if_false (among cs (code t)) (Ok (t, ts)) _ g) ∙ h))
-  ]
+  one_past cs B (t ∷ ts) e h w = search (rules, cases_Bool, ok_is_not_err, if_true, too_deep_is_not, why_is, if_false)
 
   guarded_past : {A : Type 0} (cs : List ℕ) (B : List T → Type 0) (r : Reader T A) → ((ts : List T) → starts code cs ts ≡ true
       → (e : Stop) → r ts ≡ Err e → e.why ≡ TooDeep → (a : List T) × (t : T) × (rest : List T) × (ts ≡ a ++ t ∷ rest)
@@ -99,18 +97,11 @@ module _ {T : Type 0} (code : T → ℕ) where
   many_past S' B cs r sound p ts e h w = times_past S' B cs r sound p (length ts) ts e h w
 
   map_past : {A B : Type 0} (h : A → B) (B1 : List T → Type 0) (r : Reader T A) → Past B1 r → Past B1 (mapped code h r)
-  map_past h B1 r p ts e k w = elim (bind_err (r ts) (λ x. Ok (h x.0, x.1)) e k) [
-    | inl q ↦ p ts e q w
-    | inr b ↦
-        ok_is_not_err (h b.0.0, b.0.1) e b.2
-  ]
+  map_past h B1 r p ts e k w = search (rules, bind_err, ok_is_not_err)
 
   or_past : {A : Type 0} (cs : List ℕ) (B1 B2 : List T → Type 0) (r q : Reader T A) → Past B1 r → Past B2 q
       → Past (λ ts. B1 ts ⊎ B2 ts) (either code cs r q)
-  or_past cs B1 B2 r q p p' ts e k w = elim (cases_Bool (starts code cs ts)) [
-    | inl g ↦ let z = p ts e (sym (if_true (starts code cs ts) (r ts) (q ts) g) ∙ k) w in (z.0, z.1, z.2, z.3, inl z.4, z.5)
-    | inr g ↦ let z = p' ts e (sym (if_false (starts code cs ts) (r ts) (q ts) g) ∙ k) w in (z.0, z.1, z.2, z.3, inr z.4, z.5)
-  ]
+  or_past cs B1 B2 r q p p' ts e k w = search (rules, cases_Bool, if_true, if_false)
 
 module _ {T V : Type 0} (code : T → ℕ) (m m' : Meaning T V) (up : (v : V) (ts : List T) → m.spells v ts → m'.spells v ts)
     (opens : List ℕ) (deeper : Reader T V)
@@ -180,16 +171,10 @@ module _ {T V : Type 0} (code : T → ℕ) (line : Form T V V) (opens : List ℕ
 
     -- more depth reads the same, where the fault is not the depth
     same_deeper : (limit n : ℕ) (ts : List T) (e : Stop) → at limit ts ≡ Err e → e.why ≡ Unexpected → at (limit + n) ts ≡ Err e
-    same_deeper limit n ts e h w = elim (deep_agree code line opens is limit n f ts) [
-      | inl k ↦ too_deep_is_not (sym k.2 ∙ ap (λ (c : Stop). c.why) (err_is {A = A × List T} k.0 e (sym k.1 ∙ h)) ∙ w)
-      | inr k ↦ sym k ∙ h
-    ]
+    same_deeper limit n ts e h w = search (rules, deep_agree, too_deep_is_not, err_is)
 
     same_deeper_ok : (limit n : ℕ) (ts : List T) (x : A × List T) → at limit ts ≡ Ok x → at (limit + n) ts ≡ Ok x
-    same_deeper_ok limit n ts x h = elim (deep_agree code line opens is limit n f ts) [
-      | inl k ↦ ok_is_not_err x k.0 (sym h ∙ k.1)
-      | inr k ↦ sym k ∙ h
-    ]
+    same_deeper_ok limit n ts x h = search (rules, deep_agree, ok_is_not_err)
 
     -- no deeper reader passes what begins no form
     stuck : (limit n : ℕ) (a : List T) (t : T) (more : List T) → left (at (limit + n) (a ++ t ∷ more)) ≡ suc (length more)
@@ -286,13 +271,7 @@ module _ {T V : Type 0} (code : T → ℕ) (line : Form T V V) (opens : List ℕ
     )
 
     pub whole_found : (limit : ℕ) (ts : List T) (x : A) → whole (at limit) ts ≡ Ok x → Spells code (deep code line limit) f x ts
-    whole_found limit ts x e =
-        let b = bind_ok (at limit ts) (λ x. ended x.0 x.1) x e in
-        let w = whole_ok b.0.0 b.0.1 x b.2 in
-        let s = found limit ts b.0 b.1 in
-        let all : ts ≡ s.0 = s.1 ∙ ap (λ (z : List T). s.0 ++ z) w.0 ∙ append-nil s.0 in
-        subst (λ (y : A). Spells code (deep code line limit) f y ts) w.1
-        (subst (λ (z : List T). Spells code (deep code line limit) f b.0.0 z) (sym all) s.2)
+    whole_found limit ts x e = search (rules, bind_ok, whole_ok, found, append-nil)
 
     pub whole_only : (limit : ℕ) (x : A) (ts : List T) → Spelled code line f x ts
         → ((e : Stop) × (whole (at limit) ts ≡ Err e) × (e.why ≡ TooDeep)) ⊎ (whole (at limit) ts ≡ Ok x)
@@ -334,7 +313,4 @@ module _ {T V : Type 0} (code : T → ℕ) (line : Form T V V) (opens : List ℕ
 
     pub whole_deep : (limit : ℕ) (ts : List T) (e : Stop) → whole (at limit) ts ≡ Err e → e.why ≡ TooDeep
         → IsTooDeep code line f limit ts e.left
-    whole_deep limit ts e h w = elim (bind_err (at limit ts) (λ x. ended x.0 x.1) e h) [
-      | inl k ↦ deep_fault limit ts e k w
-      | inr b ↦ too_deep_is_not (sym w ∙ (whole_err b.0.0 b.0.1 e b.2).4)
-    ]
+    whole_deep limit ts e h w = search (rules, bind_err, deep_fault, too_deep_is_not, whole_err)

@@ -85,10 +85,6 @@ ended x (t ∷ ts) = Err (record { why = Unexpected; left = length (t ∷ ts) })
 abbrev pub whole : {T A : Type 0} → Reader T A → List T → Result A Stop
 whole r ts = r ts >>= λ x. ended x.0 x.1
 
--- what is left behind one token with one of these codes
-abbrev pub after_one : {T : Type 0} → (T → ℕ) → List ℕ → List T → Result (List T) Stop
-after_one code cs ts = one code cs ts >>= λ x. Ok x.1
-
 -- one token with one of these codes, and then what r reads, which alone counts
 abbrev pub behind_one : {T A : Type 0} → (T → ℕ) → List ℕ → Reader T A → Reader T A
 behind_one code cs r = mapped code (λ x. x.1) (both code (one code cs) r)
