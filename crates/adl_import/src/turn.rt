@@ -16,7 +16,7 @@ use adl_ast::{ByteCount, File, SourceFile};
 use adl_lexer::lex_within;
 use adl_parse::parse_file;
 use cam_base::{Code, Fault, List, NoMemory, Place, Refused, SourceError, Text, Token, Unread};
-use cam_io::{Files, WholeError, read_whole};
+use cam_io::{Files, WholeError, read_whole, take_whole};
 use indexmap::IndexMap;
 use std::alloc::Global;
 use std::mem::replace;
@@ -96,6 +96,26 @@ fn fault_where_met(
     Ok(Unread::Fault(fault, in_file.copy(alloc)?))
 }
 
+/// Whether a file is named as a section table, and so may be read as one, too.
+fn is_named_as_table(path: &str) -> bool {
+    path.as_bytes().ends_with(b".sections")
+}
+
+/// The bytes of the file of a path.
+fn read_path<F: Files>(alloc: Global, files: &mut F, path: &str) -> Result<List<u8>, WholeError>
+    ensures kept { KeepsFiles F.told F.faults files.old files.new }
+    ensures read_fault { IsErrOf result WholeError.ReadFault → Rose (F.faults files.old path.now) (F.faults files.new path.now) }
+    ensures limit { IfOk result (λ bytes. length bytes ≤ file_limit) }
+    ensures learned { LearnsOnly F.told (AlikeAsRead path.now) files.old files.new }
+    ensures whole { InAll (F.told files.new) (λ m. IsWhole (map.get m path.now) file_limit result) }
+{
+    if is_named_as_table(path) {
+        read_whole(alloc, files, path, FILE_LIMIT)
+    } else {
+        take_whole(alloc, files, path, FILE_LIMIT)
+    }
+}
+
 /// The bytes of a file.
 fn read_named<F: Files>(alloc: Global, files: &mut F, name: &Text) -> Result<List<u8>, WholeError>
     requires { IsUtf8 name.now }
@@ -105,7 +125,7 @@ fn read_named<F: Files>(alloc: Global, files: &mut F, name: &Text) -> Result<Lis
     ensures learned { LearnsOnly F.told (AlikeAsRead name.now) files.old files.new }
     ensures whole { InAll (F.told files.new) (λ m. IsWhole (map.get m name.now) file_limit result) }
 {
-    read_whole(alloc, files, as_text(name.as_bytes()), FILE_LIMIT)
+    read_path(alloc, files, as_text(name.as_bytes()))
 }
 
 /// Reads, lexes and parses the next file after these.

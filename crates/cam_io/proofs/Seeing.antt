@@ -5,7 +5,7 @@ use Rattle.std.specs.Result.{IfOk}
 use Rattle.cam_io.specs.Seen.{replaced}
 use Rattle.cam_io.specs.declared.files.Got.{Got}
 use Rattle.cam_io.specs.declared.seen.Extent.{Extent}
-use Rattle.cam_io.specs.declared.seen.Extent.TheVariants.{Unasked, Absent, Begun, Whole}
+use Rattle.cam_io.specs.declared.seen.Extent.TheVariants.{Unasked, Begun}
 
 not_this : (b : Bool) (x : Seen) (o : Option Seen) → cond b (Some x) o ≡ None → (b ≡ false) × (o ≡ None)
 not_this true x o e = cc
@@ -243,9 +243,7 @@ pub begun_learns : (x : Extent) (old new : List ℕ) (count : ℕ) → x ≡ Beg
     → option_map (take count) file ≡ option_map (take count) other → HasSeen x new other
 begun_learns Begun old new count e h file other f o same =
     begun_same count new f.0 other h (ap (option_map (take count)) (sym f.1) ∙ same)
-begun_learns Unasked old new count e h file other f o same = cc
-begun_learns Absent old new count e h file other f o same = cc
-begun_learns Whole old new count e h file other f o same = cc
+begun_learns _ old new count e h file other f o same = absurd cc
 
 -- with an entry that has learned so much in place of a name's, contents that are alike in that are told
 pub replaced_learned : (ss : List Seen) (q : List ℕ) (s t : Seen) (count : ℕ) → seen_of ss q ≡ Some s → t.name ≡ s.name
@@ -303,3 +301,9 @@ module _ (first before now : Seen) (e : now.extent ≡ before.extent) (b : now.b
 pub found_there : (lent ss : List Seen) (bytes q : List ℕ) (i : ℕ) → lent ≡ ss → bytes ≡ q → seen_of lent bytes ≡ slice_get lent i
     → seen_of ss q ≡ slice_get ss i
 found_there lent ss bytes q i v b h = sym (ap (seen_of ss) b) ∙ subst (λ (l : List Seen). seen_of l bytes ≡ slice_get l i) v h
+
+-- an entry in the name's place, as functions say it so
+pub set_there : (lent ss : List Seen) (bytes q : List ℕ) (i : ℕ) → lent ≡ ss → bytes ≡ q
+    → ((s : Seen) → slice_set lent i s ≡ replaced lent bytes s) → (s : Seen) → slice_set ss i s ≡ replaced ss q s
+set_there lent ss bytes q i v b h s =
+    subst (λ (l : List Seen). slice_set l i s ≡ replaced l q s) v (h s ∙ ap (λ z. replaced lent z s) b)

@@ -1,12 +1,12 @@
 -- What the host has answered of names: nothing yet, that a name has no file, the bytes at a file's beginning, or all of them. The
 -- first entry of a name is the name's.
-use Rattle.std.specs.Prelude.{◌≡◌, ◌<◌, ℕ, ◌+◌, ◌-◌, cond, List, [], ◌∷◌, ◌++◌, length, take, Option, None, Some}
+use Rattle.std.specs.Prelude.{◌≡◌, ◌<◌, ◌≤◌, ℕ, ◌+◌, ◌-◌, cond, List, [], ◌∷◌, ◌++◌, length, take, Option, None, Some}
 use Rattle.std.specs.FinMap.{empty, get, insert, remove}
 use Rattle.std.specs.Option.{option_map}
 use Rattle.std.specs.Str.{bytes_eq}
 use Rattle.cam_io.specs.Contents.{Contents}
 use Rattle.cam_io.specs.declared.seen.Extent.{Extent}
-use Rattle.cam_io.specs.declared.seen.Extent.TheVariants.{Unasked, Absent, Begun, Whole}
+use Rattle.cam_io.specs.declared.seen.Extent.TheVariants.{Unasked, Absent, Begun, Whole, Given}
 use Rattle.cam_io.specs.declared.seen.Seen.{Seen}
 
 -- the entry of a name
@@ -25,6 +25,7 @@ HasSeen Unasked bytes file = Unit {0}
 HasSeen Absent bytes file = file ≡ None
 HasSeen Begun bytes file = (rest : List ℕ) × (file ≡ Some (bytes ++ rest))
 HasSeen Whole bytes file = file ≡ Some bytes
+HasSeen (Given all) bytes file = file ≡ Some all.value.items
 
 -- of a name of which nothing was seen, any file has it
 abbrev pub HasAny : Option Seen → Option (List ℕ) → Type 0
@@ -37,6 +38,7 @@ whole_of Unasked bytes = None
 whole_of Absent bytes = None
 whole_of Begun bytes = None
 whole_of Whole bytes = Some bytes
+whole_of (Given all) bytes = None
 
 abbrev pub whole_of_any : Option Seen → Option (List ℕ)
 whole_of_any None = None
@@ -62,6 +64,7 @@ with_seen Unasked name bytes m = m
 with_seen Absent name bytes m = remove m name
 with_seen Begun name bytes m = insert m name bytes
 with_seen Whole name bytes m = insert m name bytes
+with_seen (Given all) name bytes m = insert m name all.value.items
 
 -- contents that have what was seen, and nothing else
 abbrev pub least : List Seen → Contents
@@ -74,6 +77,15 @@ IsReached Unasked bytes at = ⊥
 IsReached Absent bytes at = Unit {0}
 IsReached Begun bytes at = at < length bytes
 IsReached Whole bytes at = Unit {0}
+IsReached (Given all) bytes at = ⊥
+
+-- what was seen ends before this place, or was given away
+abbrev pub IsBehind : Extent → List ℕ → ℕ → Type 0
+IsBehind Unasked bytes at = Unit {0}
+IsBehind Absent bytes at = ⊥
+IsBehind Begun bytes at = length bytes ≤ at
+IsBehind Whole bytes at = ⊥
+IsBehind (Given all) bytes at = Unit {0}
 
 -- how many reads may still be wanted before a place is reached
 abbrev pub wanted : Extent → ℕ → ℕ → ℕ
@@ -81,3 +93,4 @@ wanted Unasked count at = at + 2
 wanted Absent count at = 0
 wanted Begun count at = (at + 1) - count
 wanted Whole count at = 0
+wanted (Given all) count at = 0

@@ -5,7 +5,8 @@ ghost use Rattle.std.specs.FinMap as map;
 ghost use Rattle.std.specs.Option.{option_copied};
 ghost use Rattle.std.specs.Prelude.{◌≡◌, ◌<◌, ◌+◌, ℕ, List as Items, Option, length, IfOk, IfSome, OnErr};
 
-use cam_base::Refused;
+use cam_base::{List, NoMemory, Refused};
+use std::alloc::Global;
 use thiserror::Error;
 
 /// A read, a begin or a write failed, and its count of faults rose.
@@ -49,6 +50,18 @@ pub trait Files {
     fn seen(&self, name: &str) -> Option<&[u8]>
         ensures lends { option_copied result ≡ lends self.now name.now }
         ensures told { InAll (told self.now) (λ m. IfSome result (λ bytes. map.get m name.now ≡ Some bytes.now)) };
+
+    /// All bytes of a file, where these files keep them. They needn't keep them from then on: a later read of the name may fail.
+    fn give(&mut self, alloc: Global, name: &str) -> Result<Option<List<u8>>, NoMemory>
+        ensures kept { KeepsFiles told faults self.old self.new }
+        ensures same { InAll (told self.old) (told self.new) }
+        ensures given { IfOk result (λ bytes. bytes ≡ lends self.old name.now) }
+    {
+        match self.seen(name) {
+            Some(bytes) => Ok(Some(List::from_slice(alloc, bytes)?)),
+            None => Ok(None),
+        }
+    }
 
     /// Reads bytes of a file from the byte `at` on: those that all contents have that are told then. `Failed` only where the
     /// count of this name rose. No more of the file is looked at than has room in the buffer.

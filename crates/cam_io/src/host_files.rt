@@ -9,16 +9,20 @@ ghost use Rattle.std.specs.Prelude.{◌≡◌, ◌<◌, ◌≤◌, ◌+◌, leng
 
 use crate::seen::{Seen, place_of};
 use crate::{Failed, Files, Got};
-use cam_base::{NoMemory, Refused};
+use cam_base::{List, NoMemory, Refused};
+use std::alloc::Global;
 
 /// The files of the host. What they answer of a name they keep, and answer again, so that no two of their answers ever
 /// differ, and each file is read once, however often it is asked for. The contents that they tell are those that have all that
-/// was answered. They have one count of faults for all names, which rises at each error.
+/// was answered. Bytes that are given away may be let go: a later read of the name fails. They have one count of faults for all
+/// names, which rises at each error.
 #[derive(Drop)]
 pub struct HostFiles {
     rt: HostRuntime,
     seen: Vec<Seen>,
     faults: u64,
+    /// Whether bytes that are given away aren't kept.
+    lets_go: bool,
 }
 
 impl HostFiles {
@@ -32,6 +36,18 @@ impl HostFiles {
             rt,
             seen,
             faults: 0,
+            lets_go: false,
+        }
+    }
+
+    /// The same, of which bytes that are given away aren't kept.
+    pub fn letting_go(rt: HostRuntime) -> HostFiles
+        ensures told { (m : Contents) → host_told result m }
+        ensures faults { host_faults result ≡ 0 }
+    {
+        HostFiles {
+            lets_go: true,
+            ..HostFiles::new(rt)
         }
     }
 
@@ -118,6 +134,23 @@ impl Files for HostFiles {
     fn seen(&self, name: &str) -> Option<&[u8]> {
         let place = place_of(self.seen.as_slice(), name.as_bytes())?;
         self.seen[place].whole()
+    }
+
+    fn give(&mut self, alloc: Global, name: &str) -> Result<Option<List<u8>>, NoMemory> {
+        let Some(place) = place_of(self.seen.as_slice(), name.as_bytes()) else {
+            return Ok(None);
+        };
+        let entry = &mut self.seen[place];
+        if !self.lets_go {
+            return match entry.whole() {
+                Some(bytes) => Ok(Some(List::from_slice(alloc, bytes)?)),
+                None => Ok(None),
+            };
+        }
+        match entry.give(alloc) {
+            Some(bytes) => Ok(Some(List::from_vec(bytes))),
+            None => Ok(None),
+        }
     }
 
     fn read(&mut self, name: &str, at: u64, buf: &mut [u8]) -> Result<Got, Failed>

@@ -35,6 +35,6 @@ pub use host_outputs::HostOutputs;
 pub use mem_files::MemFiles;
 pub use mem_outputs::MemOutputs;
 pub use outputs::Outputs;
-pub use whole::{WholeError, read_whole, see_whole};
+pub use whole::{WholeError, read_whole, see_whole, take_whole};
 pub use write::write_all;
 pub use writer::Writer;

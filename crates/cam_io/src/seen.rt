@@ -1,10 +1,10 @@
 //! What the host has answered of a name, and reading on from there.
 
 ghost use Rattle.cam_io.specs.Reading.{TookAtMost, IsGot};
-ghost use Rattle.cam_io.specs.Seen.{seen_of, replaced, HasSeen, IsReached, Grows, Learns, wanted, whole_of};
+ghost use Rattle.cam_io.specs.Seen.{seen_of, replaced, HasSeen, IsBehind, IsReached, Grows, Learns, wanted, whole_of};
 ghost use Rattle.cam_io.specs.declared.seen.Seen.{Seen as Entry};
 ghost use Rattle.std.specs.Option.{option_copied};
-ghost use Rattle.std.specs.Prelude.{List as Items, ◌≡◌, ◌<◌, ◌≤◌, ◌+◌, ◌⊎◌, ◌↔◌, ℕ, [], true, false, Option, IfNone, IfOk, IfSome, IsTrue, length, slice_get, slice_set};
+ghost use Rattle.std.specs.Prelude.{List as Items, ◌≡◌, ◌<◌, ◌≤◌, ◌+◌, ◌⊎◌, ◌↔◌, ℕ, [], true, false, Option, IfNone, IfOk, IfSome, IsTrue, length, option_map, slice_get, slice_set};
 
 use crate::named_file::{copy_from, read_from, same};
 use crate::{Failed, Got};
@@ -13,12 +13,14 @@ use std::alloc::Global;
 use std::fs;
 use std::fs::File;
 use std::io::{ErrorKind, Read};
+use std::mem::replace;
+use std::snapshot::Snapshot;
 
 /// How many bytes are read at once.
 const CHUNK: usize = 16384;
 
 /// How much of a file was seen.
-#[derive(Clone, Copy)]
+#[derive(Drop)]
 pub(crate) enum Extent {
     /// Nothing was asked.
     Unasked,
@@ -28,6 +30,8 @@ pub(crate) enum Extent {
     Begun,
     /// All of it.
     Whole,
+    /// All of it, and it was given away.
+    Given(Snapshot<Vec<u8>>),
 }
 
 /// What the host has answered of a name, and the bytes that it gave. A file that was begun stays open, behind these bytes.
@@ -71,11 +75,10 @@ impl Seen {
     /// Whether what was seen answers a read at this place.
     fn is_reached(&self, at: u64) -> bool
         ensures yes { result ≡ true → IsReached self.now.extent self.now.bytes.items at }
-        ensures no { result ≡ false → (self.now.extent ≡ Extent.Unasked)
-            ⊎ ((self.now.extent ≡ Extent.Begun) × (length self.now.bytes.items ≤ at)) }
+        ensures no { result ≡ false → IsBehind self.now.extent self.now.bytes.items at }
     {
         match self.extent {
-            Extent::Unasked => false,
+            Extent::Unasked | Extent::Given(_) => false,
             Extent::Absent | Extent::Whole => true,
             Extent::Begun => at < self.bytes.len() as u64,
         }
@@ -90,7 +93,7 @@ impl Seen {
             → IsGot file at buf.new result }
     {
         match self.extent {
-            Extent::Unasked | Extent::Absent => Got::Absent,
+            Extent::Unasked | Extent::Absent | Extent::Given(_) => Got::Absent,
             Extent::Begun => Got::Bytes(copy_from(self.bytes.as_slice(), at as usize, buf)),
             Extent::Whole => read_from(self.bytes.as_slice(), at, buf),
         }
@@ -271,11 +274,24 @@ impl Seen {
         }
     }
 
+    /// All bytes of the file, where they were seen. They aren't kept from then on.
+    pub(crate) fn give(&mut self, alloc: Global) -> Option<Vec<u8>>
+        ensures name { self.new.name ≡ self.old.name }
+        ensures same { (file : Option (Items ℕ)) → HasSeen self.new.extent self.new.bytes.items file
+            ↔ HasSeen self.old.extent self.old.bytes.items file }
+        ensures given { option_map (λ bytes. bytes.items) result ≡ whole_of self.old.extent self.old.bytes.items }
+    {
+        let Extent::Whole = self.extent else {
+            return None;
+        };
+        self.extent = Extent::Given(Snapshot::of(&self.bytes));
+        Some(replace(&mut self.bytes, Vec::new(alloc)))
+    }
+
     /// Asks whether there is a file, or reads on in it, as much as has room in the buffer.
     fn ask(&mut self, rt: &HostRuntime, name: &str, at: u64, buf: &mut [u8]) -> Result<(), Failed>
         requires some { 0 < length buf.old }
-        requires open { (self.old.extent ≡ Extent.Unasked)
-            ⊎ ((self.old.extent ≡ Extent.Begun) × (length self.old.bytes.items ≤ at)) }
+        requires behind { IsBehind self.old.extent self.old.bytes.items at }
         ensures name { self.new.name ≡ self.old.name }
         ensures grows { Grows self.old self.new }
         ensures learns { Learns self.old self.new (at + length buf.old) }
@@ -284,6 +300,7 @@ impl Seen {
     {
         match self.extent {
             Extent::Unasked => self.open(rt, name),
+            Extent::Given(_) => Err(Failed),
             _ => self.read_on(buf),
         }
     }

@@ -169,3 +169,23 @@ pub fn read_whole<F: Files>(
     let bytes = see_whole(alloc, files, name, limit)?;
     Ok(bytes.into_list(alloc, files, name)?)
 }
+
+/// The bytes of a file of at most `limit` bytes, as `see_whole` sees them. The files needn't keep them: a later read of the name
+/// may fail.
+pub fn take_whole<F: Files>(
+    alloc: Global,
+    files: &mut F,
+    name: &str,
+    limit: u64,
+) -> Result<List<u8>, WholeError>
+    ensures kept { KeepsFiles F.told F.faults files.old files.new }
+    ensures read_fault { IsErrOf result WholeError.ReadFault → Rose (F.faults files.old name.now) (F.faults files.new name.now) }
+    ensures limit { IfOk result (λ bytes. length bytes ≤ limit) }
+    ensures learned { LearnsOnly F.told (HaveSameFront name.now (limit + 1)) files.old files.new }
+    ensures whole { InAll (F.told files.new) (λ m. IsWhole (map.get m name.now) limit result) }
+{
+    match see_whole(alloc, files, name, limit)? {
+        FileBytes::Read(bytes) => Ok(bytes),
+        FileBytes::Kept => Ok(files.give(alloc, name)?.unwrap_or(List::new(alloc))),
+    }
+}

@@ -12,7 +12,7 @@ use std::{env, io};
 
 fn main(rt: HostRuntime) -> io::Result<ExitCode> {
     keep_memory(&rt);
-    let mut files = HostFiles::new(rt.clone()?);
+    let mut files = HostFiles::letting_go(rt.clone()?);
     let mut out = HostOutputs::new(rt.clone()?);
     let status = match words(&rt) {
         Ok(words) => run(rt.alloc(), &words, &mut files, &mut out),
