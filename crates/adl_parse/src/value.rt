@@ -32,7 +32,8 @@ fn starts_nested(at: &Cursor<'_>) -> bool
 }
 
 fn starts_value(at: &Cursor<'_>) -> bool
-    ensures { result ≡ starts token_code (mark_code marks.SquareL ∷ mark_code marks.BraceL ∷ number_code ∷ text_code ∷ []) at.now }
+    ensures { result ≡ starts token_code
+        (mark_code marks.SquareL ∷ mark_code marks.BraceL ∷ number_code ∷ text_code ∷ []) at.now }
 {
     starts_nested(at) || at.next_is(Terminal::Number) || at.next_is(Terminal::Text)
 }
