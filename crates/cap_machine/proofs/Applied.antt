@@ -1,7 +1,8 @@
 -- What `apply` owes beside the change: room for later numbers, and no want of memory where none is taken.
+use Rattle.std.proofs.Common.{rules}
 use Rattle.cap_machine.proofs.Common.{Capability, Change, Content, List, Mapped, NextsFit, Node, Option, SavedReply, State, Step, TakesMemory, ThreadState, Turned, [], ap, arith, changed, get_or, grown, grown_at, inl, inr, no_node, parts, refl, set}
 use Rattle.cap_machine.proofs.Common.{suc, without, without_at, zero, ℕ, ◌+◌, ◌∷◌, ◌≡◌, ◌≤◌, ◌⊎◌}
-use Rattle.cap_machine.specs.declared.change.Change.TheVariants.{Add, Call, Reply, ReplyAdd, Root, Space, Map, Bind, Drop, Save, Release, ReleaseAdd}
+use Rattle.cap_machine.specs.declared.change.Change.TheVariants.{Add, Map, ReplyAdd, Drop, Save, Release, ReleaseAdd}
 use Rattle.cap_machine.specs.Refused.{MayTakeMemory}
 
 -- what is read after a write is what was there, or, at the place itself, what was written
@@ -9,24 +10,12 @@ pub read_written : {A : Type 0} (xs : List A) (i k : ℕ) (v d : A) → (get_or 
     ⊎ ((k ≡ i) × (get_or (set xs i v) k d ≡ v))
 read_written [] i k v d = inl refl
 read_written (x ∷ xs) zero zero v d = inr (refl, refl)
-read_written (x ∷ xs) zero (suc k) v d = inl refl
-read_written (x ∷ xs) (suc i) zero v d = inl refl
-read_written (x ∷ xs) (suc i) (suc k) v d = elim (read_written xs i k v d) [
-  | inl e ↦ inl e
-  | inr e ↦
-      inr (ap (λ n. suc n) e.0, e.1)
-]
+read_written (x ∷ xs) (suc i) (suc k) v d =
+    elim (read_written xs i k v d) [ inl e ↦ inl e | inr e ↦ inr (ap (λ n. suc n) e.0, e.1) ]
+read_written (x ∷ xs) _ _ v d = inl refl
 
 written : (nodes : List Node) (n c : ℕ) (node : Node) → NextsFit nodes n → node.next ≤ 65536 + n → NextsFit (set nodes c node) n
-written nodes n c node fit small = record {
-  fits = λ k.
-      let f : (get_or nodes k no_node).next ≤ 65536 + n = fit.fits k in
-      elim (read_written nodes c k node no_node) [
-        | inl e ↦ let g : (get_or (set nodes c node) k no_node).next ≡ (get_or nodes k no_node).next =
-            ap (λ (x : Node). x.next) e in omega arith
-        | inr e ↦ let g : (get_or (set nodes c node) k no_node).next ≡ node.next = ap (λ (x : Node). x.next) e.1 in omega arith
-      ];
-}
+written nodes n c node fit small = search (rules, read_written, set)
 
 later : (nodes : List Node) (n : ℕ) → NextsFit nodes n → NextsFit nodes (n + 1)
 later nodes n fit = record { fits = λ k. let f : (get_or nodes k no_node).next ≤ 65536 + n = fit.fits k in omega arith }
@@ -40,39 +29,24 @@ drops nodes n c i fit = written nodes n c (without (get_or nodes c no_node) i) f
 
 pub nexts_fit : (s : State) (n : ℕ) (change : Change) → NextsFit s.nodes n → NextsFit (changed s change).nodes (n + 1)
 nexts_fit s n (Add node x) fit = grows s.nodes n node (Capability x) fit
-nexts_fit s n (Call t u grants) fit = later s.nodes n fit
-nexts_fit s n (Reply t caller) fit = later s.nodes n fit
 nexts_fit s n (ReplyAdd t caller node x) fit = grows s.nodes n node (Capability x) fit
-nexts_fit s n (Root thread node) fit = later s.nodes n fit
-nexts_fit s n (Space thread root) fit = later s.nodes n fit
-nexts_fit s n (Map added) fit = later s.nodes n fit
-nexts_fit s n (Bind irq notification) fit = later s.nodes n fit
 nexts_fit s n (Drop node i) fit = drops s.nodes (n + 1) node i (later s.nodes n fit)
 nexts_fit s n (Save t node pending) fit = grows s.nodes n node (SavedReply pending) fit
 nexts_fit s n (Release node i caller) fit = drops s.nodes (n + 1) node i (later s.nodes n fit)
 nexts_fit s n (ReleaseAdd node i caller to x) fit = drops (grown_at s.nodes to (Capability x)) (n + 1) node i
     (grows s.nodes n to (Capability x) fit)
-
-takes_or_not : (y : Change) → TakesMemory y ⊎ (TakesMemory y → ⊥)
-takes_or_not (Add node x) = inl tt
-takes_or_not (Call t u grants) = inr (λ e. e)
-takes_or_not (Reply t caller) = inr (λ e. e)
-takes_or_not (ReplyAdd t caller node x) = inl tt
-takes_or_not (Root thread node) = inr (λ e. e)
-takes_or_not (Space thread root) = inr (λ e. e)
-takes_or_not (Map added) = inl tt
-takes_or_not (Bind irq notification) = inr (λ e. e)
-takes_or_not (Drop node i) = inr (λ e. e)
-takes_or_not (Save t node pending) = inl tt
-takes_or_not (Release node i caller) = inr (λ e. e)
-takes_or_not (ReleaseAdd node i caller to x) = inl tt
+nexts_fit s n _ fit = later s.nodes n fit
 
 -- want of memory comes only where memory is taken
 pub may_take : (step : Step) (y : Change) → (TakesMemory y → MayTakeMemory step) → ((TakesMemory y → ⊥) → ⊥) → MayTakeMemory step
-may_take step y takes must = elim (takes_or_not y) [ inl t ↦ takes t | inr not ↦ absurd (must not) ]
+may_take step (Add node x) takes must = takes tt
+may_take step (ReplyAdd t caller node x) takes must = takes tt
+may_take step (Map more) takes must = takes tt
+may_take step (Save t node pending) takes must = takes tt
+may_take step (ReleaseAdd node i caller to x) takes must = takes tt
+may_take step _ takes must = absurd (must (λ e. e))
 
 -- the state that a change was made to is the changed state
 pub turned : (s : State) (y : Change) (nodes : List Node) (threads : List ThreadState) (irqs : List (Option ℕ))
-    (mapped : List Mapped) → Turned y s (parts nodes threads irqs mapped)
-    → parts nodes threads irqs mapped ≡ changed s y
+    (mapped : List Mapped) → Turned y s (parts nodes threads irqs mapped) → parts nodes threads irqs mapped ≡ changed s y
 turned s y nodes threads irqs mapped t = rw (t.in_nodes, t.in_threads, t.in_irqs, t.in_mapped) refl

@@ -1,4 +1,5 @@
 -- The edges of the boot state are those that the objects are the sources of.
+use Rattle.std.proofs.Common.{rules}
 use Rattle.cap_machine.proofs.Common.{Adds, AsyncSend, Auth, Authority, CNode, Cap, Capability, Contains, Control, Edge, Endpoint, Entry, Frame, Has, Irq, List, Node, None, Notification, Object, OfCap, OfLink, OfObject, OfOption, OfSpec, Option}
 use Rattle.cap_machine.proofs.Common.{Pages, Some, Spec, Thread, ThreadState, [], arith, at_contains, at_entry, boot, boot_irq, boot_node, boot_slot, boot_thread, buffer_of, contains_at, edge, entry_at, entry_object, inl, inr, irq_at, label_of, map}
 use Rattle.cap_machine.proofs.Common.{no_node, no_thread, node_at, none_saved, nothing_pending, of_buffer, of_irq, of_mapped, of_reply, of_root, of_saved, of_space, of_table, refl, slice_get, slot_of, subst, table_of, thread_at, ℕ}
@@ -47,23 +48,12 @@ module _ (spec : Spec) (labels : List ℕ) where
   buffer_place : (t : ℕ) (o : Option Entry) (x : Cap) (e : Edge) → slice_get spec.entries t ≡ o
       → buffer_of (entry_object o) ≡ Some x → OfCap spec labels (label_of labels t) x e → OfSpec spec labels e
   buffer_place t None x e here there of_cap = absurd cc
-  buffer_place t (Some entry) x e here there of_cap = record {
-    place = t;
-    item = entry;
-    there = here;
-    by = buffer_object (label_of labels t) entry.object x e there of_cap;
-  }
+  buffer_place t (Some entry) x e here there of_cap = search (rules, buffer_object)
 
   table_place : (t : ℕ) (o : Option Entry) (i : ℕ) (x : Cap) (e : Edge) → slice_get spec.entries t ≡ o
-      → Contains (table_of (entry_object o)) (i, x) → OfCap spec labels (label_of labels t) x e
-      → OfSpec spec labels e
+      → Contains (table_of (entry_object o)) (i, x) → OfCap spec labels (label_of labels t) x e → OfSpec spec labels e
   table_place t None i x e here c of_cap = absurd (let w = c.1 in omega arith)
-  table_place t (Some entry) i x e here c of_cap = record {
-    place = t;
-    item = entry;
-    there = here;
-    by = table_object (label_of labels t) entry.object i x e c of_cap;
-  }
+  table_place t (Some entry) i x e here c of_cap = search (rules, table_object)
 
   pub auth_source : (l : ℕ) (a : Authority) (m : ℕ) → Auth spec labels (boot spec) l a m → OfSpec spec labels (edge l a m)
   auth_source l a m (inl (c, i, x, there, conf, from, to)) =
@@ -73,56 +63,21 @@ module _ (spec : Spec) (labels : List ℕ) where
           item = found.0;
           there = found.1;
           by = held_object (label_of labels c) found.0.object i x (edge l a m)
-              (subst (λ (n : Node). Contains n.slots (i, Capability x)) found.2 there) (record {
-                from_is = from;
-                conferred = conf;
-                to_is = to;
-              });
+              (subst (λ (n : Node). Contains n.slots (i, Capability x)) found.2 there) (search (rules));
         }
-        | inr none ↦
-            absurd (let c : Contains no_node.slots (i, Capability x) = subst (λ (n : Node). Contains n.slots (i, Capability x))
-            none there in let w = c.1 in omega arith)
+        | inr none ↦ search (rules)
       ]
-  auth_source l a m (inr (of_buffer (t, x, there, conf, from, to))) =
-      buffer_place t (slice_get spec.entries t) x (edge l a m) refl there (record {
-        from_is = from;
-        conferred = conf;
-        to_is = to;
-      })
+  auth_source l a m (inr (of_buffer (t, x, there, conf, from, to))) = search (rules, buffer_place, slice_get)
   auth_source l a m (inr (of_table (p, i, x, there, conf, from, to))) =
-      table_place p (slice_get spec.entries p) i x (edge l a m) refl there (record {
-        from_is = from;
-        conferred = conf;
-        to_is = to;
-      })
+      table_place p (slice_get spec.entries p) i x (edge l a m) refl there (search (rules))
   auth_source l a m (inr (of_root (t, d, there, is, from, to))) =
       elim (at_entry boot_thread spec.entries t no_thread) [
-        | inl found ↦ record {
-          place = t;
-          item = found.0;
-          there = found.1;
-          by = root_object (label_of labels t) found.0.object (edge l a m)
-              (record {
-                some = d;
-                there = subst (λ (n : ThreadState). n.root ≡ Some d) found.2 there;
-                by = record { from_is = from; authority_is = is; to_is = to };
-              });
-        }
+        | inl found ↦ search (rules, root_object)
         | inr none ↦ absurd (let n = subst (λ (n : ThreadState). n.root ≡ Some d) none there in cc)
       ]
   auth_source l a m (inr (of_space (t, d, there, is, from, to))) =
       elim (at_entry boot_thread spec.entries t no_thread) [
-        | inl found ↦ record {
-          place = t;
-          item = found.0;
-          there = found.1;
-          by = space_object (label_of labels t) found.0.object (edge l a m)
-              (record {
-                some = d;
-                there = subst (λ (n : ThreadState). n.space ≡ Some d) found.2 there;
-                by = record { from_is = from; authority_is = is; to_is = to };
-              });
-        }
+        | inl found ↦ search (rules, space_object)
         | inr none ↦ absurd (let n = subst (λ (n : ThreadState). n.space ≡ Some d) none there in cc)
       ]
   auth_source l a m (inr (of_reply (t, reply, there, is, from, to))) = absurd (let none = nothing_pending spec t in cc)
@@ -130,36 +85,17 @@ module _ (spec : Spec) (labels : List ℕ) where
   auth_source l a m (inr (of_mapped (x, there, conf, from, to))) = absurd (let w = there.1 in omega arith)
   auth_source l a m (inr (of_irq (d, n, there, is, from, to))) =
       elim (at_entry boot_irq spec.entries d None) [
-        | inl found ↦ record {
-          place = d;
-          item = found.0;
-          there = found.1;
-          by = irq_object (label_of labels d) found.0.object (edge l a m)
-              (record {
-                some = n;
-                there = subst (λ (o : Option ℕ). o ≡ Some n) found.2 there;
-                by = record { from_is = from; authority_is = is; to_is = to };
-              });
-        }
+        | inl found ↦ search (rules, irq_object)
         | inr none ↦ absurd (let n = subst (λ (o : Option ℕ). o ≡ Some n) none there in cc)
       ]
 
   -- and back
 
   object_auth : (o : ℕ) (entry : Entry) (object : Object) (l : ℕ) (a : Authority) (m : ℕ) → slice_get spec.entries o ≡ Some entry
-      → entry.object ≡ object
-      → OfObject spec labels (label_of labels o) object (edge l a m) → Auth spec labels (boot spec) l a m
+      → entry.object ≡ object → OfObject spec labels (label_of labels o) object (edge l a m) → Auth spec labels (boot spec) l a m
   object_auth o entry (CNode bits slots) l a m here is of =
       let node : node_at (boot spec) o ≡ boot_node entry.object = entry_at boot_node spec.entries o no_node entry here in
-      inl (
-        o,
-        of.item.0,
-        of.item.1,
-        rw (node, is) (boot_contains slots of.place of.item of.there),
-        of.by.conferred,
-        of.by.from_is,
-        of.by.to_is,
-      )
+      search (rules, boot_contains)
   object_auth o entry (Pages level slots) l a m here is of =
       inr (of_table (
         o,

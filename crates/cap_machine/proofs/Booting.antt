@@ -1,6 +1,7 @@
 -- The boot state of a kept spec: it can be made, and fits the spec.
+use Rattle.std.proofs.Common.{rules}
 use Rattle.cap_machine.proofs.Common.{All, Bool, Bootable, CNode, Cap, Capability, Contains, Content, ContentFits, Entry, FitsSpec, Irq, IrqFits, IsKept, List, NextsFit, Node, NodeFits, None, Object, Option, Some, Spec, Thread, ThreadFits}
-use Rattle.cap_machine.proofs.Common.{ThreadState, [], and_parts, ap, arith, at_entry, boot, boot_irq, boot_node, boot_slot, boot_thread, fits, fits_as, get_or, get_or_from_slice_get, if_any, inl, inr, is_at, is_space_root, keeps, keeps_cnode}
+use Rattle.cap_machine.proofs.Common.{ThreadState, [], and_parts, ap, arith, at_entry, boot, boot_irq, boot_node, boot_slot, boot_thread, fits, get_or, get_or_from_slice_get, if_any, inl, inr, is_at, keeps, keeps_cnode}
 use Rattle.cap_machine.proofs.Common.{keeps_slots, kind_at, kind_of_object, leb, length-map, list_all, map, nat_lt, no_node, no_thread, pow_mono, refl, rise, same_kind, slice_get, slice_get_within, subst, sym, true, ℕ, ◌&&◌, ◌^◌, ◌∷◌, ◌≡◌, ◌≤◌}
 use Rattle.std.proofs.lemmas.List.Sums.{AllPass-from_list_all}
 use Rattle.cap_model.specs.declared.kind.Kind.{Kind}
@@ -103,11 +104,7 @@ node_fits spec threads c (CNode bits slots) kept is =
       kind = inr (kind_is spec c kinds.CNode refl is);
       slots = slots_in_spec spec threads slots (cnode_kept spec bits slots kept).fit;
     }
-node_fits spec threads c _ kept is = record {
-  kind = inl refl;
-  slots = λ i content there. absurd (let w = there.1 in
-      omega arith);
-}
+node_fits spec threads c _ kept is = search (rules)
 
 from_option : (test : ℕ → Bool) (o : Option ℕ) (n : ℕ) → if_any test o ≡ true → o ≡ Some n → test n ≡ true
 from_option test None n h is = absurd cc
@@ -115,37 +112,12 @@ from_option test (Some x) n h is = let same : x ≡ n = cc in subst (λ (z : ℕ
 
 thread_fits : (spec : Spec) (threads : List ThreadState) (t : ℕ) (object : Object) → keeps spec object ≡ true
     → kind_at spec t ≡ Some (kind_of_object object) → ThreadFits spec threads t (boot_thread object)
-thread_fits spec threads t (Thread tcb) kept is =
-    let parts = and_parts (leb tcb.prio 255 && if_any (is_at spec kinds.CNode) tcb.cspace) (if_any (is_space_root spec) tcb.vspace
-    && if_any (fits_as spec kinds.Frame) tcb.buffer) kept in
-    let root : if_any (is_at spec kinds.CNode) tcb.cspace ≡ true =
-    (and_parts (leb tcb.prio 255) (if_any (is_at spec kinds.CNode) tcb.cspace) parts.0).1 in
-    let space : if_any (is_space_root spec) tcb.vspace ≡ true =
-    (and_parts (if_any (is_space_root spec) tcb.vspace) (if_any (fits_as spec kinds.Frame) tcb.buffer) parts.1).0 in
-    record {
-      kind = inr (kind_is spec t kinds.Thread refl is);
-      root = λ c h. from_option (is_at spec kinds.CNode) tcb.cspace c root h;
-      space = λ d h. from_option (is_space_root spec) tcb.vspace d space h;
-      pending = λ reply h. absurd cc;
-      holder = λ h. absurd cc;
-    }
-thread_fits spec threads t _ kept is =
-    record {
-      kind = inl refl;
-      root = λ c h. absurd cc;
-      space = λ d h. absurd cc;
-      pending = λ reply h. absurd cc;
-      holder = λ h. absurd cc;
-    }
+thread_fits spec threads t (Thread tcb) kept is = search (rules, and_parts, leb, kind_is, from_option)
+thread_fits spec threads t _ kept is = search (rules)
 
 irq_fits : (spec : Spec) (d : ℕ) (object : Object) → keeps spec object ≡ true → kind_at spec d ≡ Some (kind_of_object object)
     → IrqFits spec d (boot_irq object)
-irq_fits spec d (Irq notification) kept is =
-    record {
-      kind = inr (kind_is spec d kinds.Irq refl is);
-      notification = λ n h. from_option (is_at spec kinds.Notification)
-          notification n kept h;
-    }
+irq_fits spec d (Irq notification) kept is = search (rules, kind_is, from_option)
 irq_fits spec d _ kept is = record { kind = inl refl; notification = λ n h. absurd cc }
 
 pub boot_fits : (spec : Spec) → IsKept spec → FitsSpec spec (boot spec)
@@ -157,30 +129,14 @@ boot_fits spec kept = record {
     | inl found ↦ subst (λ (n : Node). NodeFits spec (boot spec).threads c n) (sym found.2)
         (node_fits spec (boot spec).threads c found.0.object (all_at (λ (e : Entry). keeps spec e.object) spec.entries c found.0
         kept.objects found.1) (there_is spec c found.0 found.1))
-    | inr none ↦
-        record {
-          kind = inl none;
-          slots = λ i content there. absurd (let c : Contains no_node.slots (i, content) = subst
-              (λ (n : Node). Contains n.slots (i, content)) none there in let w = c.1 in omega arith);
-        }
+    | inr none ↦ search (rules)
   ];
   threads = λ t. elim (at_entry boot_thread spec.entries t no_thread) [
-    | inl found ↦ subst (λ (x : ThreadState). ThreadFits spec (boot spec).threads t x) (sym found.2)
-        (thread_fits spec (boot spec).threads t found.0.object (all_at (λ (e : Entry). keeps spec e.object) spec.entries t found.0
-        kept.objects found.1) (there_is spec t found.0 found.1))
-    | inr none ↦ subst (λ (x : ThreadState). ThreadFits spec (boot spec).threads t x) (sym none)
-        (record {
-          kind = inl refl;
-          root = λ c h. absurd cc;
-          space = λ d h. absurd cc;
-          pending = λ reply h. absurd cc;
-          holder = λ h. absurd cc;
-        })
+    | inl found ↦ search (rules, thread_fits, all_at, there_is)
+    | inr none ↦ search (rules)
   ];
   irqs = λ d. elim (at_entry boot_irq spec.entries d None) [
-    | inl found ↦ subst (λ (x : Option ℕ). IrqFits spec d x) (sym found.2)
-        (irq_fits spec d found.0.object (all_at (λ (e : Entry). keeps spec e.object) spec.entries d found.0 kept.objects found.1)
-        (there_is spec d found.0 found.1))
+    | inl found ↦ search (rules, irq_fits, all_at, there_is)
     | inr none ↦ subst (λ (x : Option ℕ). IrqFits spec d x) (sym none)
         (record { kind = inl refl; notification = λ n h. absurd cc })
   ];

@@ -1,8 +1,9 @@
 -- A step leads from a state that fits the spec to one that fits it.
-use Rattle.cap_machine.proofs.Common.{Bind, Bool, Call, Capability, Contains, Content, ContentFits, Drop, FitsSpec, Grant, IrqFits, IsSome, List, Map, Mapped, MappedFits, Node, NodeFits, None, Option, Pending, Put, Reply, ReplyFits, ReplyTo, Save}
+use Rattle.std.proofs.Common.{rules}
+use Rattle.cap_machine.proofs.Common.{Bind, Bool, Call, Capability, Contains, Content, ContentFits, Drop, FitsSpec, Grant, IsSome, List, Map, Mapped, MappedFits, Node, NodeFits, None, Option, Pending, Put, Reply, ReplyFits, ReplyTo, Save}
 use Rattle.cap_machine.proofs.Common.{SavedReply, SetCspace, SetVspace, Some, Spec, State, Step, StepTo, Take, ThreadFits, ThreadState, [], added, ap, arith, content_in, dropped, false, filter, get_or, grown, grown_at, inl, inr, is_at, is_space_root}
-use Rattle.cap_machine.proofs.Common.{length-set, lessened, no_node, no_thread, node_at, refl, replied, set, subst, sym, thread_at, true, waiting, with_pending, with_root, with_space, without, without_at, ℕ, ◌==◌, ◌∷◌, ◌≡◌, ◌⊎◌}
-use Rattle.std.proofs.lemmas.List.Elements.{Contains-append_cases, Contains-append_left, Contains-append_right, Contains-push, Contains-push_cases}
+use Rattle.cap_machine.proofs.Common.{length-set, lessened, no_thread, node_at, refl, replied, set, subst, sym, thread_at, true, waiting, with_pending, with_root, with_space, without, without_at, ℕ, ◌==◌, ◌∷◌, ◌≡◌, ◌⊎◌}
+use Rattle.std.proofs.lemmas.List.Elements.{Contains-append_left, Contains-append_right, Contains-push, Contains-push_cases}
 use Rattle.std.proofs.lemmas.Map.Views.{Contains-from_lookup}
 use Rattle.cap_model.specs.declared.kind.Kind.TheVariants as kinds
 use Rattle.cap_machine.proofs.Applied.{read_written}
@@ -16,20 +17,13 @@ pub first : {A : Type 0} (x : A) (xs : List A) (y : A) → x ≡ y → Contains 
 first {A} x xs y same = subst (λ (z : A). Contains (x ∷ xs) z) same (Contains-append_left (x ∷ []) xs x (Contains-push [] x))
 
 pub first_or_behind : {A : Type 0} (x : A) (xs : List A) (y : A) → Contains (x ∷ xs) y → (x ≡ y) ⊎ Contains xs y
-first_or_behind x xs y there = elim (Contains-append_cases (x ∷ []) xs y there) [
-  | inl h ↦
-      elim (Contains-push_cases [] x y h) [ inl none ↦ absurd (let w = none.1 in omega arith) | inr same ↦ inl same ]
-  | inr h ↦ inr h
-]
+first_or_behind x xs y there = grind (arith)
 
 pub from_filter : {A : Type 0} (p : A → Bool) (xs : List A) (y : A) → Contains (filter p xs) y → Contains xs y
 from_filter p [] y there = there
 from_filter {A} p (x ∷ xs) y there = go (p x) refl (from_filter p xs y) where
   go : (b : Bool) → p x ≡ b → (Contains (filter p xs) y → Contains xs y) → Contains (x ∷ xs) y
-  go true h rest =
-      let here : Contains (x ∷ filter p xs) y = (let e : filter p (x ∷ xs) ≡ x ∷ filter p xs = rw h refl in
-      subst (λ (zs : List A). Contains zs y) e there) in
-      elim (first_or_behind x (filter p xs) y here) [ inl same ↦ first x xs y same | inr more ↦ behind x xs y (rest more) ]
+  go true h rest = search (rules, first_or_behind, first, behind)
   go false h rest = let here : Contains (filter p xs) y = (let e : filter p (x ∷ xs) ≡ filter p xs = rw h refl in
       subst (λ (zs : List A). Contains zs y) e there) in behind x xs y (rest here)
 
@@ -77,33 +71,16 @@ module _ (spec : Spec) where
   -- one CNode anew
   with_node : (s : State) (c : ℕ) (node : Node) → FitsSpec spec s → NodeFits spec s.threads c node
       → FitsSpec spec (record s { nodes = set s.nodes c node })
-  with_node s c node f fine = record {
-    as_many_nodes = rw (length-set s.nodes c node) f.as_many_nodes;
-    as_many_threads = f.as_many_threads;
-    as_many_irqs = f.as_many_irqs;
-    nodes = λ k. elim (read_written s.nodes c k node no_node) [
-      | inl e ↦ subst (λ (x : Node). NodeFits spec s.threads k x) (sym e) (f.nodes k)
-      | inr e ↦ subst (λ (x : Node). NodeFits spec s.threads k x) (sym e.1) (subst (λ (n : ℕ). NodeFits spec s.threads n node)
-          (sym e.0) fine)
-    ];
-    threads = f.threads;
-    irqs = f.irqs;
-    mapped = f.mapped;
-  }
+  with_node s c node f fine = search (rules, length-set, read_written)
 
   roots_kept : (threads : List ThreadState) (t : ℕ) (thread : ThreadState) → (IsSome (get_or threads t no_thread).root
       → IsSome thread.root) → Roots threads (set threads t thread)
   unfolding Roots
-  roots_kept threads t thread keeps k rooted = elim (read_written threads t k thread no_thread) [
-    | inl e ↦ subst (λ (x : ThreadState). IsSome x.root) (sym e) rooted
-    | inr e ↦ subst (λ (x : ThreadState). IsSome x.root) (sym e.1)
-        (keeps (subst (λ (n : ℕ). IsSome (get_or threads n no_thread).root) e.0 rooted))
-  ]
+  roots_kept threads t thread keeps k rooted = search (rules, read_written)
 
   -- one thread anew
   with_thread : (s : State) (t : ℕ) (thread : ThreadState) → FitsSpec spec s → (IsSome (thread_at s t).root → IsSome thread.root)
-      → ThreadFits spec s.threads t thread
-      → FitsSpec spec (record s { threads = set s.threads t thread })
+      → ThreadFits spec s.threads t thread → FitsSpec spec (record s { threads = set s.threads t thread })
   with_thread s t thread f keeps fine =
       let roots : Roots s.threads (set s.threads t thread) = roots_kept s.threads t thread keeps in
       record {
@@ -111,13 +88,7 @@ module _ (spec : Spec) where
         as_many_threads = rw (length-set s.threads t thread) f.as_many_threads;
         as_many_irqs = f.as_many_irqs;
         nodes = λ c. node_moves s.threads (set s.threads t thread) roots c (node_at s c) (f.nodes c);
-        threads = λ k. elim (read_written s.threads t k thread no_thread) [
-          | inl e ↦ subst (λ (x : ThreadState). ThreadFits spec (set s.threads t thread) k x) (sym e)
-              (thread_moves s.threads (set s.threads t thread) roots k (thread_at s k) (f.threads k))
-          | inr e ↦ subst (λ (x : ThreadState). ThreadFits spec (set s.threads t thread) k x) (sym e.1)
-              (subst (λ (n : ℕ). ThreadFits spec (set s.threads t thread) n thread) (sym e.0)
-              (thread_moves s.threads (set s.threads t thread) roots t thread fine))
-        ];
+        threads = search (rules, read_written, set, thread_moves);
         irqs = f.irqs;
         mapped = f.mapped;
       }
@@ -125,10 +96,7 @@ module _ (spec : Spec) where
   -- what acts, and what is named
 
   is_thread : (s : State) (t c : ℕ) → FitsSpec spec s → (thread_at s t).root ≡ Some c → is_at spec kinds.Thread t ≡ true
-  is_thread s t c f rooted = elim (f.threads t).kind [
-    | inl none ↦ absurd (none_not c (subst (λ (x : ThreadState). x.root ≡ Some c) none rooted))
-    | inr is ↦ is
-  ]
+  is_thread s t c f rooted = search (rules, none_not)
 
   is_cnode : (s : State) (t c : ℕ) → FitsSpec spec s → (thread_at s t).root ≡ Some c → is_at spec kinds.CNode c ≡ true
   is_cnode s t c f rooted = (f.threads t).root c rooted
@@ -142,8 +110,7 @@ module _ (spec : Spec) where
   -- the changes
 
   adds : (s : State) (c : ℕ) (content : Content) → FitsSpec spec s → is_at spec kinds.CNode c ≡ true
-      → ContentFits spec s.threads content
-      → FitsSpec spec (record s { nodes = grown_at s.nodes c content })
+      → ContentFits spec s.threads content → FitsSpec spec (record s { nodes = grown_at s.nodes c content })
   adds s c content f is fine = with_node s c (grown (node_at s c) content) f (record {
     kind = inr is;
     slots = λ i x there. elim (Contains-push_cases (node_at s c).slots ((node_at s c).next, content) (i, x) there) [
@@ -174,53 +141,19 @@ module _ (spec : Spec) where
 
   owes_none : (s : State) (t : ℕ) → FitsSpec spec s → is_at spec kinds.Thread t ≡ true
       → FitsSpec spec (record s { threads = with_pending s.threads t None })
-  owes_none s t f is =
-      let old : ThreadFits spec s.threads t (thread_at s t) = f.threads t in
-      with_thread s t (record (thread_at s t) { pending = None }) f (λ h. h) (record {
-        kind = inr is;
-        root = old.root;
-        space = old.space;
-        pending = λ reply h. absurd (none_not reply h);
-        holder = λ h. absurd cc;
-      })
+  owes_none s t f is = search (rules, with_thread, none_not)
 
   owes : (s : State) (t c : ℕ) (reply : Pending) → FitsSpec spec s → (thread_at s t).root ≡ Some c
-      → ReplyFits spec s.threads reply
-      → FitsSpec spec (record s { threads = with_pending s.threads t (Some reply) })
-  owes s t c reply f rooted fine =
-      let old : ThreadFits spec s.threads t (thread_at s t) = f.threads t in
-      with_thread s t (record (thread_at s t) { pending = Some reply }) f (λ h. h)
-      (record {
-        kind = inr (is_thread s t c f rooted);
-        root = old.root;
-        space = old.space;
-        pending = λ x h. let same : reply ≡ x = cc in subst (λ (z : Pending). ReplyFits spec s.threads z) same fine;
-        holder = λ h. some_is (thread_at s t).root c rooted;
-      })
+      → ReplyFits spec s.threads reply → FitsSpec spec (record s { threads = with_pending s.threads t (Some reply) })
+  owes s t c reply f rooted fine = search (rules, with_thread, is_thread, some_is)
 
   roots : (s : State) (t c : ℕ) → FitsSpec spec s → is_at spec kinds.Thread t ≡ true → is_at spec kinds.CNode c ≡ true
       → FitsSpec spec (record s { threads = with_root s.threads t c })
-  roots s t c f is node =
-      let old : ThreadFits spec s.threads t (thread_at s t) = f.threads t in
-      with_thread s t (record (thread_at s t) { root = Some c }) f (λ h. refl) (record {
-        kind = inr is;
-        root = λ d h. let same : c ≡ d = cc in subst (λ (n : ℕ). is_at spec kinds.CNode n ≡ true) same node;
-        space = old.space;
-        pending = old.pending;
-        holder = λ h. refl;
-      })
+  roots s t c f is node = search (rules, with_thread)
 
   spaces : (s : State) (t d : ℕ) → FitsSpec spec s → is_at spec kinds.Thread t ≡ true → is_space_root spec d ≡ true
       → FitsSpec spec (record s { threads = with_space s.threads t d })
-  spaces s t d f is space =
-      let old : ThreadFits spec s.threads t (thread_at s t) = f.threads t in
-      with_thread s t (record (thread_at s t) { space = Some d }) f (λ h. h) (record {
-        kind = inr is;
-        root = old.root;
-        space = λ e h. let same : d ≡ e = cc in subst (λ (n : ℕ). is_space_root spec n ≡ true) same space;
-        pending = old.pending;
-        holder = old.holder;
-      })
+  spaces s t d f is space = search (rules, with_thread)
 
   replies : (s : State) (t c : ℕ) (reply : Pending) → FitsSpec spec s → (thread_at s t).root ≡ Some c
       → (thread_at s t).pending ≡ Some reply → FitsSpec spec (replied s t reply.caller)
@@ -239,8 +172,7 @@ module _ (spec : Spec) where
   step_fits s new (Call t i u j) f (c, to, d, from, acts, own, may, peer, e) =
       let is : is_at spec kinds.Thread t ≡ true = is_thread s t c f acts.root in
       rw e (waits (record s { threads = with_pending s.threads u (Some (record { caller = t; grants = from.rights.grant })) }) t
-      true
-      (owes s u d (record { caller = t; grants = from.rights.grant }) f peer.acts.root
+      true (owes s u d (record { caller = t; grants = from.rights.grant }) f peer.acts.root
       (record { thread = is; rooted = some_is (thread_at s t).root c acts.root })) is)
   step_fits s new (Reply t None) f (c, p, acts, h, e) = rw e (replies s t c p f acts.root h)
   step_fits s new (Reply t (Some copy)) f (c, p, x, d, acts, h, grants, there, root, e) =
@@ -260,35 +192,16 @@ module _ (spec : Spec) where
       | inr same ↦ subst (λ (z : Mapped). MappedFits spec z) same (record { space = of.is; frame = own.is })
     ];
   })
-  step_fits s new (Bind t i j) f (c, irq, x, acts, own, of, writes, e) = rw e (record {
-    as_many_nodes = f.as_many_nodes;
-    as_many_threads = f.as_many_threads;
-    as_many_irqs = rw (length-set s.irqs irq.object (Some x.object)) f.as_many_irqs;
-    nodes = f.nodes;
-    threads = f.threads;
-    irqs = λ k. elim (read_written s.irqs irq.object k (Some x.object) None) [
-      | inl same ↦ subst (λ (z : Option ℕ). IrqFits spec k z) (sym same) (f.irqs k)
-      | inr same ↦ subst (λ (z : Option ℕ). IrqFits spec k z) (sym same.1)
-          (subst (λ (n : ℕ). IrqFits spec n (Some x.object)) (sym same.0)
-          (record {
-            kind = inr own.is;
-            notification = λ n h. let eq : x.object ≡ n = cc in
-                subst (λ (z : ℕ). is_at spec kinds.Notification z ≡ true) eq of.is;
-          }))
-    ];
-    mapped = f.mapped;
-  })
+  step_fits s new (Bind t i j) f (c, irq, x, acts, own, of, writes, e) = search (rules, length-set, read_written)
   step_fits s new (Drop t i) f (c, x, acts, there, e) = rw e (drops s c i f (is_cnode s t c f acts.root))
   step_fits s new (Save t) f (c, p, acts, h, e) =
       rw e (owes_none (record s { nodes = grown_at s.nodes c (SavedReply p) }) t
       (adds s c (SavedReply p) f (is_cnode s t c f acts.root) ((f.threads t).pending p h)) (is_thread s t c f acts.root))
   step_fits s new (ReplyTo t i None) f (c, p, acts, there, e) =
-      let fine : ReplyFits spec s.threads p = content_fits s c i (SavedReply p) f there in
       rw e (waits (record s { nodes = without_at s.nodes c i }) p.caller false
-      (drops s c i f (is_cnode s t c f acts.root)) fine.thread)
+      (drops s c i f (is_cnode s t c f acts.root)) (content_fits s c i (SavedReply p) f there).thread)
   step_fits s new (ReplyTo t i (Some copy)) f (c, p, x, d, acts, own, grants, there, root, e) =
-      let fine : ReplyFits spec s.threads p = content_fits s c i (SavedReply p) f own in
       let more : FitsSpec spec (added s d (lessened x copy.1)) = adds s d (Capability (lessened x copy.1)) f
       (is_cnode s p.caller d f root) (content_fits s c copy.0 (Capability x) f there) in
       rw e (waits (dropped (added s d (lessened x copy.1)) c i) p.caller false (drops (added s d (lessened x copy.1)) c i more
-      (is_cnode s t c f acts.root)) fine.thread)
+      (is_cnode s t c f acts.root)) (content_fits s c i (SavedReply p) f own).thread)

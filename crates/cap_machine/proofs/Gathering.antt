@@ -1,5 +1,6 @@
 -- Edges of the items of a list, gathered one item after the other.
-use Rattle.cap_machine.proofs.Common.{Adds, Edge, List, OfEach, Some, arith, cases_lt, get_or, inl, inr, length, slice_get, slice_get-get_or, slice_get_within, subst, ℕ, ◌+◌, ◌<◌, ◌≡◌, ◌≤◌, ◌⊎◌}
+use Rattle.std.proofs.Common.{rules}
+use Rattle.cap_machine.proofs.Common.{Adds, Edge, List, OfEach, Some, arith, cases_lt, get_or, inl, inr, length, slice_get, slice_get-get_or, slice_get_within, ℕ, ◌+◌, ◌<◌, ◌≡◌, ◌≤◌, ◌⊎◌}
 use Rattle.cap_model.proofs.EdgeGrowth.{adds_same, adds_then, adds_none}
 
 -- the items at lesser places than n
@@ -26,11 +27,7 @@ module _ {A : Type 0} (P : ℕ → A → Edge → Type 0) (items : List A) where
       a c
       (adds_then (OfFirst P items n) (P n item) a b c before now) where
         at_last : (e : Edge) (x : OfFirst P items (n + 1) e) → x.of_each.place ≡ n → P n item e
-        at_last e x same =
-            let there : slice_get items n ≡ Some x.of_each.item = subst (λ (k : ℕ). slice_get items k ≡ Some x.of_each.item) same
-            x.of_each.there in
-            let is : x.of_each.item ≡ item = cc in
-            subst (λ (y : A). P n y e) is (subst (λ (k : ℕ). P k x.of_each.item e) same x.of_each.by)
+        at_last e x same = search (rules, slice_get)
 
   -- at the end these are all
   pub all_first : (n : ℕ) (a b : List Edge) → length items ≤ n → Adds (OfFirst P items n) a b → Adds (OfEach P items) a b
@@ -49,8 +46,7 @@ adds_three P Q R a b c d f g h = adds_then P (λ e. Q e ⊎ R e) a b d f (adds_t
 
 -- one item more, read at its place
 pub first_more_at : {A : Type 0} (P : ℕ → A → Edge → Type 0) (items : List A) (n : ℕ) (d : A) (a b c : List Edge)
-    → n < length items → Adds (OfFirst P items n) a b
-    → Adds (P n (get_or items n d)) b c → Adds (OfFirst P items (n + 1)) a c
+    → n < length items → Adds (OfFirst P items n) a b → Adds (P n (get_or items n d)) b c → Adds (OfFirst P items (n + 1)) a c
 first_more_at P items n d a b c l before now = first_more P items n (get_or items n d) a b c
     (slice_get-get_or items n d l) before now
 

@@ -1,4 +1,5 @@
 -- The edges of a state are those that its parts are the sources of.
+use Rattle.std.proofs.Common.{rules}
 use Rattle.cap_machine.proofs.Common.{Adds, Auth, Authority, Cap, Capability, Contains, Content, Edge, Entry, Has, List, Node, None, Object, OfCap, OfContent, OfFixed, OfNodes, OfSpecParts, OfState, OfThread, OfThreads, Option, Pages, SavedReply}
 use Rattle.cap_machine.proofs.Common.{Some, Spec, State, Thread, ThreadState, [], arith, at_contains, buffer_of, contains_at, edge, entry_object, get_or, get_or_from_slice_get, has, inl, inr, irq_at, label_of, no_node, no_thread, node_at, of_buffer}
 use Rattle.cap_machine.proofs.Common.{of_irq, of_mapped, of_reply, of_root, of_saved, of_space, of_table, refl, slice_get, subst, suc, sym, table_of, thread_at, zero, ℕ, ◌↔◌, ◌∙◌, ◌∷◌, ◌≡◌, ◌⊎◌}
@@ -21,31 +22,14 @@ module _ (spec : Spec) (labels : List ℕ) (s : State) where
           place = c;
           item = found.0;
           there = found.1;
-          by = record {
-            place = k.0;
-            item = (i, content);
-            there = k.1;
-            by = of;
-          };
+          by = record { place = k.0; item = (i, content); there = k.1; by = of };
         }
     | inr none ↦ absurd (let w : Contains no_node.slots (i, content) = subst (λ (n : Node). Contains n.slots (i, content)) none
         there in let v = w.1 in omega arith)
   ]
 
   thread_source : (t : ℕ) (e : Edge) → OfThread labels (label_of labels t) (thread_at s t) e → OfThreads labels s.threads e
-  thread_source t e of = elim (read_at s.threads t no_thread) [
-    | inl found ↦ record {
-      place = t;
-      item = found.0;
-      there = found.1;
-      by = subst (λ (x : ThreadState). OfThread labels (label_of labels t) x e) found.2 of;
-    }
-    | inr none ↦ absurd (nothing (subst (λ (x : ThreadState). OfThread labels (label_of labels t) x e) none of))
-  ] where
-    nothing : OfThread labels (label_of labels t) no_thread e → ⊥
-    nothing (inl h) = let w = h.there in cc
-    nothing (inr (inl h)) = let w = h.there in cc
-    nothing (inr (inr h)) = let w = h.there in cc
+  thread_source t e of = search (rules, read_at)
 
   buffer_source : (from : ℕ) (object : Object) (x : Cap) (e : Edge) → buffer_of (Some object) ≡ Some x
       → OfCap spec labels from x e → OfFixed spec labels from object e
@@ -61,23 +45,12 @@ module _ (spec : Spec) (labels : List ℕ) (s : State) where
   buffer_place : (t : ℕ) (o : Option Entry) (x : Cap) (e : Edge) → slice_get spec.entries t ≡ o
       → buffer_of (entry_object o) ≡ Some x → OfCap spec labels (label_of labels t) x e → OfSpecParts spec labels e
   buffer_place t None x e here there of_cap = absurd cc
-  buffer_place t (Some entry) x e here there of_cap = record {
-    place = t;
-    item = entry;
-    there = here;
-    by = buffer_source (label_of labels t) entry.object x e there of_cap;
-  }
+  buffer_place t (Some entry) x e here there of_cap = search (rules, buffer_source)
 
   table_place : (t : ℕ) (o : Option Entry) (i : ℕ) (x : Cap) (e : Edge) → slice_get spec.entries t ≡ o
-      → Contains (table_of (entry_object o)) (i, x) → OfCap spec labels (label_of labels t) x e
-      → OfSpecParts spec labels e
+      → Contains (table_of (entry_object o)) (i, x) → OfCap spec labels (label_of labels t) x e → OfSpecParts spec labels e
   table_place t None i x e here c of_cap = absurd (let w = c.1 in omega arith)
-  table_place t (Some entry) i x e here c of_cap = record {
-    place = t;
-    item = entry;
-    there = here;
-    by = table_source (label_of labels t) entry.object i x e c of_cap;
-  }
+  table_place t (Some entry) i x e here c of_cap = search (rules, table_source)
 
   state_source : (l : ℕ) (a : Authority) (m : ℕ) → Auth spec labels s l a m → OfState spec labels s (edge l a m)
   state_source l a m (inl (c, i, x, there, conf, from, to)) =
@@ -98,55 +71,15 @@ module _ (spec : Spec) (labels : List ℕ) (s : State) where
       inr
       (inl
       (thread_source t (edge l a m)
-      (inr
-      (inr (record { some = reply; there = there; by = record { from_is = from; authority_is = is; to_is = to } })))))
-  state_source l a m (inr (of_irq (d, n, there, is, from, to))) =
-      inr (inr (inl (elim (read_at s.irqs d None) [
-        | inl found ↦ record {
-          place = d;
-          item = found.0;
-          there = found.1;
-          by = record {
-            some = n;
-            there = subst (λ (o : Option ℕ). o ≡ Some n) found.2 there;
-            by = record { from_is = from; authority_is = is; to_is = to };
-          };
-        }
-        | inr none ↦ absurd (let w = subst (λ (o : Option ℕ). o ≡ Some n) none there in cc)
-      ])))
-  state_source l a m (inr (of_mapped (x, there, conf, from, to))) =
-      let k = contains_at s.mapped x there in
-      inr
-      (inr
-      (inr
-      (inl (record {
-        place = k.0;
-        item = x;
-        there = k.1;
-        by = record {
-          from_is = from;
-          conferred = conf;
-          to_is = to;
-        };
-      }))))
-  state_source l a m (inr (of_buffer (t, x, there, conf, from, to))) =
-      inr
-      (inr
-      (inr
-      (inr (buffer_place t (slice_get spec.entries t) x (edge l a m) refl there (record {
-        from_is = from;
-        conferred = conf;
-        to_is = to;
-      })))))
+      (inr (inr (record { some = reply; there = there; by = record { from_is = from; authority_is = is; to_is = to } })))))
+  state_source l a m (inr (of_irq (d, n, there, is, from, to))) = search (rules, read_at)
+  state_source l a m (inr (of_mapped (x, there, conf, from, to))) = let k = contains_at s.mapped x there in search (rules)
+  state_source l a m (inr (of_buffer (t, x, there, conf, from, to))) = search (rules, buffer_place, slice_get)
   state_source l a m (inr (of_table (p, i, x, there, conf, from, to))) =
       inr
       (inr
       (inr
-      (inr (table_place p (slice_get spec.entries p) i x (edge l a m) refl there (record {
-        from_is = from;
-        conferred = conf;
-        to_is = to;
-      })))))
+      (inr (table_place p (slice_get spec.entries p) i x (edge l a m) refl there (search (rules))))))
 
   -- and back
 
@@ -156,8 +89,7 @@ module _ (spec : Spec) (labels : List ℕ) (s : State) where
   content_auth c i (SavedReply reply) l a m there of = inr (of_saved (c, i, reply, there, of.authority_is, of.from_is, of.to_is))
 
   fixed_auth : (o : ℕ) (entry : Entry) (object : Object) (l : ℕ) (a : Authority) (m : ℕ) → slice_get spec.entries o ≡ Some entry
-      → entry.object ≡ object
-      → OfFixed spec labels (label_of labels o) object (edge l a m) → Auth spec labels s l a m
+      → entry.object ≡ object → OfFixed spec labels (label_of labels o) object (edge l a m) → Auth spec labels s l a m
   fixed_auth o entry (Thread tcb) l a m here is h =
       inr (of_buffer (o, h.some, rw (here, is) h.there, h.by.conferred, h.by.from_is, h.by.to_is))
   fixed_auth o entry (Pages level slots) l a m here is of =
@@ -180,13 +112,11 @@ module _ (spec : Spec) (labels : List ℕ) (s : State) where
 
   source_auth : (l : ℕ) (a : Authority) (m : ℕ) → OfState spec labels s (edge l a m) → Auth spec labels s l a m
   source_auth l a m (inl h) =
-      let node : node_at s h.place ≡ h.item = get_or_from_slice_get s.nodes h.place h.item no_node h.there in
-      content_auth h.place h.by.item.0 h.by.item.1 l a m (rw node (at_contains h.item.slots h.by.item h.by.place h.by.there))
-      h.by.by
+      content_auth h.place h.by.item.0 h.by.item.1 l a m (rw (get_or_from_slice_get s.nodes h.place h.item no_node h.there)
+      (at_contains h.item.slots h.by.item h.by.place h.by.there)) h.by.by
   source_auth l a m (inr (inl h)) =
-      let thread : thread_at s h.place ≡ h.item = get_or_from_slice_get s.threads h.place h.item no_thread h.there in
       thread_auth h.place l a m (subst (λ (x : ThreadState). OfThread labels (label_of labels h.place) x (edge l a m))
-      (sym thread) h.by)
+      (sym (get_or_from_slice_get s.threads h.place h.item no_thread h.there)) h.by)
   source_auth l a m (inr (inr (inl h))) =
       let bound : irq_at s h.place ≡ h.item = get_or_from_slice_get s.irqs h.place h.item None h.there in
       inr (of_irq (h.place, h.by.some, bound ∙ h.by.there, h.by.by.authority_is, h.by.by.from_is, h.by.by.to_is))
@@ -196,8 +126,7 @@ module _ (spec : Spec) (labels : List ℕ) (s : State) where
 
   -- a table of the edges that were gathered from the state
   pub state_edges : (edges table : List Edge) → Adds (OfState spec labels s) [] edges → ((e : Edge) → has table e ≡ has edges e)
-      → (l : ℕ) (a : Authority) (m : ℕ)
-      → (Has table l a m) ↔ Auth spec labels s l a m
+      → (l : ℕ) (a : Authority) (m : ℕ) → (Has table l a m) ↔ Auth spec labels s l a m
   state_edges edges table grown same l a m = (
     λ h. elim (grown.only (edge l a m) (sym (same (edge l a m)) ∙ h)) [ inl none ↦ absurd cc | inr of ↦ source_auth l a m of ],
     λ h. same (edge l a m) ∙ grown.added (edge l a m) (state_source l a m h),

@@ -1,5 +1,6 @@
 -- What the boot state has at a place: what it has for the object there, or nothing. What stands in a CNode is found at its
 -- number, and nothing is pending or saved.
+use Rattle.std.proofs.Common.{rules}
 use Rattle.cap_model.proofs.Common.{Cap, Contains, Entry, IsKept, List, None, Object, Option, Some, Spec, [], and_parts, ap, arith, false, fits, get_or, get_or_from_slice_get, inl, inr, keeps, keeps_slots, leb, map, nat_lt, option_map, refl, rise}
 use Rattle.cap_model.proofs.Common.{slice_get, slice_get-get_or, slice_get-map, slice_get_within, subst, suc, sym, true, zero, ℕ, ◌&&◌, ◌==◌, ◌^◌, ◌∙◌, ◌∷◌, ◌≡◌, ◌⊎◌}
 use Rattle.std.specs.Map.{lookup}
@@ -44,27 +45,14 @@ pub slot_of : (slots : List (ℕ × Cap)) (k i : ℕ) (content : Content) → sl
 slot_of slots k i content h = go (slice_get slots k) refl where
   go : (o : Option (ℕ × Cap)) → slice_get slots k ≡ o → (slot : ℕ × Cap) × (slice_get slots k ≡ Some slot)
       × (Capability slot.1 ≡ content) × (slot.0 ≡ i)
-  go None there = absurd (
-      let e : slice_get (map boot_slot slots) k ≡ option_map boot_slot (slice_get slots k) = slice_get-map boot_slot slots k in
-      let f : option_map boot_slot (slice_get slots k) ≡ None = rw there refl in
-      let g : ◌≡◌ {A = Option (ℕ × Content)} (Some (i, content)) None = sym h ∙ (e ∙ f) in
-      cc)
-  go (Some slot) there =
-      let e : slice_get (map boot_slot slots) k ≡ option_map boot_slot (slice_get slots k) = slice_get-map boot_slot slots k in
-      let f : option_map boot_slot (slice_get slots k) ≡ Some (boot_slot slot) = rw there refl in
-      let g : ◌≡◌ {A = Option (ℕ × Content)} (Some (boot_slot slot)) (Some (i, content)) = sym (e ∙ f) ∙ h in
-      let same : boot_slot slot ≡ (i, content) = cc in
-      (slot, there, ap (λ (p : ℕ × Content). p.1) same, ap (λ (p : ℕ × Content). p.0) same)
+  go None there = search (rules, slice_get, slice_get-map)
+  go (Some slot) there = search (rules, slice_get, slice_get-map)
 
 -- the numbers rise, so that the slot of a number is the only one
 found_at : (slots : List (ℕ × Cap)) (k : ℕ) (slot : ℕ × Cap) → rise slots ≡ true → slice_get slots k ≡ Some slot
     → lookup (λ n. n == slot.0) (map boot_slot slots) ≡ Some (Capability slot.1)
 found_at [] k slot up there = absurd cc
-found_at (x ∷ slots) zero slot up there =
-    let same : x ≡ slot = cc in
-    let number : x.0 ≡ slot.0 = ap (λ (s : ℕ × Cap). s.0) same in
-    let here : (x.0 == slot.0) ≡ true = grind arith in
-    rw here (ap (λ (s : ℕ × Cap). Some (Capability s.1)) same)
+found_at (x ∷ slots) zero slot up there = search (rules)
 found_at (x ∷ slots) (suc k) slot up there =
     let less = rises (x ∷ slots) 0 (suc k) x slot up (omega arith) refl there in
     let other : (x.0 == slot.0) ≡ false = grind arith in

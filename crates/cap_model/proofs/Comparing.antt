@@ -1,4 +1,5 @@
 -- What the comparisons of a set of edges say of the edges that it has.
+use Rattle.std.proofs.Common.{rules}
 use Rattle.cap_model.proofs.Common.{Bool, Edge, Equal, List, [], ap, cond, false, has, if◌then◌else◌, is_eq, is_equal, length, list_any, not, one_truth, refl, same_edge, subst, sym, total-law, true, ◌+◌, ◌||◌, ◌∙◌, ◌∷◌, ◌≡◌}
 use Rattle.cam_base.proofs.Options.{or_cond}
 use Rattle.cap_model.specs.contracts.edge.EdgeOrd.TheImpl.{ghosts as ordered}
@@ -24,15 +25,10 @@ pub inserted_same : (old new : List Edge) (edge : Edge)
     → ((e : Edge) → list_any (λ (d : Edge). is_eq (ordered.cmp e d)) new ≡ cond (is_eq (ordered.cmp edge e)) true
     (list_any (λ (d : Edge). is_eq (ordered.cmp e d)) old))
     → (e : Edge) → has new e ≡ (has old e || same_edge edge e)
-inserted_same old new edge h e =
-    sym (contains_same new e)
-    ∙ (h e ∙ (or_cond (is_eq (ordered.cmp edge e)) (list_any (λ (d : Edge). is_eq (ordered.cmp e d)) old)
-    ∙ rw (contains_same old e, compared_same edge e) refl))
+inserted_same old new edge h e = search (rules, contains_same, or_cond, compared_same)
 
 -- and of its length
 pub inserted_length : (old new : List Edge) (edge : Edge) (added : Bool) → has old edge ≡ false
     → added ≡ not (list_any (λ (d : Edge). is_eq (ordered.cmp edge d)) old)
     → length new ≡ length old + (if added then 1 else 0) → length new ≡ length old + 1
-inserted_length old new edge added none is more =
-    let new_one : added ≡ true = is ∙ ap not (contains_same old edge ∙ none) in
-    more ∙ ap (λ (b : Bool). length old + (if b then 1 else 0)) new_one
+inserted_length old new edge added none is more = search (rules, contains_same)

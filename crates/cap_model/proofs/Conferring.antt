@@ -1,4 +1,5 @@
 -- Lessening adds no authority, and no capability confers Reply.
+use Rattle.std.proofs.Common.{rules}
 use Rattle.cap_model.proofs.Common.{AsyncSend, Authority, Call, Cap, Endpoint, Frame, Grant, GrantBack, Kind, Notification, Read, Receive, Reply, Reset, Spec, SyncSend, Write, confers, kind_at, kind_confers, option_confers, subst}
 use Rattle.std.specs.Prelude.{◌≡◌, ◌≢◌, Bool, true, false, ◌&&◌, ◌||◌, Option, Some, None, refl}
 use Rattle.cap_model.specs.declared.rights.Rights.{Rights}
@@ -56,14 +57,7 @@ no_reply_option (Some k) rights = reply_kind k rights
 
 -- no capability confers Reply
 pub not_reply : (spec : Spec) (cap : Cap) (a : Authority) → confers spec cap a ≡ true → a ≢ Reply
-not_reply spec cap a e same =
-    let f : option_confers (kind_at spec cap.object) cap.rights Reply ≡ false = no_reply_option (kind_at spec cap.object)
-    cap.rights in
-    let g : confers spec cap Reply ≡ true = subst (λ b. confers spec cap b ≡ true) same e in
-    cc
+not_reply spec cap a e same = search (rules, no_reply_option)
 
 pub not_reply_kind : (k : Kind) (rights : Rights) (a : Authority) → kind_confers k rights a ≡ true → a ≢ Reply
-not_reply_kind k rights a e same =
-    let f : kind_confers k rights Reply ≡ false = reply_kind k rights in
-    let g : kind_confers k rights Reply ≡ true = subst (λ b. kind_confers k rights b ≡ true) same e in
-    cc
+not_reply_kind k rights a e same = search (rules, reply_kind)

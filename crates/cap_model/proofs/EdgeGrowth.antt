@@ -1,20 +1,13 @@
 -- Lists of edges that grow in several steps.
+use Rattle.std.proofs.Common.{rules}
 use Rattle.cap_model.proofs.Common.{Adds, Edge, List, inl, inr, ◌⊎◌}
 
 module _ (P Q : Edge → Type 0) where
   pub adds_same : ((e : Edge) → P e → Q e) → ((e : Edge) → Q e → P e) → (a b : List Edge) → Adds P a b → Adds Q a b
-  adds_same to from a b g = record {
-    kept = g.kept;
-    added = λ e q. g.added e (from e q);
-    only = λ e h. elim (g.only e h) [ inl x ↦ inl x | inr x ↦ inr (to e x) ];
-  }
+  adds_same to from a b g = search (rules)
 
   pub adds_then : (a b c : List Edge) → Adds P a b → Adds Q b c → Adds (λ e. P e ⊎ Q e) a c
-  adds_then a b c g h = record {
-    kept = λ e x. h.kept e (g.kept e x);
-    added = λ e x. elim x [ inl p ↦ h.kept e (g.added e p) | inr q ↦ h.added e q ];
-    only = λ e x. elim (h.only e x) [ inl y ↦ elim (g.only e y) [ inl z ↦ inl z | inr z ↦ inr (inl z) ] | inr y ↦ inr (inr y) ];
-  }
+  adds_then a b c g h = search (rules)
 
 pub adds_none : (P : Edge → Type 0) → ((e : Edge) → P e → ⊥) → (a : List Edge) → Adds P a a
 adds_none P none a = record { kept = λ e h. h; added = λ e p. absurd (none e p); only = λ e h. inl h }

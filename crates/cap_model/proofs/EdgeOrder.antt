@@ -1,4 +1,5 @@
 -- Edges: when two are one, and the laws of their order.
+use Rattle.std.proofs.Common.{rules}
 use Rattle.cap_model.proofs.Common.{AsyncSend, AtMost, Authority, Before, Call, Control, Edge, Grant, GrantBack, Handle, List, Read, Receive, Reply, Reset, SyncSend, Write, [], and_parts, ap, arith, cases_lt, eqb-true, get_or, inl, inr, number_of}
 use Rattle.cap_model.proofs.Common.{one_truth, refl, same_edge, same_itself, subst, sym, true, ◌&&◌, ◌==◌, ◌∷◌, ◌≡◌, ◌⊎◌}
 
@@ -27,16 +28,10 @@ same_number a b e = let f : get_or authorities (number_of a) Receive ≡ get_or 
     ap (λ n. get_or authorities n Receive) e in let g = back a in let h = back b in cc
 
 pub edges_same : (d e : Edge) → d.from ≡ e.from → d.authority ≡ e.authority → d.to ≡ e.to → d ≡ e
-edges_same d e f a t =
-    let g : ◌≡◌ {A = Edge} (record { from = d.from; authority = d.authority; to = d.to })
-    (record { from = e.from; authority = e.authority; to = e.to }) = rw (f, a, t) refl in g
+edges_same d e f a t = search (rules)
 
 pub same_edge_true : (d e : Edge) → same_edge d e ≡ true → d ≡ e
-same_edge_true d e h =
-    let p : (d.from == e.from ≡ true) × (number_of d.authority == number_of e.authority && d.to == e.to ≡ true) =
-    and_parts _ _ h in
-    let q : (number_of d.authority == number_of e.authority ≡ true) × (d.to == e.to ≡ true) = and_parts _ _ p.1 in
-    edges_same d e (eqb-true _ _ p.0) (same_number _ _ (eqb-true _ _ q.0)) (eqb-true _ _ q.1)
+same_edge_true d e h = search (rules, and_parts, edges_same, eqb-true, same_number)
 
 pub same_edge_self : (e : Edge) → same_edge e e ≡ true
 same_edge_self e = rw (same_itself e.from, same_itself (number_of e.authority), same_itself e.to) refl
@@ -47,12 +42,7 @@ pub at_most_self : (e : Edge) → AtMost e e
 at_most_self e = record { by_from = omega arith; by_authority = λ f. omega arith; by_to = λ f g. omega arith }
 
 pub before_at_most : (d e : Edge) → Before d e → AtMost d e
-before_at_most d e b = record {
-  by_from = b.by_from;
-  by_authority = b.by_authority;
-  by_to = λ f g. let l = b.by_to f g in
-      omega arith;
-}
+before_at_most d e b = search (rules)
 
 pub at_most_trans : (c d e : Edge) → AtMost c d → AtMost d e → AtMost c e
 at_most_trans c d e p q = record { by_from = omega arith; by_authority = λ f. omega arith; by_to = λ f g. omega arith }
@@ -73,12 +63,7 @@ pub not_before_at_most : (d e : Edge) → Before d e → AtMost e d → ⊥
 not_before_at_most d e p q = not_before_self e (at_most_before e d e q p)
 
 pub at_most_both : (d e : Edge) → AtMost d e → AtMost e d → d ≡ e
-at_most_both d e p q =
-    let f : d.from ≡ e.from = (let a = p.by_from in let b = q.by_from in omega arith) in
-    let n : number_of d.authority ≡ number_of e.authority = (let a = p.by_authority f in let b = q.by_authority (sym f) in
-    omega arith) in
-    let t : d.to ≡ e.to = (let a = p.by_to f n in let b = q.by_to (sym f) (sym n) in omega arith) in
-    edges_same d e f (same_number d.authority e.authority n) t
+at_most_both d e p q = grind (arith, edges_same, same_number)
 
 pub before_or_not : (d e : Edge) → Before d e ⊎ AtMost e d
 before_or_not d e = elim (cases_lt d.from e.from) [
@@ -103,6 +88,4 @@ before_or_not d e = elim (cases_lt d.from e.from) [
 ]
 
 pub same_edge-sym : (d e : Edge) → same_edge d e ≡ same_edge e d
-same_edge-sym d e = one_truth (same_edge d e) (same_edge e d)
-    (λ h. let same = same_edge_true d e h in subst (λ (x : Edge). same_edge x d ≡ true) same (same_edge_self d))
-    (λ h. let same = same_edge_true e d h in subst (λ (x : Edge). same_edge x e ≡ true) same (same_edge_self e))
+same_edge-sym d e = search (rules, same_edge_true, same_edge_self)

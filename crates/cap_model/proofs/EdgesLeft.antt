@@ -8,10 +8,7 @@ module _ (rows : List Row) (r : Row) (some : 1 ≤ length rows) (first : r ≡ g
     where
       go : (rs : List Row) → rows ≡ rs → rows ≡ r ∷ take (length rows - 1) (drop 1 rows)
       go [] e = absurd (let l : length rows ≡ 0 = ap (λ (xs : List Row). length xs) e in omega arith)
-      go (x ∷ xs) e =
-          let is : r ≡ x = first ∙ ap (λ (ys : List Row). get_or ys 0 r) e in
-          let rest : take (length (x ∷ xs) - 1) (drop 1 (x ∷ xs)) ≡ xs = take_all (length (x ∷ xs) - 1) xs (omega arith) in
-          subst (λ (ys : List Row). ys ≡ r ∷ take (length ys - 1) (drop 1 ys)) (sym e) (rw (is, rest) refl)
+      go (x ∷ xs) e = grind (arith, take_all)
 
   pub head_at : slice_get rows 0 ≡ Some r
   head_at = ap (λ (ys : List Row). slice_get ys 0) head_rest

@@ -1,4 +1,5 @@
 -- An object is found under its own name.
+use Rattle.std.proofs.Common.{rules}
 use Rattle.cap_model.proofs.Common.{Decides-ltb, Entry, IsKept, Spec, and_parts, ap, arith, list_any, names_differ, not-true, or_parts, position_or_len, subst, sym}
 use Rattle.std.specs.Prelude.{not, ◌≡◌, ◌<◌, ℕ, zero, suc, Bool, true, false, List, [], ◌∷◌, map, length, Some, slice_get, nat_lt, refl}
 use Rattle.std.specs.Str.{bytes_eq}
@@ -7,21 +8,14 @@ use Rattle.cap_model.specs.Lookup.{place_of}
 
 flip_at : (a b : List ℕ) (r : Bool) → bytes_eq b a ≡ r → bytes_eq a b ≡ false → r ≡ false
 flip_at a b false e h = refl
-flip_at a b true e h =
-    let same : b ≡ a = (bytes_eq-Decides b a).0 e in
-    let equal : bytes_eq a b ≡ true = (bytes_eq-Decides a b).1 (sym same) in
-    absurd cc
+flip_at a b true e h = search (rules, bytes_eq-Decides)
 
 -- an earlier name is no later one
 earlier : (name : List ℕ) (es : List Entry) (i : ℕ) (e : Entry)
     → list_any (λ m. bytes_eq m name) (map (λ (x : Entry). x.name) es) ≡ false → slice_get es i ≡ Some e
     → bytes_eq name e.name ≡ false
 earlier name [] i e none there = absurd cc
-earlier name (x ∷ xs) zero e none there =
-    let same : x ≡ e = cc in
-    let other : bytes_eq x.name name ≡ false =
-    (or_parts (bytes_eq x.name name) (list_any (λ m. bytes_eq m name) (map (λ (y : Entry). y.name) xs)) none).0 in
-    subst (λ (y : Entry). bytes_eq name y.name ≡ false) same (flip_at x.name name (bytes_eq name x.name) refl other)
+earlier name (x ∷ xs) zero e none there = search (rules, or_parts, flip_at)
 earlier name (x ∷ xs) (suc i) e none there =
     earlier name xs i e ((or_parts (bytes_eq x.name name) (list_any (λ m. bytes_eq m name) (map (λ (y : Entry). y.name) xs))
     none).1) there
@@ -29,10 +23,7 @@ earlier name (x ∷ xs) (suc i) e none there =
 first_at : (es : List Entry) (i : ℕ) (e : Entry) → names_differ es ≡ true → slice_get es i ≡ Some e
     → position_or_len (λ (x : Entry). bytes_eq x.name e.name) es ≡ i
 first_at [] i e apart there = absurd cc
-first_at (x ∷ xs) zero e apart there =
-    let same : x ≡ e = cc in
-    let equal : bytes_eq x.name e.name ≡ true = (bytes_eq-Decides x.name e.name).1 (ap (λ (y : Entry). y.name) same) in
-    rw equal refl
+first_at (x ∷ xs) zero e apart there = search (rules, bytes_eq-Decides)
 first_at (x ∷ xs) (suc i) e apart there =
     let parts = and_parts (not (list_any (λ m. bytes_eq m x.name) (map (λ (y : Entry). y.name) xs))) (names_differ xs) apart in
     let other : bytes_eq x.name e.name ≡ false =

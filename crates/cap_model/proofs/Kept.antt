@@ -1,4 +1,5 @@
 -- What the parts of a kept spec give.
+use Rattle.std.proofs.Common.{rules}
 use Rattle.cap_model.proofs.Common.{CNode, Cap, Endpoint, Entry, Frame, Irq, IsKept, Kind, Notification, Object, Pages, Spec, Thread, and_parts, ap, arith, entry_object, eqb-true, fits, fits_kind, is_at, is_kind, is_root_object, is_some}
 use Rattle.cap_model.proofs.Common.{is_space_root, keeps, keeps_slots, kind_at, kind_number, kind_of_object, list_all, ltb-true, object_at, option_map, rise, same_kind, subst, sym, ◌∙◌}
 use Rattle.std.specs.Prelude.{◌≡◌, ◌<◌, ◌==◌, ◌&&◌, ℕ, zero, suc, Bool, true, List, [], ◌∷◌, length, Option, Some, None, slice_get, nat_lt, refl, if◌then◌else◌}
@@ -9,9 +10,7 @@ use Rattle.cap_model.specs.declared.level.Level.TheVariants.{Global, Upper, Dire
 pub all_at : {A : Type 0} (test : A → Bool) (xs : List A) (i : ℕ) (x : A) → list_all test xs ≡ true → slice_get xs i ≡ Some x
     → test x ≡ true
 all_at test [] i x all there = absurd cc
-all_at test (y ∷ ys) zero x all there =
-    let same : y ≡ x = cc in
-    subst (λ z. test z ≡ true) same (and_parts (test y) (list_all test ys) all).0
+all_at test (y ∷ ys) zero x all there = search (rules, and_parts)
 all_at test (y ∷ ys) (suc i) x all there = all_at test ys i x (and_parts (test y) (list_all test ys) all).1 there
 
 -- the object at a place is kept
@@ -19,10 +18,7 @@ entry_kept : (spec : Spec) (entries : List Entry) (place : ℕ) (object : Object
     → list_all (λ (e : Entry). keeps spec e.object) entries ≡ true → entry_object (slice_get entries place) ≡ Some object
     → keeps spec object ≡ true
 entry_kept spec [] place object all there = absurd cc
-entry_kept spec (e ∷ es) zero object all there =
-    let same : e.object ≡ object = cc in
-    subst (λ o. keeps spec o ≡ true) same
-    (and_parts (keeps spec e.object) (list_all (λ (x : Entry). keeps spec x.object) es) all).0
+entry_kept spec (e ∷ es) zero object all there = search (rules, and_parts)
 entry_kept spec (e ∷ es) (suc place) object all there =
     entry_kept spec es place object (and_parts (keeps spec e.object) (list_all (λ (x : Entry). keeps spec x.object) es) all).1
     there
@@ -68,9 +64,7 @@ numbered_back (Pages Directory) = refl
 numbered_back (Pages Table) = refl
 
 pub one_kind : (a b : Kind) → same_kind a b ≡ true → a ≡ b
-one_kind a b same =
-    let numbers : kind_number a ≡ kind_number b = eqb-true (kind_number a) (kind_number b) same in
-    sym (numbered_back a) ∙ ap numbered numbers ∙ numbered_back b
+one_kind a b same = search (rules, eqb-true, numbered_back)
 
 -- a test of the kind at a place tells the kind
 is_that : (here : Option Kind) (kind : Kind) → is_kind here kind ≡ true → here ≡ Some kind
@@ -111,11 +105,7 @@ fits_below spec cap h = some_below spec cap.object (object_at spec cap.object) r
 pub slot_kept : (fit : Cap → Bool) (size : ℕ) (slots : List (ℕ × Cap)) (i : ℕ) (slot : ℕ × Cap)
     → keeps_slots fit size slots ≡ true → slice_get slots i ≡ Some slot
     → (slot.0 < size) × (fit slot.1 ≡ true)
-slot_kept fit size slots i slot kept there =
-    let test = λ (x : ℕ × Cap). nat_lt x.0 size && fit x.1 in
-    let all = (and_parts (rise slots) (list_all test slots) kept).1 in
-    let both = and_parts (nat_lt slot.0 size) (fit slot.1) (all_at test slots i slot all there) in
-    (ltb-true slot.0 size both.0, both.1)
+slot_kept fit size slots i slot kept there = grind (arith, and_parts, all_at, ltb-true)
 
 -- numbers that rise: those behind the first rise too, and each is below those behind it
 pub rise_tail : {A : Type 0} (x : ℕ × A) (xs : List (ℕ × A)) → rise (x ∷ xs) ≡ true → rise xs ≡ true

@@ -1,4 +1,5 @@
 -- The examples of kept and faulty specs, computed.
+use Rattle.std.proofs.Common.{rules}
 use Rattle.cap_model.proofs.Common.{Decides-ltb, Entry, IsKept, Spec, and_parts, keeps, keeps_lines, list_all, ltb-true, names_differ}
 use Rattle.std.specs.Prelude.{not, ◌≡◌, ◌&&◌, ◌^◌, ℕ, Bool, true, Some, slice_get, length, nat_lt, refl}
 use Rattle.cap_model.proofs.Kept.{all_at}
@@ -12,17 +13,10 @@ abbrev tests : Spec → Bool
 tests spec = (nat_lt (length spec.entries) (2 ^ 32) && names_differ spec.entries) && (all_kept spec && keeps_lines spec spec.irqs)
 
 from_tests : (spec : Spec) → tests spec ≡ true → IsKept spec
-from_tests spec h =
-    let both = and_parts (nat_lt (length spec.entries) (2 ^ 32) && names_differ spec.entries) (all_kept spec
-    && keeps_lines spec spec.irqs) h in
-    let front = and_parts (nat_lt (length spec.entries) (2 ^ 32)) (names_differ spec.entries) both.0 in
-    let back = and_parts (all_kept spec) (keeps_lines spec spec.irqs) both.1 in
-    record { few = ltb-true (length spec.entries) (2 ^ 32) front.0; names = front.1; objects = back.0; lines = back.1 }
+from_tests spec h = search (rules, and_parts, ltb-true)
 
 to_tests : (spec : Spec) → IsKept spec → tests spec ≡ true
-to_tests spec kept =
-    let few : nat_lt (length spec.entries) (2 ^ 32) ≡ true = (Decides-ltb (length spec.entries) (2 ^ 32)).1 kept.few in
-    rw (few, kept.names, kept.objects, kept.lines) refl
+to_tests spec kept = search (rules)
 
 pub kept_ones_kept : (i : ℕ) (spec : Spec) → slice_get kept_ones i ≡ Some spec → IsKept spec
 kept_ones_kept i spec there = from_tests spec (all_at tests kept_ones i spec refl there)

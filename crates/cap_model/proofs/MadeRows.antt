@@ -1,4 +1,5 @@
 -- Rows and classes that are made one behind another.
+use Rattle.std.proofs.Common.{rules}
 use Rattle.cap_model.proofs.Common.{Authority, Bool, Class, Edge, HasClass, HasNew, HasRow, IsClass, IsIn, IsMade, IsSorted, IsTable, List, None, Reply, Row, Some, [], ap, append-nil, arith, cases_lt, cond, edges_of, false, flat_map-append}
 use Rattle.cap_model.proofs.Common.{flat_map_same, get_behind, get_front, get_or, inl, inr, is_eq, length, list_cmp, map, place_in, place_of, refl, reply_to, same_Some, single, slice_get, slice_get-get_or, slice_get_within, split_get, subst, sym}
 use Rattle.cap_model.proofs.Common.{table_edges, take, take-append-le, take-append_seam, true, ℕ, ◌++◌, ◌<◌, ◌∙◌, ◌∷◌, ◌≡◌, ◌≤◌, ◌⊎◌}
@@ -8,10 +9,7 @@ use Rattle.cap_model.proofs.RowEdges.{in_take}
 
 pub pushed : {X : Type 0} (xs : List X) (x : X) (k : ℕ) (y : X) → slice_get (xs ++ x ∷ []) k ≡ Some y
     → (slice_get xs k ≡ Some y) ⊎ ((k ≡ length xs) × (x ≡ y))
-pushed xs x k y e = elim (split_get xs (x ∷ []) k y e) [
-  | inl h ↦ inl h
-  | inr h ↦ let s = single x y h.0 h.2 in inr (let z = s.0 in let n = h.1 in omega arith, s.1)
-]
+pushed xs x k y e = grind (arith, split_get, single)
 
 pub pushed_last : {X : Type 0} (xs : List X) (x : X) → slice_get (xs ++ x ∷ []) (length xs) ≡ Some x
 pushed_last xs x = get_behind xs (x ∷ []) 0 (length xs) (omega arith)
@@ -31,18 +29,10 @@ module _ (classes classes' : List Class) (rows : List Row) (r : Row) (c : Class)
       (d, old, grows s.class d old)
 
   same_edges : (some : List Row) → ((s : Row) → IsIn s some → IsIn s rows) → table_edges classes' some ≡ table_edges classes some
-  same_edges some within = flat_map_same (λ s. edges_of (slice_get classes' s.class) s)
-      (λ s. edges_of (slice_get classes s.class) s) some (λ s i. (
-      let at = place_of s rows (within s i) in
-      let d = class_of_row at.0 s at.1 in
-      ap (λ o. edges_of o s) (d.2 ∙ sym d.1)))
+  same_edges some within = search (rules, flat_map_same, slice_get, place_of, class_of_row)
 
   pub edges_added : table_edges classes' (rows ++ r ∷ []) ≡ table_edges classes rows ++ edges_of (Some c) r
-  edges_added =
-      flat_map-append (λ s. edges_of (slice_get classes' s.class) s) rows (r ∷ [])
-      ∙ ap (λ es. es ++ (edges_of (slice_get classes' r.class) r ++ [])) (same_edges rows (λ s i. i))
-      ∙ ap (λ es. table_edges classes rows ++ es) (append-nil (edges_of (slice_get classes' r.class) r)
-      ∙ ap (λ o. edges_of o r) there)
+  edges_added = search (rules, flat_map-append, slice_get, same_edges, append-nil)
 
   pub row_added : c.label ≤ r.label → ((k : ℕ) (d : Class) → slice_get classes' k ≡ Some d → IsClass d)
       → ((j k : ℕ) (d e : Class) → slice_get classes' j ≡ Some d → slice_get classes' k ≡ Some e

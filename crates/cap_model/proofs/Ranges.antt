@@ -1,4 +1,5 @@
 -- A set of edges in order: a list that is sorted, and what lies between two edges.
+use Rattle.std.proofs.Common.{rules}
 use Rattle.cap_model.proofs.Common.{AsyncSend, AtMost, Authority, Bool, Call, Control, Edge, Equal, Grant, GrantBack, Greater, Handle, IsBetween, IsSorted, IsStrictlySortedBy, IsStrictlySortedBy-filter, Less, List, Read, Receive, Reply, Reset}
 use Rattle.cap_model.proofs.Common.{SyncSend, Write, and_parts, ap, arith, edge, false, filter, has, is_gt, is_le, is_lt, not, number_of, refl, same_edge, subst, sym, true, ℕ, ◌&&◌, ◌<◌, ◌^◌, ◌↔◌, ◌∙◌, ◌≡◌, ◌≤◌}
 use Rattle.std.proofs.lemmas.Map.Views.{any-filter_same}
@@ -104,10 +105,7 @@ module _ (label : ℕ) (e : Edge) where
   out_label p q = let a : label ≤ e.from = p.by_from in let b : e.from ≤ label = q.by_from in omega arith
 
   pub label_out : e.from ≡ label → e.to < 2 ^ 32 → AtMost (edge label Receive 0) e × AtMost e (edge label Handle 4294967295)
-  label_out is less = (
-    record { by_from = omega arith; by_authority = λ f. omega arith; by_to = λ f g. omega arith },
-    record { by_from = omega arith; by_authority = λ f. last_authority e.authority; by_to = λ f g. omega arith },
-  )
+  label_out is less = search (rules, last_authority)
 
 module _ (label : ℕ) (a : Authority) where
   pub with_forward : AtMost (edge label a 0) (edge label a 4294967295)
@@ -115,15 +113,8 @@ module _ (label : ℕ) (a : Authority) where
 
   pub with_label : (e : Edge) → AtMost (edge label a 0) e → AtMost e (edge label a 4294967295)
       → (e.from ≡ label) × (e.authority ≡ a)
-  with_label e p q =
-      let from : e.from ≡ label = let x : label ≤ e.from = p.by_from in let y : e.from ≤ label = q.by_from in omega arith in
-      let x : number_of a ≤ number_of e.authority = p.by_authority (sym from) in
-      let y : number_of e.authority ≤ number_of a = q.by_authority from in
-      (from, same_number e.authority a (omega arith))
+  with_label e p q = grind (arith, same_number)
 
   pub label_with : (m : ℕ) → m < 2 ^ 32 → AtMost (edge label a 0) (edge label a m)
       × AtMost (edge label a m) (edge label a 4294967295)
-  label_with m less = (
-    record { by_from = omega arith; by_authority = λ f. omega arith; by_to = λ f g. omega arith },
-    record { by_from = omega arith; by_authority = λ f. omega arith; by_to = λ f g. omega arith },
-  )
+  label_with m less = search (rules)

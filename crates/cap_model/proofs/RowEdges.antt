@@ -1,4 +1,5 @@
 -- The edges of one row: what they are, and which edges are among them.
+use Rattle.std.proofs.Common.{rules}
 use Rattle.cap_model.proofs.Common.{Authority, Class, Edge, Err, IsBinarySearchResult, IsClass, IsIn, IsSearchInRange, IsSorted, List, None, Ok, Option, Ordering, Reply, Result, Row, Some, [], ap, arith, cases_lt, drop, drop-map, edge, edge_to}
 use Rattle.cap_model.proofs.Common.{edges_of, from_map, get_behind, get_drop, get_or, get_or-map, has, in_append, in_left, in_map, in_place, in_right, inl, inr, is_ok, length, length-map, length-take-le, map, nat_cmp, number_of, one_truth}
 use Rattle.cap_model.proofs.Common.{ordering_then, place_of, refl, reply_to, slice_get, subst, suc, sym, take, take-append-drop, take-map, true, zero, ℕ, ◌++◌, ◌+◌, ◌-◌, ◌<◌, ◌∙◌, ◌∷◌, ◌≡◌, ◌≢◌, ◌≤◌}
@@ -41,13 +42,7 @@ module _ {X : Type 0} (f : X → Edge) (cmp : X → X → Ordering) (x : X) (sam
 -- ---- what is among the edges of a row
 
 pub others : (c : Class) → IsClass c → (p : Authority × ℕ) → IsIn p c.pairs.items → p.0 ≢ Reply
-others c is_class p i is =
-    let there = place_of p c.pairs.items i in
-    let same : number_of p.0 ≡ number_of Reply = ap number_of is in
-    elim (cases_lt there.0 c.before) [
-      | inl l ↦ (let less = is_class.front there.0 p l there.1 in omega arith)
-      | inr ge ↦ (let more = is_class.back there.0 p ge there.1 in omega arith)
-    ]
+others c is_class p i is = search (rules, place_of, cases_lt)
 
 pub of_label : (o : Option Class) (r : Row) (e : Edge) → IsIn e (edges_of o r) → e.from ≡ r.label
 of_label None r e h = absurd h
@@ -60,10 +55,7 @@ of_label (Some c) r e h = elim (in_append e (map (edge_to r.label) (take c.befor
 ]
 
 pub pair_is : (p : Authority × ℕ) (l n : ℕ) (a : Authority) (m : ℕ) → edge_to l p ≡ edge n a m → p ≡ (a, m)
-pair_is p l n a m e =
-    let b : p.0 ≡ a = ap (λ (x : Edge). x.authority) e in
-    let t : p.1 ≡ m = ap (λ (x : Edge). x.to) e in
-    let g : ◌≡◌ {A = Authority × ℕ} (p.0, p.1) (a, m) = rw (b, t) refl in g
+pair_is p l n a m e = search (rules)
 
 pub in_pairs : (l : ℕ) (pairs : List (Authority × ℕ)) (n : ℕ) (a : Authority) (m : ℕ) → IsIn (edge n a m) (map (edge_to l) pairs)
     → IsIn (a, m) pairs
@@ -124,16 +116,11 @@ module _ (c : Class) (r : Row) where
 
     pub has_pair : (a : Authority) (m : ℕ) → a ≢ Reply → has (map (edge_to 0) c.pairs.items) (edge_to 0 (a, m)) ≡ has
         (edges_of (Some c) r) (edge r.label a m)
-    has_pair a m other = one_truth _ _
-        (λ h. has_in _ _ (pair_among a m (in_pairs 0 c.pairs.items 0 a m (in_has _ _ h))))
-        (λ h. has_in _ _ (in_map (edge_to 0) (a, m) c.pairs.items (among_pairs r.label a m other (in_has _ _ h))))
+    has_pair a m other = search (rules, has_in, pair_among, in_pairs, in_has, in_map, among_pairs)
 
     pub has_reply : (m : ℕ) → has (map (reply_to 0) r.replies.items) (reply_to 0 m) ≡ has (edges_of (Some c) r)
         (edge r.label Reply m)
-    has_reply m = one_truth _ _
-        (λ h. has_in _ _ (reply_among m (let p = from_map (reply_to 0) (reply_to 0 m) r.replies.items (in_has _ _ h) in let P : ℕ
-        → Type 0 = λ k. IsIn k r.replies.items in subst P (ap (λ (x : Edge). x.to) p.2) p.1)))
-        (λ h. has_in _ _ (in_map (reply_to 0) m r.replies.items (among_replies r.label m (in_has _ _ h))))
+    has_reply m = search (rules, has_in, reply_among, from_map, in_has, in_map, among_replies)
 
 edge_is : (e : Edge) (l : ℕ) (a : Authority) → l ≡ e.from → e.authority ≡ a → edge l a e.to ≡ e
 edge_is e l a f b = let g : ◌≡◌ {A = Edge} (record { from = l; authority = a; to = e.to })
@@ -188,10 +175,7 @@ module _ (c : Class) (r : Row) (within : c.before ≤ length c.pairs.items) wher
 
   pub at_reply : (at : ℕ) → c.before ≤ at → at - c.before < length r.replies.items
       → slice_get (map (reply_to r.label) r.replies.items) (at - c.before) ≡ slice_get (edges_of (Some c) r) at
-  at_reply at le l = sym (
-      get_behind (map (edge_to r.label) (take c.before c.pairs.items)) _ (at - c.before) at (omega (arith, front_long))
-      ∙ get_in_front (map (reply_to r.label) r.replies.items) _ (at - c.before)
-      (let long = length-map r.replies.items (reply_to r.label) in omega arith))
+  at_reply at le l = grind (arith, get_behind, front_long, get_in_front, length-map)
 
   pub at_back : (at : ℕ) → c.before ≤ at → length r.replies.items ≤ at - c.before
       → slice_get (map (edge_to r.label) c.pairs.items) (at - length r.replies.items) ≡ slice_get (edges_of (Some c) r) at

@@ -1,4 +1,5 @@
 -- The edges out of one label, in order, as pairs before and behind Reply and as replies.
+use Rattle.std.proofs.Common.{rules}
 use Rattle.cap_model.proofs.Common.{AtMost, Authority, Before, Class, Edge, IsClass, IsPartitionPoint, IsPartitionedBy, IsRun, IsSorted, List, Reply, Row, Some, [], ap, arith, cases_lt, drop, drop-append_seam, edge_to, edges_of, false, get_behind}
 use Rattle.cap_model.proofs.Common.{get_drop, get_front, get_or, get_or_from_slice_get, inl, inr, length, length-append, length-drop, length-map, length-take-le, map, map-append, map_some, nat_le, nat_lt, number_of, pair_of, refl, reply_to}
 use Rattle.cap_model.proofs.Common.{slice_get, slice_get-get_or, slice_get-map, slice_get_within, split_get, subst, suc, sym, take, take-append-drop, take-append_seam, take_all, true, zero, ℕ, ◌++◌, ◌+◌, ◌-◌, ◌<◌, ◌∙◌, ◌∷◌, ◌≡◌, ◌≤◌, ◌⊎◌}
@@ -58,10 +59,7 @@ moved l n xs s from = record {
   where
     there : (i : ℕ) (d : Edge) → slice_get (map (edge_to l) (map pair_of xs)) i ≡ Some d → (a : Edge) × (slice_get xs i ≡ Some a)
         × (edge_to l (pair_of a) ≡ d)
-    there i d p =
-        let q = map_some (edge_to l) (slice_get (map pair_of xs) i) d (sym (slice_get-map (edge_to l) (map pair_of xs) i) ∙ p) in
-        let r = map_some pair_of (slice_get xs i) q.0 (sym (slice_get-map pair_of xs i) ∙ q.1) in
-        (r.0, r.1, ap (edge_to l) r.2 ∙ q.2)
+    there i d p = search (rules, map_some, slice_get, slice_get-map)
 
 edges_back : (l : ℕ) (xs : List Edge) → ((i : ℕ) (e : Edge) → slice_get xs i ≡ Some e → e.from ≡ l)
     → map (edge_to l) (map pair_of xs) ≡ xs
@@ -125,13 +123,7 @@ module _ (label : ℕ) (run : List Edge) (xs ys zs : List Edge) (is_run : IsRun 
       at : (i : ℕ) (p : Authority × ℕ) → slice_get c.pairs.items i ≡ Some p
           → ((e : Edge) × (slice_get xs i ≡ Some e) × (pair_of e ≡ p)) ⊎ ((n : ℕ) × (i ≡ length xs + n) × (e : Edge)
           × (slice_get zs n ≡ Some e) × (pair_of e ≡ p))
-      at i p e = elim (split_get (map pair_of xs) (map pair_of zs) i p (ap (λ ps. slice_get ps i) (sym pairs) ∙ e)) [
-        | inl h ↦ inl (map_some pair_of (slice_get xs i) p (sym (slice_get-map pair_of xs i) ∙ h))
-        | inr h ↦ (
-            let q = map_some pair_of (slice_get zs h.0) p (sym (slice_get-map pair_of zs h.0) ∙ h.2) in
-            let n = h.1 in let long = length-map xs pair_of in
-            inr (h.0, omega arith, q.0, q.1, q.2))
-      ]
+      at i p e = grind (arith, split_get, slice_get, map_some, slice_get-map, length-map)
 
   pub run_edges : (c : Class) (r : Row) → c.pairs.items ≡ map pair_of xs ++ map pair_of zs → c.before ≡ length xs
       → r.label ≡ label → r.replies.items ≡ map (λ (e : Edge). e.to) ys → edges_of (Some c) r ≡ run
@@ -178,19 +170,11 @@ pub whole : {X : Type 0} (xs : List X) (a : ℕ) → take (length xs - a) (drop 
 whole xs a = let long = length-drop a xs in take_all (length xs - a) (drop a xs) (omega arith)
 
 pub run_rest : (label : ℕ) (run : List Edge) (n : ℕ) → IsRun label run → IsRun label (drop n run)
-run_rest label run n r = record {
-  sorted = sorted_back (take n run) (drop n run) (subst IsSorted (sym (take-append-drop n run)) r.sorted);
-  from = λ i e p. r.from (n + i) e (sym (get_drop run n i) ∙ p);
-}
+run_rest label run n r = search (rules, sorted_back, take-append-drop, get_drop)
 
 numbers_rise : (label : ℕ) (run : List Edge) → IsRun label run → (i j : ℕ) (d : Edge) → i ≤ j → j < length run
     → number_of (get_or run i d).authority ≤ number_of (get_or run j d).authority
-numbers_rise label run r i j d le l =
-    let p = slice_get-get_or run i d (omega arith) in
-    let q = slice_get-get_or run j d l in
-    let most : AtMost (get_or run i d) (get_or run j d) = later_at_most run i j (get_or run i d) (get_or run j d)
-    r.sorted le p q in
-    most.by_authority (r.from i _ p ∙ sym (r.from j _ q))
+numbers_rise label run r i j d le l = grind (arith, slice_get-get_or, later_at_most)
 
 pub run_parted_lt : (label : ℕ) (run : List Edge) (n : ℕ) → IsRun label run
     → IsPartitionedBy (λ e. nat_lt (number_of e.authority) n) run
@@ -226,9 +210,7 @@ module _ (label : ℕ) (run : List Edge) (before n : ℕ) (is_run : IsRun label 
       subst (λ (x : Edge). nat_le (number_of x.authority) 9 ≡ true) is (again.0 i e (omega arith) l) in grind arith
 
   gt_at : (i : ℕ) (e : Edge) → n ≤ i → slice_get (drop before run) i ≡ Some e → 9 < number_of e.authority
-  gt_at i e l p = let is = get_or_from_slice_get (drop before run) i e e p in let h : nat_le (number_of e.authority) 9 ≡ false =
-      subst (λ (x : Edge). nat_le (number_of x.authority) 9 ≡ false) is
-      (again.1 i e l (slice_get_within (drop before run) i e p)) in grind arith
+  gt_at i e l p = grind (arith, get_or_from_slice_get, nat_le, slice_get_within)
 
   parts : run ≡ take before run ++ (take n (drop before run) ++ drop n (drop before run))
   parts = sym (ap (λ es. take before run ++ es) (take-append-drop n (drop before run)) ∙ take-append-drop before run)
@@ -237,11 +219,7 @@ module _ (label : ℕ) (run : List Edge) (before n : ℕ) (is_run : IsRun label 
   front i e p = let t = taken_place before run i e p in lt_at i e t.0 t.1
 
   middle : (i : ℕ) (e : Edge) → slice_get (take n (drop before run)) i ≡ Some e → number_of e.authority ≡ 9
-  middle i e p =
-      let t = taken_place n (drop before run) i e p in
-      let a = le_at i e t.0 t.1 in
-      let b = ge_at (before + i) e (omega arith) (sym (get_drop run before i) ∙ t.1) in
-      omega arith
+  middle i e p = grind (arith, taken_place, le_at, ge_at, get_drop)
 
   back : (i : ℕ) (e : Edge) → slice_get (drop n (drop before run)) i ≡ Some e → 9 < number_of e.authority
   back i e p = gt_at (n + i) e (omega arith) (sym (get_drop (drop before run) n i) ∙ p)
@@ -254,9 +232,7 @@ module _ (label : ℕ) (run : List Edge) (before n : ℕ) (is_run : IsRun label 
   pub parted_edges : (c : Class) (r : Row) → c.pairs.items ≡ map pair_of (take before run)
       ++ map pair_of (drop n (drop before run)) → c.before ≡ before → r.label ≡ label
       → r.replies.items ≡ map (λ (e : Edge). e.to) (take n (drop before run)) → edges_of (Some c) r ≡ run
-  parted_edges c r pairs is label_is replies = run_edges label run (take before run) (take n (drop before run))
-      (drop n (drop before run)) is_run parts front middle back c r pairs (is ∙ sym (length-take-le before run bound))
-      label_is replies
+  parted_edges c r pairs is label_is replies = search (rules, run_edges, parts, front, middle, back, length-take-le)
 
   pub parted_replies : (ms : List ℕ) → ms ≡ map (λ (e : Edge). e.to) (take n (drop before run)) → IsSorted (map (reply_to 0) ms)
   parted_replies ms same = run_replies label run (take before run) (take n (drop before run)) (drop n (drop before run)) is_run

@@ -1,4 +1,5 @@
 -- A table in which several labels have the edges of the same pairs.
+use Rattle.std.proofs.Common.{rules}
 use Rattle.cap_model.proofs.Common.{All, AllPairs, AreShared, Authority, Before, Class, Edge, IsClass, IsIn, IsPartitionPoint, IsPartitionedBy, IsSorted, IsTable, List, PairBefore, Reply, Row, Some, [], ap, arith, cases_lt, drop, edge_to, edges_of}
 use Rattle.cap_model.proofs.Common.{false, flat_map, from_flat_map, from_map, get_or, get_or_from_slice_get, in_place, inl, inr, length, length-append, length-map, map, map-append, map_some, nat_lt, number_of, place_of, refl, reply_to, shared_edges}
 use Rattle.cap_model.proofs.Common.{single, slice_get, slice_get-get_or, slice_get-map, slice_get_within, split_get, subst, suc, sym, table_edges, take, take-append-drop, take_all, true, zero, ℕ, ◌*◌, ◌++◌, ◌<◌, ◌∙◌, ◌∷◌, ◌≡◌, ◌≢◌, ◌≤◌}
@@ -10,10 +11,7 @@ use Rattle.cam_base.proofs.NumberedLists.{at_place as row_at}
 
 at_two : {X : Type 0} (R : X → X → Type 0) (xs : List X) (i j : ℕ) (x y : X) → AllPairs R xs → i < j → slice_get xs i ≡ Some x
     → slice_get xs j ≡ Some y → R x y
-at_two R xs i j x y all less p q =
-    let a : get_or xs i x ≡ x = get_or_from_slice_get xs i x x p in
-    let b : get_or xs j x ≡ y = get_or_from_slice_get xs j y x q in
-    subst (λ z. R z y) a (subst (λ z. R (get_or xs i x) z) b (all i j x less (slice_get_within xs j y q)))
+at_two R xs i j x y all less p q = search (rules, get_or_from_slice_get, slice_get_within)
 
 at_one : {X : Type 0} (P : X → Type 0) (xs : List X) (i : ℕ) (x : X) → All P xs → slice_get xs i ≡ Some x → P x
 at_one P xs i x all p = subst P (get_or_from_slice_get xs i x x p) (all i x (slice_get_within xs i x p))

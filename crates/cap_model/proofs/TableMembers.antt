@@ -1,4 +1,5 @@
 -- What a list of edges has, by places and by elements; what a sorted list is determined by.
+use Rattle.std.proofs.Common.{rules}
 use Rattle.cap_model.proofs.Common.{AtMost, Authority, Before, Bool, Contains, Edge, Has, IsSorted, List, Some, [], ap, arith, cases_lt, edge, false, get_or_from_slice_get, has, inl, inr, refl, same_edge, slice_get, slice_get_read, slice_get_within}
 use Rattle.cap_model.proofs.Common.{subst, suc, sym, true, zero, ℕ, ◌||◌, ◌↔◌, ◌∷◌, ◌≡◌, ◌≤◌, ◌⊎◌}
 use Rattle.std.proofs.Math.Bool.{or-true}
@@ -35,11 +36,7 @@ head_before : (d e : Edge) (edges : List Edge) → IsSorted (d ∷ edges) → ha
 head_before d e edges s h = let there = at_has edges e h in s.by_place zero (suc there.0) d e (omega arith) refl there.1
 
 first_or_later : (d e : Edge) (edges : List Edge) → has (d ∷ edges) e ≡ true → (d ≡ e) ⊎ (has edges e ≡ true)
-first_or_later d e edges h =
-    elim (same_edge d e) as (λ b. same_edge d e ≡ b → (b || has edges e) ≡ true → (d ≡ e) ⊎ (has edges e ≡ true)) [
-      | true ↦ λ s h. inl (same_edge_true d e s)
-      | false ↦ λ s h. inr h
-    ] refl h
+first_or_later d e edges h = search (rules, same_edge_true)
 
 has_head : (d : Edge) (edges : List Edge) → has (d ∷ edges) d ≡ true
 has_head d edges = rw (same_edge_self d) refl
@@ -64,18 +61,8 @@ tails_same d xs ys p q same e = go (has xs e) (has ys e) refl refl where
   go : (a b : Bool) → has xs e ≡ a → has ys e ≡ b → a ≡ b
   go true true f g = refl
   go false false f g = refl
-  go true false f g = absurd (
-      let h : has (d ∷ ys) e ≡ true = (let s = same e in let t : has (d ∷ xs) e ≡ true = rw f (or-true (same_edge d e)) in cc) in
-      elim (first_or_later d e ys h) [
-        | inl is ↦ not_before_self e (subst (λ (x : Edge). Before x e) is (head_before d e xs p f))
-        | inr k ↦ let z : true ≡ false = cc in cc
-      ])
-  go false true f g = absurd (
-      let h : has (d ∷ xs) e ≡ true = (let s = same e in let t : has (d ∷ ys) e ≡ true = rw g (or-true (same_edge d e)) in cc) in
-      elim (first_or_later d e xs h) [
-        | inl is ↦ not_before_self e (subst (λ (x : Edge). Before x e) is (head_before d e ys q g))
-        | inr k ↦ let z : true ≡ false = cc in cc
-      ])
+  go true false f g = search (rules, or-true, first_or_later, not_before_self, head_before)
+  go false true f g = search (rules, or-true, first_or_later, not_before_self, head_before)
 
 -- a list in order is determined by the edges that it has
 pub one_table : (xs ys : List Edge) → IsSorted xs → IsSorted ys → ((e : Edge) → has xs e ≡ has ys e) → xs ≡ ys

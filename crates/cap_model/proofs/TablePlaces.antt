@@ -1,4 +1,5 @@
 -- Binary search in a table.
+use Rattle.std.proofs.Common.{rules}
 use Rattle.cap_model.proofs.Common.{AtMost, Bool, Edge, Equal, Err, Greater, IsBinarySearchResult, IsFirstFrom, IsPartitionPoint, IsPartitionedBy, IsSearchInRange, IsSorted, Less, List, Ok, Ordering, Result, Some, arith, cases_lt, false, get_or}
 use Rattle.cap_model.proofs.Common.{get_or_from_slice_get, has, inl, inr, is_ok, length, nat_lt, ordering_index, refl, slice_get, slice_get-get_or, slice_get_within, subst, sym, true, ℕ, ◌+◌, ◌<◌, ◌≡◌, ◌≤◌}
 use Rattle.cap_model.specs.contracts.edge.EdgeOrd.TheImpl.{ghosts as ordered}
@@ -27,9 +28,7 @@ is_ok-search edges e (Ok i) sorted within found =
     sym (has_at edges i e (subst (λ (x : Edge). slice_get edges i ≡ Some x) here (slice_get-get_or edges i e within)))
 is_ok-search edges e (Err i) sorted within found = go (has edges e) refl where
   parted : IsPartitionPoint (λ d. ordered.cmp d e ≡ Less) (λ d. ordered.cmp d e ≡ Greater) edges i
-  parted = found (λ j k d le l. rises (get_or edges j d) (get_or edges k d) e
-      (later_at_most edges j k (get_or edges j d) (get_or edges k d) sorted le (slice_get-get_or edges j d (omega arith))
-      (slice_get-get_or edges k d l)))
+  parted = grind (arith, rises, later_at_most, slice_get-get_or)
 
   go : (b : Bool) → has edges e ≡ b → false ≡ b
   go false h = refl
@@ -54,13 +53,7 @@ parted_from edges label sorted i j d le l h =
 
 pub first_from_parted : (edges : List Edge) (label at : ℕ) → at ≤ length edges
     → IsPartitionPoint (λ e. nat_lt e.from label ≡ true) (λ e. nat_lt e.from label ≡ false) edges at → IsFirstFrom edges label at
-first_from_parted edges label at bound parted = record {
-  bound = bound;
-  below = λ k d l h. let p = parted.0 k d (omega arith) l in let is : get_or edges k d ≡ d =
-      get_or_from_slice_get edges k d d h in let q : nat_lt d.from label ≡ true = rw (← is) p in grind arith;
-  above = λ k d le h. let p = parted.1 k d le (slice_get_within edges k d h) in let is : get_or edges k d ≡ d =
-      get_or_from_slice_get edges k d d h in let q : nat_lt d.from label ≡ false = rw (← is) p in grind arith;
-}
+first_from_parted edges label at bound parted = search (rules, get_or_from_slice_get, nat_lt, slice_get_within)
 
 pub firsts_in_order : (edges : List Edge) (e : Edge) (label low high : ℕ) → IsFirstFrom edges label low
     → IsFirstFrom edges (label + 1) high → low ≤ high

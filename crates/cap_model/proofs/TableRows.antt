@@ -1,4 +1,5 @@
 -- The edges of a table by its rows: where they stand, which there are, and what two rows of one class share.
+use Rattle.std.proofs.Common.{rules}
 use Rattle.cap_model.proofs.Common.{Authority, Bool, Class, Edge, FirstsRise, Has, HasPlaces, HasRising, IsClass, IsClassOf, IsFirstFrom, IsIn, IsPartitionPoint, IsPartitionedBy, IsRowFrom, IsRowOf, IsRowPast, IsSorted, IsTable, List, NoRowOf, None}
 use Rattle.cap_model.proofs.Common.{Option, Reply, Row, Some, [], ap, append_assoc, arith, cases_lt, drop, edge, edge_to, edges_of, eqb_tells, false, flat_map, flat_map-append, from_flat_map, from_map, get_behind, get_or, get_or_from_slice_get, has}
 use Rattle.cap_model.proofs.Common.{if◌then◌else◌, in_flat_map, in_map, in_place, inl, inr, length, length-append, map, nat_le, nat_lt, number_of, one_truth, place_of, refl, slice_get, slice_get-get_or, slice_get_past, slice_get_read}
@@ -57,13 +58,7 @@ module _ (p : Row → Bool) (rows : List Row) (at : ℕ) (bound : at ≤ length 
       subst (λ (x : Row). p x ≡ false) is (point.1 k r l (slice_get_within rows k r h))
 
 pub labels_parted : (rows : List Row) (label : ℕ) → HasRising rows → IsPartitionedBy (λ r. nat_lt r.label label) rows
-labels_parted rows label rising i j d le l h = elim (cases_lt i j) [
-  | inl less ↦
-      let up : (get_or rows i d).label < (get_or rows j d).label =
-      rising.by_place i j _ _ less (slice_get-get_or rows i d (omega arith)) (slice_get-get_or rows j d l) in
-      grind arith
-  | inr ge ↦ let same : j ≡ i = omega arith in subst (λ k. nat_lt (get_or rows k d).label label ≡ true) same h
-]
+labels_parted rows label rising i j d le l h = search (rules, cases_lt, slice_get-get_or, nat_lt)
 
 pub row_from : (rows : List Row) (label at : ℕ) → at ≤ length rows → IsPartitionPoint (λ r. nat_lt r.label label ≡ true)
     (λ r. nat_lt r.label label ≡ false) rows at → IsRowFrom rows label at
@@ -90,10 +85,7 @@ row_from-behind rows label near r rising there is = record {
 }
 
 pub firsts_parted : (rows : List Row) (place : ℕ) → FirstsRise rows → IsPartitionedBy (λ r. nat_le r.first place) rows
-firsts_parted rows place rise i j d le l h =
-    let up : (get_or rows i d).first ≤ (get_or rows j d).first =
-    rise.by_place i j _ _ le (slice_get-get_or rows i d (omega arith)) (slice_get-get_or rows j d l) in
-    grind arith
+firsts_parted rows place rise i j d le l h = search (rules, slice_get-get_or)
 
 pub row_past : (rows : List Row) (place at : ℕ) → at ≤ length rows → IsPartitionPoint (λ r. nat_le r.first place ≡ true)
     (λ r. nat_le r.first place ≡ false) rows at → IsRowPast rows place at
@@ -132,11 +124,7 @@ taken_rises f (x ∷ xs) (suc i) (suc j) le =
 
 module _ (classes : List Class) (rows : List Row) where
   pub firsts_rise : HasPlaces classes rows → FirstsRise rows
-  firsts_rise places = record {
-    by_place = λ i j r s le p q. (
-        let a = places.first i r p in let b = places.first j s q in
-        let c = taken_rises (λ r. edges_of (slice_get classes r.class) r) rows i j le in omega arith);
-  }
+  firsts_rise places = search (rules, taken_rises, slice_get)
 
   -- what stands at a place: nothing where no row begins so early, else what the row has there
   pub get_none : (place : ℕ) → HasPlaces classes rows → IsRowPast rows place 0 → slice_get (table_edges classes rows) place ≡ None
@@ -191,14 +179,7 @@ module _ (classes : List Class) (rows : List Row) where
 
   pub one_row : (i j : ℕ) (r s : Row) → HasRising rows → slice_get rows i ≡ Some r → slice_get rows j ≡ Some s
       → r.label ≡ s.label → r ≡ s
-  one_row i j r s rising p q same = elim (cases_lt i j) [
-    | inl l ↦ absurd (let up = rising.by_place i j r s l p q in omega arith)
-    | inr ge ↦ elim (cases_lt j i) [
-      | inl l ↦ absurd (let up = rising.by_place j i s r l q p in omega arith)
-      | inr le ↦ let here : i ≡ j = omega arith in let t : slice_get rows j ≡ Some r =
-          subst (λ k. slice_get rows k ≡ Some r) here p in cc
-    ]
-  ]
+  one_row i j r s rising p q same = grind (arith, cases_lt, slice_get)
 
   pub has_of_row : (i : ℕ) (r : Row) (e : Edge) → HasRising rows → slice_get rows i ≡ Some r → r.label ≡ e.from
       → has (edges_of (slice_get classes r.class) r) e ≡ has (table_edges classes rows) e
@@ -280,15 +261,10 @@ same_pairs xs ys p q same =
     there : (us vs : List (Authority × ℕ))
         → ((p : Authority × ℕ) → has (map (edge_to 0) us) (edge_to 0 p) ≡ has (map (edge_to 0) vs) (edge_to 0 p)) → (e : Edge)
         → has (map (edge_to 0) us) e ≡ true → has (map (edge_to 0) vs) e ≡ true
-    there us vs same e h =
-        let p = from_map (edge_to 0) e us (in_has _ e h) in
-        subst (λ (d : Edge). has (map (edge_to 0) vs) d ≡ true) p.2 (sym (same p.0) ∙ has_in _ _ (in_map (edge_to 0) p.0 us p.1))
+    there us vs same e h = search (rules, from_map, in_has, has_in, in_map)
 
 is_reply_or_not : (a : Authority) → (a ≡ Reply) ⊎ (a ≢ Reply)
-is_reply_or_not a = elim (eqb_tells (number_of a) 9) [
-  | inl t ↦ inl (same_number a Reply t.1)
-  | inr t ↦ inr (λ e. t.1 (ap number_of e))
-]
+is_reply_or_not a = search (rules, eqb_tells, same_number)
 
 -- no list of a class has a pair of Reply
 no_reply : (c d : Class) → IsClass c → IsClass d → (q : Authority × ℕ) → q.0 ≡ Reply
@@ -385,13 +361,7 @@ module _ (classes : List Class) (rows : List Row) (table : IsTable classes rows)
 pub at_past : (read rows : List Row) (place past : ℕ) (r : Row) → read ≡ rows → IsRowPast read place past → (past ≡ 0 → ⊥)
     → r ≡ get_or rows (past - 1) r
     → (slice_get rows (past - 1) ≡ Some r) × IsRowPast rows place (past - 1 + 1)
-at_past read rows place past r same is_past some e =
-    let there : IsRowPast rows place past = subst (λ (rs : List Row). IsRowPast rs place past) same is_past in
-    let bound = there.bound in
-    let positive : 0 < past = elim (cases_lt 0 past) [ inl l ↦ l | inr le ↦ absurd (some (omega arith)) ] in
-    let less : past - 1 < length rows = omega arith in
-    let one : past ≡ past - 1 + 1 = omega arith in
-    (slice_get_read rows (length rows) (past - 1) r refl less e, subst (λ (n : ℕ). IsRowPast rows place n) one there)
+at_past read rows place past r same is_past some e = grind (arith, cases_lt, slice_get_read)
 
 pub row_in : (read rows : List Row) (label : ℕ) (r : Row) → read ≡ rows → IsRowOf read label r → IsRowOf rows label r
 row_in read rows label r same row = (row.0, subst (λ (rs : List Row). slice_get rs row.0 ≡ Some r) same row.1, row.2)
