@@ -1,4 +1,5 @@
 -- The bodies of a source's hierarchy, and their instances.
+use Rattle.std.proofs.Common.{rules}
 use Rattle.adl_hierarchy.proofs.Common.{AreNamesSound, Assembly, Body, Component, Composition, Hierarchy, Instance, IsIn, ItemAt, Line, List, Name, None, Option, Part, Some, Source, [], ap, arith, assemblies, body, body_of, components, filter_map}
 use Rattle.adl_hierarchy.proofs.Common.{from_filter_map, from_flat_map, get_map, get_or_from_slice_get, get_or_last, get_or_map, graph, hierarchy_of, in_flat_map, inl, inr, instances_by, instances_in, is_composite, is_some, kind_named, length}
 use Rattle.adl_hierarchy.proofs.Common.{length-map, map, map_some, one_assembly, part_of, parts_by, parts_in, refl, slice_get, slice_get_within, subst, sym, top_number, top_of, true, ℕ, ◌∙◌, ◌∷◌, ◌≡◌, ◌≤◌, ◌⊎◌}
@@ -9,19 +10,13 @@ use Rattle.adl_ast.specs.declared.composition.Line.TheVariants as lines
 
 part_from : (numbers : Name → Option ℕ) (g : Option Name) (is : List Instance) (x : Part)
     → IsIn x (filter_map (part_of numbers g) is) → IsIn x.instance is × (numbers x.instance.component.name ≡ Some x.kind)
-part_from numbers g is x m =
-    let i = from_filter_map (part_of numbers g) x is m in
-    let p = map_some (λ k. let part : Part = record { instance = i.0; group = g; kind = k } in
-    part) (numbers i.0.component.name) x i.2 in
-    let P : Part → Type 0 = λ y. IsIn y.instance is × (numbers y.instance.component.name ≡ Some y.kind) in
-    subst P p.2 (i.1, p.1)
+part_from numbers g is x m = search (rules, from_filter_map, map_some)
 
 part_by : (numbers : Name → Option ℕ) (l : Line) (x : Part) → IsIn x (parts_by numbers l) → IsIn x.instance (instances_by l)
     × (numbers x.instance.component.name ≡ Some x.kind)
 part_by numbers (lines.Instance i) x m = part_from numbers None (i ∷ []) x m
 part_by numbers (lines.Group g) x m = part_from numbers (Some g.id.name) g.instances x m
-part_by numbers (lines.Connection k) x m = absurd m
-part_by numbers (lines.Export e) x m = absurd m
+part_by numbers _ x m = absurd m
 
 -- an instance of a body is one of its composition, with the number of its type
 pub record IsPart (numbers : Name → Option ℕ) (o : Option Composition) (x : Part) : Type 0 where
@@ -77,11 +72,8 @@ inner_of_body h k l = get_or_last (λ (b : Body). map (λ (x : Part). x.kind) b.
 -- the top has a composition, where there is an assembly
 pub top_composed : (s : Source) → AreNamesSound s → is_composite (hierarchy_of s) (top_number (hierarchy_of s)) ≡ true
 top_composed s sound =
-    let a = one_assembly s sound in
     let P : Body → Type 0 = λ b. is_some b.composition ≡ true in
     elim (body_at s (top_number (hierarchy_of s))) [
-      | inl c ↦
-          let low = slice_get_within (components s) (top_number (hierarchy_of s)) c.0 c.1 in
-          absurd (omega (arith, low, length-map (components s) (body_of (kind_named s))))
-      | inr t ↦ subst P (sym (t.1 ∙ ap (λ xs. top_of (kind_named s) (slice_get xs 0)) a.1)) refl
+      | inl c ↦ search (rules, slice_get_within, length-map)
+      | inr t ↦ subst P (sym (t.1 ∙ ap (λ xs. top_of (kind_named s) (slice_get xs 0)) (one_assembly s sound).1)) refl
     ]

@@ -36,16 +36,12 @@ pub number_found : (xs : List (ItemAt × Component)) (a : ℕ) (n : Name) (c : I
 number_found [] a n c e = cc
 number_found (x ∷ xs) a n c e = by_test (bytes_eq n x.1.id.name) refl (number_found xs (a + 1) n c) e
   where
-    by_test : (b : Bool) → bytes_eq n x.1.id.name ≡ b
-        → (find (λ (c : ItemAt × Component). bytes_eq n c.1.id.name) xs ≡ Some c
+    by_test : (b : Bool) → bytes_eq n x.1.id.name ≡ b → (find (λ (c : ItemAt × Component). bytes_eq n c.1.id.name) xs ≡ Some c
         → (j : ℕ) × (number_from (a + 1) (map (λ (c : ItemAt × Component). c.1) xs) n ≡ Some ((a + 1) + j))
-        × (slice_get xs j ≡ Some c))
-        → cond b (Some x) (find (λ (c : ItemAt × Component). bytes_eq n c.1.id.name) xs) ≡ Some c
-        → (j : ℕ)
-        × (option_map (λ (y : ℕ × Component). y.0)
+        × (slice_get xs j ≡ Some c)) → cond b (Some x) (find (λ (c : ItemAt × Component). bytes_eq n c.1.id.name) xs) ≡ Some c
+        → (j : ℕ) × (option_map (λ (y : ℕ × Component). y.0)
         (cond b (Some (a, x.1)) (find (λ (y : ℕ × Component). bytes_eq n y.1.id.name)
-        (enumerate_from (a + 1) (map (λ (c : ItemAt × Component). c.1) xs)))) ≡ Some (a + j))
-        × (slice_get (x ∷ xs) j ≡ Some c)
+        (enumerate_from (a + 1) (map (λ (c : ItemAt × Component). c.1) xs)))) ≡ Some (a + j)) × (slice_get (x ∷ xs) j ≡ Some c)
     by_test true t ih e = (0, ap Some (omega arith), e)
     by_test false t ih e = let k = ih e in (suc k.0, k.1 ∙ ap Some (omega arith), k.2)
 
@@ -103,9 +99,8 @@ pub none_recursive : (numbers : Name → Option ℕ) (cs : List Component) → I
     → recursive_among numbers cs ≡ []
 none_recursive numbers cs acyclic =
     let g = graph_of numbers cs in
-    none_from (λ (x : ℕ × Component). recursive_in numbers g x.0 x.1) (enumerate_from 0 cs) (λ x m.
-    let k = from_enumerate 0 cs x m in
-    let s : k.0 ≡ x.0 = let b = k.1 in omega arith in
+    none_from (λ (x : ℕ × Component). recursive_in numbers g x.0 x.1) (enumerate_from 0 cs)
+    (λ x m. let k = from_enumerate 0 cs x m in let s : k.0 ≡ x.0 = let b = k.1 in omega arith in
     let e : slice_get cs x.0 ≡ Some x.1 = ap (slice_get cs) (sym s) ∙ k.2 in
     let l : x.0 < length g = omega (arith, length-map cs (types_of numbers), slice_get_within cs x.0 x.1 e) in
     none_from (recursive_instance numbers g x.0) (instances_of x.1) (λ i n. type_unheld g x.0 i (numbers i.component.name)
@@ -115,12 +110,7 @@ none_recursive numbers cs acyclic =
 not_recursive : (numbers : Name → Option ℕ) (cs : List Component) (a : ℕ) (c : Component) (i : Instance)
     → recursive_among numbers cs ≡ [] → slice_get cs a ≡ Some c → IsIn i (instances_of c)
     → recursive_instance numbers (graph_of numbers cs) a i ≡ []
-not_recursive numbers cs a c i none e m =
-    let g = graph_of numbers cs in
-    let s : 0 + a ≡ a = omega arith in
-    let all : recursive_in numbers g (0 + a) c ≡ [] = none_in (λ (x : ℕ × Component). recursive_in numbers g x.0 x.1)
-    (enumerate_from 0 cs) (0 + a, c) none (in_enumerate 0 cs a c e) in
-    none_in (recursive_instance numbers g a) (instances_of c) i (ap (λ z. recursive_in numbers g z c) (sym s) ∙ all) m
+not_recursive numbers cs a c i none e m = grind (arith, none_in, in_enumerate)
 
 not_held : (g : List (List ℕ)) (a : ℕ) (i : Instance) (o : Option ℕ) (t : ℕ) → o ≡ Some t → recursive_type g a i o ≡ []
     → is_held g t a ≡ true → ⊥

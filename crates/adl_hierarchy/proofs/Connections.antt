@@ -1,6 +1,7 @@
 -- The walk to the connections meets each connection once, and nothing else.
+use Rattle.std.proofs.Common.{rules}
 use Rattle.adl_hierarchy.proofs.Common.{AreNamesSound, Hierarchy, IsIn, IsOnce, List, Name, Part, Path, Some, Source, Strung, Wire, [], ap, arith, at, body, connections, connections_within, flat_map, from_flat_map, from_map, further, hierarchy_of}
-use Rattle.adl_hierarchy.proofs.Common.{in_append, in_flat_map, in_left, in_map, in_right, inl, inr, length, map, map-append, name_of, refl, strung, strung_by, subst, suc, sym, top_number, wires_of, zero, ℕ, ◌++◌, ◌↔◌, ◌∙◌, ◌∷◌, ◌≡◌, ◌≤◌}
+use Rattle.adl_hierarchy.proofs.Common.{in_append, in_flat_map, in_left, in_map, in_right, inl, inr, length, map, map-append, name_of, refl, strung, strung_by, subst, suc, sym, top_number, wires_of, zero, ℕ, ◌++◌, ◌↔◌, ◌∷◌, ◌≡◌, ◌≤◌}
 use Rattle.adl_hierarchy.proofs.Finite.{sound_is_finite}
 use Rattle.adl_hierarchy.proofs.PartNames.{names_once, wires_once}
 use Rattle.adl_hierarchy.proofs.PartsAt.{named_in, at_behind, first_on, path_short}
@@ -13,10 +14,7 @@ IsStrung h k x = (at h k x.path ≡ Some x.inside) × IsIn x.wire (wires_of (bod
 -- ---- what is met stands
 
 own_stands : (h : Hierarchy) (k : ℕ) (x : Strung) → IsIn x (map (strung k) (wires_of (body h k))) → IsStrung h k x
-own_stands h k x i =
-    let w = from_map (strung k) x (wires_of (body h k)) i in
-    let P : Strung → Type 0 = λ z. IsStrung h k z in
-    subst P w.2 (refl, w.1)
+own_stands h k x i = let w = from_map (strung k) x (wires_of (body h k)) i in subst (λ z. IsStrung h k z) w.2 (refl, w.1)
 
 pub stands : (h : Hierarchy) → ((k : ℕ) → IsOnce (map name_of (body h k).parts)) → (n k : ℕ) (x : Strung)
     → IsIn x (connections_within h n k) → IsStrung h k x
@@ -28,8 +26,7 @@ stands h a (suc n) k x i =
           let y = from_flat_map (strung_by (connections_within h n)) x (body h k).parts j in
           let z = from_map (further (name_of y.0)) x (connections_within h n y.0.kind) y.2 in
           let s = stands h a n y.0.kind z.0 z.1 in
-          let P : Strung → Type 0 = λ u. IsStrung h k u in
-          subst P z.2 (
+          subst (λ u. IsStrung h k u) z.2 (
             at_behind h k (name_of y.0) z.0.path y.0 z.0.inside (find_once name_of (body h k).parts y.0 (a k) y.1) s.0,
             s.1,
           )
@@ -55,12 +52,11 @@ met h (suc n) k m (c ∷ q) w l e i =
     let y = first_on h k c q m e in
     let name = named_in (body h k).parts c y.0 y.1 in
     let x : Strung = record { path = q; inside = m; wire = w } in
-    let inner = met h n y.0.kind m q w (omega arith) y.2 i in
     let P : Name → Type 0 = λ z. IsIn (record { path = z ∷ q; inside = m; wire = w }) (connections_within h (suc n) k) in
     subst P name.1 (in_right (further (name_of y.0) x) (map (strung k) (wires_of (body h k)))
     (flat_map (strung_by (connections_within h n)) (body h k).parts)
     (in_flat_map (strung_by (connections_within h n)) y.0 (further (name_of y.0) x) (body h k).parts name.0
-    (in_map (further (name_of y.0)) x (connections_within h n y.0.kind) inner)))
+    (in_map (further (name_of y.0)) x (connections_within h n y.0.kind) (met h n y.0.kind m q w (omega arith) y.2 i))))
 
 pub connections_stand : (s : Source) → AreNamesSound s → (x : Strung) → IsIn x (connections (hierarchy_of s))
     ↔ IsStrung (hierarchy_of s) (top_number (hierarchy_of s)) x
@@ -106,14 +102,7 @@ not_empty (m ∷ p) n e = cc
 apart : (k : ℕ) (ws : List Wire) (f : ℕ → List Strung) (xs : List Part) (p : Path) → IsIn p (map whole_path (map (strung k) ws))
     → IsIn p (map whole_path (flat_map (strung_by f) xs)) → ⊥
 unfolding whole_path
-apart k ws f xs p i j =
-    let P : List Path → Type 0 = λ ps. IsIn p ps in
-    let n = from_map (λ (n : Name). n ∷ []) p (map (λ (w : Wire). w.1.id.name) ws) (subst P (wholes_own k ws) i) in
-    let y = from_map whole_path p (flat_map (strung_by f) xs) j in
-    let x = from_flat_map (strung_by f) y.0 xs y.1 in
-    let z = from_map (further (name_of x.0)) y.0 (f x.0.kind) x.2 in
-    not_empty z.0.path z.0.wire.1.id.name (ap (λ (u : Strung). tail_of (whole_path u)) z.2 ∙ ap tail_of y.2
-    ∙ ap tail_of (sym n.2))
+apart k ws f xs p i j = search (rules, from_map, whole_path, from_flat_map, not_empty, tail_of, wholes_own)
 
 begins : (x : Part) (ys : List Strung) (y : Strung) → IsIn y (map (further (name_of x)) ys) → head_of (whole_path y) ≡ name_of x
 unfolding whole_path
@@ -127,11 +116,9 @@ wholes_once h a b (suc n) k =
     let own = map (strung k) (wires_of (body h k)) in
     let f = connections_within h n in
     let inner = flat_map (strung_by f) (body h k).parts in
-    let P : List Path → Type 0 = λ ps. IsOnce ps in
-    subst P (sym (map-append whole_path own inner))
-    (once_append (map whole_path own) (map whole_path inner) (own_once k (wires_of (body h k)) (b k))
-    (once_by_head name_of (strung_by f) whole_path (λ x. further_once x (f x.kind) (wholes_once h a b n x.kind))
-    (λ x y i. begins x (f x.kind) y i) (body h k).parts (a k))
+    subst (λ ps. IsOnce ps) (sym (map-append whole_path own inner)) (once_append (map whole_path own) (map whole_path inner)
+    (own_once k (wires_of (body h k)) (b k)) (once_by_head name_of (strung_by f) whole_path
+    (λ x. further_once x (f x.kind) (wholes_once h a b n x.kind)) (λ x y i. begins x (f x.kind) y i) (body h k).parts (a k))
     (apart k (wires_of (body h k)) f (body h k).parts))
 
 -- no two connections have one name in compositions at one path

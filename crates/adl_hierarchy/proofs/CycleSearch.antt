@@ -1,4 +1,5 @@
 -- The search for cycles.
+use Rattle.std.proofs.Common.{rules}
 use Rattle.adl_hierarchy.proofs.Common.{AreCycleNumbers, AreHeldBy, AreRoots, Holds, InRange, IsTurned, List, TellCycles, Walk, [], arith, both_ways, cases_eq, eq-eqb, eqb-true, false≢true, get_or, get_or-set_other, get_or-set_same, has, inl}
 use Rattle.adl_hierarchy.proofs.Common.{inner_of, inr, is_held, length, length-set, refl, set, subst, suc, sym, true, zero, ℕ, ◌++◌, ◌<◌, ◌∙◌, ◌∷◌, ◌≡◌, ◌⊎◌}
 use lib.Dec.{eqb}
@@ -15,13 +16,7 @@ pub turned_more : (ws old : List (List ℕ)) (inner : List ℕ) (a d : ℕ) → 
     → ((c x : ℕ) → has (inner_of ws c) x ≡ true → ((x ≡ a) × (has inner c ≡ true)) ⊎ (has (inner_of old c) x ≡ true))
     → (c x : ℕ) → has (inner_of (with_waiting ws d a) c) x ≡ true → ((x ≡ a) × (has inner c ≡ true))
     ⊎ (has (inner_of old c) x ≡ true)
-turned_more ws old inner a d l e edges c x h = elim (in_set ws d (inner_of ws d ++ a ∷ []) c x l h) [
-  | inl k ↦ elim (has_pushed (inner_of ws d) a x k.1) [
-    | inl q ↦ let P : ℕ → Type 0 = λ j. has (inner_of ws j) x ≡ true in edges c x (subst P (sym k.0) q)
-    | inr q ↦ let P : ℕ → Type 0 = λ j. has inner j ≡ true in inl (q, subst P (sym k.0) e)
-  ]
-  | inr k ↦ edges c x k
-]
+turned_more ws old inner a d l e edges c x h = search (rules, in_set, has_pushed)
 
 turned_walk : (g turned : List (List ℕ)) → IsTurned g turned → (n a b : ℕ) → Walk turned a b n → Holds g b a
 turned_walk g turned t zero a b w = (0, sym w)
@@ -40,27 +35,11 @@ one_more g root component inner k e = (suc k.0, walk_more g k.0 root component i
 
 pub root_more : (g : List (List ℕ)) (roots : List ℕ) (root d : ℕ) → AreRoots g roots → d < length g → Holds g root d
     → AreRoots g (set roots d root)
-root_more g roots root d are l k = record {
-  size = length-set roots d root ∙ are.size;
-  held = λ x lx lr.
-      let s = are.size in
-      let h : d < length roots = omega arith in
-      elim (cases_eq x d) [
-        | inl e ↦ let P : ℕ → Type 0 = λ j. Holds g (get_or (set roots d root) j 0) j in
-            let Q : ℕ → Type 0 = λ r. Holds g r d in
-            subst P (sym e) (subst Q (sym (get_or-set_same roots d root 0 h)) k)
-        | inr n ↦ let t : get_or (set roots d root) x 0 ≡ get_or roots x 0 = get_or-set_other roots d x root 0 n in
-            let Q : ℕ → Type 0 = λ r. Holds g r x in
-            subst Q (sym t) (are.held x lx (let P : ℕ → Type 0 = λ r. r < length g in subst P t lr))
-      ];
-}
+root_more g roots root d are l k = search (rules, length-set, cases_eq, set, get_or-set_same, get_or-set_other)
 
 pub held_more : (g : List (List ℕ)) (root d : ℕ) (waiting : List ℕ) → AreHeldBy g root waiting → d < length g → Holds g root d
     → AreHeldBy g root (waiting ++ d ∷ [])
-held_more g root d waiting are l k x e = elim (has_pushed waiting d x e) [
-  | inl p ↦ are x p
-  | inr s ↦ let P : ℕ → Type 0 = λ y. (y < length g) × Holds g root y in subst P (sym s) (l, k)
-]
+held_more g root d waiting are l k x e = search (rules, has_pushed)
 
 pub held_first : (g : List (List ℕ)) (root : ℕ) → root < length g → AreHeldBy g root (root ∷ [])
 held_first g root l = held_more g root root [] (λ x e. absurd (false≢true e)) l (0, refl)
@@ -68,24 +47,20 @@ held_first g root l = held_more g root root [] (λ x e. absurd (false≢true e))
 -- ---- the test
 
 pub told : (g turned : List (List ℕ)) (roots others ranks : List ℕ) → InRange g → IsTurned g turned → AreRoots g roots
-    → AreRoots turned others
-    → ((x : ℕ) → x < length g → (get_or roots x 0 < length g) × (get_or roots x 0 ≡ get_or others x 0))
+    → AreRoots turned others → ((x : ℕ) → x < length g → (get_or roots x 0 < length g) × (get_or roots x 0 ≡ get_or others x 0))
     → ((a c : ℕ) → a < length g → has (inner_of g a) c ≡ true → (get_or roots c 0 ≡ get_or roots a 0)
-    ⊎ (get_or ranks (get_or roots a 0) 0 < get_or ranks (get_or roots c 0) 0))
-    → TellCycles g roots
+    ⊎ (get_or ranks (get_or roots a 0) 0 < get_or ranks (get_or roots c 0) 0)) → TellCycles g roots
 told g turned roots others ranks r t are areothers agree rises =
     let numbers : AreCycleNumbers g (λ x. get_or roots x 0) (λ x. get_or ranks x 0) = record {
       rises = rises;
       inwards = λ a l.
           let k = agree a l in
           let s = t.size in
-          let e = k.1 in
           let low = k.0 in
           let la : a < length turned = omega arith in
           let lo : get_or others a 0 < length turned = omega arith in
           let w = areothers.held a la lo in
-          let P : ℕ → Type 0 = λ y. Holds g a y in
-          subst P (sym e) (turned_walk g turned t w.0 (get_or others a 0) a w.1);
+          subst (λ y. Holds g a y) (sym k.1) (turned_walk g turned t w.0 (get_or others a 0) a w.1);
       outwards = λ a l. are.held a l (agree a l).0;
     } in
     record { size = are.size; exact = exact g r (λ x. get_or roots x 0) (λ x. get_or ranks x 0) numbers }
@@ -101,10 +76,7 @@ rest_below xs ys a n e below x h = below x (let P : List ℕ → Type 0 = λ zs.
 
 pub more_below : (xs ys : List ℕ) (a n : ℕ) → ys ≡ xs ++ a ∷ [] → ((x : ℕ) → has xs x ≡ true → x < n) → a < n → (x : ℕ)
     → has ys x ≡ true → x < n
-more_below xs ys a n e below l x h = elim (has_pushed xs a x (let P : List ℕ → Type 0 = λ zs. has zs x ≡ true in subst P e h)) [
-  | inl p ↦ below x p
-  | inr s ↦ omega arith
-]
+more_below xs ys a n e below l x h = grind (arith, has_pushed)
 
 -- the comparison of two numbers is the test of holding
 pub told_test : (g : List (List ℕ)) (numbers : List ℕ) → InRange g → TellCycles g numbers → (a c : ℕ) → a < length g

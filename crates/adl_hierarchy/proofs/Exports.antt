@@ -1,7 +1,8 @@
 -- Where no export is at fault: exports stand once by target, and what is exported or joined leads on.
-use Rattle.adl_hierarchy.proofs.Common.{AreNamesSound, Bool, Composition, Connection, End, Export, Fault, Held, IsIn, IsOnce, Known, List, Name, None, Option, Port, Some, Source, [], ap, body, bytes_eq, bytes_eq-Decides, compositions, connections_in}
+use Rattle.std.proofs.Common.{rules}
+use Rattle.adl_hierarchy.proofs.Common.{AreNamesSound, Bool, Composition, Connection, End, Export, Fault, Held, IsIn, IsOnce, Known, List, Name, None, Option, Port, Some, Source, [], body, bytes_eq, bytes_eq-Decides, compositions, connections_in}
 use Rattle.adl_hierarchy.proofs.Common.{export_fault, exports_in, false, flat_map, held_as, hierarchy_of, inl, inr, is_misfit, is_port, is_unled, known_in, known_of, map, misfits_after, misfits_in_composition, misfits_in_item, none_in, none_left}
-use Rattle.adl_hierarchy.proofs.Common.{none_right, or_left, or_parts, or_right, port_of, refl, subst, sym, true, unled_end, unled_ends, where_true, ℕ, ◌||◌, ◌∙◌, ◌∷◌, ◌≡◌}
+use Rattle.adl_hierarchy.proofs.Common.{none_right, or_left, or_parts, or_right, port_of, refl, subst, true, unled_ends, where_true, ℕ, ◌||◌, ◌∷◌, ◌≡◌}
 use Rattle.adl_meaning.specs.Export.{inner_of}
 use Rattle.adl_hierarchy.proofs.Lists.{in_get}
 use Rattle.adl_hierarchy.proofs.Sources.{composed, none_in_component, none_in_assembly}
@@ -30,21 +31,13 @@ not_so false f e = refl
 fits : (types : Name → Option Known) (owner : Option Known) (held : Name → Option Held) (targets : Name → Bool) (inners : Port
     → Bool) (x : Export) → is_misfit types owner held targets inners x ≡ false
     → (targets x.target.name ≡ false) × (is_unled types (port_of held x.words) ≡ false)
-fits types owner held targets inners x e =
-    let a = or_parts _ _ e in
-    let b = or_parts _ _ a.1 in
-    let c = or_parts _ _ b.1 in
-    let d = or_parts _ _ c.1 in
-    (c.0, d.1)
+fits types owner held targets inners x e = let c = or_parts _ _ (or_parts _ _ (or_parts _ _ e).1).1 in (c.0, (or_parts _ _ c.1).1)
 
 exports_lead : (types : Name → Option Known) (owner : Option Known) (held : Name → Option Held) (targets : Name
     → Bool) (inners : Port → Bool) (xs : List Export) (x : Export)
     → misfits_after types owner held targets inners xs ≡ [] → IsIn x xs → is_unled types (port_of held x.words) ≡ false
 exports_lead types owner held targets inners [] x e i = absurd i
-exports_lead types owner held targets inners (y ∷ ys) x e (inl s) =
-    ap (λ (z : Export). is_unled types (port_of held z.words)) (sym s)
-    ∙ (fits types owner held targets inners y (not_so (is_misfit types owner held targets inners y) (export_fault y.words y.place)
-    (none_left _ _ e))).1
+exports_lead types owner held targets inners (y ∷ ys) x e (inl s) = search (rules, fits, not_so, none_left)
 exports_lead types owner held targets inners (y ∷ ys) x e (inr i) =
     exports_lead types owner held (λ n. targets n || bytes_eq n y.target.name)
     (λ p. inners p || is_port (inner_of types (port_of held y.words)) p) ys x
@@ -60,12 +53,7 @@ export_leads types owner k x e i = exports_lead types owner (held_as k) (λ n. f
 pub end_leads : (types : Name → Option Known) (owner : Option Known) (k : Composition) (x : Connection) (e : End)
     → misfits_in_composition types owner k ≡ [] → IsIn x (connections_in k) → IsIn e x.ends
     → is_unled types (port_of (held_as k) e.words) ≡ false
-end_leads types owner k x e none i j =
-    let all = none_right (misfits_after types owner (held_as k) (λ n. false) (λ p. false) (exports_in k))
-    (flat_map (unled_ends types (held_as k)) (connections_in k)) none in
-    let own = none_in (unled_ends types (held_as k)) (connections_in k) x all i in
-    not_so (is_unled types (port_of (held_as k) e.words)) (export_fault e.words e.place)
-    (none_in (unled_end types (held_as k)) x.ends e own j)
+end_leads types owner k x e none i j = search (rules, none_right, not_so, none_in)
 
 -- ---- targets
 
@@ -77,12 +65,7 @@ not_met : (types : Name → Option Known) (owner : Option Known) (held : Name �
     → misfits_after types owner held targets inners xs ≡ [] → targets n ≡ true → IsIn n (map target xs) → ⊥
 unfolding target
 not_met types owner held targets inners [] n e t i = i
-not_met types owner held targets inners (x ∷ xs) n e t (inl s) =
-    let f =
-    (fits types owner held targets inners x (not_so (is_misfit types owner held targets inners x)
-    (export_fault x.words x.place) (none_left _ _ e))).0 in
-    let g : targets x.target.name ≡ true = ap targets s ∙ t in
-    cc
+not_met types owner held targets inners (x ∷ xs) n e t (inl s) = search (rules, fits, not_so, none_left)
 not_met types owner held targets inners (x ∷ xs) n e t (inr i) =
     not_met types owner held (λ n. targets n || bytes_eq n x.target.name)
     (λ p. inners p || is_port (inner_of types (port_of held x.words)) p) xs n

@@ -1,6 +1,7 @@
 -- Where no fault of names stands, the hierarchy is finite: no component is recursive, and the assembly is no component.
-use Rattle.adl_hierarchy.proofs.Common.{AreNamesSound, Body, Component, Hierarchy, IsFinite, IsIn, ItemAt, List, Part, Some, Source, [], ap, arith, body, body_of, components, from_map, get_map, graph, graph_of, hierarchy_of, inl, inr, instances_of}
-use Rattle.adl_hierarchy.proofs.Common.{kind_named, length, length-append, length-map, map, slice_get, subst, suc, sym, true, zero, ℕ, ◌++◌, ◌<◌, ◌∙◌, ◌∷◌, ◌≡◌, ◌≤◌}
+use Rattle.std.proofs.Common.{rules}
+use Rattle.adl_hierarchy.proofs.Common.{AreNamesSound, Body, Component, Hierarchy, IsFinite, IsIn, ItemAt, List, Part, Some, Source, ap, arith, body, body_of, components, from_map, get_map, graph, graph_of, hierarchy_of, inl, inr, instances_of}
+use Rattle.adl_hierarchy.proofs.Common.{kind_named, length, length-append, length-map, map, slice_get, subst, suc, sym, true, zero, ℕ, ◌<◌, ◌∙◌, ◌≡◌, ◌≤◌}
 use Rattle.adl_meaning.specs.Prelude.{Walk, has, inner_of}
 use Rattle.adl_hierarchy.proofs.ComponentNumbers.{numbers_below, composed_instance, listed, graph_in_range, acyclic_from_none}
 use Rattle.adl_hierarchy.proofs.Lists.{in_has}
@@ -16,10 +17,7 @@ inner_graph : Source → List (List ℕ)
 inner_graph s = graph_of (kind_named s) (bare s)
 
 pub graph_size : (h : Hierarchy) → length (graph h) ≡ suc (length h.bodies)
-graph_size h =
-    let size = length-map (h.bodies ++ h.top ∷ []) (λ (b : Body). map (λ (x : Part). x.kind) b.parts) in
-    let more = length-append h.bodies (h.top ∷ []) in
-    omega (arith, size, more)
+graph_size h = grind (arith, length-map, length-append)
 
 -- an edge of the hierarchy's graph is an instance in a body
 pub record IsEdge (h : Hierarchy) (a : ℕ) (c : ℕ) : Type 0 where
@@ -38,10 +36,9 @@ edge h a c l e =
 pub kind_below : (s : Source) (a : ℕ) (x : Part) → IsIn x (body (hierarchy_of s) a).parts → x.kind < length (components s)
 unfolding bare
 kind_below s a x i =
-    let p = part_of_body s a x i in
     omega (
       arith,
-      numbers_below (bare s) x.instance.component.name x.kind p.typed,
+      numbers_below (bare s) x.instance.component.name x.kind (part_of_body s a x i).typed,
       length-map (components s)
           (λ (c : ItemAt × Component). c.1),
     )
@@ -92,20 +89,17 @@ unfolding bare inner_graph
 sound_is_finite s sound = record {
   range = λ a c l e.
       let x = edge (hierarchy_of s) a c l e in
-      let P : ℕ → Type 0 = λ z. z < length (components s) in
-      let low : c < length (components s) = subst P x.kind (kind_below s a x.part x.stands) in
+      let low : c < length (components s) = subst (λ z. z < length (components s)) x.kind (kind_below s a x.part x.stands) in
       in_graph s c (omega arith);
   acyclic = λ a c n l e w.
       let x = edge (hierarchy_of s) a c l e in
-      let P : ℕ → Type 0 = λ z. z < length (components s) in
-      let low : c < length (components s) = subst P x.kind (kind_below s a x.part x.stands) in
+      let low : c < length (components s) = subst (λ z. z < length (components s)) x.kind (kind_below s a x.part x.stands) in
       let g = inner_graph s in
       let size : length g ≡ length (bare s) = length-map (bare s) _ in
       let all : length (bare s) ≡ length (components s) = length-map (components s) _ in
       let inner = inner_walk s n c a low w in
       let inside : c < length g = omega (arith, low, size, all) in
-      let back : a < length g = walk_in_range g (graph_in_range (kind_named s) (bare s) (numbers_below (bare s))) n c a
-      inside inner in
+      let back : a < length g = search (rules, walk_in_range, graph_in_range, bare, numbers_below) in
       acyclic_from_none (kind_named s) (bare s) (numbers_below (bare s)) sound.none_recursive a c n back
       (inner_edge s a c (omega (arith, back, size, all)) x) inner;
 }

@@ -1,5 +1,6 @@
 -- What names stand for among what a composition holds: instances of it, each under its own name.
-use Rattle.adl_hierarchy.proofs.Common.{Composition, Held, Id, Instance, IsIn, Line, List, Name, None, Option, Port, Some, [], a_connection, a_group, an_instance, ap, as_held, bytes_eq, bytes_eq-Decides, find, found, from_flat_map, from_map, held_as}
+use Rattle.std.proofs.Common.{rules}
+use Rattle.adl_hierarchy.proofs.Common.{Composition, Held, Id, Instance, IsIn, Line, List, Name, Option, Port, Some, [], a_connection, a_group, an_instance, ap, as_held, bytes_eq, bytes_eq-Decides, find, found, from_flat_map, from_map, held_as}
 use Rattle.adl_hierarchy.proofs.Common.{held_by, held_in, in_flat_map, inl, inr, instance_held, instances_by, instances_in, map_some, member_held, member_of, port_of, refl, subst, sym, ◌∙◌, ◌∷◌, ◌≡◌}
 use Rattle.adl_ast.specs.declared.composition.Line.TheVariants as lines
 
@@ -13,16 +14,13 @@ held_found k n x e =
 
 held_instance : (l : Line) (h : Id × Held) (i : Instance) → IsIn h (held_by l) → h.1 ≡ an_instance i
     → IsIn i (instances_by l) × (h.0 ≡ i.id)
-held_instance (lines.Instance j) h i (inl e) t =
-    let s : j ≡ i = let u : an_instance j ≡ h.1 = ap (λ (z : Id × Held). z.1) e in cc in
-    (inl s, ap (λ (z : Id × Held). z.0) (sym e) ∙ ap (λ (z : Instance). z.id) s)
+held_instance (lines.Instance j) h i (inl e) t = search (rules)
 held_instance (lines.Instance j) h i (inr m) t = absurd m
 held_instance (lines.Group g) h i (inl e) t = let u : a_group (member_of g) ≡ h.1 = ap (λ (z : Id × Held). z.1) e in cc
 held_instance (lines.Group g) h i (inr m) t =
     let k = from_map as_held h g.instances m in
     let s : k.0 ≡ i = let u : an_instance k.0 ≡ h.1 = ap (λ (z : Id × Held). z.1) k.2 in cc in
-    let P : Instance → Type 0 = λ z. IsIn z g.instances in
-    (subst P s k.1, ap (λ (z : Id × Held). z.0) (sym k.2) ∙ ap (λ (z : Instance). z.id) s)
+    (subst (λ z. IsIn z g.instances) s k.1, ap (λ (z : Id × Held). z.0) (sym k.2) ∙ ap (λ (z : Instance). z.id) s)
 held_instance (lines.Connection k) h i (inl e) t = let u : a_connection ≡ h.1 = ap (λ (z : Id × Held). z.1) e in cc
 held_instance (lines.Connection k) h i (inr m) t = absurd m
 held_instance (lines.Export x) h i m t = absurd m
@@ -66,31 +64,19 @@ of_instance : (k : Composition) (n : Name) (i : Instance) → instance_held (hel
 of_instance k n i e = by_case (held_as k n) refl e
   where
     by_case : (o : Option Held) → held_as k n ≡ o → instance_held o ≡ Some i → IsIn i (instances_in k)
-    by_case None t u = cc
     by_case (Some (an_instance j)) t u = let s : j ≡ i = cc in let P : Instance → Type 0 = λ z. IsIn z (instances_in k) in
         subst P s (instance_in k n j t).0
-    by_case (Some (a_group f)) t u = cc
-    by_case (Some a_connection) t u = cc
+    by_case _ t u = cc
 
 of_member : (k : Composition) (g n : Name) (i : Instance) → member_held (held_as k g) n ≡ Some i → IsIn i (instances_in k)
 of_member k g n i e = by_case (held_as k g) refl e
   where
     by_case : (o : Option Held) → held_as k g ≡ o → member_held o n ≡ Some i → IsIn i (instances_in k)
-    by_case None t u = cc
-    by_case (Some (an_instance j)) t u = cc
     by_case (Some (a_group f)) t u = (member_in k g n f i t u).0
-    by_case (Some a_connection) t u = cc
+    by_case _ t u = cc
 
 -- the port of a dotted name is one of an instance of the composition
 pub port_in : (k : Composition) (words : List Id) (p : Port) → port_of (held_as k) words ≡ Some p → IsIn p.0 (instances_in k)
-port_in k [] p e = cc
-port_in k (a ∷ []) p e = cc
-port_in k (a ∷ j ∷ []) p e =
-    let i = map_some (λ (i : Instance). (i, j.name)) (instance_held (held_as k a.name)) p e in
-    let P : Port → Type 0 = λ z. IsIn z.0 (instances_in k) in
-    subst P i.2 (of_instance k a.name i.0 i.1)
-port_in k (g ∷ a ∷ j ∷ []) p e =
-    let i = map_some (λ (i : Instance). (i, j.name)) (member_held (held_as k g.name) a.name) p e in
-    let P : Port → Type 0 = λ z. IsIn z.0 (instances_in k) in
-    subst P i.2 (of_member k g.name a.name i.0 i.1)
-port_in k (a ∷ b ∷ j ∷ x ∷ more) p e = cc
+port_in k (a ∷ j ∷ []) p e = search (rules, map_some, of_instance)
+port_in k (g ∷ a ∷ j ∷ []) p e = search (rules, map_some, of_member)
+port_in k _ p e = cc

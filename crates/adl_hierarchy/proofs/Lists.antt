@@ -1,7 +1,7 @@
 -- What stands in lists that are made of others.
-use Rattle.adl_hierarchy.proofs.Common.{Bool, IsIn, List, None, Option, Some, [], ap, cond, eq-eqb, eqb-true, false, get_or, has, inl, inr, map, nat_eq, option_map, or_cases, or_left, or_right, subst, suc, sym, true, zero, ℕ, ◌++◌, ◌+◌, ◌∙◌, ◌∷◌}
-use Rattle.adl_hierarchy.proofs.Common.{◌≡◌, ◌≤◌, ◌⊎◌}
-use Rattle.std.specs.List.{flat_map, filter_map, find, enumerate_from, cons_option, slice_get}
+use Rattle.adl_hierarchy.proofs.Common.{IsIn, List, Some, [], eq-eqb, eqb-true, has, inl, inr, nat_eq, or_cases, or_left, or_right, suc, sym, true, zero, ℕ, ◌∷◌}
+use Rattle.adl_hierarchy.proofs.Common.{◌≡◌}
+use Rattle.std.specs.List.{slice_get}
 
 pub in_get : {X : Type 0} (xs : List X) (n : ℕ) (x : X) → slice_get xs n ≡ Some x → IsIn x xs
 in_get [] n x e = cc

@@ -1,4 +1,5 @@
 -- Sets of numbers: their marks, and what their lists have.
+use Rattle.std.proofs.Common.{rules}
 use Rattle.adl_hierarchy.proofs.Common.{AreMarks, Bool, IsDistinct-push, List, [], ap, arith, cases_Bool, cases_eq, drop, eq-eqb, eqb-true, false, false≢true, get_or, get_or-replicate, get_or-set_other, get_or-set_same, has, inl, inr, length}
 use Rattle.adl_hierarchy.proofs.Common.{length-append, length-le_from_distinct_below, length-replicate, length-set, list_any-append, list_any_at, ne_eqb, or_cases, or_left, or_right, refl, replicate, set, subst, sym, take, take-append-drop}
 use Rattle.adl_hierarchy.proofs.Common.{take-append-le, true, with_number, ℕ, ◌++◌, ◌<◌, ◌^◌, ◌||◌, ◌∙◌, ◌∷◌, ◌≡◌, ◌≤◌, ◌⊎◌}
@@ -11,12 +12,7 @@ marks_few marks list m = length-le_from_distinct_below list (length marks) m.dis
 
 pub marks_new : (n : ℕ) → n < 2 ^ 32 → AreMarks (replicate n false) []
 unfolding IsDistinct
-marks_new n h = record {
-  each = λ x l. get_or-replicate n x false false (simp length-replicate at l);
-  below = λ x e. absurd (false≢true e);
-  distinct = tt;
-  size = rw length-replicate h;
-}
+marks_new n h = search (rules, get_or-replicate, length-replicate)
 
 has_push : (list : List ℕ) (x y : ℕ) → has (list ++ x ∷ []) y ≡ (has list y || (eqb y x || false))
 has_push list x y = list_any-append (eqb y) list (x ∷ [])
@@ -32,21 +28,8 @@ at_same false = refl
 pub marks_more : (marks : List Bool) (list : List ℕ) (x : ℕ) → AreMarks marks list → x < length marks → has list x ≡ false
     → AreMarks (set marks x true) (list ++ x ∷ [])
 marks_more marks list x m h fresh = record {
-  each = λ y l. elim (cases_eq y x) [
-    | inl e ↦ let P : ℕ → Type 0 = λ z. get_or (set marks x true) z false ≡ has (list ++ x ∷ []) z in
-        subst P (sym e) (get_or-set_same marks x true false h ∙ at_same (has list x) ∙ ap (λ b. has list x || (b || false))
-        (sym (eq-eqb x x refl)) ∙ sym (has_push list x x))
-    | inr n ↦ get_or-set_other marks x y true false n ∙ m.each y (simp length-set at l) ∙ at_other (has list y)
-        ∙ ap (λ b. has list y || (b || false)) (sym (ne_eqb y x n)) ∙ sym (has_push list x y)
-  ];
-  below = λ y e. rw length-set (elim (or_cases (has list y) (eqb y x || false) (sym (has_push list x y) ∙ e)) [
-    | inl p ↦ m.below y p
-    | inr p ↦ elim (or_cases (eqb y x) false p) [
-      | inl q ↦ let s : y ≡ x = eqb-true y x q in omega arith
-      | inr q ↦
-          absurd (false≢true q)
-    ]
-  ]);
+  each = search (rules, cases_eq, set, get_or-set_same, at_same, eq-eqb, has_push, get_or-set_other, length-set, at_other);
+  below = search (rules, length-set, or_cases, eqb, has_push, eqb-true);
   distinct = IsDistinct-push nat_eq_equiv list x m.distinct fresh;
   size = rw length-set m.size;
 }
@@ -61,32 +44,18 @@ pub has_new : (list : List ℕ) (a : ℕ) → has (list ++ a ∷ []) a ≡ true
 has_new list a = list_any-append (eqb a) list (a ∷ []) ∙ or_right _ _ (or_left _ _ (eq-eqb a a refl))
 
 pub has_pushed : (list : List ℕ) (a x : ℕ) → has (list ++ a ∷ []) x ≡ true → (has list x ≡ true) ⊎ (x ≡ a)
-has_pushed list a x e = elim (or_cases (has list x) (eqb x a || false) (sym (has_push list a x) ∙ e)) [
-  | inl p ↦ inl p
-  | inr p ↦ elim (or_cases (eqb x a) false p) [ inl q ↦ inr (eqb-true x a q) | inr q ↦ absurd (false≢true q) ]
-]
+has_pushed list a x e = search (rules, or_cases, eqb, has_push, eqb-true)
 
 pub has_take : (n : ℕ) (xs : List ℕ) (x : ℕ) → has (take n xs) x ≡ true → has xs x ≡ true
 has_take n xs x e =
-    let P : List ℕ → Type 0 = λ ys. has ys x ≡ true in
-    subst P (take-append-drop n xs) (list_any-append (eqb x) (take n xs) (drop n xs) ∙ or_left _ _ e)
+    subst (λ ys. has ys x ≡ true) (take-append-drop n xs) (list_any-append (eqb x) (take n xs) (drop n xs) ∙ or_left _ _ e)
 
 -- what a list with a number has
 pub has-with_number : (xs : List ℕ) (a x : ℕ) → has (with_number xs a) x ≡ (has xs x || has (a ∷ []) x)
-has-with_number xs a x = elim (cases_Bool (has xs a)) [
-  | inl e ↦ rw e (elim (cases_eq x a) [
-    | inl s ↦ let P : ℕ → Type 0 = λ y. has xs y ≡ true in let h : has xs x ≡ true = subst P (sym s) e in rw h
-    | inr n ↦ at_other (has xs x) ∙ ap (λ b. has xs x || (b || false)) (sym (ne_eqb x a n))
-  ])
-  | inr e ↦ rw e (list_any-append (eqb x) xs (a ∷ []))
-]
+has-with_number xs a x = search (rules, cases_Bool, cases_eq, at_other, ne_eqb, list_any-append, eqb)
 
 pub take-with_number : (n : ℕ) (xs : List ℕ) (a : ℕ) → n ≤ length xs → take n (with_number xs a) ≡ take n xs
 take-with_number n xs a h = elim (cases_Bool (has xs a)) [ inl e ↦ rw e | inr e ↦ rw e (take-append-le n xs (a ∷ []) h) ]
 
 pub length-with_number : (xs : List ℕ) (a : ℕ) → length xs ≤ length (with_number xs a)
-length-with_number xs a = elim (cases_Bool (has xs a)) [
-  | inl e ↦ rw e (omega arith)
-  | inr e ↦
-      rw e (omega (arith, length-append xs (a ∷ [])))
-]
+length-with_number xs a = grind (arith, cases_Bool, length-append)

@@ -24,8 +24,7 @@ once_outside : (x : Part) (ys : List Placed) (b : Bool) → IsOnce (paths ys)
     → IsOnce (paths (cond b (map (outside (name_of x)) ys) (record { path = name_of x ∷ []; part = x } ∷ [])))
 unfolding paths
 once_outside x ys true a =
-    let P : List Path → Type 0 = λ ps. IsOnce ps in
-    subst P (sym (paths_outside (name_of x) ys)) (once_map (λ p. name_of x ∷ p) tail_of (paths ys) (λ p. refl) a)
+    subst (λ ps. IsOnce ps) (sym (paths_outside (name_of x) ys)) (once_map (λ p. name_of x ∷ p) tail_of (paths ys) (λ p. refl) a)
 once_outside x ys false a = (λ i. i, tt)
 
 leaves_once : (h : Hierarchy) → ((k : ℕ) → IsOnce (map name_of (body h k).parts)) → (n k : ℕ)

@@ -1,4 +1,5 @@
 -- Where no name is a duplicate, the names of a body's instances stand once.
+use Rattle.std.proofs.Common.{rules}
 use Rattle.adl_hierarchy.proofs.Common.{AreNamesSound, Composition, Connection, Connector, Held, Id, Instance, IsIn, IsOnce, Line, List, Name, None, Option, Part, Some, Source, Wire, [], ap, as_connection, as_held, body, compositions, connections_in}
 use Rattle.adl_hierarchy.proofs.Common.{connector_of, cons_option, duplicates_in_composition, duplicates_in_item, filter_map, flat_map, held_by, held_in, hierarchy_of, inl, inr, items_of, kind_named, map, map_some, name_of, none_in, none_right}
 use Rattle.adl_hierarchy.proofs.Common.{option_map_or, part_of, parts_by, parts_in, refl, subst, sym, wire_of, wires_of, ℕ, ◌++◌, ◌∷◌, ◌≡◌}
@@ -13,10 +14,7 @@ held_name h = h.0.name
 
 part_name : (numbers : Name → Option ℕ) (g : Option Name) (i : Instance) (x : Part) → part_of numbers g i ≡ Some x
     → name_of x ≡ i.id.name
-part_name numbers g i x e =
-    let k = map_some (λ k. let part : Part = record { instance = i; group = g; kind = k } in
-    part) (numbers i.component.name) x e in
-    ap name_of (sym k.2)
+part_name numbers g i x e = search (rules, map_some)
 
 names_held : (is : List Instance) → map held_name (map as_held is) ≡ map (λ i. i.id.name) is
 names_held [] = refl
@@ -24,9 +22,7 @@ names_held (i ∷ is) = ap (λ ns. i.id.name ∷ ns) (names_held is)
 
 group_in : (numbers : Name → Option ℕ) (g : Option Name) (is : List Instance) (n : Name)
     → IsIn n (map name_of (filter_map (part_of numbers g) is)) → IsIn n (map held_name (map as_held is))
-group_in numbers g is n i =
-    let P : List Name → Type 0 = λ ns. IsIn n ns in
-    subst P (sym (names_held is)) (filtered_in (part_of numbers g) name_of (λ i. i.id.name) (part_name numbers g) is n i)
+group_in numbers g is n i = search (rules, names_held, filtered_in, part_name)
 
 group_once : (numbers : Name → Option ℕ) (g : Option Name) (is : List Instance) → IsOnce (map held_name (map as_held is))
     → IsOnce (map name_of (filter_map (part_of numbers g) is))
@@ -38,15 +34,13 @@ line_in : (numbers : Name → Option ℕ) (l : Line) (n : Name) → IsIn n (map 
     → IsIn n (map held_name (held_by l))
 line_in numbers (lines.Instance i) n m = group_in numbers None (i ∷ []) n m
 line_in numbers (lines.Group g) n m = inr (group_in numbers (Some g.id.name) g.instances n m)
-line_in numbers (lines.Connection k) n m = absurd m
-line_in numbers (lines.Export e) n m = absurd m
+line_in numbers _ n m = absurd m
 
 line_once : (numbers : Name → Option ℕ) (l : Line) → IsOnce (map held_name (held_by l))
     → IsOnce (map name_of (parts_by numbers l))
 line_once numbers (lines.Instance i) a = group_once numbers None (i ∷ []) a
 line_once numbers (lines.Group g) a = group_once numbers (Some g.id.name) g.instances a.1
-line_once numbers (lines.Connection k) a = tt
-line_once numbers (lines.Export e) a = tt
+line_once numbers _ a = tt
 
 -- what a composition holds stands once by name
 pub held_once : (k : Composition) → duplicates_in_composition k ≡ [] → IsOnce (map held_name (held_in k))
@@ -102,17 +96,13 @@ connection_name k = k.id.name
 
 connection_in : (l : Line) (n : Name) → IsIn n (map connection_name (as_one as_connection l)) → IsIn n (map held_name (held_by l))
 unfolding as_one connection_name
-connection_in (lines.Instance i) n m = absurd m
-connection_in (lines.Group g) n m = absurd m
 connection_in (lines.Connection k) n m = m
-connection_in (lines.Export x) n m = absurd m
+connection_in _ n m = absurd m
 
 connection_once : (l : Line) → IsOnce (map held_name (held_by l)) → IsOnce (map connection_name (as_one as_connection l))
 unfolding as_one
-connection_once (lines.Instance i) a = tt
-connection_once (lines.Group g) a = tt
 connection_once (lines.Connection k) a = (λ i. i, tt)
-connection_once (lines.Export x) a = tt
+connection_once _ a = tt
 
 connections_once : (k : Composition) → duplicates_in_composition k ≡ [] → IsOnce (map connection_name (connections_in k))
 connections_once k e =

@@ -1,4 +1,5 @@
 -- Places in lists, and lists without what stands twice, where a test decides equality.
+use Rattle.std.proofs.Common.{rules}
 use Rattle.adl_hierarchy.proofs.Common.{Bool, Decides, IsIn, IsOnce, List, Some, [], ap, arith, both_ways, cond, enumerate_from, false, false_from_ne_true, filter, firsts_after, from_enumerate, from_map, in_map, inl, inr, map, or_from, or_parts}
 use Rattle.adl_hierarchy.proofs.Common.{place_by, refl, slice_get, subst, suc, sym, true, zero, ℕ, ◌+◌, ◌||◌, ◌↔◌, ◌∙◌, ◌∷◌, ◌≡◌, ◌⊎◌}
 use Rattle.adl_meaning.specs.Lists.{firsts}
@@ -9,9 +10,7 @@ pub place_is : {X K : Type 0} (same : K → K → Bool) → ((a b : K) → Decid
     → (key : X → K) (xs : List X) (n : ℕ) (x : X) → IsOnce (map key xs) → slice_get xs n ≡ Some x
     → place_by (λ y. same (key x) (key y)) xs ≡ n
 place_is same d key [] n x a e = cc
-place_is {X} {K} same d key (y ∷ xs) zero x a e =
-    let s : y ≡ x = cc in
-    ap (λ b. cond b zero (suc (place_by (λ (z : X). same (key x) (key z)) xs))) ((d (key x) (key y)).1 (ap key (sym s)))
+place_is {X} {K} same d key (y ∷ xs) zero x a e = search (rules)
 place_is {X} {K} same d key (y ∷ xs) (suc n) x a e =
     let i = in_map key x xs (in_get xs n x e) in
     let P : K → Type 0 = λ k. IsIn k (map key xs) in
@@ -61,8 +60,7 @@ once_filter {X} {K} key p (y ∷ xs) a = by_test (p y) (once_filter key p xs a.1
     by_test true ih = (
       λ i.
           let z = from_map key (key y) (filter p xs) i in
-          let P : K → Type 0 = λ k. IsIn k (map key xs) in
-          a.0 (subst P z.2 (in_map key z.0 xs (from_filter p xs z.0 z.1).0)),
+          a.0 (subst (λ k. IsIn k (map key xs)) z.2 (in_map key z.0 xs (from_filter p xs z.0 z.1).0)),
       ih,
     )
     by_test false ih = ih
@@ -72,8 +70,7 @@ pub numbers_once : {X : Type 0} (a : ℕ) (xs : List X) → IsOnce (map (λ x. x
 numbers_once a [] = tt
 numbers_once {X} a (x ∷ xs) = (
   λ i. let y = from_map (λ (y : ℕ × X). y.0) a (enumerate_from (a + 1) xs) i in
-      let j = from_enumerate (a + 1) xs y.0 y.1 in
-      let e = j.1 in let f = y.2 in absurd (omega arith),
+      let e = (from_enumerate (a + 1) xs y.0 y.1).1 in let f = y.2 in absurd (omega arith),
   numbers_once (a + 1) xs,
 )
 
@@ -103,17 +100,13 @@ first_met {X} same d met (y ∷ xs) x i e = by_test (met y) refl i (λ j. first_
     cases true = inl refl
     cases false = inr refl
 
-    by_test : (b : Bool) → met y ≡ b → IsIn x (y ∷ xs)
-        → (IsIn x xs → IsIn x (firsts_after same met xs))
+    by_test : (b : Bool) → met y ≡ b → IsIn x (y ∷ xs) → (IsIn x xs → IsIn x (firsts_after same met xs))
         → (IsIn x xs → met x || same x y ≡ false → IsIn x (firsts_after same (λ z. met z || same z y) xs))
         → IsIn x (cond b (firsts_after same met xs) (y ∷ firsts_after same (λ z. met z || same z y) xs))
     by_test true t (inl s) old new = let u : met y ≡ false = ap met s ∙ e in cc
     by_test true t (inr j) old new = old j
     by_test false t (inl s) old new = inl s
-    by_test false t (inr j) old new = elim (cases (same x y)) [
-      | inl s ↦ inl (sym ((d x y).0 s))
-      | inr s ↦ inr (new j (or_from (met x) (same x y) e s))
-    ]
+    by_test false t (inr j) old new = search (rules, cases, or_from)
 
 firsts_once : {X : Type 0} (same : X → X → Bool) → ((a b : X) → Decides (same a b) (a ≡ b)) → (met : X → Bool) (xs : List X)
     → IsOnce (firsts_after same met xs)

@@ -1,4 +1,5 @@
 -- The search for all that a component holds.
+use Rattle.std.proofs.Common.{rules}
 use Rattle.adl_hierarchy.proofs.Common.{Bool, HasMore, Holds, List, Numbers, [], ap, arith, both_ways, cases_lt, eqb-true, false, false≢true, get_or, get_or-take, get_or_default, has, inl, inner_of, inr, length, list_any_more, or_cases, or_left}
 use Rattle.adl_hierarchy.proofs.Common.{or_right, refl, subst, suc, sym, take, take-length, true, with_number, ℕ, ◌+◌, ◌<◌, ◌||◌, ◌∙◌, ◌∷◌, ◌≡◌, ◌≤◌, ◌⊎◌}
 use lib.Dec.{eqb}
@@ -33,10 +34,9 @@ more_next xs old mid new i h m e =
     let a : ℕ = get_or xs i 0 in
     let list : new.list ≡ with_number mid.list a = ap (λ s. s.list) e in
     let len : length new.list ≡ length (with_number mid.list a) = ap length list in
-    let longer = m.longer in
     record {
       size = ap (λ s. s.size) e ∙ m.size;
-      front = ap (take (length old.list)) list ∙ take-with_number (length old.list) mid.list a longer ∙ m.front;
+      front = ap (take (length old.list)) list ∙ take-with_number (length old.list) mid.list a m.longer ∙ m.front;
       longer = omega (arith, len, length-with_number mid.list a);
       each = λ x. ap (λ ys. has ys x) list ∙ has-with_number mid.list a x ∙ ap (λ b. b || has (a ∷ []) x) (m.each x)
           ∙ or_three (has old.list x) (has (take i xs) x) (eqb x a) ∙ ap (λ b. has old.list x || b)
@@ -55,22 +55,13 @@ pub record IsReach (g : List (List ℕ)) (from : ℕ) (set : Numbers) (n : ℕ) 
 
 pub reach_new : (g : List (List ℕ)) (from : ℕ) (set : Numbers) → set ≡ record { size = length g; list = from ∷ [] }
     → IsReach g from set 0
-reach_new g from set e =
-    let P : Numbers → Type 0 = λ s. IsReach g from s 0 in
-    subst P (sym e) (record {
-      size = refl;
-      first = has_at (from ∷ []) 0 (omega arith);
-      held = λ x h. elim (or_cases (eqb x from) false h) [ inl p ↦ (0, sym (eqb-true x from p)) | inr p ↦ absurd (false≢true p) ];
-      upto = omega arith;
-      closed = λ i c l h. absurd (omega arith);
-    })
+reach_new g from set e = search (rules, has_at, or_cases, eqb, eqb-true)
 
 pub reach_more : (g : List (List ℕ)) (from : ℕ) (set new : Numbers) (n : ℕ) → n < length set.list → IsReach g from set n
     → HasMore (inner_of g (get_or set.list n 0)) set new → IsReach g from new (n + 1)
 reach_more g from set new n h r m =
     let longer = m.longer in
-    let same : (i : ℕ) → i < length set.list → get_or new.list i 0 ≡ get_or set.list i 0 =
-    λ i l. sym (get_or-take (length set.list) new.list i 0 l) ∙ ap (λ xs. get_or xs i 0) m.front in
+    let same : (i : ℕ) → i < length set.list → get_or new.list i 0 ≡ get_or set.list i 0 = search (rules, get_or-take) in
     record {
       size = m.size ∙ r.size;
       first = m.each from ∙ or_left _ _ r.first;
@@ -80,15 +71,7 @@ reach_more g from set new n h r m =
             (suc k.0, walk_more g k.0 from (get_or set.list n 0) x k.1 p)
       ];
       upto = omega arith;
-      closed = λ i c l e. elim (below_next n i l) [
-        | inl p ↦ let q : i < length set.list = omega arith in
-            let P : ℕ → Type 0 = λ y. has (inner_of g y) c ≡ true in
-            m.each c ∙ or_left _ _ (r.closed i c p (subst P (same i q) e))
-        | inr p ↦ let q : i < length set.list = omega arith in
-            let P : ℕ → Type 0 = λ y. has (inner_of g y) c ≡ true in
-            let t : get_or new.list i 0 ≡ get_or set.list n 0 = same i q ∙ ap (λ j. get_or set.list j 0) p in
-            m.each c ∙ or_right _ _ (subst P t e)
-      ];
+      closed = search (rules, below_next, or_left, or_right);
     }
 
 -- a number in the list stands somewhere in it
@@ -102,9 +85,4 @@ place (y ∷ ys) x e = elim (or_cases (eqb x y) (has ys x) e) [
 -- at the end what isn't found isn't held
 pub reach_end : (g : List (List ℕ)) (from to : ℕ) (set : Numbers) (n : ℕ) → IsReach g from set n → length set.list ≤ n
     → has set.list to ≡ false → Holds g from to → ⊥
-reach_end g from to set n r h e k =
-    both_ways _ e (closed_walk g set.list
-    (λ a c p q. let w : (i : ℕ) × (i < length set.list) × (get_or set.list i 0 ≡ a) = place set.list a p in
-    let P : ℕ → Type 0 = λ y. has (inner_of g y) c ≡ true in
-    r.closed w.0 c (omega (arith, w.1)) (subst P (sym w.2) q))
-    k.0 from to r.first k.1)
+reach_end g from to set n r h e k = search (rules, both_ways, closed_walk, place)

@@ -1,4 +1,5 @@
 -- Lists in which nothing stands twice.
+use Rattle.std.proofs.Common.{rules}
 use Rattle.adl_hierarchy.proofs.Common.{Bool, Fault, Id, IsIn, IsOnce, List, Name, None, Option, Path, Some, [], ap, bytes_eq, bytes_eq-Decides, cond, cons_option, false, filter_map, find, flat_map, from_filter_map, from_flat_map, from_map}
 use Rattle.adl_hierarchy.proofs.Common.{in_append, in_left, in_map, in_right, inl, inr, map, map-append, none_right, or_left, or_right, refl, repeats, repeats_after, subst, sym, true, where_true, ◌++◌, ◌||◌, ◌∙◌, ◌∷◌, ◌≡◌}
 
@@ -31,8 +32,7 @@ pub once_map : {X Y : Type 0} (f : X → Y) (g : Y → X) (xs : List X) → ((x 
 once_map f g [] back a = tt
 once_map {X} {Y} f g (x ∷ xs) back a = (
   λ i. let k = from_map f (f x) xs i in
-      let P : X → Type 0 = λ y. IsIn y xs in
-      a.0 (subst P (sym (back k.0) ∙ ap g k.2 ∙ back x) k.1),
+      a.0 (subst (λ y. IsIn y xs) (sym (back k.0) ∙ ap g k.2 ∙ back x) k.1),
   once_map f g xs back a.1,
 )
 
@@ -41,11 +41,7 @@ once_map {X} {Y} f g (x ∷ xs) back a = (
 pub filtered_in : {X Y K : Type 0} (f : X → Option Y) (key : Y → K) (name : X → K)
     → ((x : X) (y : Y) → f x ≡ Some y → key y ≡ name x)
     → (xs : List X) (k : K) → IsIn k (map key (filter_map f xs)) → IsIn k (map name xs)
-filtered_in {X} {Y} {K} f key name same xs k i =
-    let y = from_map key k (filter_map f xs) i in
-    let x = from_filter_map f y.0 xs y.1 in
-    let P : K → Type 0 = λ z. IsIn z (map name xs) in
-    subst P (sym (same x.0 y.0 x.2) ∙ y.2) (in_map name x.0 xs x.1)
+filtered_in {X} {Y} {K} f key name same xs k i = search (rules, from_map, from_filter_map, in_map)
 
 pub once_filtered : {X Y K : Type 0} (f : X → Option Y) (key : Y → K) (name : X → K)
     → ((x : X) (y : Y) → f x ≡ Some y → key y ≡ name x)
@@ -100,16 +96,13 @@ pub once_by_head : {X Y : Type 0} (name : X → Name) (f : X → List Y) (path :
     → (xs : List X) → IsOnce (map name xs) → IsOnce (map path (flat_map f xs))
 once_by_head name f path each begins [] a = tt
 once_by_head {X} {Y} name f path each begins (x ∷ xs) a =
-    let P : List Path → Type 0 = λ ps. IsOnce ps in
-    subst P (sym (map-append path (f x) (flat_map f xs)))
+    subst (λ ps. IsOnce ps) (sym (map-append path (f x) (flat_map f xs)))
     (once_append (map path (f x)) (map path (flat_map f xs)) (each x) (once_by_head name f path each begins xs a.1) (λ p i j.
     let u = from_map path p (f x) i in
     let v = from_map path p (flat_map f xs) j in
     let y = from_flat_map f v.0 xs v.1 in
     let first : head_of p ≡ name x = ap head_of (sym u.2) ∙ begins x u.0 u.1 in
-    let second : head_of p ≡ name y.0 = ap head_of (sym v.2) ∙ begins y.0 v.0 y.2 in
-    let Q : Name → Type 0 = λ n. IsIn n (map name xs) in
-    a.0 (subst Q (sym second ∙ first) (in_map name y.0 xs y.1))))
+    a.0 (subst (λ n. IsIn n (map name xs)) (sym (ap head_of (sym v.2) ∙ begins y.0 v.0 y.2) ∙ first) (in_map name y.0 xs y.1))))
 
 -- ---- look-ups
 
@@ -117,16 +110,13 @@ once_by_head {X} {Y} name f path each begins (x ∷ xs) a =
 pub find_once : {X : Type 0} (key : X → Name) (xs : List X) (x : X) → IsOnce (map key xs) → IsIn x xs
     → find (λ y. bytes_eq (key x) (key y)) xs ≡ Some x
 find_once key [] x a i = absurd i
-find_once {X} key (y ∷ xs) x a (inl e) =
-    let t : bytes_eq (key x) (key y) ≡ true = (bytes_eq-Decides (key x) (key y)).1 (ap key (sym e)) in
-    ap (λ b. cond b (Some y) (find (λ (z : X). bytes_eq (key x) (key z)) xs)) t ∙ ap Some e
+find_once {X} key (y ∷ xs) x a (inl e) = search (rules, bytes_eq-Decides)
 find_once {X} key (y ∷ xs) x a (inr i) = by_test (bytes_eq (key x) (key y)) refl (find_once key xs x a.1 i)
   where
     by_test : (b : Bool) → bytes_eq (key x) (key y) ≡ b → find (λ (z : X). bytes_eq (key x) (key z)) xs ≡ Some x
         → cond b (Some y) (find (λ (z : X). bytes_eq (key x) (key z)) xs) ≡ Some x
     by_test true t ih =
-        let P : Name → Type 0 = λ n. IsIn n (map key xs) in
-        absurd (a.0 (subst P ((bytes_eq-Decides (key x) (key y)).0 t) (in_map key x xs i)))
+        absurd (a.0 (subst (λ n. IsIn n (map key xs)) ((bytes_eq-Decides (key x) (key y)).0 t) (in_map key x xs i)))
     by_test false t ih = ih
 
 -- ---- words of which none is repeated

@@ -44,8 +44,7 @@ none_in_assembly s f a e i = none_in_item s f (items.Assembly a.1) e (assembly_i
 -- the composition of a body is the first of a component, or that of an assembly
 pub composed : (s : Source) (k : ℕ) (composition : Composition) → (body (hierarchy_of s) k).composition ≡ Some composition
     → ((c : ItemAt × Component) × IsIn c (components s) × (composition_of c.1 ≡ Some composition)
-    × (slice_get (components s) k ≡ Some c))
-    ⊎ ((a : ItemAt × Assembly) × IsIn a (assemblies s) × (a.1.composition ≡ composition))
+    × (slice_get (components s) k ≡ Some c)) ⊎ ((a : ItemAt × Assembly) × IsIn a (assemblies s) × (a.1.composition ≡ composition))
 composed s k composition e = elim (body_at s k) [
   | inl c ↦ inl (c.0, in_get (components s) k c.0 c.1, ap (λ (b : Body). b.composition) (sym c.2) ∙ e, c.1)
   | inr t ↦

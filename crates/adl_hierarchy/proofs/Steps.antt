@@ -1,7 +1,8 @@
 -- The walks over a finite hierarchy, without their bounds: a bound past the depth changes nothing.
-use Rattle.adl_hierarchy.proofs.Common.{Bool, Hierarchy, IsFinite, IsIn, List, Name, None, Option, Part, Placed, Reached, Some, Strung, [], ap, append-nil, arith, behind, body, bytes_eq, cond, connections_within, empty, export_named, exports_of}
+use Rattle.std.proofs.Common.{rules}
+use Rattle.adl_hierarchy.proofs.Common.{Bool, Hierarchy, IsFinite, IsIn, List, Name, None, Option, Part, Placed, Reached, Some, Strung, [], ap, append-nil, arith, body, bytes_eq, cond, connections_within, empty}
 use Rattle.adl_hierarchy.proofs.Common.{false, flat_map, flat_map_same, found, from_flat_map, from_map, further, graph, in_flat_map, in_map, in_right, inl, inr, is_composite, leaves_in, leaves_within, length, map, name_of, option_and_then}
-use Rattle.adl_hierarchy.proofs.Common.{option_map, outside, part_named, placed_by, port_in, reached, reached_by, reached_within, refl, strung, strung_by, subst, suc, sym, true, wires_of, zero, ℕ, ◌++◌, ◌<◌, ◌∙◌, ◌∷◌, ◌≡◌, ◌≤◌}
+use Rattle.adl_hierarchy.proofs.Common.{outside, part_named, placed_by, reached, reached_by, reached_within, refl, strung, strung_by, subst, suc, sym, true, wires_of, zero, ℕ, ◌++◌, ◌∙◌, ◌∷◌, ◌≡◌, ◌≤◌}
 use Rattle.adl_meaning.specs.Prelude.{Walk, has, inner_of}
 use Rattle.adl_meaning.specs.Joins.{connections_in}
 use Rattle.adl_hierarchy.proofs.Walks.{walks_short}
@@ -19,22 +20,14 @@ listed h k x l i = ap (λ ts. has ts x.kind) (inner_of_body h k l) ∙ has_in x.
 
 pub kind_in : (h : Hierarchy) → IsFinite h → (k : ℕ) (x : Part) → k ≤ length h.bodies → IsIn x (body h k).parts
     → x.kind ≤ length h.bodies
-kind_in h f k x l i =
-    let size = graph_size h in
-    let low : k < length (graph h) = omega (arith, l, size) in
-    let s : x.kind < length (graph h) = f.range k x.kind low (listed h k x l i) in
-    omega (arith, s, size)
+kind_in h f k x l i = grind (arith, graph_size, listed)
 
 -- no walk from body k has more than n steps
 abbrev pub IsShallow : Hierarchy → ℕ → ℕ → Type 0
 IsShallow h k n = (m b : ℕ) → Walk (graph h) k b m → m ≤ n
 
 pub shallow : (h : Hierarchy) → IsFinite h → (k : ℕ) → k ≤ length h.bodies → IsShallow h k (length h.bodies)
-shallow h f k l m b w =
-    let size = graph_size h in
-    let low : k < length (graph h) = omega (arith, l, size) in
-    let s : m < length (graph h) = walks_short (graph h) f.range f.acyclic m k b low w in
-    omega (arith, s, size)
+shallow h f k l m b w = search (rules, graph_size, walks_short)
 
 pub below : (h : Hierarchy) (k n : ℕ) (x : Part) → k ≤ length h.bodies → IsIn x (body h k).parts → IsShallow h k (suc n)
     → IsShallow h x.kind n
@@ -68,9 +61,7 @@ leaves_step h f k l = leaves_stable h f (length h.bodies) k l (shallow h f k l)
 
 connections_stable : (h : Hierarchy) → IsFinite h → (n k : ℕ) → k ≤ length h.bodies → IsShallow h k n
     → connections_within h n k ≡ connections_within h (suc n) k
-connections_stable h f zero k l s =
-    let own = map (strung k) (wires_of (body h k)) in
-    sym (append-nil own) ∙ ap (λ xs. own ++ flat_map (strung_by (connections_within h 0)) xs) (sym (no_parts h k l s))
+connections_stable h f zero k l s = search (rules, append-nil, no_parts)
 connections_stable h f (suc n) k l s =
     ap (λ ys. map (strung k) (wires_of (body h k)) ++ ys)
     (flat_map_same (strung_by (connections_within h n)) (strung_by (connections_within h (suc n))) (body h k).parts
@@ -94,11 +85,7 @@ and_then_same f g (Some x) e = e x refl
 
 reached_same : (h : Hierarchy) (f g : ℕ → Name × Name → Option Reached) (j : Name) (x : Part)
     → ((port : Name × Name) → f x.kind port ≡ g x.kind port) → reached_by h f j x ≡ reached_by h g j x
-reached_same h f g j x e =
-    let port : Option (Name × Name) = option_and_then (λ y. port_in y.words) (export_named (exports_of (body h x.kind)) j) in
-    ap (λ r. cond (is_composite h x.kind) (option_map (behind (name_of x)) r)
-    (Some (record { path = name_of x ∷ []; part = x; interface = j })))
-    (and_then_same (f x.kind) (g x.kind) port (λ p q. e p))
+reached_same h f g j x e = search (rules, and_then_same)
 
 reached_stable : (h : Hierarchy) → IsFinite h → (n k : ℕ) (port : Name × Name) → k ≤ length h.bodies → IsShallow h k n
     → reached_within h n k port ≡ reached_within h (suc n) k port
@@ -106,8 +93,7 @@ reached_stable h f zero k port l s = ap (λ xs. option_and_then (reached_by h (r
     (sym (no_parts h k l s))
 reached_stable h f (suc n) k port l s =
     and_then_same (reached_by h (reached_within h n) port.1) (reached_by h (reached_within h (suc n)) port.1)
-    (part_named (body h k).parts port.0)
-    (λ x e. let i = part_in h k port.0 x e in
+    (part_named (body h k).parts port.0) (λ x e. let i = part_in h k port.0 x e in
     reached_same h (reached_within h n) (reached_within h (suc n)) port.1 x
     (λ p. reached_stable h f n x.kind p (kind_in h f k x l i) (below h k n x l i s)))
 
@@ -120,18 +106,14 @@ reached_step h f k l port = reached_stable h f (length h.bodies) k port l (shall
 
 placed_long : (x : Part) (ys : List Placed) (b : Bool) (z : Placed)
     → IsIn z (cond b (map (outside (name_of x)) ys) (record { path = name_of x ∷ []; part = x } ∷ [])) → 1 ≤ length z.path
-placed_long x ys true z i =
-    let k = from_map (outside (name_of x)) z ys i in
-    let P : Placed → Type 0 = λ u. 1 ≤ length u.path in
-    subst P k.2 (omega arith)
+placed_long x ys true z i = subst (λ (u : Placed). 1 ≤ length u.path) (from_map (outside (name_of x)) z ys i).2 (omega arith)
 placed_long x ys false z (inl e) = let P : Placed → Type 0 = λ u. 1 ≤ length u.path in subst P e (omega arith)
 placed_long x ys false z (inr i) = absurd i
 
 -- where no path of an instance's leaves has more than one name and n, none inside has more than n
 placed_deep : (x : Part) (n : ℕ) (ys zs : List Placed) (b : Bool)
     → ((z : Placed) → IsIn z (cond b (map (outside (name_of x)) ys) (record { path = name_of x ∷ []; part = x } ∷ []))
-    → length z.path ≤ suc n)
-    → (((z : Placed) → IsIn z ys → length z.path ≤ n) → zs ≡ ys)
+    → length z.path ≤ suc n) → (((z : Placed) → IsIn z ys → length z.path ≤ n) → zs ≡ ys)
     → cond b (map (outside (name_of x)) zs) (record { path = name_of x ∷ []; part = x } ∷ []) ≡ cond b
     (map (outside (name_of x)) ys) (record { path = name_of x ∷ []; part = x } ∷ [])
 placed_deep x n ys zs true e ih =
@@ -162,17 +144,14 @@ leaves_deep_enough h f n k l e = leaves_deep h f n (length h.bodies) k l (shallo
 connections_deep : (h : Hierarchy) → IsFinite h → (n m k : ℕ) → k ≤ length h.bodies → IsShallow h k m
     → ((x : Strung) → IsIn x (connections_within h m k) → length x.path ≤ n) → connections_within h n k ≡ connections_within h m k
 connections_deep h f zero zero k l s e = refl
-connections_deep h f (suc n) zero k l s e =
-    let own = map (strung k) (wires_of (body h k)) in
-    ap (λ xs. own ++ flat_map (strung_by (connections_within h n)) xs) (no_parts h k l s) ∙ append-nil own
+connections_deep h f (suc n) zero k l s e = search (rules, no_parts, append-nil)
 connections_deep h f zero (suc m) k l s e =
     let own = map (strung k) (wires_of (body h k)) in
     let more = flat_map (strung_by (connections_within h m)) (body h k).parts in
     sym (append-nil own) ∙ ap (λ ys. own ++ ys) (sym (empty more (λ z i.
     let x = from_flat_map (strung_by (connections_within h m)) z (body h k).parts i in
     let y = from_map (further (name_of x.0)) z (connections_within h m x.0.kind) x.2 in
-    let P : Strung → Type 0 = λ u. 1 ≤ length u.path in
-    let long : 1 ≤ length z.path = subst P y.2 (omega arith) in
+    let long : 1 ≤ length z.path = subst (λ (u : Strung). 1 ≤ length u.path) y.2 (omega arith) in
     let short : length z.path ≤ 0 = e z (in_right z own more i) in
     absurd (omega (arith, long, short)))))
 connections_deep h f (suc n) (suc m) k l s e =

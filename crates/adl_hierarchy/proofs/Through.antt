@@ -1,4 +1,5 @@
 -- The test of holding agrees with walks.
+use Rattle.std.proofs.Common.{rules}
 use Rattle.adl_hierarchy.proofs.Common.{Bool, Holds, InRange, IsAcyclic, List, Walk, and_from, and_parts, arith, cases_eq, eq-eqb, eqb-true, false, false_from_ne_true, has, inl, inner_of, inr, is_held, length, or_cases, or_left, or_right, refl}
 use Rattle.adl_hierarchy.proofs.Common.{subst, suc, sym, through, true, zero, ℕ, ◌&&◌, ◌<◌, ◌≡◌}
 use lib.Dec.{eqb}
@@ -34,12 +35,7 @@ prepend : (g : List (List ℕ)) (k a c b : ℕ) → c < k → has (inner_of g a)
     → through g k a b ≡ true
 prepend g zero a c b l e t = absurd (omega arith)
 prepend g (suc k) a c b l e t = elim (cases_eq c k) [
-  | inl s ↦ let P : ℕ → Type 0 = λ x. has (inner_of g a) x ≡ true in
-      let Q : ℕ → Type 0 = λ x. through g (suc k) x b ≡ true in
-      let first : through g k a k ≡ true = direct g k a k (subst P s e) in
-      let last : through g k k b ≡ true = elim (or_cases (through g k k b) (through g k k k && through g k k b) (subst Q s t))
-      [ inl p ↦ p | inr p ↦ (and_parts (through g k k k) (through g k k b) p).1 ] in
-      or_right (through g k a b) (through g k a k && through g k k b) (and_from (through g k a k) (through g k k b) first last)
+  | inl s ↦ search (rules, direct, or_cases, and_parts, or_right, and_from)
   | inr n ↦ let l' : c < k = omega arith in
       elim (or_cases (through g k c b) (through g k c k && through g k k b) t) [
         | inl p ↦ or_left (through g k a b) _ (prepend g k a c b l' e p)

@@ -1,4 +1,5 @@
 -- Components that wait for inner ones.
+use Rattle.std.proofs.Common.{rules}
 use Rattle.adl_hierarchy.proofs.Common.{InRange, IsAcyclic, IsAtEnd, IsInnerFirst, IsLaid, IsPlacing, List, Numbers, Placing, Settles, Waits, [], ap, arith, both_ways, cases_Bool, cases_eq, cases_lt, false, false_from_ne_true, get_or}
 use Rattle.adl_hierarchy.proofs.Common.{get_or-append_seam, get_or-set_other, get_or-set_same, get_or_append_left, has, inl, inner_of, inr, length, length-append, length-set, refl, set, subst, suc, sym, take, take-append-le, take-length, take_all}
 use Rattle.adl_hierarchy.proofs.Common.{true, with_number, zero, ℕ, ◌++◌, ◌+◌, ◌<◌, ◌||◌, ◌∙◌, ◌∷◌, ◌≡◌, ◌≤◌, ◌⊎◌}
@@ -17,13 +18,7 @@ inner_of-empty (w ∷ ws) (suc c) = inner_of-empty ws c
 -- what a list among lists has, where one of them is replaced
 pub in_set : (ws : List (List ℕ)) (d : ℕ) (v : List ℕ) (c x : ℕ) → d < length ws → has (inner_of (set ws d v) c) x ≡ true
     → ((c ≡ d) × (has v x ≡ true)) ⊎ (has (inner_of ws c) x ≡ true)
-in_set ws d v c x h e =
-    let P : List ℕ → Type 0 = λ xs. has xs x ≡ true in
-    elim (cases_eq c d) [
-      | inl s ↦ let Q : ℕ → Type 0 = λ j. has (inner_of (set ws d v) j) x ≡ true in
-          inl (s, subst P (get_or-set_same ws d v [] h) (subst Q s e))
-      | inr n ↦ inr (subst P (get_or-set_other ws d c v [] n) e)
-    ]
+in_set ws d v c x h e = search (rules, cases_eq, set, get_or-set_same, get_or-set_other)
 
 -- one list among lists has one number more
 abbrev pub with_waiting : List (List ℕ) → ℕ → ℕ → List (List ℕ)
@@ -31,20 +26,11 @@ with_waiting ws d a = set ws d (inner_of ws d ++ a ∷ [])
 
 waits_still : (ws : List (List ℕ)) (d a c x : ℕ) → d < length ws → has (inner_of ws c) x ≡ true
     → has (inner_of (with_waiting ws d a) c) x ≡ true
-waits_still ws d a c x h e =
-    let P : List ℕ → Type 0 = λ xs. has xs x ≡ true in
-    elim (cases_eq c d) [
-      | inl s ↦ let Q : ℕ → Type 0 = λ j. has (inner_of ws j) x ≡ true in
-          let R : ℕ → Type 0 = λ j. has (inner_of (with_waiting ws d a) j) x ≡ true in
-          subst R (sym s) (subst P (sym (get_or-set_same ws d (inner_of ws d ++ a ∷ []) [] h))
-          (has_old (inner_of ws d) a x (subst Q s e)))
-      | inr n ↦ subst P (sym (get_or-set_other ws d c (inner_of ws d ++ a ∷ []) [] n)) e
-    ]
+waits_still ws d a c x h e = search (rules, cases_eq, get_or-set_same, has_old, get_or-set_other)
 
 waits_now : (ws : List (List ℕ)) (d a : ℕ) → d < length ws → has (inner_of (with_waiting ws d a) d) a ≡ true
 waits_now ws d a h =
-    let P : List ℕ → Type 0 = λ xs. has xs a ≡ true in
-    subst P (sym (get_or-set_same ws d (inner_of ws d ++ a ∷ []) [] h)) (has_new (inner_of ws d) a)
+    subst (λ xs. has xs a ≡ true) (sym (get_or-set_same ws d (inner_of ws d ++ a ∷ []) [] h)) (has_new (inner_of ws d) a)
 
 -- ---- orders
 
@@ -52,24 +38,17 @@ pub laid_push : (g : List (List ℕ)) (list : List ℕ) (a : ℕ) → IsLaid g l
     → ((c : ℕ) → has (inner_of g a) c ≡ true → has list c ≡ true) → IsLaid g (list ++ a ∷ [])
 laid_push g list a laid inner i c h e = elim (cases_lt i (length list)) [
   | inl l ↦ let k : i ≤ length list = omega arith in
-      let P : ℕ → Type 0 = λ x. has (inner_of g x) c ≡ true in
-      rw take-append-le (laid i c l (subst P (get_or_append_left list (a ∷ []) 0 i l) e))
+      rw take-append-le (laid i c l (subst (λ x. has (inner_of g x) c ≡ true) (get_or_append_left list (a ∷ []) 0 i l) e))
   | inr l ↦ let s : i ≡ length list = omega (arith, length-append list (a ∷ [])) in
       let k : i ≤ length list = omega arith in
-      let P : ℕ → Type 0 = λ x. has (inner_of g x) c ≡ true in
       let here : get_or (list ++ a ∷ []) i 0 ≡ a = ap (λ j. get_or (list ++ a ∷ []) j 0) s ∙ get_or-append_seam list a [] 0 in
       rw take-append-le (let Q : ℕ → Type 0 = λ j. has (take j list) c ≡ true in
-      subst Q (sym s) (rw take-length (inner c (subst P here e))))
+      subst Q (sym s) (rw take-length (inner c (subst (λ x. has (inner_of g x) c ≡ true) here e))))
 ]
 
 laid_with : (g : List (List ℕ)) (list : List ℕ) (a : ℕ) → IsLaid g list
     → ((c : ℕ) → has (inner_of g a) c ≡ true → has list c ≡ true) → IsLaid g (with_number list a)
-laid_with g list a laid inner =
-    let P : List ℕ → Type 0 = λ xs. IsLaid g xs in
-    elim (cases_Bool (has list a)) [
-      | inl e ↦ let s : with_number list a ≡ list = rw e in subst P (sym s) laid
-      | inr e ↦ let s : with_number list a ≡ list ++ a ∷ [] = rw e in subst P (sym s) (laid_push g list a laid inner)
-    ]
+laid_with g list a laid inner = search (rules, cases_Bool, laid_push)
 
 has_still : (list : List ℕ) (a x : ℕ) → has list x ≡ true → has (with_number list a) x ≡ true
 has_still list a x e = has-with_number list a x ∙ ap (λ b. b || has (a ∷ []) x) e
@@ -83,135 +62,38 @@ has_now list a = elim (cases_Bool (has list a)) [ inl e ↦ rw e e | inr e ↦ r
 pub placing_new : (g : List (List ℕ)) (p : Placing) → p.placed ≡ record { size = length g; list = [] }
     → length p.past.items ≡ length g → ((a : ℕ) → get_or p.past.items a 0 ≡ 0) → length p.waiting.items ≡ length g
     → ((c a : ℕ) → has (inner_of p.waiting.items c) a ≡ false) → IsPlacing g p
-placing_new g p placed pasts zeros lists none =
-    let empty : p.placed.list ≡ [] = ap (λ s. s.list) placed in
-    let P : List ℕ → Type 0 = λ xs. IsLaid g xs in
-    record {
-      size = ap (λ s. s.size) placed;
-      pasts = pasts;
-      lists = lists;
-      laid = subst P (sym empty) (λ i c l e. absurd (omega arith));
-      past = λ a c l e. let Q : ℕ → Type 0 = λ n. has (take n (inner_of g a)) c ≡ true in let h : false ≡ true =
-          subst Q (zeros a) e in cc;
-      below = λ a c e. let n = none c a in absurd (both_ways _ n e);
-    }
+placing_new g p placed pasts zeros lists none = search (rules, both_ways)
 
 -- what the component is past, written down
 past_set : (g : List (List ℕ)) (past list : List ℕ) (a next : ℕ) → a < length past
     → ((x c : ℕ) → x < length g → has (take (get_or past x 0) (inner_of g x)) c ≡ true → has list c ≡ true)
     → ((c : ℕ) → has (take next (inner_of g a)) c ≡ true → has list c ≡ true)
     → (x c : ℕ) → x < length g → has (take (get_or (set past a next) x 0) (inner_of g x)) c ≡ true → has list c ≡ true
-past_set g past list a next h old here x c l e =
-    elim (cases_eq x a) [
-      | inl s ↦ let P : ℕ → Type 0 = λ j. has (take (get_or (set past a next) j 0) (inner_of g j)) c ≡ true in
-          let Q : ℕ → Type 0 = λ n. has (take n (inner_of g a)) c ≡ true in
-          here c (subst Q (get_or-set_same past a next 0 h) (subst P s e))
-      | inr n ↦ let Q : ℕ → Type 0 = λ n. has (take n (inner_of g x)) c ≡ true in
-          old x c l (subst Q (get_or-set_other past a x next 0 n) e)
-    ]
+past_set g past list a next h old here x c l e = search (rules, cases_eq, set, get_or-set_same, get_or-set_other)
 
 -- the component waits for d
 pub placing_waits : (g : List (List ℕ)) (old new : Placing) (a next d : ℕ) → IsPlacing g old → a < length g → d < length g
-    → ((c : ℕ) → has (take next (inner_of g a)) c ≡ true → has old.placed.list c ≡ true)
-    → new.placed ≡ old.placed → new.past.items ≡ set old.past.items a next
-    → new.waiting.items ≡ with_waiting old.waiting.items d a → IsPlacing g new
-placing_waits g old new a next d i la ld past placed pasts waiting =
-    let same : new.placed.list ≡ old.placed.list = ap (λ s. s.list) placed in
-    let pl = i.pasts in
-    let wl = i.lists in
-    let P : List ℕ → Type 0 = λ xs. IsLaid g xs in
-    let Q : List ℕ → Type 0 = λ list. (x c : ℕ) → x < length g
-    → has (take (get_or (set old.past.items a next) x 0) (inner_of g x)) c ≡ true → has list c ≡ true in
-    let R : List ℕ → Type 0 = λ ps. (x c : ℕ) → x < length g → has (take (get_or ps x 0) (inner_of g x)) c ≡ true
-    → has new.placed.list c ≡ true in
-    let S : List (List ℕ) → Type 0 = λ ws. (x c : ℕ) → has (inner_of ws c) x ≡ true → x < length g in
-    record {
-      size = ap (λ s. s.size) placed ∙ i.size;
-      pasts = ap length pasts ∙ length-set old.past.items a next ∙ i.pasts;
-      lists = ap length waiting ∙ length-set old.waiting.items d _ ∙ i.lists;
-      laid = subst P (sym same) i.laid;
-      past =
-          subst R (sym pasts) (subst Q (sym same) (past_set g old.past.items old.placed.list a next (omega arith) i.past past));
-      below =
-          subst S (sym waiting) (λ x c e. elim (in_set old.waiting.items d (inner_of old.waiting.items d ++ a ∷ []) c x
-          (omega arith) e) [
-            | inl k ↦ elim (has_pushed (inner_of old.waiting.items d) a x k.1) [ inl q ↦ i.below x d q | inr q ↦ omega arith ]
-            | inr k ↦ i.below x c k
-          ]);
-    }
+    → ((c : ℕ) → has (take next (inner_of g a)) c ≡ true → has old.placed.list c ≡ true) → new.placed ≡ old.placed
+    → new.past.items ≡ set old.past.items a next → new.waiting.items ≡ with_waiting old.waiting.items d a → IsPlacing g new
+placing_waits g old new a next d i la ld past placed pasts waiting = search (rules, set, length-set, past_set, in_set, has_pushed)
 
 pub settles_waits : (g : List (List ℕ)) (old new : Placing) (a d : ℕ) → d < length old.waiting.items → has (inner_of g a) d ≡ true
     → has old.placed.list d ≡ false
     → new.placed ≡ old.placed → new.waiting.items ≡ with_waiting old.waiting.items d a → Settles g old new (λ x. x ≡ a)
 settles_waits g old new a d h inner fresh placed waiting =
-    let same : new.placed.list ≡ old.placed.list = ap (λ s. s.list) placed in
-    let len : length new.placed.list ≡ length old.placed.list = ap length same in
-    let W : List (List ℕ) → ℕ → ℕ → Type 0 = λ ws c x. has (inner_of ws c) x ≡ true in
-    record {
-      longer = omega arith;
-      kept = λ n x l w. elim w [
-        | inl e ↦ inl (ap (λ xs. has xs x) same ∙ e)
-        | inr k ↦ inr (
-          k.0,
-          k.1,
-          ap (λ ws. has (inner_of ws k.0) x) waiting ∙ waits_still old.waiting.items d a k.0 x h k.2,
-          ap (λ xs. has (take n xs) k.0) same ∙ k.3,
-        )
-      ];
-      each = λ n x l s.
-          let P : ℕ → Type 0 = λ y. Waits g n new y in
-          subst P (sym s) (inr (
-            d,
-            inner,
-            ap (λ ws. has (inner_of ws d) a) waiting ∙ waits_now old.waiting.items d a h,
-            ap (λ xs. has (take n xs) d) same ∙ false_from_ne_true _ (λ e. both_ways _ fresh (has_take n old.placed.list d e)),
-          ));
-    }
+    search (rules, waits_still, waits_now, false_from_ne_true, both_ways, has_take)
 
 -- the component is placed
 pub placing_placed : (g : List (List ℕ)) (old new : Placing) (a next : ℕ) → IsPlacing g old → a < length g
-    → length (inner_of g a) ≤ next
-    → ((c : ℕ) → has (take next (inner_of g a)) c ≡ true → has old.placed.list c ≡ true)
+    → length (inner_of g a) ≤ next → ((c : ℕ) → has (take next (inner_of g a)) c ≡ true → has old.placed.list c ≡ true)
     → new.placed.size ≡ old.placed.size → new.placed.list ≡ with_number old.placed.list a
     → new.past.items ≡ set old.past.items a next → new.waiting.items ≡ old.waiting.items → IsPlacing g new
 placing_placed g old new a next i la end past size placed pasts waiting =
-    let pl = i.pasts in
-    let inner : (c : ℕ) → has (inner_of g a) c ≡ true → has old.placed.list c ≡ true =
-    λ c e. past c (ap (λ xs. has xs c) (take_all next (inner_of g a) end) ∙ e) in
-    let P : List ℕ → Type 0 = λ xs. IsLaid g xs in
-    let R : List ℕ → Type 0 = λ ps. (x c : ℕ) → x < length g → has (take (get_or ps x 0) (inner_of g x)) c ≡ true
-    → has new.placed.list c ≡ true in
-    let S : List (List ℕ) → Type 0 = λ ws. (x c : ℕ) → has (inner_of ws c) x ≡ true → x < length g in
-    record {
-      size = size ∙ i.size;
-      pasts = ap length pasts ∙ length-set old.past.items a next ∙ i.pasts;
-      lists = ap length waiting ∙ i.lists;
-      laid = subst P (sym placed) (laid_with g old.placed.list a i.laid inner);
-      past = subst R (sym pasts) (λ x c l e. ap (λ xs. has xs c) placed ∙ has_still old.placed.list a c
-          (past_set g old.past.items old.placed.list a next (omega arith) i.past past x c l e));
-      below = subst S (sym waiting) i.below;
-    }
+    search (rules, take_all, length-set, laid_with, has_still, past_set)
 
 pub settles_placed : (g : List (List ℕ)) (old new : Placing) (a : ℕ)
     → new.placed.list ≡ with_number old.placed.list a → new.waiting.items ≡ old.waiting.items → Settles g old new (λ x. x ≡ a)
-settles_placed g old new a placed waiting =
-    let len : length new.placed.list ≡ length (with_number old.placed.list a) = ap length placed in
-    record {
-      longer = omega (arith, len, length-with_number old.placed.list a);
-      kept = λ n x l w. elim w [
-        | inl e ↦ inl (ap (λ xs. has xs x) placed ∙ has_still old.placed.list a x e)
-        | inr k ↦ inr (
-          k.0,
-          k.1,
-          ap (λ ws. has (inner_of ws k.0) x) waiting ∙ k.2,
-          ap (λ xs. has (take n xs) k.0) placed
-              ∙ ap (λ xs. has xs k.0) (take-with_number n old.placed.list a l) ∙ k.3,
-        )
-      ];
-      each = λ n x l s.
-          let P : ℕ → Type 0 = λ y. Waits g n new y in
-          subst P (sym s) (inl (ap (λ xs. has xs a) placed ∙ has_now old.placed.list a));
-    }
+settles_placed g old new a placed waiting = search (rules, length-with_number, has_still, take-with_number, has_now)
 
 -- ---- several components
 
@@ -241,9 +123,7 @@ settles_next g old mid new a s t = settles_both g old mid new (λ x. x < a) (λ 
 pub settles_more : (g : List (List ℕ)) (old mid new : Placing) (xs : List ℕ) (i : ℕ) → i < length xs
     → Settles g old mid (λ x. has (take i xs) x ≡ true) → Settles g mid new (λ x. x ≡ get_or xs i 0)
     → Settles g old new (λ x. has (take (i + 1) xs) x ≡ true)
-settles_more g old mid new xs i h s t =
-    settles_both g old mid new (λ x. has (take i xs) x ≡ true) (λ x. x ≡ get_or xs i 0) (λ x. has (take (i + 1) xs) x ≡ true) s t
-    (λ x e. has_more xs i x h e)
+settles_more g old mid new xs i h s t = search (rules, settles_both, has_more)
 
 -- ---- letting go on
 
@@ -252,55 +132,22 @@ pub placed_at : (g : List (List ℕ)) (p : Placing) (i : ℕ) (xs : List ℕ) �
     → ((x : ℕ) → has p.placed.list x ≡ true → x < p.placed.size) → i < length p.placed.list → xs ≡ p.placed.list
     → get_or xs i 0 < length g
 placed_at g p i xs q below l e =
-    let P : List ℕ → Type 0 = λ ys. get_or ys i 0 < length g in
-    subst P (sym e) (rw (← q.size) (below (get_or p.placed.list i 0) (has_at p.placed.list i l)))
+    subst (λ ys. get_or ys i 0 < length g) (sym e) (rw (← q.size) (below (get_or p.placed.list i 0) (has_at p.placed.list i l)))
 
 -- those that wait for c are taken out
 pub placing_taken : (g : List (List ℕ)) (old new : Placing) (c : ℕ) → IsPlacing g old → c < length g
     → new.placed ≡ old.placed → new.past.items ≡ old.past.items → new.waiting.items ≡ set old.waiting.items c [] → IsPlacing g new
-placing_taken g old new c i l placed pasts waiting =
-    let same : new.placed.list ≡ old.placed.list = ap (λ s. s.list) placed in
-    let wl = i.lists in
-    let P : List ℕ → Type 0 = λ xs. IsLaid g xs in
-    let S : List (List ℕ) → Type 0 = λ ws. (x d : ℕ) → has (inner_of ws d) x ≡ true → x < length g in
-    record {
-      size = ap (λ s. s.size) placed ∙ i.size;
-      pasts = ap length pasts ∙ i.pasts;
-      lists = ap length waiting ∙ length-set old.waiting.items c [] ∙ i.lists;
-      laid = subst P (sym same) i.laid;
-      past = λ a x h e. ap (λ xs. has xs x) same ∙ i.past a x h (ap (λ ps. has (take (get_or ps a 0) (inner_of g a)) x)
-          (sym pasts) ∙ e);
-      below = subst S (sym waiting) (λ x d e. elim (in_set old.waiting.items c [] d x (omega arith) e) [
-        | inl k ↦
-            absurd (both_ways false refl k.1)
-        | inr k ↦ i.below x d k
-      ]);
-    }
+placing_taken g old new c i l placed pasts waiting = search (rules, length-set, in_set, both_ways)
 
 -- each component waits for one that isn't among the first n + 1, or waited for the one behind the first n
 waits_or_taken : (g : List (List ℕ)) (old new : Placing) (n : ℕ) (x : ℕ) → n < length old.placed.list → new.placed ≡ old.placed
     → new.waiting.items ≡ set old.waiting.items (get_or old.placed.list n 0) []
     → Waits g n old x → (Waits g (n + 1) new x) ⊎ (has (inner_of old.waiting.items (get_or old.placed.list n 0)) x ≡ true)
 waits_or_taken g old new n x l placed waiting w =
-    let same : new.placed.list ≡ old.placed.list = ap (λ s. s.list) placed in
-    elim w [
-      | inl e ↦ inl (inl (ap (λ xs. has xs x) same ∙ e))
-      | inr k ↦ elim (cases_eq k.0 (get_or old.placed.list n 0)) [
-        | inl s ↦ inr (ap (λ d. has (inner_of old.waiting.items d) x) (sym s) ∙ k.2)
-        | inr ne ↦ inl (inr (
-          k.0,
-          k.1,
-          ap (λ ws. has (inner_of ws k.0) x) waiting
-              ∙ ap (λ xs. has xs x) (get_or-set_other old.waiting.items (get_or old.placed.list n 0) k.0 [] [] ne) ∙ k.2,
-          ap (λ xs. has (take (n + 1) xs) k.0) same ∙ false_from_ne_true _ (λ e. elim (has_more old.placed.list n k.0 l e)
-              [ inl q ↦ both_ways _ k.3 q | inr q ↦ ne q ]),
-        ))
-      ]
-    ]
+    search (rules, cases_eq, get_or-set_other, false_from_ne_true, has_more, both_ways)
 
 pub waits_released : (g : List (List ℕ)) (old mid new : Placing) (n : ℕ) → n < length old.placed.list → mid.placed ≡ old.placed
-    → mid.waiting.items ≡ set old.waiting.items (get_or old.placed.list n 0) []
-    → ((x : ℕ) → x < length g → Waits g n old x)
+    → mid.waiting.items ≡ set old.waiting.items (get_or old.placed.list n 0) [] → ((x : ℕ) → x < length g → Waits g n old x)
     → Settles g mid new (λ x. has (inner_of old.waiting.items (get_or old.placed.list n 0)) x ≡ true)
     → (x : ℕ) → x < length g → Waits g (n + 1) new x
 waits_released g old mid new n l placed waiting all s x h =
@@ -314,10 +161,7 @@ waits_released g old mid new n l placed waiting all s x h =
 
 pub end_from_waits : (g : List (List ℕ)) (p : Placing) (n : ℕ) → length p.placed.list ≤ n
     → ((x : ℕ) → x < length g → Waits g n p x) → IsAtEnd g p.placed.list
-end_from_waits g p n l all x h = elim (all x h) [
-  | inl e ↦ inl e
-  | inr k ↦ inr (k.0, k.1, ap (λ xs. has xs k.0) (sym (take_all n p.placed.list l)) ∙ k.3)
-]
+end_from_waits g p n l all x h = search (rules, take_all)
 
 pub ring_at_end : (g : List (List ℕ)) (order : List ℕ) → InRange g → IsAtEnd g order → (a : ℕ) → a < length g
     → has order a ≡ false → IsAcyclic g → ⊥
@@ -326,10 +170,4 @@ ring_at_end g order r end a h e = ring_from_stuck g order r
 
 pub order_at_end : (g : List (List ℕ)) (p : Placing) → IsPlacing g p → ((x : ℕ) → has p.placed.list x ≡ true → x < p.placed.size)
     → ((x : ℕ) → x < p.placed.size → has p.placed.list x ≡ true) → IsInnerFirst g p.placed.list
-order_at_end g p i below whole =
-    let size = i.size in
-    record {
-      below = λ a e. let l : a < p.placed.size = below a e in omega arith;
-      whole = λ a l. whole a (omega arith);
-      inner = i.laid;
-    }
+order_at_end g p i below whole = search (rules)

@@ -1,4 +1,5 @@
 -- Walks: how long they are where no component holds itself, and what an order says of them.
+use Rattle.std.proofs.Common.{rules}
 use Rattle.adl_hierarchy.proofs.Common.{AllByRecursion, Holds, InRange, IsAcyclic, IsDistinct-cons, IsInnerFirst, List, Walk, [], add-one, ap, arith, eqb-true, false, false_from_ne_true, false≢true, get_or, has, inl, inner_of, inr, length}
 use Rattle.adl_hierarchy.proofs.Common.{length-le_from_distinct_below, list_any_more, or_cases, or_left, or_parts, refl, subst, suc, sym, take, take-length, true, zero, ℕ, ◌+◌, ◌<◌, ◌∙◌, ◌∷◌, ◌≡◌, ◌≤◌, ◌⊎◌}
 use Rattle.std.specs.List.{IsDistinct}
@@ -22,11 +23,7 @@ length-trail g (suc n) a b w = ap suc (length-trail g n w.0 b w.2)
 -- what is on the trail is reached
 on_trail : (g : List (List ℕ)) (n a b : ℕ) (w : Walk g a b n) (x : ℕ) → has (trail g n a b w) x ≡ true → Holds g a x
 unfolding trail IsDistinct
-on_trail g zero a b w x h = elim (or_cases (eqb x a) false h) [
-  | inl e ↦ (0, sym (eqb-true x a e))
-  | inr e ↦
-      absurd (false≢true e)
-]
+on_trail g zero a b w x h = search (rules, or_cases, eqb, eqb-true)
 on_trail g (suc n) a b w x h = elim (or_cases (eqb x a) (has (trail g n w.0 b w.2) x) h) [
   | inl e ↦ (0, sym (eqb-true x a e))
   | inr e ↦ let k : Holds g w.0 x = on_trail g n w.0 b w.2 x e in (suc k.0, (w.0, w.1, k.1))
@@ -77,8 +74,7 @@ laid_in g order inner (suc i) l (suc n) a b h w =
     let below : i < length order = omega arith in
     let up : (x : ℕ) → has (take i order) x ≡ true → has (take (suc i) order) x ≡ true = λ x e. let Q : ℕ → Type 0 =
     λ k. has (take k order) x ≡ true in subst Q (add-one i) (has_less order i x below e) in
-    let Q : ℕ → Type 0 = λ k. has (take k order) a ≡ true in
-    elim (has_more order i a below (subst Q (sym (add-one i)) h)) [
+    elim (has_more order i a below (subst (λ k. has (take k order) a ≡ true) (sym (add-one i)) h)) [
       | inl e ↦ up b (laid_in g order inner i (omega arith) (suc n) a b e w)
       | inr e ↦ let R : ℕ → Type 0 = λ x. has (inner_of g x) w.0 ≡ true in
           up b (laid_in g order inner i (omega arith) n w.0 b (inner i w.0 below (subst R e w.1)) w.2)
@@ -90,8 +86,7 @@ no_ring : (g : List (List ℕ)) (order : List ℕ) → ((i c : ℕ) → i < leng
 no_ring g order inner zero l a c n h e w = absurd (false≢true h)
 no_ring g order inner (suc i) l a c n h e w =
     let below : i < length order = omega arith in
-    let Q : ℕ → Type 0 = λ k. has (take k order) a ≡ true in
-    elim (has_more order i a below (subst Q (sym (add-one i)) h)) [
+    elim (has_more order i a below (subst (λ k. has (take k order) a ≡ true) (sym (add-one i)) h)) [
       | inl p ↦ no_ring g order inner i (omega arith) a c n p e w
       | inr p ↦ let R : ℕ → Type 0 = λ x. has (inner_of g x) c ≡ true in
           no_ring g order inner i (omega arith) a c n (laid_in g order inner i (omega arith) n c a

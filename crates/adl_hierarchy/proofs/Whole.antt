@@ -30,15 +30,13 @@ group_whole : (numbers : Name → Option ℕ) (g : Option Name) (is : List Insta
 group_whole numbers g is e =
     let F : Instance → ℕ → Part = λ i k. record { instance = i; group = g; kind = k } in
     whole (part_of numbers g) (λ (x : Part). x.instance) (λ i x t. let m = map_some (F i) (numbers i.component.name) x t in
-    ap (λ (y : Part). y.instance) (sym m.2)) is
-    (λ i m. let t = e i m in (F i t.0, ap (λ o. option_map (F i) o) t.1))
+    ap (λ (y : Part). y.instance) (sym m.2)) is (λ i m. let t = e i m in (F i t.0, ap (λ o. option_map (F i) o) t.1))
 
 line_whole : (numbers : Name → Option ℕ) (l : Line) → ((i : Instance) → IsIn i (instances_by l)
     → (t : ℕ) × (numbers i.component.name ≡ Some t)) → map (λ x. x.instance) (parts_by numbers l) ≡ instances_by l
 line_whole numbers (lines.Instance i) e = group_whole numbers None (i ∷ []) e
 line_whole numbers (lines.Group g) e = group_whole numbers (Some g.id.name) g.instances e
-line_whole numbers (lines.Connection k) e = refl
-line_whole numbers (lines.Export x) e = refl
+line_whole numbers _ e = refl
 
 -- the instances of a body are those of its composition, in their order
 pub parts_whole : (s : Source) → AreNamesSound s → (k : ℕ) → map (λ x. x.instance) (body (hierarchy_of s) k).parts ≡ option_map_or

@@ -21,8 +21,7 @@ ends_typed s sound dotted none k n c e f g =
     let placed = interface_placed l.component.1 r.interface i.0 i.1 in
     let there : members_at s (item_of h d.placed.part) ≡ ms = ap (λ (z : Part). members_at s (item_of h z)) d.is_part
     ∙ members_of_part s r.part l.component l.stands in
-    let number : e.member ≡ place_by (is_interface r.interface) ms =
-    ap (λ (z : FlatEnd). z.member) (sym d.flat)
+    let number : e.member ≡ place_by (is_interface r.interface) ms = ap (λ (z : FlatEnd). z.member) (sym d.flat)
     ∙ ap (λ (b : Body). option_map_or (λ (c : Component). place_by (is_interface r.interface) c.members) b.component 0) own in
     let leaf = joined_leaf h x.0.inside d.end r l.component.1 i.0 d.joined (ap (λ (b : Body). b.component) own) placed in
     let P : Connector → Role → Part → Type 0 =

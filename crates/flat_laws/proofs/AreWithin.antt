@@ -16,8 +16,7 @@ flat_is_within s sound none few =
       connections = let a = limits.connections_are in omega (arith, length-map (connections h) (flat_connection h));
       ends = λ k c e.
           let x = strung_of s k c e in
-          let P : FlatConnection → Type 0 = λ z. length z.ends ≤ 16384 in
-          let a = subst P x.2 (few_ends s limits x.0 x.1) in
+          let a = subst (λ (z : FlatConnection). length z.ends ≤ 16384) x.2 (few_ends s limits x.0 x.1) in
           omega arith;
       joined = λ k n c e f g.
           let x = strung_of s k c f in

@@ -12,13 +12,9 @@ pub counted : {X : Type 0} (p : X → Bool) (xs : List X) (n : ℕ) (a : X) → 
 counted p [] n a e t = absurd cc
 counted p (x ∷ xs) zero a e t =
     let same : x ≡ a = cc in
-    let step = count_step p x xs in
     let first : one (p x) ≡ 1 = ap one (ap p same ∙ t) in
-    omega (arith, step, first)
-counted p (x ∷ xs) (suc n) a e t =
-    let step = count_step p x xs in
-    let rest = counted p xs n a e t in
-    omega (arith, step, rest)
+    omega (arith, count_step p x xs, first)
+counted p (x ∷ xs) (suc n) a e t = omega (arith, count_step p x xs, counted p xs n a e t)
 
 -- where at most one passes, it stands at one place
 pub alone : {X : Type 0} (p : X → Bool) (xs : List X) (n m : ℕ) (a b : X) → count_by p xs ≤ 1 → slice_get xs n ≡ Some a
@@ -27,19 +23,13 @@ alone p [] n m a b l e f t u = absurd cc
 alone p (x ∷ xs) zero zero a b l e f t u = refl
 alone p (x ∷ xs) zero (suc m) a b l e f t u =
     let same : x ≡ a = cc in
-    let step = count_step p x xs in
     let first : one (p x) ≡ 1 = ap one (ap p same ∙ t) in
-    let rest = counted p xs m b f u in
-    absurd (omega (arith, l, step, first, rest))
+    absurd (omega (arith, l, count_step p x xs, first, counted p xs m b f u))
 alone p (x ∷ xs) (suc n) zero a b l e f t u =
     let same : x ≡ b = cc in
-    let step = count_step p x xs in
     let first : one (p x) ≡ 1 = ap one (ap p same ∙ u) in
-    let rest = counted p xs n a e t in
-    absurd (omega (arith, l, step, first, rest))
-alone p (x ∷ xs) (suc n) (suc m) a b l e f t u =
-    let step = count_step p x xs in
-    ap suc (alone p xs n m a b (omega (arith, l, step)) e f t u)
+    absurd (omega (arith, l, count_step p x xs, first, counted p xs n a e t))
+alone p (x ∷ xs) (suc n) (suc m) a b l e f t u = ap suc (alone p xs n m a b (omega (arith, l, count_step p x xs)) e f t u)
 
 -- where one counts, one passes
 pub first_counted : {X : Type 0} (p : X → Bool) (xs : List X) → 1 ≤ count_by p xs → (n : ℕ) × (x : X) × (slice_get xs n ≡ Some x)
@@ -51,6 +41,4 @@ first_counted {X} p (x ∷ xs) l = by_test (p x) refl (omega (arith, l, count_st
         → (1 ≤ count_by p xs → (n : ℕ) × (y : X) × (slice_get xs n ≡ Some y) × (p y ≡ true))
         → (n : ℕ) × (y : X) × (slice_get (x ∷ xs) n ≡ Some y) × (p y ≡ true)
     by_test true t l ih = (0, x, refl, t)
-    by_test false t l ih =
-        let c : one (p x) ≡ 0 = ap one t in
-        let k = ih (omega (arith, l, c)) in (suc k.0, k.1, k.2, k.3)
+    by_test false t l ih = let c : one (p x) ≡ 0 = ap one t in let k = ih (omega (arith, l, c)) in (suc k.0, k.1, k.2, k.3)

@@ -1,6 +1,6 @@
 -- The interface that an end joins is one that the component of its leaf declares.
 use Rattle.flat_laws.proofs.Common.{AreDotted, AreNamesSound, Bool, Component, Composition, End, Export, Hierarchy, Id, Instance, IsIn, ItemAt, Known, List, Name, Option, Part, Reached, Some, Source, Wire, [], ap, behind, body, bytes_eq, components}
-use Rattle.flat_laws.proofs.Common.{cond, export_named, exports_of, false, found, from_map, hierarchy_of, instances_in, interface_known, interface_of, is_composite, is_some, joined_by, kind_named, known_in, length, map, map_some, name_of}
+use Rattle.flat_laws.proofs.Common.{cond, export_named, exports_of, false, found, from_map, hierarchy_of, instances_in, interface_known, interface_of, is_composite, is_some, joined_by, kind_named, known_in, length, map_some, name_of}
 use Rattle.flat_laws.proofs.Common.{option_and_then, option_and_then_some, option_map, option_map_or, own_connection, own_export, part_named, part_of_body, port_in, reached, reached_by, reached_within, slice_get, subst, suc, sym, true}
 use Rattle.flat_laws.proofs.Common.{unknown_interface, wires_of, zero, ℕ, ◌∙◌, ◌∷◌, ◌≡◌}
 use Rattle.adl_hierarchy.proofs.KnownNames.{typed, no_unknown, instance_typed, export_known, end_known, IsKnown, dotted_known}
@@ -32,10 +32,8 @@ known_port s sound k composition words own w port e =
     let none = no_unknown s sound k composition own in
     let known = instance_typed (known_in s) none.0 composition i none.1 w.stands in
     let type = typed s i.component.name known.0 known.1 in
-    let P : List Instance → Type 0 = λ is. IsIn i is in
-    let whole : map (λ (x : Part). x.instance) (body h k).parts ≡ instances_in composition = parts_whole s sound k
-    ∙ ap (λ o. option_map_or instances_in o []) own in
-    let x = from_map (λ (x : Part). x.instance) i (body h k).parts (subst P (sym whole) w.stands) in
+    let x = from_map (λ (x : Part). x.instance) i (body h k).parts
+    (subst (λ is. IsIn i is) (sym (parts_whole s sound k ∙ ap (λ o. option_map_or instances_in o []) own)) w.stands) in
     let number : kind_named s i.component.name ≡ Some x.0.kind = ap (λ (z : Instance). kind_named s z.component.name) (sym x.2)
     ∙ (part_of_body s k x.0 x.1).typed in
     let same : type.number ≡ x.0.kind = let a = type.numbered in cc in
@@ -51,8 +49,7 @@ known_port s sound k composition words own w port e =
     })
 
 reached_declared : (s : Source) → AreNamesSound s → AreDotted (hierarchy_of s) → (n k : ℕ) (port : Name × Name) (r : Reached)
-    → IsKnownPort s k port
-    → reached_within (hierarchy_of s) n k port ≡ Some r → IsDeclared s r
+    → IsKnownPort s k port → reached_within (hierarchy_of s) n k port ≡ Some r → IsDeclared s r
 reached_declared s sound dotted zero k port r x e = cc
 reached_declared s sound dotted (suc n) k port r x e = by_kind (reached_declared s sound dotted n x.part.kind)
     (is_composite h x.part.kind) (ap (option_and_then (reached_by h (reached_within h n) port.1)) (sym x.named) ∙ e)
@@ -93,8 +90,7 @@ reached_declared s sound dotted (suc n) k port r x e = by_kind (reached_declared
 
 -- the interface that an end joins is declared
 pub end_declared : (s : Source) → AreNamesSound s → AreDotted (hierarchy_of s) → (k : ℕ) (w : Wire) (e : End) (r : Reached)
-    → IsIn w (wires_of (body (hierarchy_of s) k)) → IsIn e w.1.ends
-    → joined_by (hierarchy_of s) k e ≡ Some r → IsDeclared s r
+    → IsIn w (wires_of (body (hierarchy_of s) k)) → IsIn e w.1.ends → joined_by (hierarchy_of s) k e ≡ Some r → IsDeclared s r
 end_declared s sound dotted k w e r i m j =
     let h = hierarchy_of s in
     let o = own_connection (body h k).composition w i in

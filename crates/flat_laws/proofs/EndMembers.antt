@@ -41,8 +41,7 @@ placed_in (members.Attribute a ∷ ms) n i e = by_test (placed_in ms n i) (bytes
         → slice_get ms (place_by (is_interface n) ms) ≡ Some (members.Interface i)) → (b : Bool)
         → option_and_then as_interface (option_map (λ (d : Id × Declared). d.1)
         (cond b (Some (a.id, an_attribute a)) (find (λ (d : Id × Declared). bytes_eq n d.0.name)
-        (flat_map declared_by ms)))) ≡ Some i
-        → slice_get ms (place_by (is_interface n) ms) ≡ Some (members.Interface i)
+        (flat_map declared_by ms)))) ≡ Some i → slice_get ms (place_by (is_interface n) ms) ≡ Some (members.Interface i)
     by_test more true e = cc
     by_test more false e = more e
 placed_in (members.Lock l ∷ ms) n i e = by_test (placed_in ms n i) (bytes_eq n l.id.name) e
@@ -51,8 +50,7 @@ placed_in (members.Lock l ∷ ms) n i e = by_test (placed_in ms n i) (bytes_eq n
         → slice_get ms (place_by (is_interface n) ms) ≡ Some (members.Interface i)) → (b : Bool)
         → option_and_then as_interface (option_map (λ (d : Id × Declared). d.1)
         (cond b (Some (l.id, a_lock l)) (find (λ (d : Id × Declared). bytes_eq n d.0.name) (flat_map declared_by ms))))
-        ≡ Some i
-        → slice_get ms (place_by (is_interface n) ms) ≡ Some (members.Interface i)
+        ≡ Some i → slice_get ms (place_by (is_interface n) ms) ≡ Some (members.Interface i)
     by_test more true e = cc
     by_test more false e = more e
 

@@ -13,8 +13,7 @@ flat_in_limits s sound e = in_limits s sound (no_first (first_size_fault s) (fir
 part_shorter : {X Y : Type 0} (f : X → List Y) (xs : List X) (x : X) → IsIn x xs → length (f x) ≤ length (flat_map f xs)
 part_shorter f [] x i = absurd i
 part_shorter {X} {Y} f (y ∷ xs) x (inl e) =
-    let P : X → Type 0 = λ z. length (f z) ≤ length (f y ++ flat_map f xs) in
-    subst P e (omega (arith, length-append (f y) (flat_map f xs)))
+    subst (λ z. length (f z) ≤ length (f y ++ flat_map f xs)) e (omega (arith, length-append (f y) (flat_map f xs)))
 part_shorter f (y ∷ xs) x (inr i) = let l = part_shorter f xs x i in omega (arith, length-append (f y) (flat_map f xs))
 
 pub few_ends : (s : Source) → AreInLimits s → (x : Strung) → IsIn x (connections (hierarchy_of s))

@@ -38,8 +38,6 @@ end_of s sound n c e x i f g =
     let leaf = (joined s sound x m.0 d.0 r.0 i m.1 r.1).1 in
     let placed : Placed = record { path = x.path ++ r.0.path; part = r.0.part } in
     let a = place_in (leaves h) placed leaf in
-    let number : leaf_number h placed.path ≡ a.0 = leaf_number_is s sound a.0 placed a.1 in
-    let at : slice_get (leaves h) (leaf_number h placed.path) ≡ Some placed = ap (slice_get (leaves h)) number ∙ a.1 in
     record {
       end = d.0;
       stands = d.1;
@@ -50,5 +48,5 @@ end_of s sound n c e x i f g =
       is_part = refl;
       is_leaf = leaf;
       leaf = ap (λ (z : FlatEnd). slice_get (map (leaf_of h) (leaves h)) z.leaf) (sym r.2) ∙ get_map (leaf_of h) (leaves h)
-          (leaf_number h placed.path) placed at;
+          (leaf_number h placed.path) placed (ap (slice_get (leaves h)) (leaf_number_is s sound a.0 placed a.1) ∙ a.1);
     }

@@ -1,5 +1,5 @@
 -- The leaves and domains of a flat system, by number.
-use Rattle.flat_laws.proofs.Common.{AreNamesSound, Body, Bool, Component, Domain, HaveFewMembers, Hierarchy, IsIn, ItemAt, Leaf, List, Member, None, Option, Part, Path, Placed, Some, Source, [], all_in, ap, arith, at_place, body, body_number}
+use Rattle.flat_laws.proofs.Common.{AreNamesSound, Body, Bool, Component, Domain, HaveFewMembers, Hierarchy, IsIn, ItemAt, Leaf, None, Option, Part, Path, Placed, Some, Source, [], all_in, ap, arith, at_place, body, body_number}
 use Rattle.flat_laws.proofs.Common.{components, cond, domain_found, domain_number, domain_number_is, domain_of, domains, domains_are, false, flat_domain, flat_of, from_get_map, get_map, hierarchy_of, in_get, is_hardware, item_of, leaf_members}
 use Rattle.flat_laws.proofs.Common.{leaf_of, leaves, leaves_of_domain, length, length-map, map, members_at, members_of_leaf, option_and_then_some, part_named, part_of_body, refl, slice_get, subst, sym, top_number, true, unwrap_or, ℕ, ◌∙◌, ◌∷◌, ◌≡◌}
 use Rattle.flat_laws.proofs.Common.{◌≤◌}
@@ -23,8 +23,7 @@ pub leaf_component : (s : Source) → AreNamesSound s → (x : Placed) → IsIn 
     → (c : ItemAt × Component) × (slice_get (components s) x.part.kind ≡ Some c)
 leaf_component s sound x i =
     let h = hierarchy_of s in
-    let stands = (leaves_stand s sound x).0 i in
-    let m = part_stands h (top_number h) x.path x.part stands.0 in
+    let m = part_stands h (top_number h) x.path x.part ((leaves_stand s sound x).0 i).0 in
     let trees = map (λ (c : ItemAt × Component). c.1) (components s) in
     let low = numbers_below trees x.part.instance.component.name x.part.kind (part_of_body s m.0 x.part m.1).typed in
     at_place (components s) x.part.kind (omega (arith, low, length-map (components s) (λ (c : ItemAt × Component). c.1)))
@@ -46,11 +45,10 @@ few_members s sound few leaf = by_leaf (slice_get (flat_of s).leaves leaf) refl
         let h = hierarchy_of s in
         let x = from_get_map (leaf_of h) (leaves h) leaf l e in
         let c = leaf_component s sound x.0 (in_get (leaves h) leaf x.0 x.1) in
-        let P : List Member → Type 0 = λ ms. length ms ≤ 1048576 in
         let Q : Leaf → Type 0 = λ z. length (members_at s z.component) ≤ 1048576 in
         let own = all_in (λ (c : ItemAt × Component). length c.1.members ≤ 1048576) (components s) c.0 few
         (in_get (components s) x.0.part.kind c.0 c.1) in
-        subst Q x.2 (subst P (sym (members_of_part s x.0.part c.0 c.1)) own)
+        subst Q x.2 (subst (λ ms. length ms ≤ 1048576) (sym (members_of_part s x.0.part c.0 c.1)) own)
 
 -- ---- leaves of domains
 
@@ -78,15 +76,12 @@ leaf_listed h l d leaf e f =
     )
 
 pub leaf_owned : (h : Hierarchy) (d l : ℕ) (domain : Domain) → slice_get (map (flat_domain h) (domains h)) d ≡ Some domain
-    → IsIn l domain.leaves
-    → (leaf : Leaf) × (slice_get (map (leaf_of h) (leaves h)) l ≡ Some leaf) × (leaf.domain ≡ Some d)
+    → IsIn l domain.leaves → (leaf : Leaf) × (slice_get (map (leaf_of h) (leaves h)) l ≡ Some leaf) × (leaf.domain ≡ Some d)
 leaf_owned h d l domain e i =
     let path = from_get_map (flat_domain h) (domains h) d domain e in
-    let P : Domain → Type 0 = λ z. IsIn l z.leaves in
-    let x = (leaves_of_domain h path.0 l).0 (subst P (sym path.2) i) in (
+    let x = (leaves_of_domain h path.0 l).0 (subst (λ (z : Domain). IsIn l z.leaves) (sym path.2) i) in (
       leaf_of h x.0,
       get_map (leaf_of h) (leaves h) l x.0 x.1,
-      ap (λ b. cond b None (Some (domain_number h (domain_of h x.0.path)))) x.2
-          ∙ ap (λ p. Some (domain_number h p)) x.3
+      ap (λ b. cond b None (Some (domain_number h (domain_of h x.0.path)))) x.2 ∙ ap (λ p. Some (domain_number h p)) x.3
           ∙ ap Some (domain_number_is h d path.0 path.1),
     )

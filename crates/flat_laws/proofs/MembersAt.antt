@@ -34,6 +34,5 @@ members_there s c i =
     by_item (at, items.Procedure p) t m = cc
     by_item (at, items.Component d) t m =
         let same : (at, d) ≡ c = cc in
-        let P : ItemAt × Component → Type 0 = λ z. members_at s z.0 ≡ z.1.members in
-        subst P same m
+        subst (λ (z : ItemAt × Component). members_at s z.0 ≡ z.1.members) same m
     by_item (at, items.Assembly a) t m = cc

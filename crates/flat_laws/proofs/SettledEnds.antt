@@ -18,8 +18,7 @@ pub all_kept_at : {X Y : Type 0} (f : X → Option Y) (xs : List X) → ((x : X)
     → (n : ℕ) (x : X) (y : Y) → slice_get xs n ≡ Some x → f x ≡ Some y → slice_get (filter_map f xs) n ≡ Some y
 all_kept_at f [] all n x y e g = cc
 all_kept_at {X} {Y} f (z ∷ xs) all n x y e g =
-    let first = all z (inl refl) in
-    ap (λ o. slice_get (cons_option o (filter_map f xs)) n) first.1
+    ap (λ o. slice_get (cons_option o (filter_map f xs)) n) (all z (inl refl)).1
     ∙ at_place n e (λ n e. all_kept_at f xs (λ w i. all w (inr i)) n x y e g)
   where
     at_place : (n : ℕ) → slice_get (z ∷ xs) n ≡ Some x
@@ -48,10 +47,8 @@ interface_there s leaf m i e = by_file (slice_get s.files leaf.component.file) e
   where
     by_item : (x : Item) → slice_get (members_of x) m ≡ Some (members.Interface i)
         → option_and_then (λ (c : Component). option_and_then as_interface (slice_get c.members m)) (as_component x) ≡ Some i
-    by_item (items.Import p) e = cc
-    by_item (items.Procedure p) e = cc
     by_item (items.Component c) e = ap (λ o. option_and_then as_interface o) e
-    by_item (items.Assembly a) e = cc
+    by_item _ e = cc
 
     by_ended : (o : Option Ended) → slice_get (members_in o) m ≡ Some (members.Interface i)
         → option_and_then (λ (c : Component). option_and_then as_interface (slice_get c.members m))
@@ -60,8 +57,7 @@ interface_there s leaf m i e = by_file (slice_get s.files leaf.component.file) e
     by_ended (Some x) e = by_item x.item e
 
     by_file : (o : Option SourceFile) → slice_get (members_in (slice_get (items_of_file o) leaf.component.item)) m ≡ Some
-        (members.Interface i)
-        → option_and_then (λ (c : Component). option_and_then as_interface (slice_get c.members m))
+        (members.Interface i) → option_and_then (λ (c : Component). option_and_then as_interface (slice_get c.members m))
         (option_and_then (λ (f : SourceFile). option_and_then (λ (x : Ended). as_component x.item)
         (slice_get f.tree.items leaf.component.item)) o)
         ≡ Some i
@@ -107,8 +103,7 @@ module _ (s : Source) (typed : AreTyped s (flat_of s)) where
   found_all k c at x i = let g = end_found k c x at (from_positioned 0 c.ends x i) in (g.found, g.is)
 
   pub found_there : (k n : ℕ) (c : FlatConnection) (e : FlatEnd) → slice_get (flat_of s).connections k ≡ Some c
-      → slice_get c.ends n ≡ Some e
-      → (p : ℕ) × (slice_get (positioned c.ends) n ≡ Some (p, e)) × (f : IsFoundEnd c (p, e))
+      → slice_get c.ends n ≡ Some e → (p : ℕ) × (slice_get (positioned c.ends) n ≡ Some (p, e)) × (f : IsFoundEnd c (p, e))
       × (slice_get (found_on (hierarchy_of s) s (flat_of s) c) n ≡ Some f.found)
   found_there k n c e at is =
       let p = position_of 0 c.ends n e is in
@@ -152,7 +147,6 @@ module _ (s : Source) (typed : AreTyped s (flat_of s)) where
               leaf = f.joined.here;
               interface = f.joined.joined;
               settings = ap (λ o. option_and_then (λ z. slice_get z.ends n) o) (settled_there k c at)
-                  ∙ get_map end_setting (found_on h s (flat_of s) c) n f.found t.3
-                  ∙ ap (λ z. Some (end_setting z)) f.at;
+                  ∙ get_map end_setting (found_on h s (flat_of s) c) n f.found t.3 ∙ ap (λ z. Some (end_setting z)) f.at;
             };
       }

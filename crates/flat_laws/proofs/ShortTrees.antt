@@ -17,14 +17,12 @@ use Rattle.flat_laws.specs.ShortFiles.{AreFilesShort}
 
 -- whether a form spells a token at least
 pub has_token : {T V A : Type 0} → Form T V A → Bool
-has_token (Give x) = false
 has_token (One cs) = true
 has_token (Then f g) = has_token f || has_token g
 has_token (Or f g) = has_token f && has_token g
-has_token (Many f) = false
 has_token (As h f) = has_token f
 has_token (Starts cs f) = has_token f
-has_token Nested = false
+has_token _ = false
 
 some_token : {T V A : Type 0} (code : T → ℕ) (m : Meaning T V) (f : Form T V A) (x : A) (ts : List T) → has_token f ≡ true
     → Spells code m f x ts → 1 ≤ length ts
@@ -69,9 +67,7 @@ abbrev IsShort : {A : Type 0} → ℕ → Rule A → A → Type 0
 IsShort n f x = (ts : List Seen) × IsSpelledBy f x ts × (length ts ≤ n)
 
 shorter : (n : ℕ) (ts a b : List Seen) → length ts ≤ n → ts ≡ a ++ b → (length a ≤ n) × (length b ≤ n)
-shorter n ts a b l e =
-    let s : length ts ≡ length a + length b = ap length e ∙ length-append a b in
-    (omega arith, omega arith)
+shorter n ts a b l e = let s : length ts ≡ length a + length b = ap length e ∙ length-append a b in (omega arith, omega arith)
 
 one_short : {A : Type 0} (n : ℕ) (f : Rule A) (xs : List A) (ts : List Seen) (x : A) → length ts ≤ n
     → Each (Spells token_code (deep token_code nested_line limit) f) xs ts → IsIn x xs → IsShort n f x
@@ -84,14 +80,10 @@ component_members : (n : ℕ) (c : Component) → IsShort n component_line c →
 unfolding component_line
 component_members n c w =
     let p = w.1 in
-    let P : Component → Type 0 = λ z. length z.members ≤ n in
-    let a = shorter n w.0 p.2.0 p.2.1 w.2 p.2.2 in
-    let b = shorter n p.2.1 p.2.4.0 p.2.4.1 a.1 p.2.4.2 in
-    let c = shorter n p.2.4.1 p.2.4.4.0 p.2.4.4.1 b.1 p.2.4.4.2 in
-    let d = shorter n p.2.4.4.1 p.2.4.4.4.0 p.2.4.4.4.1 c.1 p.2.4.4.4.2 in
+    let b = shorter n p.2.1 p.2.4.0 p.2.4.1 (shorter n w.0 p.2.0 p.2.1 w.2 p.2.2).1 p.2.4.2 in
     let l = each_token member_form p.0.1.1.1.0 p.2.4.4.4.0 member_token p.2.4.4.4.3 in
-    let m = d.0 in
-    subst P (sym p.1) (omega arith)
+    let m = (shorter n p.2.4.4.1 p.2.4.4.4.0 p.2.4.4.4.1 (shorter n p.2.4.1 p.2.4.4.0 p.2.4.4.1 b.1 p.2.4.4.2).1 p.2.4.4.4.2).0 in
+    subst (λ (z : Component). length z.members ≤ n) (sym p.1) (omega arith)
 
 item_component : (n : ℕ) (c : Component) → IsShort n item_line (items.Component c) → IsShort n component_line c
 unfolding item_line
@@ -107,15 +99,13 @@ ended_item : (n : ℕ) (e : Ended) → IsShort n ended_line e → IsShort n item
 unfolding ended_line
 ended_item n e w =
     let p = w.1 in
-    let P : Ended → Type 0 = λ z. IsShort n item_line z.item in
-    subst P (sym p.1) (p.2.0, p.2.3, (shorter n w.0 p.2.0 p.2.1 w.2 p.2.2).0)
+    subst (λ (z : Ended). IsShort n item_line z.item) (sym p.1) (p.2.0, p.2.3, (shorter n w.0 p.2.0 p.2.1 w.2 p.2.2).0)
 
 file_item : (n : ℕ) (f : File) → IsShort n file_line f → (e : Ended) → IsIn e f.items → IsShort n item_line e.item
 unfolding file_line
 file_item n f w e i =
     let p = w.1 in
-    let P : File → Type 0 = λ z. IsIn e z.items in
-    ended_item n e (one_short n ended_form p.0 w.0 e w.2 p.2 (subst P p.1 i))
+    ended_item n e (one_short n ended_form p.0 w.0 e w.2 p.2 (subst (λ (z : File). IsIn e z.items) p.1 i))
 
 item_short : (s : Source) → AreFilesShort s → (x : ItemAt × Item) → IsIn x (items_of s) → IsShort 1048576 item_line x.1
 item_short s short x i =
@@ -124,9 +114,8 @@ item_short s short x i =
     let e = from_map (λ (e : ℕ × Ended). let at : ItemAt = record { file = f.0.0; item = e.0 } in (at, e.1.item)) x
     (enumerate_from 0 f.0.1.tree.items) f.2 in
     let m = from_enumerate 0 f.0.1.tree.items e.0 e.1 in
-    let P : ItemAt × Item → Type 0 = λ z. IsShort 1048576 item_line z.1 in
-    subst P e.2 (file_item 1048576 f.0.1.tree (short f.0.1 (in_get s.files n.0 f.0.1 n.2)) e.0.1
-    (in_get f.0.1.tree.items m.0 e.0.1 m.2))
+    subst (λ (z : ItemAt × Item). IsShort 1048576 item_line z.1) e.2
+    (file_item 1048576 f.0.1.tree (short f.0.1 (in_get s.files n.0 f.0.1 n.2)) e.0.1 (in_get f.0.1.tree.items m.0 e.0.1 m.2))
 
 pub all_of : {X : Type 0} (P : X → Type 0) (xs : List X) → ((x : X) → IsIn x xs → P x) → All P xs
 all_of P [] h = All-nil P
@@ -134,7 +123,6 @@ all_of P (x ∷ xs) h = All-cons P x xs (h x (inl refl)) (all_of P xs (λ y i. h
 
 pub short_few : (s : Source) → AreFilesShort s → HaveFewMembers s
 short_few s short =
-    all_of (λ (c : ItemAt × Component). length c.1.members ≤ 1048576) (components s) (λ c i.
-    let x = component_item s c i in
+    all_of (λ (c : ItemAt × Component). length c.1.members ≤ 1048576) (components s) (λ c i. let x = component_item s c i in
     let P : Item → Type 0 = λ y. IsShort 1048576 item_line y in
     component_members 1048576 c.1 (item_component 1048576 c.1 (subst P x.2 (item_short s short x.0 x.1))))

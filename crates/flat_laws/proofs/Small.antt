@@ -10,9 +10,8 @@ firsts_le : {X : Type 0} (same : X → X → Bool) (met : X → Bool) (xs : List
 firsts_le same met [] = omega arith
 firsts_le same met (x ∷ xs) =
     cond_both (met x) (firsts_after same met xs) (x ∷ firsts_after same (λ y. met y || same y x) xs)
-    (λ z. length z ≤ length (x ∷ xs))
-    (λ e. let l = firsts_le same met xs in omega (arith, l)) (λ e. let l = firsts_le same (λ y. met y || same y x) xs in
-    omega (arith, l))
+    (λ z. length z ≤ length (x ∷ xs)) (λ e. let l = firsts_le same met xs in omega (arith, l))
+    (λ e. let l = firsts_le same (λ y. met y || same y x) xs in omega (arith, l))
 
 filter_le : {X : Type 0} (test : X → Bool) (xs : List X) → length (filter test xs) ≤ length xs
 filter_le test xs = omega (arith, length-filter test xs, count_by-le-length test xs)
@@ -21,10 +20,9 @@ module _ (h : Hierarchy) where
   few_domains : length (domains h) ≤ length (leaves h)
   few_domains =
       let soft = filter (λ (x : Placed). not (is_hardware h x.part)) (leaves h) in
-      let paths : List Path = map (λ (x : Placed). domain_of h x.path) soft in
       omega (
         arith,
-        firsts_le same_path (λ y. false) paths,
+        firsts_le same_path (λ y. false) (map (λ (x : Placed). domain_of h x.path) soft),
         length-map soft (λ (x : Placed). domain_of h x.path),
         filter_le (λ (x : Placed). not (is_hardware h x.part)) (leaves h),
       )
@@ -32,10 +30,9 @@ module _ (h : Hierarchy) where
   few_inside : (d : Path) → length (flat_domain h d).leaves ≤ length (leaves h)
   few_inside d =
       let all : List (ℕ × Placed) = enumerate_from 0 (leaves h) in
-      let inside = filter (λ (x : ℕ × Placed). is_inside h d x.1) all in
       omega (
         arith,
-        length-map inside (λ (x : ℕ × Placed). x.0),
+        length-map (filter (λ (x : ℕ × Placed). is_inside h d x.1) all) (λ (x : ℕ × Placed). x.0),
         filter_le (λ (x : ℕ × Placed). is_inside h d x.1) all,
         length-enumerate_from 0 (leaves h),
       )
@@ -50,14 +47,12 @@ pub small : (s : Source) → AreNamesSound s → first_size_fault s ≡ None →
 small s sound none =
     let h = hierarchy_of s in
     let w = in_limits s sound none in
-    let ls = w.leaves_are in
-    let cs = w.connections_are in
     record {
-      leaves = omega (arith, ls, length-map (leaves h) (leaf_of h));
-      domains = omega (arith, ls, few_domains h, length-map (domains h) (flat_domain h));
+      leaves = omega (arith, w.leaves_are, length-map (leaves h) (leaf_of h));
+      domains = omega (arith, w.leaves_are, few_domains h, length-map (domains h) (flat_domain h));
       inside = λ d domain e. let p = from_domains h (domains h) d domain e in let l = few_inside h p.0 in
-          subst (λ (z : Domain). length z.leaves ≤ 1024) p.1 (omega (arith, ls, l));
-      connections = omega (arith, cs, length-map (connections h) (flat_connection h));
+          subst (λ (z : Domain). length z.leaves ≤ 1024) p.1 (omega (arith, w.leaves_are, l));
+      connections = omega (arith, w.connections_are, length-map (connections h) (flat_connection h));
     }
 
 pub flat_small : (s : Source) → AreNamesSound s → first_flat_fault s ≡ None → IsSmall (flat_of s)

@@ -36,15 +36,13 @@ pub some_end : (s : Source) → AreNamesSound s → AreDotted (hierarchy_of s) �
     → (k : ℕ) (c : FlatConnection) → slice_get (flat_of s).connections k ≡ Some c
     → (r : Role) → (n : ℕ) × (e : FlatEnd) × (slice_get c.ends n ≡ Some e) × (e.role ≡ r)
 some_end s sound dotted types k c at r =
-    let h = hierarchy_of s in
     let y = strung_of s k c at in
     let es = y.0.wire.1.ends in
-    let fits = (well_typed s sound types y.0 y.1).counts in
     let d = first_counted (λ (e : End). same_role e.role r) es (some_allowed y.0.wire.0 r (count_of r es)
-    (allowed y.0.wire.0 r es fits)) in
+    (allowed y.0.wire.0 r es ((well_typed s sound types y.0 y.1).counts))) in
     let j = all_joined s sound dotted y.0 d.1 y.1 (in_get es d.0 d.1 d.2) in (
       d.0,
-      flat_end h y.0.path d.1 j.0,
+      flat_end (hierarchy_of s) y.0.path d.1 j.0,
       ap (λ (z : FlatConnection). slice_get z.ends d.0) (sym y.2) ∙ end_numbers_kept s sound dotted y.0 d.0 d.1 j.0 y.1 d.2 j.1,
       is_role d.1.role r d.3,
     )

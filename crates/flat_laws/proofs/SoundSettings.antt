@@ -22,10 +22,5 @@ settings_sound s none =
     let b = flat_map faults_on fs in
     let c = overlaps (regions fs) in
     let d = irqs_twice (irqs fs) in
-    let three = none_left (a ++ b ++ c) d values in
-    let two = none_left (a ++ b) c three in
-    record {
-      leaves = none_left a b two;
-      connections = none_right a b two;
-      apart = none_right (a ++ b ++ c) d values;
-    }
+    let two = none_left (a ++ b) c (none_left (a ++ b ++ c) d values) in
+    record { leaves = none_left a b two; connections = none_right a b two; apart = none_right (a ++ b ++ c) d values }
