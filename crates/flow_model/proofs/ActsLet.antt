@@ -25,36 +25,29 @@ module _ (spec : Spec) (labels : List ℕ) (policy : List Edge) (stays : Stays s
   attempt_let (step move) reached (s, does, e) =
       rw e (sees_own (thread_of move) done (record w { state = s }) (step_let spec labels policy stays w reached s move does))
   attempt_let (store t f x) reached (runs, may, e) =
-      rw e
-      (sees_own t done (record w { contents = put w.contents f x })
-      (write_content policy labels (here t) w w (unchanged policy labels (here t) w) f x
-      (access_lets spec labels policy stays w.state reached t f Write may)))
+      rw e (sees_own t done (record w { contents = put w.contents f x }) (write_content policy labels (here t) w w
+      (unchanged policy labels (here t) w) f x (access_lets spec labels policy stays w.state reached t f Write may)))
   attempt_let (load t f) reached (runs, may, e) =
       rw e (sees_own t (content (w.contents f)) w (unchanged policy labels (here t) w))
   attempt_let (send t i u j x) reached (c, to, d, from, acts, own, may, peer, e) =
-      let sends = by_own spec labels policy stays w.state reached t c i kinds.Endpoint to SyncSend acts.root own may in
       rw e
       (sees_own t done (record w { seen = more w.seen u (message to.badge x) })
       (tells t u (message to.badge x)
       (inr (inl (peer_meets spec labels policy stays w.state reached (here t) t u j to.object d SyncSend from
-      sends peer)))))
+      (by_own spec labels policy stays w.state reached t c i kinds.Endpoint to SyncSend acts.root own may) peer)))))
   attempt_let (tell t x) reached (c, reply, acts, owes, e) =
-      rw e
-      (sees_own t done (record w { seen = more w.seen reply.caller (answer x) })
+      rw e (sees_own t done (record w { seen = more w.seen reply.caller (answer x) })
       (tells t reply.caller (answer x) (inr (inr (owes_lets spec labels policy stays w.state reached t reply owes)))))
   attempt_let (tell_saved t i x) reached (c, reply, acts, there, e) =
-      rw e
-      (sees_own t done (record w { seen = more w.seen reply.caller (answer x) })
+      rw e (sees_own t done (record w { seen = more w.seen reply.caller (answer x) })
       (tells t reply.caller (answer x)
       (inr (inr (saved_lets spec labels policy stays w.state reached t c i reply acts.root there)))))
   attempt_let (signal t i x) reached (c, to, acts, own, may, e) =
-      rw e
-      (sees_own t done (record w { pending = more w.pending to.object x })
-      (write_pending policy labels (here t) w w (unchanged policy labels (here t) w) to.object (x ∷ w.pending to.object)
+      rw e (sees_own t done (record w { pending = more w.pending to.object x }) (write_pending policy labels (here t) w w
+      (unchanged policy labels (here t) w) to.object (x ∷ w.pending to.object)
       (inl (by_own spec labels policy stays w.state reached t c i kinds.Notification to AsyncSend acts.root own may))))
   attempt_let (await t i) reached (c, from, acts, own, may, e) =
-      rw e
-      (sees_own t (signals (w.pending from.object)) (record w { pending = put w.pending from.object [] })
+      rw e (sees_own t (signals (w.pending from.object)) (record w { pending = put w.pending from.object [] })
       (write_pending policy labels (here t) w w (unchanged policy labels (here t) w) from.object []
       (inr (by_own spec labels policy stays w.state reached t c i kinds.Notification from Receive acts.root own may))))
 

@@ -159,15 +159,13 @@ module _ (side : ℕ → Bool) (s r : State) (alike : Alike side s r) where
       (record r { nodes = grown_at r.nodes c content })
   both_grown c content here =
       subst (λ (n : Node). Alike side (record s { nodes = grown_at s.nodes c content })
-      (record r { nodes = set r.nodes c (grown n content) })) (alike.nodes c here)
-      (both_nodes c (grown (node_at s c) content))
+      (record r { nodes = set r.nodes c (grown n content) })) (alike.nodes c here) (both_nodes c (grown (node_at s c) content))
 
   pub both_without : (c i : ℕ) → side c ≡ true → Alike side (record s { nodes = without_at s.nodes c i })
       (record r { nodes = without_at r.nodes c i })
   both_without c i here =
       subst (λ (n : Node). Alike side (record s { nodes = without_at s.nodes c i })
-      (record r { nodes = set r.nodes c (without n i) })) (alike.nodes c here)
-      (both_nodes c (without (node_at s c) i))
+      (record r { nodes = set r.nodes c (without n i) })) (alike.nodes c here) (both_nodes c (without (node_at s c) i))
 
   pub both_waiting : (t : ℕ) (b : Bool) → side t ≡ true → Alike side (record s { threads = waiting s.threads t b })
       (record r { threads = waiting r.threads t b })

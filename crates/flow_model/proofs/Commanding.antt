@@ -96,23 +96,14 @@ module _ (spec : Spec) (labels : List ℕ) (policy : List Edge) (stays : Stays s
   goes_down p q (i ∷ path) (cap, there, rest) slot =
       commands_on policy (label_of labels p) (label_of labels cap.object) (label_of labels q)
       (command p cap.object
-      (inr (of_table (
-        p,
-        i,
-        cap,
-        there,
-        table_controls spec cap (leads_slot spec cap.object q path rest slot),
-        refl,
-        refl,
-      ))))
+      (inr (of_table (p, i, cap, there, table_controls spec cap (leads_slot spec cap.object q path rest slot), refl, refl))))
       (goes_down cap.object q path rest slot)
 
   pub access_lets : (t f : ℕ) (a : Authority) → Access spec s t a f → Lets policy (label_of labels t) a (label_of labels f)
   access_lets t f a (inl by) =
-      lets (label_of labels t) by.table f a
-      (commands_on policy (label_of labels t) (label_of labels by.root) (label_of labels by.table)
-      (of_its_space t by.root by.space)
-      (goes_down by.root by.table by.path by.leads (by.number, by.cap, by.there))) (table_edge spec labels s t f a by)
+      lets (label_of labels t) by.table f a (commands_on policy (label_of labels t) (label_of labels by.root)
+      (label_of labels by.table) (of_its_space t by.root by.space) (goes_down by.root by.table by.path by.leads
+      (by.number, by.cap, by.there))) (table_edge spec labels s t f a by)
   access_lets t f a (inr (inl by)) = lets (label_of labels t) by.root f a (of_its_space t by.root by.space)
       (added_edge spec labels s t f a by)
   access_lets t f a (inr (inr by)) = lets (label_of labels t) t f a (itself policy _ _ refl) (buffer_edge spec labels s t f a by)

@@ -30,8 +30,7 @@ near_back side w v near = record {
 
 -- worlds that agree on a set are alike there, where their lists are as long
 pub near_agree : (spec : Spec) (labels : List ℕ) (inside : ℕ → Bool) (w v : World) → Joined spec (in_set labels inside) w.state
-    → Joined spec (in_set labels inside) v.state → Agree labels inside w v
-    → Near (in_set labels inside) w v
+    → Joined spec (in_set labels inside) v.state → Agree labels inside w v → Near (in_set labels inside) w v
 near_agree spec labels inside w v long also agree = record {
   state = record {
     nodes_long = long.nodes_long ∙ sym also.nodes_long;

@@ -21,8 +21,7 @@ is_input (device f x) input h = cc
 
 -- of an act and its refusal one is possible
 same_act : (spec : Spec) (programs : Programs) (w mid next : World) (x y : Act) → ActTo spec w x mid → ActTo spec w y next
-    → Obeys programs w x → Obeys programs w y → actor x ≡ actor y
-    → input_of x ≡ input_of y → x ≡ y
+    → Obeys programs w x → Obeys programs w y → actor x ≡ actor y → input_of x ≡ input_of y → x ≡ y
 same_act spec programs w mid next x y does acts obeys also who what = go (input_of x) refl where
   never : (attempt : Attempt) (one other : World) → ActTo spec w (refused attempt) one → ActTo spec w (allowed attempt) other → ⊥
   never attempt one other rejected may = rejected.1 other may

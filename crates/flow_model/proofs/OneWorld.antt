@@ -43,8 +43,7 @@ one_attempt spec w new other (send t i u j x) (c, to, d, from, acts, own, may, p
     (one_cap _ w.state t c k i to at acts does own has) ∙ sym g
 one_attempt spec w new other (tell t x) (c, reply, acts, owes, e) (k, given, does, owed, g) =
     e ∙ ap (λ (p : Pending). record w { seen = more (more w.seen p.caller (answer x)) t done })
-    (same_Some reply given (sym owes ∙ owed))
-    ∙ sym g
+    (same_Some reply given (sym owes ∙ owed)) ∙ sym g
 one_attempt spec w new other (tell_saved t i x) (c, reply, acts, there, e) (k, given, does, here, g) =
     e ∙ ap (λ (p : Pending). record w { seen = more (more w.seen p.caller (answer x)) t done })
     (one_reply w.state t c k i reply given acts does there here) ∙ sym g
@@ -52,12 +51,10 @@ one_attempt spec w new other (signal t i x) (c, to, acts, own, may, e) (k, at, d
     e ∙ ap (λ (cap : Cap). record w { pending = more w.pending cap.object x; seen = more w.seen t done })
     (one_cap _ w.state t c k i to at acts does own has) ∙ sym g
 one_attempt spec w new other (await t i) (c, from, acts, own, may, e) (k, by, does, has, might, g) =
-    e
-    ∙ ap (λ (cap : Cap). record w {
+    e ∙ ap (λ (cap : Cap). record w {
       pending = put w.pending cap.object [];
       seen = more w.seen t (signals (w.pending cap.object));
-    }) (one_cap _ w.state t c k i from by acts does own has)
-    ∙ sym g
+    }) (one_cap _ w.state t c k i from by acts does own has) ∙ sym g
 
 pub one_act : (spec : Spec) (w new other : World) (act : Act) → ActTo spec w act new → ActTo spec w act other → new ≡ other
 one_act spec w new other (allowed attempt) a b = one_attempt spec w new other attempt a b

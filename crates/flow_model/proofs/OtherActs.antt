@@ -22,8 +22,7 @@ module _ (side : ℕ → Bool) (w v : World) (near : Near side w v) where
       record {
         state = near.state;
         contents = near.contents;
-        pending = λ k here. put_other side w.pending n xs k out here
-            ∙ near.pending k here;
+        pending = λ k here. put_other side w.pending n xs k out here ∙ near.pending k here;
         seen = near.seen;
       }
 
@@ -59,18 +58,15 @@ module _ (spec : Spec) (labels : List ℕ) (policy : List Edge) (inside : ℕ �
         let over = side_own spec labels policy inside stays closed w.state reached c i kinds.Endpoint to SyncSend refl
         refl own may in
         let way = side_peer spec labels policy inside stays closed w.state reached t u j to.object d from peer in
-        rw e
-        (other_seen (in_set labels inside) (record w { seen = more w.seen u (message to.badge x) }) v
+        rw e (other_seen (in_set labels inside) (record w { seen = more w.seen u (message to.badge x) }) v
         (other_seen (in_set labels inside) w v near u (message to.badge x) (sym way ∙ sym over ∙ sym root ∙ out)) t done out)
     other_attempt (tell t x) out (c, reply, acts, owes, e) =
-        rw e
-        (other_seen (in_set labels inside) (record w { seen = more w.seen reply.caller (answer x) }) v
+        rw e (other_seen (in_set labels inside) (record w { seen = more w.seen reply.caller (answer x) }) v
         (other_seen (in_set labels inside) w v near reply.caller (answer x)
         (sym (side_owes spec labels policy inside stays closed w.state reached t reply owes) ∙ out)) t done out)
     other_attempt (tell_saved t i x) out (c, reply, acts, there, e) =
         let root = side_root spec labels policy inside stays closed w.state reached t c acts.root in
-        rw e
-        (other_seen (in_set labels inside) (record w { seen = more w.seen reply.caller (answer x) }) v
+        rw e (other_seen (in_set labels inside) (record w { seen = more w.seen reply.caller (answer x) }) v
         (other_seen (in_set labels inside) w v near reply.caller (answer x)
         (sym (side_saved spec labels policy inside stays closed w.state reached c i reply there) ∙ sym root ∙ out)) t done
         out)
@@ -85,8 +81,7 @@ module _ (spec : Spec) (labels : List ℕ) (policy : List Edge) (inside : ℕ �
         let root = side_root spec labels policy inside stays closed w.state reached t c acts.root in
         let over = side_own spec labels policy inside stays closed w.state reached c i kinds.Notification from Receive refl
         refl own may in
-        rw e
-        (other_seen (in_set labels inside) (record w { pending = put w.pending from.object [] }) v
+        rw e (other_seen (in_set labels inside) (record w { pending = put w.pending from.object [] }) v
         (other_pending (in_set labels inside) w v near from.object [] (sym over ∙ sym root ∙ out)) t _ out)
 
     pub other_act : (act : Act) → in_set labels inside (actor act) ≡ false → ActTo spec w act new

@@ -31,23 +31,20 @@ module _ (spec : Spec) (labels : List ℕ) (policy : List Edge) (inside : ℕ �
         (record (thread_at s t) { pending = pending }) out
 
   other_replied : (s r : State) (t caller : ℕ) → Reached spec s → Alike (in_set labels inside) s r
-      → in_set labels inside t ≡ false → in_set labels inside caller ≡ false
-      → Alike (in_set labels inside) (replied s t caller) r
+      → in_set labels inside t ≡ false → in_set labels inside caller ≡ false → Alike (in_set labels inside) (replied s t caller) r
   other_replied s r t caller reached alike out away =
       others_thread (in_set labels inside) (record s { threads = with_pending s.threads t None }) r
       (other_pending s reached r alike t None out) caller _ away
 
   other_released : (s r : State) (c i caller : ℕ) → Alike (in_set labels inside) s r → in_set labels inside c ≡ false
-      → in_set labels inside caller ≡ false
-      → Alike (in_set labels inside) (released s c i caller) r
+      → in_set labels inside caller ≡ false → Alike (in_set labels inside) (released s c i caller) r
   other_released s r c i caller alike out away =
       others_thread (in_set labels inside) (dropped s c i) r (others_node (in_set labels inside) s r alike c
       (without (node_at s c) i) out) caller _ away
 
   -- each of the twelve kinds of step
   pub other_step : (s r new : State) (step : Step) → Reached spec s → Alike (in_set labels inside) s r
-      → in_set labels inside (thread_of step) ≡ false → StepTo spec s step new
-      → Alike (in_set labels inside) new r
+      → in_set labels inside (thread_of step) ≡ false → StepTo spec s step new → Alike (in_set labels inside) new r
   other_step s r new (steps.Take t i j rights) reached alike out (c, to, x, acts, own, there, e) =
       rw e (other_grown s reached r alike c _ (sym (side_root spec labels policy inside stays closed s reached t c acts.root)
       ∙ out))
@@ -61,23 +58,21 @@ module _ (spec : Spec) (labels : List ℕ) (policy : List Edge) (inside : ℕ �
       let way = side_listener spec labels policy inside stays closed s reached t u j to.object d from peer in
       rw e (other_grown s reached r alike d _ (sym way ∙ sym over ∙ sym root ∙ out))
   other_step s r new (steps.Call t i u j) reached alike out (c, to, d, from, acts, own, may, peer, e) =
-      let root = side_root spec labels policy inside stays closed s reached t c acts.root in
       let over = side_sender spec labels policy inside stays closed s reached c i to _ own may in
       let way = side_peer spec labels policy inside stays closed s reached t u j to.object d from peer in
       rw e
       (others_thread (in_set labels inside)
       (record s { threads = with_pending s.threads u (Some (record { caller = t; grants = from.rights.grant })) }) r
       (other_pending s reached r alike u (Some (record { caller = t; grants = from.rights.grant })) (sym way ∙ sym over
-      ∙ sym root ∙ out))
+      ∙ sym (side_root spec labels policy inside stays closed s reached t c acts.root) ∙ out))
       t _ out)
   other_step s r new (steps.Reply t None) reached alike out (c, p, acts, owes, e) =
       rw e (other_replied s r t p.caller reached alike out
       (sym (side_owes spec labels policy inside stays closed s reached t p owes) ∙ out))
   other_step s r new (steps.Reply t (Some copy)) reached alike out (c, p, x, d, acts, owes, grants, there, root, e) =
       let away = sym (side_owes spec labels policy inside stays closed s reached t p owes) ∙ out in
-      let far = sym (side_root spec labels policy inside stays closed s reached p.caller d root) ∙ away in
       rw e (others_node (in_set labels inside) (replied s t p.caller) r (other_replied s r t p.caller reached alike out
-      away) d _ far)
+      away) d _ (sym (side_root spec labels policy inside stays closed s reached p.caller d root) ∙ away))
   other_step s r new (steps.SetCspace t i j) reached alike out (c, to, x, acts, own, of, e) =
       let root = side_root spec labels policy inside stays closed s reached t c acts.root in
       let over = side_own spec labels policy inside stays closed s reached c i kinds.Thread to Control refl refl own refl in
@@ -91,11 +86,9 @@ module _ (spec : Spec) (labels : List ℕ) (policy : List Edge) (inside : ℕ �
       let over = side_own_space spec labels policy inside stays closed s reached c j x of in
       rw e (others_mapped (in_set labels inside) s r alike _ (sym over ∙ sym root ∙ out))
   other_step s r new (steps.Bind t i j) reached alike out (c, irq, x, acts, own, of, writes, e) =
-      let root = side_root spec labels policy inside stays closed s reached t c acts.root in
-      let away = not_from (in_set labels inside c) (in_set labels inside irq.object)
-      (from_set spec labels policy inside stays closed s reached Handle c irq.object refl
-      (own_edge spec labels s c i kinds.Irq irq Handle own refl))
-      (sym root ∙ out) in
+      let away = not_from (in_set labels inside c) (in_set labels inside irq.object) (from_set spec labels policy inside stays
+      closed s reached Handle c irq.object refl (own_edge spec labels s c i kinds.Irq irq Handle own refl))
+      (sym (side_root spec labels policy inside stays closed s reached t c acts.root) ∙ out) in
       rw e (others_irq (in_set labels inside) s r alike irq.object _ away)
   other_step s r new (steps.Drop t i) reached alike out (c, x, acts, there, e) =
       rw e (other_without s reached r alike c i (sym (side_root spec labels policy inside stays closed s reached t c acts.root)

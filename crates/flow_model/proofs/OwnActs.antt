@@ -212,8 +212,7 @@ module _ (spec : Spec) (labels : List ℕ) (policy : List Edge) (inside : ℕ �
       }
 
   pub own_act : (act : Act) (w v new : World) → Reached spec w.state → Reached spec v.state → Near (in_set labels inside) w v
-      → in_set labels inside (actor act) ≡ true → ActTo spec w act new
-      → Goes spec (in_set labels inside) v act new
+      → in_set labels inside (actor act) ≡ true → ActTo spec w act new → Goes spec (in_set labels inside) v act new
   own_act (allowed attempt) w v new reached onward near here does =
       let goes = own_attempt attempt w v new reached near here does in
       record { end = goes.end; does = goes.does; near = goes.near }

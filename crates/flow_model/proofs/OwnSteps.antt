@@ -29,28 +29,24 @@ module _ (spec : Spec) (labels : List ℕ) (policy : List Edge) (inside : ℕ �
   }
 
   both_replied : (s r : State) (t caller : ℕ) → Alike (in_set labels inside) s r → in_set labels inside t ≡ true
-      → in_set labels inside caller ≡ true
-      → Alike (in_set labels inside) (replied s t caller) (replied r t caller)
+      → in_set labels inside caller ≡ true → Alike (in_set labels inside) (replied s t caller) (replied r t caller)
   both_replied s r t caller alike here there =
       both_waiting (in_set labels inside) (record s { threads = with_pending s.threads t None })
       (record r { threads = with_pending r.threads t None })
       (both_pending (in_set labels inside) s r alike t None here) caller false there
 
   both_released : (s r : State) (c i caller : ℕ) → Alike (in_set labels inside) s r → in_set labels inside c ≡ true
-      → in_set labels inside caller ≡ true
-      → Alike (in_set labels inside) (released s c i caller) (released r c i caller)
+      → in_set labels inside caller ≡ true → Alike (in_set labels inside) (released s c i caller) (released r c i caller)
   both_released s r c i caller alike here there =
       both_waiting (in_set labels inside) (dropped s c i) (dropped r c i) (both_without (in_set labels inside) s r alike c i here)
       caller false there
 
   both_called : (s r : State) (t u : ℕ) (grants : Bool) → Alike (in_set labels inside) s r → in_set labels inside t ≡ true
-      → in_set labels inside u ≡ true
-      → Alike (in_set labels inside) (called s t u grants) (called r t u grants)
+      → in_set labels inside u ≡ true → Alike (in_set labels inside) (called s t u grants) (called r t u grants)
   both_called s r t u grants alike here there =
       let p = Some (record { caller = t; grants = grants }) in
       both_waiting (in_set labels inside) (record s { threads = with_pending s.threads u p })
-      (record r { threads = with_pending r.threads u p })
-      (both_pending (in_set labels inside) s r alike u p there) t true here
+      (record r { threads = with_pending r.threads u p }) (both_pending (in_set labels inside) s r alike u p there) t true here
 
   module _ (s : State) (reached : Reached spec s) (r : State) (alike : Alike (in_set labels inside) s r) where
     pub own_step : (new : State) (step : Step) → in_set labels inside (thread_of step) ≡ true → StepTo spec s step new

@@ -1,6 +1,6 @@
 -- The acts of the example, one by one.
-use Rattle.flow_model.proofs.Common.{Access, ActRun, ActTo, Acts, AttemptTo, Bool, Cap, Capability, Content, List, None, Option, Peer, Read, Some, State, World, Write, [], allowed, arith, await, boot, content, content_in, denied, done, false, inl}
-use Rattle.flow_model.proofs.Common.{inr, irq_at, load, message, more, put, refl, refused, send, signal, signals, step, store, subst, sym, thread_at, true, ℕ, ◌∷◌, ◌≡◌}
+use Rattle.flow_model.proofs.Common.{Access, ActRun, ActTo, Acts, AttemptTo, Cap, Capability, None, Peer, Read, Some, State, World, Write, [], allowed, arith, await, boot, content, content_in, denied, done, false, inl}
+use Rattle.flow_model.proofs.Common.{inr, irq_at, load, message, more, put, refl, refused, send, signal, signals, store, subst, sym, thread_at, true, ℕ, ◌∷◌, ◌≡◌}
 use Rattle.std.proofs.lemmas.List.Elements.{Contains-push}
 use Rattle.cap_machine.specs.Effects.{with_space, read_write, added, called, dropped}
 use Rattle.cap_machine.specs.Sample.{sample, all}
@@ -80,10 +80,7 @@ module _ (w : World) (boots : w.state ≡ boot sample) where
         1,
         cap 5 (rights true false true false) 0,
         acts_2,
-        record {
-          there = refl;
-          is = refl;
-        },
+        record { there = refl; is = refl },
         refl,
         peer_3,
         refl,
@@ -106,18 +103,7 @@ module _ (w : World) (boots : w.state ≡ boot sample) where
   spaces =
       rw boots (
         spaced,
-        (
-          0,
-          plain 3,
-          plain 7,
-          acts_2,
-          record { there = refl; is = refl },
-          record {
-            there = refl;
-            is = refl;
-          },
-          refl,
-        ),
+        (0, plain 3, plain 7, acts_2, record { there = refl; is = refl }, record { there = refl; is = refl }, refl),
         refl,
       )
 
@@ -131,10 +117,7 @@ module _ (w : World) (at : w.state ≡ spaced) where
           cap 8 (rights true true false false) 0,
           plain 7,
           record { runs = refl; root = refl },
-          record {
-            there = refl;
-            is = refl;
-          },
+          record { there = refl; is = refl },
           record { there = refl; is = refl },
           refl,
         ),

@@ -36,8 +36,7 @@ module _ (spec : Spec) (side : ℕ → Bool) where
   }
 
   thread_joined : (s : State) (t : ℕ) (thread : ThreadState) → Joined spec side s → ((p : Pending) → thread.pending ≡ Some p
-      → side t ≡ side p.caller)
-      → Joined spec side (record s { threads = set s.threads t thread })
+      → side t ≡ side p.caller) → Joined spec side (record s { threads = set s.threads t thread })
   thread_joined s t thread joined owes = record {
     nodes_long = joined.nodes_long;
     threads_long = length-set s.threads t thread ∙ joined.threads_long;
@@ -52,9 +51,8 @@ module _ (spec : Spec) (side : ℕ → Bool) where
 
   cap_joined : (s : State) (c : ℕ) (cap : Cap) → Joined spec side s → Joined spec side (added s c cap)
   cap_joined s c cap joined =
-      node_joined s c (grown (node_at s c) (Capability cap)) joined
-      (All-push (λ (slot : ℕ × Content). Beside side c slot.1) (node_at s c).slots ((node_at s c).next, Capability cap)
-      (joined.nodes c) (λ p e. absurd cc))
+      node_joined s c (grown (node_at s c) (Capability cap)) joined (All-push (λ (slot : ℕ × Content). Beside side c slot.1)
+      (node_at s c).slots ((node_at s c).next, Capability cap) (joined.nodes c) (λ p e. absurd cc))
 
   reply_joined : (s : State) (c : ℕ) (p : Pending) → Joined spec side s → side c ≡ side p.caller
       → Joined spec side (record s { nodes = grown_at s.nodes c (SavedReply p) })
@@ -66,9 +64,8 @@ module _ (spec : Spec) (side : ℕ → Bool) where
 
   dropped_joined : (s : State) (c i : ℕ) → Joined spec side s → Joined spec side (dropped s c i)
   dropped_joined s c i joined =
-      node_joined s c (without (node_at s c) i) joined
-      (All-filter (λ (slot : ℕ × Content). not (slot.0 == i)) (λ (slot : ℕ × Content). Beside side c slot.1) (node_at s c).slots
-      (joined.nodes c))
+      node_joined s c (without (node_at s c) i) joined (All-filter (λ (slot : ℕ × Content). not (slot.0 == i))
+      (λ (slot : ℕ × Content). Beside side c slot.1) (node_at s c).slots (joined.nodes c))
 
   waiting_joined : (s : State) (t : ℕ) (b : Bool) → Joined spec side s
       → Joined spec side (record s { threads = waiting s.threads t b })
@@ -175,5 +172,4 @@ module _ (spec : Spec) (labels : List ℕ) (policy : List Edge) (inside : ℕ �
         → in_set labels inside c ≡ in_set labels inside reply.caller
     side_saved c i reply there =
         All-contains (λ (slot : ℕ × Content). Beside (in_set labels inside) c slot.1) (node_at s c).slots (i, SavedReply reply)
-        (is_joined.nodes c)
-        (contained spec labels s c i (SavedReply reply) there) reply refl
+        (is_joined.nodes c) (contained spec labels s c i (SavedReply reply) there) reply refl

@@ -14,8 +14,7 @@ record Alone (spec : Spec) (side : ℕ → Bool) (v : World) (acts : List Act) (
 module _ (spec : Spec) (labels : List ℕ) (policy : List Edge) (inside : ℕ → Bool) (stays : Stays spec labels policy)
     (closed : IsClosed policy inside) where
   run_alone : (acts : List Act) (w v new : World) → Reached spec w.state → Reached spec v.state → Near (in_set labels inside) w v
-      → ActRun spec w acts new
-      → Alone spec (in_set labels inside) v (acts_in labels inside acts) new
+      → ActRun spec w acts new → Alone spec (in_set labels inside) v (acts_in labels inside acts) new
   run_alone [] w v new reached onward near e = record { end = v; run = refl; near = rw e near }
   run_alone (act ∷ acts) w v new reached onward near (mid, does, rest) =
       go (in_set labels inside (actor act)) refl
@@ -46,8 +45,7 @@ module _ (spec : Spec) (labels : List ℕ) (policy : List Edge) (inside : ℕ �
       (is_joined spec labels policy inside stays closed v.state onward) agree
 
   pub separated : (w v new : World) (acts : List Act) → IsReached spec w → IsReached spec v → Agree labels inside w v
-      → ActRun spec w acts new
-      → (end : World) × ActRun spec v (acts_in labels inside acts) end × Agree labels inside new end
+      → ActRun spec w acts new → (end : World) × ActRun spec v (acts_in labels inside acts) end × Agree labels inside new end
   separated w v new acts from also agree run =
       let reached : Reached spec w.state = world_reached spec w from in
       let onward : Reached spec v.state = world_reached spec v also in

@@ -49,8 +49,7 @@ module _ (spec : Spec) (labels : List ℕ) (s : State) where
   held c i cap a there gives = inl (c, i, cap, contained c i (Capability cap) there, gives, refl, refl)
 
   pub own_edge : (c i : ℕ) (kind : Kind) (cap : Cap) (a : Authority) → Own (is_at spec kind) s c i cap
-      → kind_confers kind cap.rights a ≡ true
-      → Auth spec labels s (label_of labels c) a (label_of labels cap.object)
+      → kind_confers kind cap.rights a ≡ true → Auth spec labels s (label_of labels c) a (label_of labels cap.object)
   own_edge c i kind cap a own gives = held c i cap a own.there (let k : kind_at spec cap.object ≡ Some kind = kind_is spec kind
       cap.object own.is in rw k gives)
 

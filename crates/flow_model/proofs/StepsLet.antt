@@ -29,8 +29,7 @@ module _ (spec : Spec) (labels : List ℕ) (policy : List Edge) (stays : Stays s
       → IsLet policy labels (here t) w (record w { state = replied w.state t caller })
   answered t caller may =
       let first : World = record w { state = record w.state { threads = with_pending w.state.threads t None } } in
-      write_thread policy labels (here t) w first
-      (write_thread policy labels (here t) w w (unchanged policy labels (here t) w) t
+      write_thread policy labels (here t) w first (write_thread policy labels (here t) w w (unchanged policy labels (here t) w) t
       (record (thread_at w.state t) { pending = None }) (itself_turns t)) caller
       (record (thread_at first.state caller) { waits = false }) may
 
@@ -41,61 +40,52 @@ module _ (spec : Spec) (labels : List ℕ) (policy : List Edge) (stays : Stays s
       rw e (filled (here t) c w (lessened x r) (unchanged policy labels (here t) w)
       (fills (here t) c (of_its_root spec labels policy stays w.state reached t c acts.root)))
   step_let s (steps.Put t i j r) (c, to, x, acts, own, there, e) =
-      rw e
-      (filled (here t) to.object w (lessened x r) (unchanged policy labels (here t) w)
+      rw e (filled (here t) to.object w (lessened x r) (unchanged policy labels (here t) w)
       (inl (by_own spec labels policy stays w.state reached t c i kinds.CNode to Control acts.root own refl)))
   step_let s (steps.Grant t i u j k r) (c, to, x, d, from, acts, own, may, there, peer, e) =
       let grants = by_own spec labels policy stays w.state reached t c i kinds.Endpoint to Grant acts.root own may in
-      rw e
-      (filled (here t) d w (lessened x r) (unchanged policy labels (here t) w)
+      rw e (filled (here t) d w (lessened x r) (unchanged policy labels (here t) w)
       (inr (inl (root_meets spec labels policy stays w.state reached (here t) t u j to.object d Grant from grants peer))))
   step_let s (steps.Call t i u j) (c, to, d, from, acts, own, may, peer, e) =
       let calls = by_own spec labels policy stays w.state reached t c i kinds.Endpoint to Call acts.root own may in
       let p = Some (record { caller = t; grants = from.rights.grant }) in
       let first : World = record w { state = record w.state { threads = with_pending w.state.threads u p } } in
-      rw e
-      (write_thread policy labels (here t) w first
+      rw e (write_thread policy labels (here t) w first
       (write_thread policy labels (here t) w w (unchanged policy labels (here t) w) u
       (record (thread_at w.state u) { pending = p })
-      (inr (inl (peer_meets spec labels policy stays w.state reached (here t) t u j to.object d Call from calls peer)))) t (record
-      (thread_at first.state t) { waits = true }) (itself_turns t))
+      (inr (inl (peer_meets spec labels policy stays w.state reached (here t) t u j to.object d Call from calls peer)))) t
+      (record (thread_at first.state t) { waits = true }) (itself_turns t))
   step_let s (steps.Reply t None) (c, p, acts, owes, e) =
       rw e (answered t p.caller (inr (inr (owes_lets spec labels policy stays w.state reached t p owes))))
   step_let s (steps.Reply t (Some copy)) (c, p, x, d, acts, owes, grants, there, root, e) =
       let lets = owes_lets spec labels policy stays w.state reached t p owes in
-      rw e
-      (filled (here t) d (record w { state = replied w.state t p.caller }) (lessened x copy.1)
+      rw e (filled (here t) d (record w { state = replied w.state t p.caller }) (lessened x copy.1)
       (answered t p.caller (inr (inr lets)))
       (inr (inr (here p.caller, lets, of_its_root spec labels policy stays w.state reached p.caller d root))))
   step_let s (steps.SetCspace t i j) (c, to, x, acts, own, of, e) =
-      rw e
-      (write_thread policy labels (here t) w w (unchanged policy labels (here t) w) to.object
+      rw e (write_thread policy labels (here t) w w (unchanged policy labels (here t) w) to.object
       (record (thread_at w.state to.object) { root = Some x.object })
       (inl (by_own spec labels policy stays w.state reached t c i kinds.Thread to Control acts.root own refl)))
   step_let s (steps.SetVspace t i j) (c, to, x, acts, own, of, e) =
-      rw e
-      (write_thread policy labels (here t) w w (unchanged policy labels (here t) w) to.object
+      rw e (write_thread policy labels (here t) w w (unchanged policy labels (here t) w) to.object
       (record (thread_at w.state to.object) { space = Some x.object })
       (inl (by_own spec labels policy stays w.state reached t c i kinds.Thread to Control acts.root own refl)))
   step_let s (steps.Map t i j r) (c, frame, x, acts, own, of, e) =
       rw e (write_added policy labels (here t) w w (unchanged policy labels (here t) w) _
       (by_own_space spec labels policy stays w.state reached t c j x acts.root of))
   step_let s (steps.Bind t i j) (c, irq, x, acts, own, of, writes, e) =
-      rw e
-      (write_irq policy labels (here t) w w (unchanged policy labels (here t) w) irq.object (Some x.object)
+      rw e (write_irq policy labels (here t) w w (unchanged policy labels (here t) w) irq.object (Some x.object)
       (by_own spec labels policy stays w.state reached t c i kinds.Irq irq Handle acts.root own refl))
   step_let s (steps.Drop t i) (c, x, acts, there, e) =
       rw e (emptied (here t) c i (fills (here t) c (of_its_root spec labels policy stays w.state reached t c acts.root)))
   step_let s (steps.Save t) (c, p, acts, owes, e) =
       let first : World = record w { state = record w.state { nodes = grown_at w.state.nodes c (SavedReply p) } } in
-      rw e
-      (write_thread policy labels (here t) w first
+      rw e (write_thread policy labels (here t) w first
       (write_node policy labels (here t) w w (unchanged policy labels (here t) w) c (grown (node_at w.state c) (SavedReply p))
-      (fills (here t) c (of_its_root spec labels policy stays w.state reached t c acts.root))) t (record (thread_at w.state t)
-      { pending = None }) (itself_turns t))
+      (fills (here t) c (of_its_root spec labels policy stays w.state reached t c acts.root))) t
+      (record (thread_at w.state t) { pending = None }) (itself_turns t))
   step_let s (steps.ReplyTo t i None) (c, p, acts, there, e) =
-      rw e
-      (write_thread policy labels (here t) w (record w { state = dropped w.state c i })
+      rw e (write_thread policy labels (here t) w (record w { state = dropped w.state c i })
       (emptied (here t) c i (fills (here t) c (of_its_root spec labels policy stays w.state reached t c acts.root))) p.caller
       (record (thread_at w.state p.caller) { waits = false })
       (inr (inr (saved_lets spec labels policy stays w.state reached t c i p acts.root there))))
@@ -105,9 +95,8 @@ module _ (spec : Spec) (labels : List ℕ) (policy : List Edge) (stays : Stays s
       let far : MayFill policy (here t) (here d) =
       inr (inr (here p.caller, lets, of_its_root spec labels policy stays w.state reached p.caller d root)) in
       let first : World = record w { state = added w.state d (lessened x copy.1) } in
-      let second : World = record w { state = dropped first.state c i } in
       rw e
-      (write_thread policy labels (here t) w second
+      (write_thread policy labels (here t) w (record w { state = dropped first.state c i })
       (write_node policy labels (here t) w first (filled (here t) d w (lessened x copy.1) (unchanged policy labels (here t) w)
       far) c (without (node_at first.state c) i) up) p.caller
       (record (thread_at w.state p.caller) { waits = false }) (inr (inr lets)))

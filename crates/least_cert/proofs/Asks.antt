@@ -81,8 +81,7 @@ module _ (c : Closure) (sound : IsSound c) (f : Edge) (known : has c.queue f ≡
       only = λ e h.
           let from = from_mapped (to_other Grant f.from) peers e (subst (λ (xs : List Edge). has xs e ≡ true) made h) in
           let p : Edge = from.0 in
-          let made_is = to_other_is Grant f.from p e from.2 in
-          gift_as (edge f.from Grant p.to) e made_is.1
+          gift_as (edge f.from Grant p.to) e (to_other_is Grant f.from p e from.2).1
           (record {
             grant = refl;
             flows = λ a x other g. rules.grant f.from f.to p.to a x (here_as Grant is)
@@ -103,8 +102,7 @@ module _ (c : Closure) (sound : IsSound c) (f : Edge) (known : has c.queue f ≡
       only = λ e h.
           let from = from_mapped (from_other Grant f.from) peers e (subst (λ (xs : List Edge). has xs e ≡ true) made h) in
           let p : Edge = from.0 in
-          let made_is = from_other_is Grant f.from p e from.2 in
-          gift_as (edge p.to Grant f.from) e made_is.1
+          gift_as (edge p.to Grant f.from) e (from_other_is Grant f.from p e from.2).1
           (record {
             grant = refl;
             flows = λ a x other g. rules.grant p.to f.to f.from a x
@@ -125,8 +123,7 @@ module _ (c : Closure) (sound : IsSound c) (f : Edge) (known : has c.queue f ≡
       only = λ e h.
           let from = from_mapped (from_other Grant f.from) peers e (subst (λ (xs : List Edge). has xs e ≡ true) made h) in
           let p : Edge = from.0 in
-          let made_is = from_other_is Grant f.from p e from.2 in
-          gift_as (edge p.to Grant f.from) e made_is.1
+          gift_as (edge p.to Grant f.from) e (from_other_is Grant f.from p e from.2).1
           (record {
             grant = refl;
             flows = λ a x other g. rules.grant_back f.from f.to p.to a x (here_as Call is)
@@ -147,8 +144,7 @@ module _ (c : Closure) (sound : IsSound c) (f : Edge) (known : has c.queue f ≡
       only = λ e h.
           let from = from_mapped (to_other Grant f.from) peers e (subst (λ (xs : List Edge). has xs e ≡ true) made h) in
           let p : Edge = from.0 in
-          let made_is = to_other_is Grant f.from p e from.2 in
-          gift_as (edge f.from Grant p.to) e made_is.1
+          gift_as (edge f.from Grant p.to) e (to_other_is Grant f.from p e from.2).1
           (record {
             grant = refl;
             flows = λ a x other g. rules.grant_back p.to f.to f.from a x

@@ -191,9 +191,8 @@ looks_none c sound = record { grows = grows_none c sound; within = omega arith; 
 pub looks_more : (n : ℕ) (f : Edge) (c mid new : Closure) → LooksAt n c mid → n < length mid.queue
     → slice_get mid.queue n ≡ Some f → Looks mid f new → LooksAt (n + 1) c new
 looks_more n f c mid new before less here looks =
-    let front : take (n + 1) new.queue ≡ take n mid.queue ++ f ∷ [] =
-    ap (λ (xs : List Edge). take (n + 1) xs) looks.grows.longer ∙ (take_front mid.queue looks.grows.more (n + 1) (omega arith)
-    ∙ taken_more mid.queue n f here) in
+    let front : take (n + 1) new.queue ≡ take n mid.queue ++ f ∷ [] = ap (λ (xs : List Edge). take (n + 1) xs) looks.grows.longer
+    ∙ (take_front mid.queue looks.grows.more (n + 1) (omega arith) ∙ taken_more mid.queue n f here) in
     let longer : length new.queue ≡ length mid.queue + length looks.grows.more =
     ap (λ (xs : List Edge). length xs) looks.grows.longer ∙ length-append mid.queue looks.grows.more in
     record {
@@ -206,5 +205,4 @@ looks_more n f c mid new before less here looks =
 pub looks_all : (n : ℕ) (c new : Closure) → LooksAt n c new → length new.queue ≤ n → Closes c new
 looks_all n c new at le =
     let within = at.within in
-    let all : take n new.queue ≡ new.queue = take_all n new.queue le in
-    record { grows = at.grows; closed = subst (λ (xs : List Edge). IsClosedFor xs new) all at.closed }
+    record { grows = at.grows; closed = subst (λ (xs : List Edge). IsClosedFor xs new) (take_all n new.queue le) at.closed }

@@ -142,8 +142,7 @@ module _ (asked edge_in : Edge) (c new : Closure) (sound : IsSound c) (is : edge
     sorted = sorted;
     more = many;
     each = λ l a m h.
-        let there : has new.queue (edge l a m) ≡ true = sym (put_known (edge l a m)) ∙ h in
-        elim (put_cases_of (edge l a m) there) [
+        elim (put_cases_of (edge l a m) (sym (put_known (edge l a m)) ∙ h)) [
           | inl old ↦ sound.least (edge l a m) old
           | inr same ↦
               subst (λ (x : Edge). OfLeast c x) same least
@@ -211,8 +210,7 @@ module _ (giver taker : ℕ) (c : Closure) (sound : IsSound c) where
         subst (λ (y : Edge). IsCopy c giver taker y) passes.1 (record { other = passes.0; from_is = refl; known = was });
     every = λ e copy.
         let x : Edge = edge giver e.authority e.to in
-        let known : has c.known x ≡ true = sound.known_is x ∙ copy.known in
-        let there : has edges x ≡ true = every x known refl (sound.less x copy.known).1 in
+        let there : has edges x ≡ true = every x (sound.known_is x ∙ copy.known) refl (sound.less x copy.known).1 in
         let is : edge taker e.authority e.to ≡ e = edges_same (edge taker e.authority e.to) e (sym copy.from_is) refl refl in
         subst (λ (y : Edge). has copies y ≡ true) is
         (subst (λ (xs : List Edge). Has xs taker e.authority e.to) (sym made)
@@ -295,12 +293,10 @@ module _ (giver taker : ℕ) (c mid new : Closure) (copies : Copies giver taker 
           copied = λ s r h. elim (gives_cases (edge s Grant r) h) [
             | inl old ↦ copies.grows.copied s r old
             | inr same ↦ inr (λ a m other before.
-                let from : giver ≡ s = ap (λ (x : Edge). x.from) same in
-                let to : taker ≡ r = ap (λ (x : Edge). x.to) same in
                 let known : Knows mid (edge taker a m) =
                 copies.copied a m other (grows_has c mid copies.grows (edge giver a m)
-                (subst (λ (l : ℕ). Has c.queue l a m) (sym from) before)) in
-                subst (λ (l : ℕ). Knows mid (edge l a m)) to known)
+                (subst (λ (l : ℕ). Has c.queue l a m) (sym (ap (λ (x : Edge). x.from) same)) before)) in
+                subst (λ (l : ℕ). Knows mid (edge l a m)) (ap (λ (x : Edge). x.to) same) known)
           ];
           together = copies.grows.together;
           led_before = copies.grows.led_before;

@@ -57,12 +57,7 @@ module _ (spec : Spec) (labels : List ℕ) where
         of.by.from_is,
         of.by.to_is,
       )
-  object_held o entry (Pages level slots) e here is h = absurd h
-  object_held o entry (Thread tcb) e here is h = absurd h
-  object_held o entry (Irq bound) e here is h = absurd h
-  object_held o entry Endpoint e here is h = absurd h
-  object_held o entry Notification e here is h = absurd h
-  object_held o entry (Frame paddr fill) e here is h = absurd h
+  object_held o entry _ e here is h = absurd h
 
   source_held : (e : Edge) → OfHolders spec labels e → Held spec labels (boot spec) e.from e.authority e.to
   source_held e h = object_held h.place h.item h.item.object e h.there refl h.by
@@ -74,23 +69,18 @@ module _ (spec : Spec) (labels : List ℕ) where
   }
 
   other_object : (from : ℕ) (object : Object) (e : Edge) → OfOther spec labels from object e → OfObject spec labels from object e
-  other_object from (CNode bits slots) e h = absurd h
   other_object from (Pages level slots) e h = h
   other_object from (Thread tcb) e h = h
   other_object from (Irq bound) e h = h
-  other_object from Endpoint e h = absurd h
-  other_object from Notification e h = absurd h
-  other_object from (Frame paddr fill) e h = absurd h
+  other_object from _ e h = absurd h
 
   held_or_other : (from : ℕ) (object : Object) (e : Edge) → OfObject spec labels from object e
       → (OfHolder spec labels from object e) ⊎ (OfOther spec labels from object e)
   held_or_other from (CNode bits slots) e h = inl h
-  held_or_other from (Pages level slots) e h = inr h
-  held_or_other from (Thread tcb) e h = inr h
-  held_or_other from (Irq bound) e h = inr h
   held_or_other from Endpoint e h = absurd h
   held_or_other from Notification e h = absurd h
   held_or_other from (Frame paddr fill) e h = absurd h
+  held_or_other from _ e h = inr h
 
   other_auth : (e : Edge) → OfOthers spec labels e → Auth spec labels (boot spec) e.from e.authority e.to
   other_auth e h =

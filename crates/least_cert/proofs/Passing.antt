@@ -21,10 +21,7 @@ passed_is r x e h =
     (λ reply. absurd (let yes_it : number_of x.authority == 9 ≡ true = rw reply refl in let no_it = is.0 in cc), is.1)
 
 pub passes_on : (r : ℕ) (x : Edge) → x.authority ≢ Reply → passed_to r x ≡ Some (edge r x.authority x.to)
-passes_on r x other =
-    let no_it : number_of x.authority == 9 ≡ false =
-    ne_eqb (number_of x.authority) 9 (λ e. other (same_number x.authority Reply e)) in
-    rw no_it refl
+passes_on r x other = rw (ne_eqb (number_of x.authority) 9 (λ e. other (same_number x.authority Reply e))) refl
 
 pub from_other_is : (a : Authority) (l : ℕ) (p e : Edge) → from_other a l p ≡ Some e → (p.to ≢ l) × (edge p.to a l ≡ e)
 from_other_is a l p e h =

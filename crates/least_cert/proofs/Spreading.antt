@@ -1,7 +1,7 @@
 -- The edges of leaders, as those of the labels that they lead, and the replies that calls ask for.
 use Rattle.least_cert.proofs.Common.{Adds, AreReceivers, AreReplies, Authority, Bool, Call, Closure, Edge, Has, HasMoreThan, InLeast, IsAnswer, IsCertificate, IsCopy, IsLess, IsSorted, IsSound, IsSpread, Knows, List, None, OfEach, OfFirst, OfLeast}
 use Rattle.least_cert.proofs.Common.{Receive, Reply, Some, [], ap, arith, at_has, cases_lt, edge, edges_same, eqb-true, false, filter_map, first_more_at, from_other, get_or, get_or_from_slice_get, get_or_past, has, has_at, if◌then◌else◌, inl, inr}
-use Rattle.least_cert.proofs.Common.{le-ltb, lead, leader_at, length, ltb, number_of, or_cases, or_left, or_right, receiver, refl, same_edge, same_number, slice_get, slice_get-get_or, slice_get_within, stays, subst, sym, take, take_all, take_more}
+use Rattle.least_cert.proofs.Common.{le-ltb, leader_at, length, ltb, number_of, or_cases, or_left, or_right, receiver, refl, same_edge, same_number, slice_get, slice_get-get_or, slice_get_within, stays, subst, sym, take, take_all, take_more}
 use Rattle.least_cert.proofs.Common.{true, turn, ℕ, ◌++◌, ◌+◌, ◌<◌, ◌==◌, ◌^◌, ◌||◌, ◌∙◌, ◌≡◌, ◌≤◌}
 use Rattle.least_cert.proofs.Growth.{no_edge}
 use Rattle.least_cert.proofs.Leading.{knows_least, led_knows, lead_reply, lead_other, number_other, reply_or_not}
@@ -145,13 +145,12 @@ module _ (c : Closure) (sound : IsSound c) where
   pub answer_least : (edges turned : List Edge) (f e : Edge) → IsSpread c edges → AreReceivers edges turned → has edges f ≡ true
       → IsAnswer turned f e → (e.authority ≡ Reply) × OfLeast c e
   answer_least edges turned f e spread receivers there answer =
-      let called : InLeast c.spec c.labels f.from f.authority f.to = knows_least c sound f (spread.only f there) in
       let receives : InLeast c.spec c.labels e.from Receive f.to =
       knows_least c sound (edge e.from Receive f.to)
       (spread.only (edge e.from Receive f.to) (receivers.only (edge f.to Receive e.from) answer.receives).1) in
       let reply : InLeast c.spec c.labels e.from Reply f.from =
       (least_keeps c.spec c.labels).call f.from f.to e.from (subst (λ (a : Authority). InLeast c.spec c.labels f.from a f.to)
-      answer.call called) receives (λ same. answer.differ (sym same)) in (
+      answer.call (knows_least c sound f (spread.only f there))) receives (λ same. answer.differ (sym same)) in (
         answer.reply,
         subst (λ (x : Edge). OfLeast c x) (edges_same (edge e.from Reply f.from) e refl (sym answer.reply)
             (sym answer.to_is)) reply,
@@ -192,10 +191,8 @@ module _ (c : Closure) (sound : IsSound c) where
       → Adds (IsAnswer turned (get_or edges n no_edge)) old new → IsSorted new → 262144 < length new
       → HasMoreThan c.spec c.labels 262144
   first_answers edges turned n old new spread receivers less before adds sorted more =
-      many c new
-      (λ e h.
-      (some_replies edges turned new (OfFirst (λ place (f : Edge). IsAnswer turned f) edges (n + 1)) spread receivers
-      (first_more_at (λ place (f : Edge). IsAnswer turned f) edges n no_edge [] old new less before adds)
+      many c new (λ e h. (some_replies edges turned new (OfFirst (λ place (f : Edge). IsAnswer turned f) edges (n + 1)) spread
+      receivers (first_more_at (λ place (f : Edge). IsAnswer turned f) edges n no_edge [] old new less before adds)
       (λ d of. (of.of_each.item, has_at edges of.of_each.place of.of_each.item of.of_each.there, of.of_each.by)) e h).1)
       sorted more
 
