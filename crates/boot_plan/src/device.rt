@@ -6,10 +6,9 @@ ghost use Rattle.boot_plan.specs.Needs.{are_usual};
 ghost use Rattle.boot_plan.specs.Regions.{are_regions, is_region};
 ghost use Rattle.std.specs.Prelude.{◌≡◌, ◌<◌, ◌^◌, [], IfOk, length, true};
 
-use crate::need::Need;
-use crate::plan_refusal::PlanRefusal;
+use crate::need::{Made, Need};
+use crate::plan_refusal::{PlanRefusal, Refusal};
 use crate::untyped::Untyped;
-use cam_base::NoMemory;
 use name_tables::{PageIndex, Region};
 use std::alloc::Global;
 use std::collections::BTreeSet;
@@ -41,7 +40,7 @@ impl Untyped {
 }
 
 /// An index of the regions of devices.
-fn device_index(alloc: Global, regions: &[Untyped]) -> Result<PageIndex, NoMemory>
+fn device_index(alloc: Global, regions: &[Untyped]) -> Made<PageIndex>
     requires { are_regions regions.now ≡ true }
     ensures { IfOk result (IsIndexOf regions.now) }
 {
@@ -55,11 +54,7 @@ fn device_index(alloc: Global, regions: &[Untyped]) -> Result<PageIndex, NoMemor
 }
 
 /// That an object needs the page of no device, or one that an earlier object needs.
-pub fn device_refusal(
-    alloc: Global,
-    needs: &[Need],
-    regions: &[Untyped],
-) -> Result<Option<PlanRefusal>, NoMemory>
+pub fn device_refusal(alloc: Global, needs: &[Need], regions: &[Untyped]) -> Made<Refusal>
     requires few { length needs.now < 2 ^ 32 }
     requires usual { are_usual needs.now ≡ true }
     requires sound { are_regions regions.now ≡ true }

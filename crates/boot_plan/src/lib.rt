@@ -19,7 +19,7 @@ mod write;
 
 pub use laws::placements_have_room;
 pub use need::Need;
-pub use plan_refusal::{BootPlan, PlanRefusal};
+pub use plan_refusal::{BootPlan, Places, PlanRefusal};
 pub use planning::plan;
 pub use read::{MAX_REGIONS, read_untypeds};
 pub use untyped::{Untyped, UntypedCode, UntypedFault};

@@ -9,6 +9,9 @@ use cam_base::NoMemory;
 use cap_model::{Arch, Level, Object, Spec};
 use std::alloc::Global;
 
+/// What is made, unless memory runs out.
+pub type Made<T> = Result<T, NoMemory>;
+
 /// What an object needs of memory.
 #[derive(Clone, Copy, Debug, PartialEq, Eq)]
 pub enum Need {
@@ -79,7 +82,7 @@ impl Need {
 }
 
 /// What the objects of a spec need, in their order.
-pub fn needs(alloc: Global, spec: &Spec) -> Result<Vec<Need>, NoMemory>
+pub fn needs(alloc: Global, spec: &Spec) -> Made<Vec<Need>>
     requires { IsKept spec.now }
     ensures { IfOk result (λ v. v.items ≡ needs spec.now) }
 {

@@ -5,7 +5,7 @@ ghost use Rattle.boot_plan.specs.Regions.{shares};
 ghost use Rattle.std.specs.List.{position};
 ghost use Rattle.std.specs.Prelude.{◌≡◌, ◌≤◌, length};
 
-use crate::plan_refusal::PlanRefusal;
+use crate::plan_refusal::{PlanRefusal, Refusal};
 use crate::untyped::Untyped;
 
 /// The least of the earlier regions that shares an address with one.
@@ -16,7 +16,7 @@ fn earlier_overlap(region: Untyped, before: &[Untyped]) -> Option<usize>
 }
 
 /// That two regions share an address, where two do.
-pub fn overlap(regions: &[Untyped]) -> Option<PlanRefusal>
+pub fn overlap(regions: &[Untyped]) -> Refusal
     requires { length regions.now ≤ 4096 }
     ensures { result ≡ refused_overlap (first_overlap regions.now) }
 {

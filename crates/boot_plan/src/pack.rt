@@ -10,10 +10,11 @@ ghost use Rattle.boot_plan.specs.Rooms.{had};
 ghost use Rattle.std.specs.List.Sorted.{IsPermutation};
 ghost use Rattle.std.specs.Prelude.{◌≡◌, ◌<◌, ◌≤◌, ◌^◌, IfOk, length, true};
 
-use crate::need::Need;
+use crate::need::{Made, Need};
+use crate::plan_refusal::Places;
 use crate::room::{MAX_BITS, bytes_needed};
 use crate::untyped::Untyped;
-use cam_base::{List, NoMemory};
+use cam_base::List;
 use std::alloc::Global;
 
 /// Regions in the order in which they are filled, and the offset at which each begins.
@@ -23,7 +24,7 @@ pub struct Rooms {
     bases: Vec<u64>,
 }
 
-fn in_order(alloc: Global, regions: &[Untyped]) -> Result<Vec<Untyped>, NoMemory>
+fn in_order(alloc: Global, regions: &[Untyped]) -> Made<Vec<Untyped>>
     ensures order { IfOk result (λ v. IsInOrder v.items) }
     ensures permutation { IfOk result (λ v. IsPermutation regions.now v.items) }
 {
@@ -33,7 +34,7 @@ fn in_order(alloc: Global, regions: &[Untyped]) -> Result<Vec<Untyped>, NoMemory
 }
 
 #[tactic(auto, using(crate::proofs::Usual::usual))]
-fn bases(alloc: Global, regions: &[Untyped]) -> Result<Vec<u64>, NoMemory>
+fn bases(alloc: Global, regions: &[Untyped]) -> Made<Vec<u64>>
     requires few { length regions.now ≤ 4096 }
     requires sound { are_regions regions.now ≡ true }
     ensures { IfOk result (λ v. AreBases regions.now v.items) }
@@ -48,7 +49,7 @@ fn bases(alloc: Global, regions: &[Untyped]) -> Result<Vec<u64>, NoMemory>
 }
 
 impl Rooms {
-    pub fn of(alloc: Global, regions: &[Untyped]) -> Result<Rooms, NoMemory>
+    pub fn of(alloc: Global, regions: &[Untyped]) -> Made<Rooms>
         requires few { length regions.now ≤ 4096 }
         requires sound { are_regions regions.now ≡ true }
         ensures { IfOk result (AreRooms regions.now) }
@@ -80,7 +81,7 @@ impl Rooms {
 }
 
 /// For each number of bits, the offset at which its blocks begin: behind all greater ones.
-pub fn starts(alloc: Global, needs: &[Need]) -> Result<Vec<u64>, NoMemory>
+pub fn starts(alloc: Global, needs: &[Need]) -> Made<Vec<u64>>
     requires few { length needs.now < 2 ^ 32 }
     requires usual { are_usual needs.now ≡ true }
     ensures { IfOk result (λ v. AreStarts needs.now v.items) }
@@ -115,12 +116,7 @@ fn place(need: Need, rooms: &Rooms, starts: &mut [u64]) -> Option<u64>
 }
 
 /// The places of needs.
-pub fn pack(
-    alloc: Global,
-    needs: &[Need],
-    rooms: &Rooms,
-    starts: &mut [u64],
-) -> Result<List<Option<u64>>, NoMemory>
+pub fn pack(alloc: Global, needs: &[Need], rooms: &Rooms, starts: &mut [u64]) -> Made<Places>
     requires usual { are_usual needs.now ≡ true }
     requires bases { AreBases rooms.now.regions.items rooms.now.bases.items }
     requires sound { are_regions rooms.now.regions.items ≡ true }

@@ -5,11 +5,13 @@ ghost use Rattle.std.specs.Prelude.{◌≡◌};
 
 use cam_base::{List, NoMemory};
 
-/// The places of the objects of a spec, in their order: the address of an object's first byte, none for one that needs no
-/// memory.
+/// The places of objects, in their order: the address of an object's first byte, none for one that needs no memory.
+pub type Places = List<Option<u64>>;
+
+/// The places of the objects of a spec.
 #[derive(Debug, Drop)]
 pub struct BootPlan {
-    pub places: List<Option<u64>>,
+    pub places: Places,
 }
 
 /// Why no plan is made.
@@ -25,6 +27,9 @@ pub enum PlanRefusal {
     NoRoom { bits: u8, need: u64, have: u64 },
     NoMemory,
 }
+
+/// The first refusal, where one comes.
+pub type Refusal = Option<PlanRefusal>;
 
 impl From<NoMemory> for PlanRefusal {
     ghost from_gives = { λ _ r. r ≡ PlanNoMemory };

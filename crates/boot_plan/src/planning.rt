@@ -9,13 +9,12 @@ ghost use Rattle.cap_model.specs.Kept.{IsKept};
 ghost use Rattle.std.specs.Prelude.{◌≡◌, ◌<◌, ◌≤◌, ◌^◌, IfOk, length, true};
 
 use crate::device::device_refusal;
-use crate::need::{Need, needs};
+use crate::need::{Made, Need, needs};
 use crate::overlap::overlap;
 use crate::pack::{Rooms, pack, starts};
-use crate::plan_refusal::{BootPlan, PlanRefusal};
+use crate::plan_refusal::{BootPlan, Places, PlanRefusal};
 use crate::room::no_room;
 use crate::untyped::Untyped;
-use cam_base::{List, NoMemory};
 use cap_model::Spec;
 use std::alloc::Global;
 
@@ -40,7 +39,7 @@ fn free(alloc: Global, needs: &[Need], regions: &[Untyped]) -> Result<(), PlanRe
 }
 
 /// Places where nothing refuses them.
-fn places(alloc: Global, needs: &[Need], regions: &[Untyped]) -> Result<List<Option<u64>>, NoMemory>
+fn places(alloc: Global, needs: &[Need], regions: &[Untyped]) -> Made<Places>
     requires few_needs { length needs.now < 2 ^ 32 }
     requires usual { are_usual needs.now ≡ true }
     requires few_regions { length regions.now ≤ 4096 }

@@ -120,12 +120,6 @@ fn read_regions(alloc: Global, lines: Lines) -> Result<List<Untyped>, Refused<Un
     Ok(regions)
 }
 
-fn is_first(line: Line) -> bool
-    ensures { result ≡ bytes_eq line.entry.text.now (codes "untypeds 1") }
-{
-    line.text == b"untypeds 1".as_slice()
-}
-
 /// The regions of a text, or its first fault. `specs/UntypedTexts.antt` says which.
 ///
 /// # Errors
@@ -138,7 +132,7 @@ pub fn read_untypeds(alloc: Global, bytes: &[u8]) -> Result<List<Untyped>, Refus
 {
     let mut lines = Lines::of(bytes);
     match lines.next() {
-        Some(line) if is_first(line) => read_regions(alloc, lines),
+        Some(line) if line.text == b"untypeds 1".as_slice() => read_regions(alloc, lines),
         _ => Err(Refused::Fault(UntypedFault {
             code: UntypedCode::Syntax,
             first: 0,

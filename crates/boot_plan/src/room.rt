@@ -6,7 +6,7 @@ ghost use Rattle.boot_plan.specs.Rooms.{IsRoomTold, had, needed, room_bytes};
 ghost use Rattle.std.specs.Prelude.{◌≡◌, ◌<◌, ◌≤◌, ◌*◌, ◌^◌, length, true};
 
 use crate::need::Need;
-use crate::plan_refusal::PlanRefusal;
+use crate::plan_refusal::{PlanRefusal, Refusal};
 use crate::untyped::Untyped;
 
 /// The greatest number of bits of a block.
@@ -55,7 +55,7 @@ fn bytes_had(regions: &[Untyped], least: u8) -> u64
 }
 
 /// That there is no room, for the greatest number of bits for which there is none.
-pub fn no_room(needs: &[Need], regions: &[Untyped]) -> Option<PlanRefusal>
+pub fn no_room(needs: &[Need], regions: &[Untyped]) -> Refusal
     requires few_needs { length needs.now < 2 ^ 32 }
     requires usual { are_usual needs.now ≡ true }
     requires few_regions { length regions.now ≤ 4096 }

@@ -1,22 +1,10 @@
 //! Comments.
 
 ghost use Rattle.cam_base.specs.Comments.{after_close};
-ghost use Rattle.capdl_text.specs.Gaps.{after_dash, after_line, after_slash};
+ghost use Rattle.capdl_text.specs.Gaps.{after_dash, after_slash};
 ghost use Rattle.std.specs.Prelude.{◌≡◌, option_map};
 
-/// The bytes from the next line feed on.
-fn line_end(bytes: &[u8]) -> &[u8]
-    ensures { result.now ≡ after_line bytes.now }
-{
-    let mut rest = bytes;
-    'line: while let [byte, tail @ ..] = rest {
-        if *byte == b'\n' {
-            return rest;
-        }
-        rest = tail;
-    }
-    rest
-}
+use crate::run::line_end;
 
 /// What is behind the next `*/`.
 fn comment_end(bytes: &[u8]) -> Option<&[u8]>

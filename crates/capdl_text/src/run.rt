@@ -1,6 +1,7 @@
 //! Runs of bytes.
 
 ghost use Rattle.cam_base.specs.Names.{is_word_byte};
+ghost use Rattle.capdl_text.specs.Gaps.{after_line};
 ghost use Rattle.capdl_text.specs.TokenFaults.{after_run, is_line_byte, run};
 ghost use Rattle.std.specs.Prelude.{◌≡◌};
 
@@ -38,8 +39,10 @@ fn word_end(bytes: &[u8]) -> &[u8]
     rest
 }
 
-fn line_end(bytes: &[u8]) -> &[u8]
-    ensures { result.now ≡ after_run is_line_byte bytes.now }
+/// The bytes from the next line feed on.
+pub(crate) fn line_end(bytes: &[u8]) -> &[u8]
+    ensures line { result.now ≡ after_line bytes.now }
+    ensures run { result.now ≡ after_run is_line_byte bytes.now }
 {
     let mut rest = bytes;
     'run: while let [byte, tail @ ..] = rest {

@@ -10,6 +10,9 @@ use crate::kind::Kind;
 use cam_base::{Lines, Refused, Text, TextCode, TextFault};
 use std::alloc::Global;
 
+/// What is read of a text, or the first fault that stands in it.
+pub type Read<T> = Result<T, Refused<TextFault>>;
+
 /// The most bytes of a text.
 pub const MAX_BYTES: usize = 67_108_864;
 
@@ -54,7 +57,7 @@ fn at_start(alloc: Global, code: TextCode) -> Refused<TextFault>
 }
 
 /// Refuses a text of too many bytes, and one without its header.
-pub fn check_head(alloc: Global, kind: Kind, bytes: &[u8]) -> Result<(), Refused<TextFault>>
+pub fn check_head(alloc: Global, kind: Kind, bytes: &[u8]) -> Read<()>
     ensures { FindsFault (head_fault kind bytes.now) result }
 {
     if bytes.len() > MAX_BYTES {

@@ -5,13 +5,17 @@ ghost use Rattle.policy_text.specs.PolicyTexts.{IsFault};
 ghost use Rattle.name_tables.specs.Naming.{spread_found};
 ghost use Rattle.std.specs.Prelude.{◌≡◌, List as Items, ℕ, Some, length, map, IfErr, IfOk};
 
+use crate::head::Read;
 use cam_base::{List, Name, NoMemory, Refused, Text, TextCode, TextFault};
 use cap_model::{Entry, Labels, Policy, Spec};
 use name_tables::SpreadNames;
 use std::alloc::Global;
 
+/// The labels of objects, by name.
+type Table<'a> = SpreadNames<'a, u32>;
+
 /// The labels that object lines give, by name. The first line of an object counts.
-fn labels_of(alloc: Global, objects: &[(Name, u32)]) -> Result<SpreadNames<'_, u32>, NoMemory>
+fn labels_of(alloc: Global, objects: &[(Name, u32)]) -> Result<Table<'_>, NoMemory>
     ensures { IfOk result (λ table. (name : Items ℕ) → spread_found table name ≡ object_label objects.now name) }
 {
     let mut table = SpreadNames::with_room(alloc, objects.len())?;
@@ -22,11 +26,7 @@ fn labels_of(alloc: Global, objects: &[(Name, u32)]) -> Result<SpreadNames<'_, u
 }
 
 /// The label of an object of a spec, or the fault that it has none.
-fn label_of<'a>(
-    alloc: Global,
-    table: &SpreadNames<'a, u32>,
-    entry: &'a Entry,
-) -> Result<u32, Refused<TextFault>>
+fn label_of<'a>(alloc: Global, table: &Table<'a>, entry: &'a Entry) -> Read<u32>
     ensures { IsLabelOf (spread_found table.now entry.now.name) entry.now result }
 {
     match table.get(entry.name.as_bytes()) {
@@ -51,11 +51,7 @@ fn refuse(alloc: Global, entry: &Entry) -> Refused<TextFault>
 }
 
 /// The labels of these objects, or the fault of the first that has none.
-fn label_all<'a>(
-    alloc: Global,
-    table: &SpreadNames<'a, u32>,
-    entries: &'a [Entry],
-) -> Result<List<u32>, Refused<TextFault>>
+fn label_all<'a>(alloc: Global, table: &Table<'a>, entries: &'a [Entry]) -> Read<List<u32>>
     ensures labels { IfOk result (λ labels. map (λ n. Some n) labels ≡ map (λ e. spread_found table.now e.name) entries.now) }
     ensures fault { IfErr result (IsFault (first_unlabelled (spread_found table.now) entries.now)) }
 {
@@ -68,11 +64,7 @@ fn label_all<'a>(
 }
 
 /// The label of each object of the spec, or the fault Q6 of the first object without one: `specs/Labelled.antt`.
-pub fn label_objects<'a>(
-    alloc: Global,
-    spec: &'a Spec,
-    policy: &'a Policy,
-) -> Result<Labels, Refused<TextFault>>
+pub fn label_objects<'a>(alloc: Global, spec: &'a Spec, policy: &'a Policy) -> Read<Labels>
     ensures labels { IsLabelling spec.now policy.now result }
     ensures each { IfOk result (λ labels. length labels.by_object ≡ length spec.now.entries) }
 {

@@ -21,6 +21,7 @@ mod words;
 mod write;
 
 pub use edges::{write_edge, write_edges};
+pub use head::Read;
 pub use labelled::label_objects;
 pub use names::Names;
 pub use read::{read_cert, read_policy};

@@ -12,19 +12,19 @@ ghost use Rattle.std.specs.Prelude.{◌≡◌, [], true, IfOk, OnOk};
 ghost use Rattle.cam_base.specs.LinesLeft.{line_of};
 
 use crate::entry::{Entry, EntryLine, read_entry};
-use crate::head::{body, check_head};
+use crate::head::{Read, body, check_head};
 use crate::kind::Kind;
 use crate::known::{Known, near_labels, numbers_of};
 use crate::number::Digits;
 use crate::parts::Parts;
 use crate::seen::{Expected, MAX_EDGES, Seen};
 use crate::words::Words;
-use cam_base::{Line, NoMemory, Refused, TextCode, TextFault, refusal};
+use cam_base::{Line, NoMemory, TextCode, refusal};
 use cap_model::{EdgeTable, Policy};
 use std::alloc::Global;
 
 /// The policy of a text, or the first fault that stands in it, Q1 to Q5: `specs/PolicyTexts.antt`.
-pub fn read_policy(alloc: Global, bytes: &[u8]) -> Result<Policy, Refused<TextFault>>
+pub fn read_policy(alloc: Global, bytes: &[u8]) -> Read<Policy>
     ensures read { IsPolicyRead bytes.now result }
     ensures kept { IfOk result IsPolicy }
 {
@@ -46,11 +46,7 @@ pub fn read_policy(alloc: Global, bytes: &[u8]) -> Result<Policy, Refused<TextFa
 
 /// The certificate of a text whose labels are those of the policy, or the first fault that stands in it, Q1, Q3 or Q5:
 /// `specs/PolicyTexts.antt`.
-pub fn read_cert(
-    alloc: Global,
-    bytes: &[u8],
-    policy: &Policy,
-) -> Result<EdgeTable, Refused<TextFault>>
+pub fn read_cert(alloc: Global, bytes: &[u8], policy: &Policy) -> Read<EdgeTable>
     ensures read { IsCertRead policy.now bytes.now result }
     ensures labelled { IfOk result (AreLabelled policy.now) }
 {
@@ -113,7 +109,7 @@ impl<'a> Noted<'a> {
 }
 
 /// What the lines of a text say in all, or the first line that says nothing of the text's forms.
-fn note_lines(alloc: Global, kind: Kind, bytes: &[u8]) -> Result<Noted<'_>, Refused<TextFault>>
+fn note_lines(alloc: Global, kind: Kind, bytes: &[u8]) -> Read<Noted<'_>>
     ensures { AreNoted kind (body bytes.now) result }
 {
     let mut noted = Noted {
@@ -128,12 +124,7 @@ fn note_lines(alloc: Global, kind: Kind, bytes: &[u8]) -> Result<Noted<'_>, Refu
     Ok(noted)
 }
 
-fn note_line<'a>(
-    alloc: Global,
-    kind: Kind,
-    line: Line<'a>,
-    noted: &mut Noted<'a>,
-) -> Result<(), Refused<TextFault>>
+fn note_line<'a>(alloc: Global, kind: Kind, line: Line<'a>, noted: &mut Noted<'a>) -> Read<()>
     ensures { IsNoted kind (line_of line.entry) noted.old noted.new result }
 {
     match read_entry(kind, line.text) {
@@ -148,7 +139,7 @@ fn check_lines<'a>(
     known: &Known<'a>,
     expected: Expected,
     lines: &[EntryLine<'a>],
-) -> Result<(), Refused<TextFault>>
+) -> Read<()>
     requires known { IsRight known.now }
     requires few { expected.few_edges ≡ true → HasFewEdges (told_lines lines.now) }
     ensures { FindsFault (first_wrong (knows known.now) [] (told_lines lines.now)) result }

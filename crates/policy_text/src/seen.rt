@@ -12,10 +12,11 @@ ghost use Rattle.std.specs.Prelude.{◌≡◌, [], ◌∷◌, ◌++◌, ◌&&◌
 ghost use Rattle.cam_base.specs.Lines.{Line as SpecLine};
 
 use crate::entry::{Entry, EntryLine};
+use crate::head::Read;
 use crate::known::Known;
 use crate::number::{Digits, is_past};
 use crate::words::Words;
-use cam_base::{NoMemory, Refused, TextCode, TextFault, refusal};
+use cam_base::{NoMemory, TextCode, refusal};
 use std::alloc::Global;
 
 /// The most labels of a text.
@@ -29,6 +30,9 @@ pub const MAX_EDGES: usize = 262_144;
 
 /// The most bytes of an object's word.
 const MAX_WORD: usize = 127;
+
+/// The code of what is wrong, where something is, and the name that its fault speaks of.
+type Wrong<'a> = Option<(TextCode, &'a [u8])>;
 
 /// What lines are expected to say: so many labels and objects, and whether they say few edges.
 #[derive(Clone, Copy)]
@@ -75,12 +79,7 @@ impl<'a> Seen<'a> {
     }
 
     /// Takes a line in, or refuses it by its fault.
-    pub fn read_line(
-        &mut self,
-        alloc: Global,
-        known: &Known<'a>,
-        told: EntryLine<'a>,
-    ) -> Result<(), Refused<TextFault>>
+    pub fn read_line(&mut self, alloc: Global, known: &Known<'a>, told: EntryLine<'a>) -> Read<()>
         requires { IsRight known.now }
         ensures judged { (before : List Told) → IsSeen self.old before
             → (is_none self.old.edges ≡ true → HasFewEdges (before ++ told_line told.entry ∷ []))
@@ -95,12 +94,7 @@ impl<'a> Seen<'a> {
     }
 
     /// What is wrong with the entry of a line: the least code, and the name that its fault speaks of.
-    fn wrong(
-        &self,
-        known: &Known<'a>,
-        text: &'a [u8],
-        entry: Entry<'a>,
-    ) -> Option<(TextCode, &'a [u8])>
+    fn wrong(&self, known: &Known<'a>, text: &'a [u8], entry: Entry<'a>) -> Wrong<'a>
         requires { IsRight known.now }
         ensures { (before : List Told) (line : SpecLine) → line.text ≡ text.entry.now → IsSeen self.now before
             → (is_none self.now.edges ≡ true → HasFewEdges (before ++ (line, meant entry.entry) ∷ []))
@@ -113,7 +107,7 @@ impl<'a> Seen<'a> {
         }
     }
 
-    fn wrong_label(&self, number: Digits<'a>, name: &'a [u8]) -> Option<(TextCode, &'a [u8])>
+    fn wrong_label(&self, number: Digits<'a>, name: &'a [u8]) -> Wrong<'a>
         ensures { (before : List Told) (knows : Number → Bool) (line : SpecLine) → IsSeen self.now before
             → what result ≡ wrong_entry knows before line (label number.entry.text.now name.now) }
     {
@@ -126,12 +120,7 @@ impl<'a> Seen<'a> {
         }
     }
 
-    fn wrong_object(
-        &self,
-        known: &Known<'a>,
-        word: &'a [u8],
-        number: Digits<'a>,
-    ) -> Option<(TextCode, &'a [u8])>
+    fn wrong_object(&self, known: &Known<'a>, word: &'a [u8], number: Digits<'a>) -> Wrong<'a>
         requires { IsRight known.now }
         ensures { (before : List Told) (line : SpecLine) → IsSeen self.now before
             → what result ≡ wrong_entry (knows known.now) before line (object word.entry.now number.entry.text.now) }
@@ -153,7 +142,7 @@ impl<'a> Seen<'a> {
         text: &'a [u8],
         from: Digits<'a>,
         to: Digits<'a>,
-    ) -> Option<(TextCode, &'a [u8])>
+    ) -> Wrong<'a>
         requires { IsRight known.now }
         ensures { (before : List Told) (line : SpecLine) (a : Authority) → line.text ≡ text.now → IsSeen self.now before
             → (is_none self.now.edges ≡ true → HasRoom before)

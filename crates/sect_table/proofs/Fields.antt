@@ -1,4 +1,5 @@
 -- The fields of the lines of a table.
+use Rattle.std.proofs.Common.{rules}
 use Rattle.sect_table.proofs.Common.{AllByRecursion, Bool, HasRow, Image, List, None, Option, Section, Some, [], and_parts, ap, append_assoc, arith, codes, ends_within, entry_line, false, flat_map, header, header_of, is_placed, is_silent, is_sound}
 use Rattle.sect_table.proofs.Common.{leb, length, list_all, ltb-true, nat_tests, not, number_value, number_value-hex_text, numbers_of, place_of, refl, section_line, section_of, spaced_fields, spelled, sym, true, writes_of, ℕ, ◌%◌, ◌&&◌, ◌++◌, ◌+◌}
 use Rattle.sect_table.proofs.Common.{◌<◌, ◌==◌, ◌^◌, ◌∙◌, ◌∷◌, ◌≡◌}
@@ -37,12 +38,7 @@ pub record Numbers (s : Section) : Type 0 where
   pub at : is_placed s.at s.size ≡ true
 
 numbers : (s : Section) → is_sound s ≡ true → Numbers s
-numbers s h =
-    let p = and_parts (s.vaddr % 4096 == 0) (not (s.size == 0) && (ends_within s.vaddr s.size && is_placed s.at s.size)) h in
-    let q = and_parts (not (s.size == 0)) (ends_within s.vaddr s.size && is_placed s.at s.size) p.1 in
-    let r = and_parts (ends_within s.vaddr s.size) (is_placed s.at s.size) q.1 in
-    let l = ltb-true (s.vaddr + s.size) (2 ^ 64) r.0 in
-    record { vaddr = omega (arith, l); size = omega (arith, l); at = r.1 }
+numbers s h = search (rules, and_parts, ltb-true)
 
 at_small : (at size : ℕ) → is_placed (Some at) size ≡ true → at < 2 ^ 64
 at_small at size h = let l = ltb-true (at + size) (2 ^ 64) h in omega (arith, l)
@@ -60,19 +56,14 @@ clean_bytes (b ∷ bs) h = let p = and_parts (is_word_byte b) (list_all is_word_
 
 name_plain : (name : List ℕ) → is_name name ≡ true → Plain name
 name_plain [] h = absurd cc
-name_plain (b ∷ bs) h =
-    let p = and_parts (leb (length bs) 126) (is_letter b && list_all is_word_byte bs) h in
-    let q = and_parts (is_letter b) (list_all is_word_byte bs) p.1 in
-    record { some = omega arith; clean = rw (clean_letter b q.0, clean_bytes bs q.1) refl }
+name_plain (b ∷ bs) h = search (rules, and_parts, leb, clean_letter, clean_bytes)
 
 no_dash : (b : ℕ) → is_letter b ≡ true → (b == 45) ≡ false
 no_dash b h = grind (arith, nat_tests)
 
 name_loud : (name more : List ℕ) → is_name name ≡ true → is_silent (name ++ more) ≡ false
 name_loud [] more h = absurd cc
-name_loud (b ∷ bs) more h =
-    let p = and_parts (leb (length bs) 126) (is_letter b && list_all is_word_byte bs) h in
-    loud b (bs ++ more) (no_dash b (and_parts (is_letter b) (list_all is_word_byte bs) p.1).0)
+name_loud (b ∷ bs) more h = search (rules, and_parts, leb, loud, no_dash)
 
 rights_plain : (b : Bool) → Plain (rights b)
 rights_plain true = record { some = omega arith; clean = refl }
@@ -104,14 +95,7 @@ place_read (Some at) size h = other (hex_text at) at (number_value-hex_text at (
 
 numbers_read : (s : Section) → HasRow s → numbers_of (hex_text s.vaddr) (hex_text s.size) (rights s.write) (place s.at) ≡ Some
     (s.vaddr, s.size, s.write, s.at)
-numbers_read s h =
-    let n = numbers s h.sound in
-    rw (
-      number_value-hex_text s.vaddr n.vaddr,
-      number_value-hex_text s.size n.size,
-      rights_read s.write,
-      place_read s.at s.size n.at,
-    ) refl
+numbers_read s h = search (rules, numbers, number_value-hex_text, rights_read, place_read)
 
 pub row_read : (s : Section) → HasRow s → section_of (spaced_fields (row s)) ≡ Some s
 row_read s h =
@@ -151,9 +135,7 @@ header_read Aarch64 entry l = rw (number_value-hex_text entry l) refl
 
 pub entry_read : (arch : Arch) (entry : ℕ) → entry < 2 ^ 64 → header_of (spaced_fields (entry_row arch entry)) ≡ Some
     (header arch entry)
-entry_read arch entry l =
-    ap header_of (spaced_read (codes "entry") (entry_words arch entry) entry_plain (entry_words_plain arch entry l))
-    ∙ header_read arch entry l
+entry_read arch entry l = search (rules, spaced_read, entry_plain, entry_words_plain, header_read)
 
 pub entry_shown : (arch : Arch) (entry : ℕ) → entry < 2 ^ 64 → list_all is_shown (entry_row arch entry) ≡ true
 entry_shown arch entry l = spaced_shown (codes "entry") (entry_words arch entry) entry_plain (entry_words_plain arch entry l)
@@ -191,8 +173,4 @@ sections_text (s ∷ ss) = ap (λ k. k ++ flat_map section_line ss) (section_tex
 
 pub table_ended : (image : Image) → table_text image ≡ ended (entry_row image.arch image.entry ∷ rows image.sections)
 unfolding table_text
-table_ended image =
-    beside (entry_line image.arch image.entry) (flat_map section_line image.sections)
-    ∙ ap (λ k. k ++ flat_map section_line image.sections) (entry_text image.arch image.entry)
-    ∙ append_assoc (entry_row image.arch image.entry) (10 ∷ []) (flat_map section_line image.sections)
-    ∙ ap (λ k. entry_row image.arch image.entry ++ 10 ∷ k) (sections_text image.sections)
+table_ended image = search (rules, beside, entry_text, append_assoc, sections_text)

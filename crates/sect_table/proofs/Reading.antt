@@ -50,11 +50,7 @@ fault_of bytes f e = fault_from bytes (class_in bytes) f (sym e)
 -- behind these faults only the count of sections is left
 limit_left : (bytes : List ℕ) (r : Result Class ElfFault) (class : Class) → Sound bytes r class
     → fault_behind bytes r ≡ limit_fault (headers class bytes)
-limit_left bytes r class s =
-    ap (fault_behind bytes) s.known
-    ∙ ap (λ a. option_or a (option_or (headers_fault (length bytes) (headers class bytes)) (limit_fault (headers class bytes))))
-    s.table
-    ∙ ap (λ b. option_or b (limit_fault (headers class bytes))) s.headers
+limit_left bytes r class s = cc
 
 pub first_is_limit : (bytes : List ℕ) (class : Class) → Ok class ≡ sound_class bytes
     → first_fault bytes ≡ limit_fault (headers class bytes)

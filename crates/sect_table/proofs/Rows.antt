@@ -1,4 +1,5 @@
 -- Tables are read back.
+use Rattle.std.proofs.Common.{rules}
 use Rattle.sect_table.proofs.Common.{AllByRecursion, Err, HasRow, HasTable, Image, IsRead, Line, List, None, Ok, Option, Refused, Result, Section, Some, [], ap, arith, cond, fault_in, first_bad, header, header_of, image_in, inl, inr, is_some, length}
 use Rattle.sect_table.proofs.Common.{lines, list_all, nat_lt, refl, section_at, section_of, sections_of, spaced_fields, subst, sym, table_text, true, ℕ, ◌+◌, ◌∙◌, ◌∷◌, ◌≡◌, ◌≤◌, ◌⊎◌}
 use Rattle.std.proofs.lemmas.Bool.{lt-ltb}
@@ -21,11 +22,7 @@ pub record Read (n : ℕ) (all : List Line) (ss : List Section) : Type 0 where
 -- a line more
 read_more : (n : ℕ) (line : Line) (more : List Line) (s : Section) (ss : List Section) → nat_lt n 256 ≡ true
     → section_of (spaced_fields line.text) ≡ Some s → Read (n + 1) more ss → Read n (line ∷ more) (s ∷ ss)
-read_more n line more s ss few e r = record {
-  fine = let here : section_at n line ≡ Some s = rw (few, e) refl in
-      ap (λ o. cond (is_some o) (first_bad (n + 1) more) (Some line)) here ∙ r.fine;
-  sections = rw e (ap (λ k. s ∷ k) r.sections);
-}
+read_more n line more s ss few e r = search (rules)
 
 rows_read : (ss : List Section) (at n : ℕ) → AllByRecursion HasRow ss → n + length ss ≤ 256 → Read n (told at (rows ss)) ss
 rows_read [] at n h few = record { fine = refl; sections = refl }

@@ -1,4 +1,5 @@
 -- A table can say the image of a file.
+use Rattle.std.proofs.Common.{rules}
 use Rattle.sect_table.proofs.Common.{AllByRecursion, AreBytes, Bool, Class, Elf, ElfFault, HasRow, HasTable, Image, List, None, ProgramHeader, Section, Some, [], and_from, and_parts, ap, arith, codes, cond, decimal, drop, eqb-true, false, fault}
 use Rattle.sect_table.proofs.Common.{fault_behind, fault_of_used, fault_within, file_end, file_header, header_fault, header_length, headers, headers_fault, headers_from, image_of, is_aligned, is_sized, is_sound, is_used, is_whole, is_writable, leb}
 use Rattle.sect_table.proofs.Common.{length, limit_fault, list_all, lit<, loaded, ltb-true, memory_end, nat_lt, nat_tests, not, option_or, page_down, page_up, pow-le-pow_right, pow-suc, program_header, refl, sections_of_all, sections_of_used, short}
@@ -39,14 +40,7 @@ take_short (suc n) [] = omega arith
 take_short (suc n) (b ∷ bs) = let ih = take_short n bs in omega (arith, ih)
 
 field_small : (bytes : List ℕ) (at size : ℕ) → AreBytes bytes → field bytes at size < 256 ^ size
-field_small bytes at size h =
-    let part = take (at + size - at) (drop at bytes) in
-    let small =
-    little_small part (all_taken (λ b. nat_lt b 256) (at + size - at) (drop at bytes)
-    (all_dropped (λ b. nat_lt b 256) at bytes h.small)) in
-    let short = take_short (at + size - at) (drop at bytes) in
-    let up = pow-le-pow_right {n = 256} (lit< tt) {i = length part} {j = size} (omega (arith, short)) in
-    omega (arith, small, up)
+field_small bytes at size h = grind (arith, little_small, all_taken, nat_lt, all_dropped, take_short, pow-le-pow_right)
 
 entry_small : (class : Class) (bytes : List ℕ) → AreBytes bytes → (file_header class bytes).entry < 2 ^ 64
 entry_small Bits32 bytes h = let s = field_small bytes 24 4 h in let e : 256 ^ 4 ≡ 4294967296 = refl in omega (arith, s, e)
@@ -111,10 +105,7 @@ loaded_row h size n a b c d e = record {
 -- what the tests say
 sized_is : (h : ProgramHeader) → is_sized h ≡ true → (h.file ≤ h.memory) × (memory_end h < 2 ^ 64)
     × (page_up (memory_end h) < 2 ^ 64)
-sized_is h e =
-    let p = and_parts (leb h.file h.memory) (nat_lt (page_up (memory_end h)) (2 ^ 64)) e in
-    let l = ltb-true (page_up (memory_end h)) (2 ^ 64) p.1 in
-    (leb-true h.file h.memory p.0, omega (arith, l), l)
+sized_is h e = grind (arith, and_parts, leb, nat_lt, ltb-true, leb-true)
 
 whole_is : (h : ProgramHeader) (size : ℕ) → (h.file == 0) ≡ false → is_whole size h ≡ true → h.offset + h.file ≤ size
 whole_is h size z e = leb-true (h.offset + h.file) size (rw z at e)
@@ -129,12 +120,7 @@ behind_rows : (h : ProgramHeader) → h.number < 2 ^ 64 → memory_end h < 2 ^ 6
 behind_rows h n m = go (nat_lt (page_up (file_end h)) (memory_end h)) refl
   where
     go : (b : Bool) → nat_lt (page_up (file_end h)) (memory_end h) ≡ b → AllByRecursion HasRow (zeros_behind h)
-    go true e =
-        rw e (
-          zeros_row h (page_up (file_end h)) n (page_begins (file_end h + 4095))
-              (ltb-true (page_up (file_end h)) (memory_end h) e) m,
-          tt,
-        )
+    go true e = search (rules, zeros_row, page_begins, ltb-true)
     go false e = rw e tt
 
 used_rows : (h : ProgramHeader) (size : ℕ) → h.number < 2 ^ 64 → size < 2 ^ 64 → 0 < h.memory → Fine size h
@@ -146,11 +132,7 @@ used_rows h size n l m f = go (h.file == 0) refl
 
     go : (b : Bool) → (h.file == 0) ≡ b → AllByRecursion HasRow (sections_of_used h)
     go true e = rw e (zeros_row h (page_down h.vaddr) n (page_begins h.vaddr) (omega arith) s.1, tt)
-    go false e = rw e (
-      loaded_row h size n (some_file h.file e) (omega (arith, s.0, s.1)) (whole_is h size e f.whole) l
-          (aligned_is h e f.aligned),
-      behind_rows h n s.1,
-    )
+    go false e = search (rules, loaded_row, some_file, s, whole_is, aligned_is, behind_rows)
 
 header_rows : (h : ProgramHeader) (size : ℕ) → h.number < 2 ^ 64 → size < 2 ^ 64 → header_fault size h ≡ None
     → AllByRecursion HasRow (sections_of h)
@@ -160,9 +142,7 @@ header_rows h size n l e = go (is_used h) refl
     some m q = grind (arith, nat_tests)
 
     go : (b : Bool) → is_used h ≡ b → AllByRecursion HasRow (sections_of h)
-    go true u =
-        let none : fault_of_used size h ≡ None = rw u at e in
-        rw u (used_rows h size n l (some h.memory (and_parts (h.kind == 1) (not (h.memory == 0)) u).1) (fine size h none))
+    go true u = search (rules, used_rows, some, and_parts, fine)
     go false u = rw u tt
 
 all_both : (xs ys : List Section) → AllByRecursion HasRow xs → AllByRecursion HasRow ys → AllByRecursion HasRow (xs ++ ys)

@@ -5,7 +5,4 @@ pub byte_more : (b r n : ℕ) → b < 256 → r < 256 ^ n → b + 256 * r < 256 
 byte_more b r n l h = let e = pow-suc 256 n in omega (arith, e)
 
 pub byte_fits : (r n : ℕ) → n + 1 ≤ 8 → r < 256 ^ n → 256 * r + 255 < 2 ^ 64
-byte_fits r n l h =
-    let up : 256 ^ n ≤ 256 ^ 7 = pow-le-pow_right {n = 256} (lit< tt) {i = n} {j = 7} (omega arith) in
-    let is : 256 ^ 7 ≡ 72057594037927936 = refl in
-    omega (arith, up, is)
+byte_fits r n l h = grind (arith, pow-le-pow_right)

@@ -1,4 +1,5 @@
 -- Words, which one space parts.
+use Rattle.std.proofs.Common.{rules}
 use Rattle.sect_table.proofs.Common.{AllByRecursion, Bool, List, [], and_from, and_parts, ap, arith, cond, false, fields, filter, is_padded, length, list_all, nat_lt, nat_tests, not, onto_first, or_from, parts, refl, slice_index, spaced_fields, suc}
 use Rattle.sect_table.proofs.Common.{true, ℕ, ◌++◌, ◌-◌, ◌<◌, ◌==◌, ◌∙◌, ◌∷◌, ◌≡◌}
 use Rattle.std.proofs.lemmas.List.Folds.{list_all-append}
@@ -91,12 +92,7 @@ back w [] p ps = last_clean w p.some p.clean
 back w (u ∷ us) p ps = ap (λ n. n == 32) (last_behind w (spaced u us) 32 (some_spaced u us ps.0)) ∙ back u us ps.0 ps.1
 
 pub spaced_read : (w : List ℕ) (us : List (List ℕ)) → Plain w → AllByRecursion Plain us → spaced_fields (spaced w us) ≡ w ∷ us
-spaced_read w us p ps =
-    let pad : is_padded (spaced w us) ≡ false = or_from (slice_index (spaced w us) 0 == 32)
-    (slice_index (spaced w us) (length (spaced w us) - 1) == 32) (front w us p) (back w us p ps) in
-    ap (λ b. cond b [] (filter (λ (f : List ℕ). not (length f == 0)) (fields (spaced w us)))) pad
-    ∙ ap (filter (λ (f : List ℕ). not (length f == 0))) (fields_spaced w us p ps)
-    ∙ all_kept (w ∷ us) (p, ps)
+spaced_read w us p ps = search (rules, or_from, front, back, filter, fields_spaced, all_kept)
 
 -- ---- what they show
 

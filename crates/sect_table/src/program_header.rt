@@ -11,7 +11,8 @@ use crate::Section;
 use crate::class::Class;
 use crate::fault::{ElfCode, ElfFault};
 use crate::field::{ends_within, field};
-use cam_base::{List, Name, NoMemory};
+use crate::image::Made;
+use cam_base::{List, Name};
 use itoa::Buffer;
 use std::alloc::Global;
 
@@ -58,7 +59,7 @@ fn pages_fit(first: u64, size: u64) -> bool
 
 /// A word and a number.
 #[tactic(auto, using(cam_base::proofs::Naming::naming))]
-fn numbered(alloc: Global, word: &[u8], number: u64) -> Result<Name, NoMemory>
+fn numbered(alloc: Global, word: &[u8], number: u64) -> Made<Name>
     requires name { is_name word.now ≡ true }
     requires short { length word.now ≤ 6 }
     ensures { IfOk result (λ name. name ≡ word.now ++ decimal number) }
@@ -185,7 +186,7 @@ impl ProgramHeader {
     }
 
     /// Zeros from an address up to the end of its memory.
-    pub fn zeros(self, alloc: Global, first: u64) -> Result<Section, NoMemory>
+    pub fn zeros(self, alloc: Global, first: u64) -> Made<Section>
         requires sized { is_sized self ≡ true }
         requires low { first ≤ memory_end self }
         ensures { IfOk result (λ s. s ≡ zeros self first) }
@@ -200,7 +201,7 @@ impl ProgramHeader {
     }
 
     /// The section of its file bytes.
-    pub fn loaded(self, alloc: Global) -> Result<Section, NoMemory>
+    pub fn loaded(self, alloc: Global) -> Made<Section>
         requires sized { is_sized self ≡ true }
         requires aligned { is_aligned self ≡ true }
         requires some { self.file ≢ 0 }

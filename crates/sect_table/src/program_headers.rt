@@ -34,20 +34,16 @@ impl<'a> ProgramHeaders<'a> {
         ensures file { result.bytes.now ≡ bytes.entry.now }
     {
         let header = FileHeader::of(class, bytes);
-        if header.count == 0 {
-            return ProgramHeaders {
-                class,
-                bytes,
-                number: 0,
-                first: 0,
-                left: 0,
-            };
-        }
+        let first = if header.count == 0 {
+            0
+        } else {
+            header.table as usize
+        };
         ProgramHeaders {
             class,
             bytes,
             number: 0,
-            first: header.table as usize,
+            first,
             left: header.count as usize,
         }
     }

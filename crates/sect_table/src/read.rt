@@ -11,18 +11,15 @@ use crate::class::Class;
 use crate::fault::{ElfCode, ElfFault};
 use crate::file_header::FileHeader;
 use crate::first_fault::{headers_fault, read_class, table_fault};
+use crate::image::Made;
 use crate::program_header::ProgramHeader;
 use crate::program_headers::ProgramHeaders;
 use crate::{Image, MAX_SECTIONS, Section};
-use cam_base::{List, Name, NoMemory, Refused};
+use cam_base::{List, Name, Refused};
 use std::alloc::Global;
 
 /// Adds the zeros behind the file bytes of a program header.
-fn add_zeros_behind(
-    alloc: Global,
-    header: ProgramHeader,
-    sections: &mut List<Section>,
-) -> Result<(), NoMemory>
+fn add_zeros_behind(alloc: Global, header: ProgramHeader, sections: &mut List<Section>) -> Made<()>
     requires { is_sized header ≡ true }
     ensures { OnOk result (sections.new ≡ sections.old ++ zeros_behind header) }
 {
@@ -34,11 +31,7 @@ fn add_zeros_behind(
 }
 
 /// Adds the sections of a program header that is used.
-fn add_sections(
-    alloc: Global,
-    header: ProgramHeader,
-    sections: &mut List<Section>,
-) -> Result<(), NoMemory>
+fn add_sections(alloc: Global, header: ProgramHeader, sections: &mut List<Section>) -> Made<()>
     requires sized { is_sized header ≡ true }
     requires aligned { is_aligned header ≡ true }
     ensures { OnOk result (sections.new ≡ sections.old ++ sections_of_used header) }

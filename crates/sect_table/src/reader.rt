@@ -8,11 +8,9 @@ ghost use Rattle.cam_base.specs.Fields.{spaced_fields};
 ghost use Rattle.cam_base.specs.LinesLeft.{line_of, lines_left};
 
 use crate::header::read_header;
-use crate::image::{Header, Image, Section};
+use crate::image::{Header, Image, Made, Section};
 use crate::section::read_section;
-use cam_base::{
-    Code, Fault, Line, Lines, List, Name, NoMemory, Place, Refused, Text, spaced_fields,
-};
+use cam_base::{Code, Fault, Line, Lines, List, Name, Place, Refused, Text, spaced_fields};
 use std::alloc::Global;
 
 /// The most sections of a table.
@@ -36,7 +34,7 @@ fn bad_line(alloc: Global, file: u32, line: Line) -> Fault
 }
 
 /// The section of a line, where so many stand before it; none where it spells none that is sound, or they are too many.
-fn section_at(alloc: Global, before: usize, line: Line) -> Result<Option<Section>, NoMemory>
+fn section_at(alloc: Global, before: usize, line: Line) -> Made<Option<Section>>
     ensures { IfOk result (λ s. s ≡ section_at before (line_of line.entry)) }
 {
     if before >= MAX_SECTIONS {
@@ -61,7 +59,7 @@ fn read_all(alloc: Global, file: u32, lines: Lines) -> Result<List<Section>, Ref
 }
 
 /// The header of a line, none where it spells none.
-fn header_at(alloc: Global, line: Line) -> Result<Option<Header>, NoMemory>
+fn header_at(alloc: Global, line: Line) -> Made<Option<Header>>
     ensures { IfOk result (λ h. h ≡ header_of (spaced_fields line.entry.text.now)) }
 {
     let fields = spaced_fields(alloc, line.text)?;

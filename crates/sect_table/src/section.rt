@@ -5,9 +5,12 @@ ghost use Rattle.cam_base.specs.Names.{is_name};
 ghost use Rattle.std.specs.Prelude.{◌≡◌, ◌∷◌, [], IfOk, IsTrue};
 ghost use Rattle.cam_base.specs.LineTexts.{texts};
 
-use crate::image::Section;
-use cam_base::{Name, NoMemory, is_name, read_number};
+use crate::image::{Made, Section};
+use cam_base::{Name, is_name, read_number};
 use std::alloc::Global;
+
+/// The address and size of a section, whether it may be written, and its place in the file.
+type Numbers = (u64, u64, bool, Option<u64>);
 
 /// Whether rights let the program write, none exactly where the word is no rights.
 fn read_writes(word: &[u8]) -> Option<bool>
@@ -58,13 +61,7 @@ impl Section {
     }
 }
 
-/// The address and size of a section, whether it may be written, and its place in the file.
-fn read_numbers(
-    vaddr: &[u8],
-    size: &[u8],
-    rights: &[u8],
-    at: &[u8],
-) -> Option<(u64, u64, bool, Option<u64>)>
+fn read_numbers(vaddr: &[u8], size: &[u8], rights: &[u8], at: &[u8]) -> Option<Numbers>
     ensures { result ≡ numbers_of vaddr.now size.now rights.now at.now }
 {
     Some((
@@ -76,11 +73,7 @@ fn read_numbers(
 }
 
 /// The section of that name.
-fn named(
-    alloc: Global,
-    name: &[u8],
-    numbers: (u64, u64, bool, Option<u64>),
-) -> Result<Section, NoMemory>
+fn named(alloc: Global, name: &[u8], numbers: Numbers) -> Made<Section>
     requires { IsTrue (is_name name.now) }
     ensures { IfOk result (λ s. s ≡ section name.now numbers) }
 {
@@ -94,38 +87,26 @@ fn named(
     })
 }
 
-/// The section that five fields spell.
-fn read_five(
-    alloc: Global,
-    name: &[u8],
-    vaddr: &[u8],
-    size: &[u8],
-    rights: &[u8],
-    at: &[u8],
-) -> Result<Option<Section>, NoMemory>
-    ensures { IfOk result (λ s. s ≡ spelled (name.now ∷ vaddr.now ∷ size.now ∷ rights.now ∷ at.now ∷ [])) }
-{
-    if !is_name(name) {
-        return Ok(None);
-    }
-    match read_numbers(vaddr, size, rights, at) {
-        Some(numbers) => Ok(Some(named(alloc, name, numbers)?)),
-        None => Ok(None),
-    }
-}
-
 /// The section that fields spell, none exactly where they spell none.
-fn read_spelled(alloc: Global, fields: &[&[u8]]) -> Result<Option<Section>, NoMemory>
+fn read_spelled(alloc: Global, fields: &[&[u8]]) -> Made<Option<Section>>
     ensures { IfOk result (λ s. s ≡ spelled (texts fields.now)) }
 {
     match fields {
-        [name, vaddr, size, rights, at] => read_five(alloc, name, vaddr, size, rights, at),
+        [name, vaddr, size, rights, at] => {
+            if !is_name(name) {
+                return Ok(None);
+            }
+            match read_numbers(vaddr, size, rights, at) {
+                Some(numbers) => Ok(Some(named(alloc, name, numbers)?)),
+                None => Ok(None),
+            }
+        }
         _ => Ok(None),
     }
 }
 
 /// The section that fields spell, none exactly where they spell none that is sound.
-pub fn read_section(alloc: Global, fields: &[&[u8]]) -> Result<Option<Section>, NoMemory>
+pub fn read_section(alloc: Global, fields: &[&[u8]]) -> Made<Option<Section>>
     ensures { IfOk result (λ s. s ≡ section_of (texts fields.now)) }
 {
     match read_spelled(alloc, fields)? {

@@ -1,4 +1,5 @@
 -- One line more.
+use Rattle.std.proofs.Common.{rules}
 use Rattle.step_text.proofs.Common.{Err, IsRead, IsRefusal, Line, List, None, Option, Some, Spec, Step, Wrong, [], ap, append_assoc, arith, at_line, bytes_limit, false, fault_of, fields, filter_map, first_fault_of, length, lines}
 use Rattle.step_text.proofs.Common.{nat_tests, option_map, option_or, spelled, step_of, sym, take, thread_named, wrong, ℕ, ◌++◌, ◌+◌, ◌∙◌, ◌∷◌, ◌≡◌, ◌≤◌}
 use Rattle.std.proofs.Common.{nat_lt}
@@ -34,18 +35,13 @@ pub line_step : (place : List ℕ → Option ℕ) (before : ℕ) (line : Line) (
     → first ≡ take 8 (fields line.text)
     → (wrong place before first ≡ None) × (spelled place first ≡ Some step) → (fault_of place before line ≡ None)
     × (step_of place line ≡ Some step)
-line_step place before line first step is judged = (
-  ap (option_map (at_line line)) (sym (few_wrong place before (fields line.text)) ∙ ap (wrong place before) (sym is) ∙ judged.0),
-  sym (few_spelled place (fields line.text)) ∙ ap (spelled place) (sym is) ∙ judged.1,
-)
+line_step place before line first step is judged = search (rules, few_wrong, few_spelled)
 
 -- a line with a fault among them
 pub line_fault : (place : List ℕ → Option ℕ) (before : ℕ) (line : Line) (first : List (List ℕ)) (what : Wrong)
     (refusal : Refused TextFault) → first ≡ take 8 (fields line.text)
     → wrong place before first ≡ Some what → IsRefusal line what refusal → IsLineRead place before line (Err refusal)
-line_fault place before line first what (refused.Fault fault) is stands fits =
-    ap (option_map (at_line line)) (sym (few_wrong place before (fields line.text)) ∙ ap (wrong place before) (sym is) ∙ stands)
-    ∙ ap (λ f. Some f) (sym fits)
+line_fault place before line first what (refused.Fault fault) is stands fits = search (rules, few_wrong)
 line_fault place before line first what refused.NoMemory is stands fits = tt
 
 -- the text of a line with a fault
@@ -55,7 +51,5 @@ pub text_refused : (spec : Spec) (bytes : List ℕ) (place : List ℕ → Option
     → first_fault_of place before left ≡ first_fault_of place 0 (lines bytes)
     → IsLineRead place before line (Err refusal) → IsRead spec bytes (Err refusal)
 text_refused spec bytes place before line left more (refused.Fault fault) short threads is so_far here =
-    let within : nat_lt bytes_limit (length bytes) ≡ false = grind (arith, nat_tests) in
-    rw within (ap (λ p. first_fault_of p 0 (lines bytes)) (sym threads) ∙ sym so_far ∙ fault_here place before line left more
-    fault is here)
+    search (rules, nat_tests, fault_here)
 text_refused spec bytes place before line left more refused.NoMemory short threads is so_far here = tt

@@ -1,5 +1,6 @@
 -- The steps of a run can be read back: who acts has a root, so is a thread, and its name is a word; and the numbers that steps
 -- name hold something, so lie below the next number of a CNode, which grows by one a step at most.
+use Rattle.std.proofs.Common.{rules}
 use Rattle.step_text.proofs.Common.{All, All-cons, All-nil, AllByRecursion, Bool, Decides-eqb, Decides-ltb, Entry, IsNamed, IsNumber, IsReadable, List, None, Option, Some, Spec, Step, [], all_at, and_parts, ap, arith, bytes_eq, cond, false, get_or}
 use Rattle.step_text.proofs.Common.{inl, inr, is_letter, is_name, is_thread, is_word_byte, kind_is, length, list_all, map, name_at, nat_lt, not, object_at, position, position_or_len, refl, set, slice_get, subst, suc, sym, thread_named, true, zero, ℕ}
 use Rattle.step_text.proofs.Common.{◌&&◌, ◌++◌, ◌+◌, ◌<◌, ◌==◌, ◌^◌, ◌∙◌, ◌∷◌, ◌≡◌, ◌≤◌, ◌⊎◌}
@@ -47,14 +48,10 @@ below_written nodes c node all here k =
     ]
 
 grows : (nodes : List Node) (c : ℕ) (content : Content) → AllBelow nodes → AllBelow (grown_at nodes c content)
-grows nodes c content all =
-    let node = get_or nodes c no_node in
-    below_written nodes c (grown node content) all (below_last node.slots node.next content (all c))
+grows nodes c content all = search (rules, below_written, below_last)
 
 drops : (nodes : List Node) (c i : ℕ) → AllBelow nodes → AllBelow (without_at nodes c i)
-drops nodes c i all =
-    let node = get_or nodes c no_node in
-    below_written nodes c (without node i) all (below_filter (λ slot. not (slot.0 == i)) node.slots node.next (all c))
+drops nodes c i all = search (rules, below_written, below_filter)
 
 change_below : (s : State) (change : Change) → AllBelow s.nodes → AllBelow (changed s change).nodes
 change_below s (changes.Add node x) all = grows s.nodes node (Capability x) all
@@ -122,10 +119,7 @@ first_of_both p q (y ∷ xs) (suc t) x there passes first = go (q y) refl (λ le
     go : (b : Bool) → q y ≡ b → (position_or_len q xs ≡ t → position_or_len (λ y. p y && q y) xs ≡ t)
         → position_or_len (λ y. p y && q y) (y ∷ xs) ≡ suc t
     go true e rest = let no : 0 ≡ suc t = rw e at first in absurd cc
-    go false e rest =
-        let behind : 1 + position_or_len q xs ≡ suc t = rw e at first in
-        let less : position_or_len q xs ≡ t = omega (arith, behind) in
-        rw e (neither_passes (p y) (rest less))
+    go false e rest = grind (arith, neither_passes)
 
 place_is : (n t length : ℕ) → cond (nat_lt n length) (Some n) None ≡ Some t → n ≡ t
 place_is n t length is = go (nat_lt n length) refl
@@ -145,10 +139,7 @@ thread_of (objects.Irq notification) is = absurd cc
 
 word_of_name : (name : List ℕ) → is_name name ≡ true → list_all is_word_byte name ≡ true
 word_of_name [] is = absurd cc
-word_of_name (b ∷ bs) is =
-    let rest = (and_parts _ _ is).1 in
-    let parts = and_parts (is_letter b) (list_all is_word_byte bs) rest in
-    rw (parts.0, parts.1) refl
+word_of_name (b ∷ bs) is = search (rules, and_parts)
 
 module _ (spec : Spec) (kept : IsKept spec) (named : list_all (λ entry. is_name entry.name) spec.entries ≡ true) where
   entry_named : (t : ℕ) (entry : Entry) → slice_get spec.entries t ≡ Some entry → is_thread entry.object ≡ true → IsNamed spec t
@@ -185,20 +176,10 @@ module _ (spec : Spec) (kept : IsKept spec) (named : list_all (λ entry. is_name
     pub below : AllBelow s.nodes
 
   begun : IsReached (boot spec) 0
-  begun = record {
-    fits = boot_fits spec kept;
-    nexts = boot_nexts_fit spec.entries (all_bootable spec kept);
-    below = all_boot_below spec kept;
-  }
+  begun = search (rules, boot_fits, boot_nexts_fit, all_bootable, all_boot_below)
 
   goes_on : (s new : State) (n : ℕ) (step : Step) → IsReached s n → StepTo spec s step new → IsReached new (n + 1)
-  goes_on s new n step r to =
-      let goes : Goes spec s step new = in_table spec s new step to in
-      record {
-        fits = step_fits spec s new step r.fits to;
-        nexts = subst (λ (z : State). NextsFit z.nodes (n + 1)) (sym goes.2) (nexts_fit s n goes.0 r.nexts);
-        below = subst (λ (z : State). AllBelow z.nodes) (sym goes.2) (change_below s goes.0 r.below);
-      }
+  goes_on s new n step r to = search (rules, in_table, step_fits, nexts_fit, change_below)
 
   module _ (s : State) (n : ℕ) (few : n < 2 ^ 63) (r : IsReached s n) where
     small : (c i : ℕ) (content : Content) → content_in s c i ≡ Some content → IsNumber i
@@ -219,20 +200,9 @@ module _ (spec : Spec) (kept : IsKept spec) (named : list_all (λ entry. is_name
         (acts_named t c acts, small c i (Capability to) own.there, small to.object j (Capability cap) there)
     step_readable (steps.Put t i j x) new (c, to, cap, acts, own, there, e) =
         (acts_named t c acts, small c i (Capability to) own.there, small c j (Capability cap) there)
-    step_readable (steps.Grant t i u j k x) new (c, to, cap, d, from, acts, own, may, there, peer, e) = (
-      acts_named t c acts,
-      acts_named u d peer.acts,
-      small c i (Capability to) own.there,
-      small d j (Capability from) peer.own.there,
-      small c k (Capability cap) there,
-    )
-    step_readable (steps.Call t i u j) new (c, to, d, from, acts, own, may, peer, e) = (
-      acts_named t c acts,
-      acts_named u d peer.acts,
-      small c i (Capability to) own.there,
-      small d j (Capability from)
-          peer.own.there,
-    )
+    step_readable (steps.Grant t i u j k x) new (c, to, cap, d, from, acts, own, may, there, peer, e) =
+        search (rules, acts_named, small)
+    step_readable (steps.Call t i u j) new (c, to, d, from, acts, own, may, peer, e) = search (rules, acts_named, small)
     step_readable (steps.Reply t None) new (c, pending, acts, owes, e) = acts_named t c acts
     step_readable (steps.Reply t (Some copy)) new (c, pending, cap, d, acts, owes, grants, there, root, e) =
         (acts_named t c acts, small c copy.0 (Capability cap) there)

@@ -1,4 +1,5 @@
 -- The fields of the line of a step, and that they spell it.
+use Rattle.std.proofs.Common.{rules}
 use Rattle.step_text.proofs.Common.{Bool, IsNamed, IsNumber, IsReadable, List, None, Rights, Some, Spec, Step, [], codes, decimal, false, is_silent, name_at, refl, rights_field, rights_value, spelled, step_line, thread_named, true, ℕ, ◌∷◌, ◌≡◌}
 use Rattle.cam_base.specs.Texts.{together}
 use Rattle.cap_machine.specs.declared.step.Step.TheVariants as steps
@@ -130,14 +131,7 @@ module _ (spec : Spec) where
   pub plain_fields : (step : Step) → IsReadable spec step → are_plain (word_of step ∷ behind step) ≡ true
   plain_fields (steps.Take t i j r) h = rw (plain_name t h.0, plain_number i h.1, plain_number j h.2, plain_rights r) refl
   plain_fields (steps.Put t i j r) h = rw (plain_name t h.0, plain_number i h.1, plain_number j h.2, plain_rights r) refl
-  plain_fields (steps.Grant t i u j k r) h = rw (
-    plain_name t h.0,
-    plain_number i h.2,
-    plain_name u h.1,
-    plain_number j h.3,
-    plain_number k h.4,
-    plain_rights r,
-  ) refl
+  plain_fields (steps.Grant t i u j k r) h = search (rules, plain_name, plain_number, plain_rights)
   plain_fields (steps.Call t i u j) h = rw (plain_name t h.0, plain_number i h.2, plain_name u h.1, plain_number j h.3) refl
   plain_fields (steps.Reply t None) h = rw (plain_name t h) refl
   plain_fields (steps.Reply t (Some copy)) h = rw (plain_name t h.0, plain_number (copy.0) h.1, plain_rights copy.1) refl
@@ -148,24 +142,12 @@ module _ (spec : Spec) where
   plain_fields (steps.Drop t i) h = rw (plain_name t h.0, plain_number i h.1) refl
   plain_fields (steps.Save t) h = rw (plain_name t h) refl
   plain_fields (steps.ReplyTo t i None) h = rw (plain_name t h.0, plain_number i h.1) refl
-  plain_fields (steps.ReplyTo t i (Some copy)) h = rw (
-    plain_name t h.0,
-    plain_number i h.1,
-    plain_number (copy.0) h.2,
-    plain_rights copy.1,
-  ) refl
+  plain_fields (steps.ReplyTo t i (Some copy)) h = search (rules, plain_name, plain_number, plain_rights)
 
   pub spelled_back : (step : Step) → IsReadable spec step → spelled (thread_named spec) (word_of step ∷ behind step) ≡ Some step
   spelled_back (steps.Take t i j r) h = rw (h.0.found, number_value-decimal i h.1, number_value-decimal j h.2, rights_back r) refl
   spelled_back (steps.Put t i j r) h = rw (h.0.found, number_value-decimal i h.1, number_value-decimal j h.2, rights_back r) refl
-  spelled_back (steps.Grant t i u j k r) h = rw (
-    h.0.found,
-    number_value-decimal i h.2,
-    h.1.found,
-    number_value-decimal j h.3,
-    number_value-decimal k h.4,
-    rights_back r,
-  ) refl
+  spelled_back (steps.Grant t i u j k r) h = search (rules, number_value-decimal, rights_back)
   spelled_back (steps.Call t i u j) h = rw (h.0.found, number_value-decimal i h.2, h.1.found, number_value-decimal j h.3) refl
   spelled_back (steps.Reply t None) h = rw h.found refl
   spelled_back (steps.Reply t (Some copy)) h = rw (h.0.found, number_value-decimal copy.0 h.1, rights_back copy.1) refl
@@ -176,9 +158,4 @@ module _ (spec : Spec) where
   spelled_back (steps.Drop t i) h = rw (h.0.found, number_value-decimal i h.1) refl
   spelled_back (steps.Save t) h = rw h.found refl
   spelled_back (steps.ReplyTo t i None) h = rw (h.0.found, number_value-decimal i h.1) refl
-  spelled_back (steps.ReplyTo t i (Some copy)) h = rw (
-    h.0.found,
-    number_value-decimal i h.1,
-    number_value-decimal copy.0 h.2,
-    rights_back copy.1,
-  ) refl
+  spelled_back (steps.ReplyTo t i (Some copy)) h = search (rules, number_value-decimal, rights_back)

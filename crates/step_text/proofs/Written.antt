@@ -1,4 +1,5 @@
 -- The text of steps, line by line.
+use Rattle.std.proofs.Common.{rules}
 use Rattle.step_text.proofs.Common.{All, All-head, All-tail, IsReadable, Line, List, None, Some, Spec, Step, [], ap, arith, false, fields, filter_map, first_fault, first_fault_of, is_silent, length, nat_lt, nat_tests, parts, past_limit, placed, refl}
 use Rattle.step_text.proofs.Common.{spelled, step_of, steps_of, steps_text, telling, thread_named, true, ℕ, ◌++◌, ◌+◌, ◌<◌, ◌∙◌, ◌∷◌, ◌≡◌, ◌≤◌}
 use Rattle.step_text.proofs.Fields.{fields_joined, joined, line_parts}
@@ -12,9 +13,7 @@ module _ (spec : Spec) where
   text_parts : (step : Step) (more : List Step) → IsReadable spec step → parts 10 (steps_text spec (step ∷ more)) ≡ body step
       ∷ parts 10 (steps_text spec more)
   unfolding body
-  text_parts step more h =
-      ap (λ (xs : List ℕ). parts 10 (xs ++ steps_text spec more)) (line_fields spec step)
-      ∙ line_parts (word_of spec step) (behind spec step) (steps_text spec more) (plain_fields spec step h)
+  text_parts step more h = search (rules, line_fields, line_parts, word_of, behind, plain_fields)
 
   body_spelled : (step : Step) → IsReadable spec step → spelled (thread_named spec) (fields (body step)) ≡ Some step
   unfolding body
@@ -60,6 +59,4 @@ module _ (spec : Spec) where
 
   pub no_fault : (steps : List Step) → All (IsReadable spec) steps → length steps ≤ 100000
       → length (steps_text spec steps) ≤ 67108864 → first_fault spec (steps_text spec steps) ≡ None
-  no_fault steps h few_steps few_bytes =
-      let e : nat_lt 67108864 (length (steps_text spec steps)) ≡ false = grind (arith, nat_tests) in
-      rw e (faultless 0 0 steps h (omega arith))
+  no_fault steps h few_steps few_bytes = grind (arith, nat_tests, faultless)

@@ -16,5 +16,5 @@ mod write;
 
 pub use back_laws::{runs_are_readable, written_steps_are_read_back};
 pub use laws::{lines_spell_steps, unknown_names_are_no_threads};
-pub use reader::{MAX_BYTES, MAX_STEPS, read_steps};
+pub use reader::{MAX_BYTES, MAX_STEPS, Read, read_steps};
 pub use write::{write_step_lines, write_steps};

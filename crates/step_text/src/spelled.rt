@@ -13,6 +13,9 @@ use cam_base::{TextCode, is_word, read_number};
 use cap_machine::Step;
 use cap_model::Rights;
 
+/// A code, and the name that its fault speaks of.
+pub type Wrong<'a> = (TextCode, &'a [u8]);
+
 /// The place of the thread of that name; of any word, where no threads are given.
 fn place(threads: Option<&Threads>, name: &[u8]) -> Option<u32>
     ensures { result ≡ place_among threads.entry name.now }
@@ -175,7 +178,7 @@ pub fn spelled(threads: Option<&Threads>, fields: &[&[u8]]) -> Option<Step>
 }
 
 /// What is wrong with fields that spell no step: the code, and the first name that is no thread's.
-pub fn misspelled<'a>(threads: &Threads, fields: &[&'a [u8]]) -> (TextCode, &'a [u8])
+pub fn misspelled<'a>(threads: &Threads, fields: &[&'a [u8]]) -> Wrong<'a>
     ensures { (result.0, result.1.now) ≡ misspelled (found_in threads.now) (texts fields.now) }
 {
     if spelled(None, fields).is_none() {

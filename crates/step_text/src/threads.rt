@@ -18,12 +18,6 @@ pub struct Threads<'a> {
     pub places: IndexMap<&'a [u8], u32>,
 }
 
-fn is_thread(object: &Object) -> bool
-    ensures { result ≡ is_thread object.now }
-{
-    matches!(object, Object::Thread(_))
-}
-
 impl<'a> Threads<'a> {
     /// The threads of the spec. The first counts where two have one name.
     pub fn of(alloc: Global, spec: &'a Spec) -> Result<Threads<'a>, NoMemory>
@@ -46,10 +40,10 @@ impl<'a> Threads<'a> {
             ≡ option_or (found_in self.old name)
             (if is_thread entry.entry.now.object && bytes_eq entry.entry.now.name name then Some place else None)) }
     {
-        if !is_thread(&entry.object) {
-            return Ok(());
+        match &entry.object {
+            Object::Thread(_) => self.add_name(entry.name.as_bytes(), place),
+            _ => Ok(()),
         }
-        self.add_name(entry.name.as_bytes(), place)
     }
 
     /// Adds the name, unless it is there.
