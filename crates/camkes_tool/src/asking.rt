@@ -18,8 +18,7 @@ use explain::Question;
 use source_commands::{explain, list};
 use std::alloc::Global;
 use text_commands::{
-    InputError, Outcome, audit_texts, certify_texts, check_texts, plan_texts, replay_texts,
-    table_of_elf,
+    Found, audit_texts, certify_texts, check_texts, plan_texts, replay_texts, table_of_elf,
 };
 
 /// What the source of the root assigns.
@@ -36,12 +35,7 @@ pub fn listed<F: Files>(alloc: Global, root: &str, files: &mut F) -> Answer
 }
 
 /// Why the source of the root assigns what is asked for.
-pub fn explained<F: Files>(
-    alloc: Global,
-    root: &str,
-    question: &Question<'_>,
-    files: &mut F,
-) -> Answer
+pub fn explained<F: Files>(alloc: Global, root: &str, question: &Question, files: &mut F) -> Answer
     ensures kept { KeepsFiles F.told F.faults files.old files.new }
     ensures learned { LearnsOnly F.told (AlikeInSource root.now) files.old files.new }
     ensures fits { InAll (F.told files.new) (λ m. FitsExplained
@@ -148,7 +142,7 @@ pub fn planned<F: Files>(alloc: Global, cdl: &str, untypeds: &str, files: &mut F
 }
 
 /// The answer of a command over texts.
-fn told(found: Result<Outcome, InputError>) -> Answer
+fn told(found: Found) -> Answer
     ensures { result ≡ told found }
 {
     match found {

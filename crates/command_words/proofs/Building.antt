@@ -1,4 +1,5 @@
 -- What the builders of a command make of `app_of`.
+use Rattle.std.proofs.Common.{rules}
 use Rattle.command_words.proofs.Common.{AddsArg, AddsSubcommand, App, Bor, List, Rule, Shape, Text, [], ap, app_of, app_of_fields, ap₂, bare, false, get_or, leaf, length, map, new_app, new_rule, new_shape, rule_of, slot, sym, take, true, with_rule}
 use Rattle.command_words.proofs.Common.{with_subcommand, ℕ, ◌++◌, ◌+◌, ◌<◌, ◌∙◌, ◌∷◌, ◌≡◌}
 use Rattle.std.proofs.lemmas.List.{take_more, map-append}
@@ -29,9 +30,7 @@ pub slot_added : (old new : Command) (a : Arg) (name : Text) (slots : List (Bor 
     → rule_of a ≡ slot (get_or slots i d).now → i < length slots
     → app_of old ≡ record { top = leaf name (texts (take i slots)); subs = [] }
     → app_of new ≡ record { top = leaf name (texts (take (i + 1) slots)); subs = [] }
-slot_added old new a name slots i d adds local rule lt before =
-    adds.shape local ∙ ap₂ with_rule before rule
-    ∙ ap (λ rs. record { top = record (new_shape name) { rules = rs }; subs = [] }) (rules_more slots i d lt)
+slot_added old new a name slots i d adds local rule lt before = search (rules, ap₂, rules_more)
 
 pub bare_app : (c₀ c₁ c₂ c₃ c₄ c₅ : Command) → app_of c₀ ≡ new_app (Rattle.std.specs.Prelude.codes "camkes")
     → fields_of c₁ ≡ record (fields_of c₀) { no_binary_name = true }

@@ -1,4 +1,5 @@
 -- What `clap` makes of the first word, which names a command.
+use Rattle.std.proofs.Common.{rules}
 use Rattle.command_words.proofs.Common.{App, Bool, IsUtf8, Kinds, List, Names, None, Option, Row, Shape, Some, Text, Walk, [], and-false, answers_to, ap, ap₂, bare, built_fault, bytes_eq, bytes_eq-Decides, check_fault, codes, entered, entered_fault}
 use Rattle.command_words.proofs.Common.{false, find, finished, fold, idle, is_empty, is_some, label_of, level_fault, list_all, map, nothing_held, option_map, or-false, or_else, refl, rows_after, rows_at, settle_fault, settled, stop_after}
 use Rattle.command_words.proofs.Common.{subcommand_met, sym, true, turn_fault, walk, walk_from, walk_stopped, ◌||◌, ◌∙◌, ◌∷◌, ◌≡◌}
@@ -34,13 +35,7 @@ module _ (subs : List Shape) (name : Text) where
   met o e = sym (label_first name subs) ∙ ap (option_map (λ (s : Shape). s.name)) e
 
   its_name : (s : Shape) → list_all has_no_alias subs ≡ true → named name subs ≡ Some s → s.name ≡ name
-  its_name s plain e =
-      let none : s.aliases ≡ [] = is_nil s.aliases (find_passes (λ s. answers_to name (label_of s)) has_no_alias subs
-      s plain e) in
-      let hit : answers_to name (s.name, s.aliases) ≡ true = found_passes (λ s. answers_to name (label_of s)) subs s e in
-      let same : answers_to name (s.name, s.aliases) ≡ (bytes_eq s.name name || false) =
-      ap (λ (xs : List Text). answers_to name (s.name, xs)) none in
-      (bytes_eq-Decides s.name name).0 (sym (or-false (bytes_eq s.name name)) ∙ (sym same ∙ hit))
+  its_name s plain e = search (rules, is_nil, find_passes, found_passes, bytes_eq-Decides, or-false)
 
   walk_met : (s : Shape) → named name subs ≡ Some s → (rest : List Text)
       → ◌≡◌ {A = Walk} (walk [] names nothing_held (name ∷ rest))

@@ -1,4 +1,5 @@
 -- What `clap` makes of the words after a command, of which each argument takes one word.
+use Rattle.std.proofs.Common.{rules}
 use Rattle.command_words.proofs.Common.{Bool, Held, IsCharBoundary-after_ascii, IsUtf8, IsUtf8-drop, Kinds, List, None, Option, Row, Rule, Shape, Some, Text, UnknownArgument, Walk, [], and-false, ap, ap₂, arg_by_index, arg_by_long, arg_by_short}
 use Rattle.command_words.proofs.Common.{arith, bytes_eq, bytes_eq-Decides, chars, check_fault, codes, cond, defaults_fault, encodes-chars, false, find, finished, fold, idle, inl, inr, is_dashed, is_multiple, is_pending, is_some, length, level_fault}
 use Rattle.command_words.proofs.Common.{list_all, min, not, nothing_held, option_map, or-false, or_else, positional_fault, refl, rows_after, same_Some, settle_fault, settled, settled_rows, slice_get, stray_fault, subst, sym, taken, takes_several}
@@ -55,12 +56,7 @@ AreTexts (w ∷ ws) = IsUtf8 w × AreTexts ws
 
 plain_long : (w : Text) → is_dashed w ≡ false → long_of w ≡ None
 plain_long [] e = refl
-plain_long (b ∷ []) e = elim (b == 45) as (λ v. Rattle.std.specs.Prelude.option_and_then Rattle.clap.specs.Lexer.long_of_rest
-    (Rattle.std.specs.Prelude.option_and_then (Rattle.clap.specs.Lexer.strip_byte 45) (cond v (Some []) None)) ≡ None) [
-      | true ↦
-          refl
-      | false ↦ refl
-    ]
+plain_long (b ∷ []) e = search (rules)
 plain_long (b ∷ c ∷ rest) e = rw e refl
 
 plain_short : (w : Text) → is_dashed w ≡ false → short_of w ≡ None
@@ -92,11 +88,7 @@ dash_word (b ∷ c ∷ rest) u d e = go (c == 45) rest refl u d
   where
     go : (v : Bool) (more : Text) → (c == 45) ≡ v → IsUtf8 (b ∷ c ∷ more) → bytes_eq (b ∷ c ∷ more) dashes ≡ false
         → DashWord (b ∷ c ∷ more)
-    go true [] is u d =
-        let first : b ≡ 45 = (Decides-eqb b 45).0 e in
-        let second : c ≡ 45 = (Decides-eqb c 45).0 is in
-        let all : b ∷ c ∷ [] ≡ dashes = ap₂ (λ x y. x ∷ y ∷ []) first second in
-        absurd (true≢false (sym ((bytes_eq-Decides (b ∷ c ∷ []) dashes).1 all) ∙ d))
+    go true [] is u d = search (rules, ap₂, bytes_eq-Decides)
     go true (x ∷ xs) is u d = inl (name_and_value (x ∷ xs), rw (e, is) refl)
     go false more is u d =
         let ascii : b ≡ 45 = (Decides-eqb b 45).0 e in
@@ -281,10 +273,7 @@ module _ (s : Shape) (slots : has_slots s ≡ true) where
           → cond a (Some ws) (cond b None (option_map (λ more. w ∷ more) o)) ≡ None
           → passes (walk_fault s [] (at rows pending p false) (w ∷ ws)) ≡ false
       go true b o is_d is_b rest e = absurd (some≢none ws e)
-      go false true o is_d is_b rest e =
-          ap (λ k. passes k) (turn_then w (at rows pending p false) ws
-          ∙ ap (λ t. or_else t (walk_fault s [] (walked c [] (at rows pending p false) w) ws))
-          (flag_fails w rows pending p u.0 is_d is_b))
+      go false true o is_d is_b rest e = search (rules, turn_then, flag_fails)
       go false false None is_d is_b rest e = step_fails w rows pending p ws is_d is_b (rest refl)
       go false false (Some vs) is_d is_b rest e = absurd (some≢none _ e)
 
@@ -316,7 +305,4 @@ module _ (s : Shape) (slots : has_slots s ≡ true) where
     where
       go : (b : Bool) → is_dashed w ≡ b → passes (turn_fault s [] (walk_from nothing_held) w) ≡ false
       go true e = ap (λ k. passes k) (flag_fails w [] None 1 u d e)
-      go false e = ap (λ k. passes k) (turn_plain w [] None 1 d e)
-          ∙ ap (λ o. passes (option_map_or (λ a. positional_fault c s.args_override_self a (held [] None)) o (stray_fault s)))
-          none
-          ∙ not-true _ stray
+      go false e = search (rules, turn_plain, not-true)

@@ -5,11 +5,11 @@ ghost use Rattle.policy_text.specs.EdgeLines.{edge_line, name_of, words_line};
 ghost use Rattle.label_flow.specs.Told.{chain_text};
 ghost use Rattle.std.specs.Prelude.{◌≡◌, ◌++◌, [], IfOk, OnOk};
 
-use cam_base::{List, NoMemory};
+use cam_base::List;
 use cap_model::{Edge, Policy};
 use itoa::Buffer;
 use std::alloc::Global;
-use view_text::{add, join};
+use view_text::{Made, add, join};
 
 /// The name of the label of that number, empty where there is none.
 fn name_of(policy: &Policy, label: u32) -> &[u8]
@@ -22,13 +22,13 @@ fn name_of(policy: &Policy, label: u32) -> &[u8]
     }
 }
 
-fn add_words(text: &mut List<u8>, from: &[u8], authority: &[u8], to: &[u8]) -> Result<(), NoMemory>
+fn add_words(text: &mut List<u8>, from: &[u8], authority: &[u8], to: &[u8]) -> Made<()>
     ensures { OnOk result (text.new ≡ text.old ++ words_line [] from.now authority.now to.now) }
 {
     add(text, &[b"", from, b" ", authority, b" ", to, b"\n"])
 }
 
-fn add_edge(text: &mut List<u8>, policy: &Policy, edge: &Edge) -> Result<(), NoMemory>
+fn add_edge(text: &mut List<u8>, policy: &Policy, edge: &Edge) -> Made<()>
     requires { NumbersDiffer policy.now.labels }
     ensures { OnOk result (text.new ≡ text.old ++ edge_line [] policy.now.labels edge.now) }
 {
@@ -38,7 +38,7 @@ fn add_edge(text: &mut List<u8>, policy: &Policy, edge: &Edge) -> Result<(), NoM
 }
 
 /// The line that counts the edges of a chain, and their lines.
-pub fn chain_text(alloc: Global, policy: &Policy, chain: &[Edge]) -> Result<List<u8>, NoMemory>
+pub fn chain_text(alloc: Global, policy: &Policy, chain: &[Edge]) -> Made<List<u8>>
     requires { NumbersDiffer policy.now.labels }
     ensures { IfOk result (λ text. text ≡ chain_text policy.now.labels chain.now) }
 {

@@ -3,12 +3,12 @@
 ghost use Rattle.label_flow.specs.Edges.{AreBelow, turned};
 ghost use Rattle.std.specs.Prelude.{◌≡◌, ◌<◌, ◌≤◌, map, IfOk};
 
-use cam_base::NoMemory;
 use cap_model::{Edge, EdgeTable};
 use std::alloc::Global;
+use view_text::Made;
 
 /// The edges of a table, in order.
-pub fn listed(alloc: Global, table: &EdgeTable) -> Result<Vec<Edge>, NoMemory>
+pub fn listed(alloc: Global, table: &EdgeTable) -> Made<Vec<Edge>>
     ensures { IfOk result (λ edges. edges.items ≡ table.now) }
 {
     let mut edges = Vec::new(alloc);
@@ -19,7 +19,7 @@ pub fn listed(alloc: Global, table: &EdgeTable) -> Result<Vec<Edge>, NoMemory>
 }
 
 /// The edges of a table, each from the label that it goes to.
-pub fn all_turned(alloc: Global, table: &EdgeTable) -> Result<Vec<Edge>, NoMemory>
+pub fn all_turned(alloc: Global, table: &EdgeTable) -> Made<Vec<Edge>>
     ensures { IfOk result (λ edges. edges.items ≡ map turned table.now) }
 {
     let mut edges = Vec::new(alloc);

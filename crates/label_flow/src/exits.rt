@@ -4,10 +4,10 @@ ghost use Rattle.label_flow.specs.Edges.{AreBelow};
 ghost use Rattle.label_flow.specs.Exits.{more_exits, no_exits, AreExits};
 ghost use Rattle.std.specs.Prelude.{◌≡◌, ◌++◌, ◌∷◌, [], length, IfOk, OnOk};
 
-use cam_base::NoMemory;
 use cap_model::Edge;
 use std::alloc::Global;
 use std::marker::Model;
+use view_text::Made;
 
 /// The places of the edges at a label, among all edges.
 #[derive(Drop)]
@@ -24,7 +24,7 @@ impl Model for Exits {
 }
 
 impl Exits {
-    fn push(&mut self, place: usize) -> Result<(), NoMemory>
+    fn push(&mut self, place: usize) -> Made<()>
         ensures { OnOk result (self.new ≡ self.old ++ place ∷ []) }
     {
         self.places.push(place)?;
@@ -38,7 +38,7 @@ impl Exits {
     }
 }
 
-fn add(exits: &mut Vec<Exits>, label: u32, place: usize) -> Result<(), NoMemory>
+fn add(exits: &mut Vec<Exits>, label: u32, place: usize) -> Made<()>
     ensures { OnOk result (exits.new.items ≡ more_exits exits.old.items label place) }
 {
     let label = label as usize;
@@ -49,7 +49,7 @@ fn add(exits: &mut Vec<Exits>, label: u32, place: usize) -> Result<(), NoMemory>
     Ok(())
 }
 
-fn no_exits(alloc: Global, count: usize) -> Result<Vec<Exits>, NoMemory>
+fn no_exits(alloc: Global, count: usize) -> Made<Vec<Exits>>
     ensures { IfOk result (λ exits. exits.items ≡ no_exits count) }
 {
     let mut exits = Vec::new(alloc);
@@ -62,7 +62,7 @@ fn no_exits(alloc: Global, count: usize) -> Result<Vec<Exits>, NoMemory>
 }
 
 /// The edges at each label, whichever way something passes by them.
-pub fn all_exits(alloc: Global, edges: &[Edge], count: usize) -> Result<Vec<Exits>, NoMemory>
+pub fn all_exits(alloc: Global, edges: &[Edge], count: usize) -> Made<Vec<Exits>>
     requires { AreBelow count edges.now }
     ensures { IfOk result (λ exits. AreExits edges.now count (length edges.now) exits.items) }
 {

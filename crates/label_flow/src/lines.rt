@@ -6,18 +6,13 @@ ghost use Rattle.std.specs.List.{flat_map};
 ghost use Rattle.std.specs.Prelude.{◌≡◌, ◌++◌, IfOk, OnOk};
 
 use crate::{Sources, Upstream};
-use cam_base::{List, NoMemory, Text};
+use cam_base::List;
 use cap_model::Policy;
 use std::alloc::Global;
-use view_text::{add, join};
+use view_text::{Label, Made, add, join};
 
 /// The name of a label, where it is a source of another one.
-fn add_source(
-    text: &mut List<u8>,
-    sources: &Sources,
-    to: u32,
-    label: &(u32, Text),
-) -> Result<(), NoMemory>
+fn add_source(text: &mut List<u8>, sources: &Sources, to: u32, label: &Label) -> Made<()>
     ensures { OnOk result (text.new ≡ text.old ++ source_word (is_source sources.now) to label.now) }
 {
     let (number, name) = label;
@@ -28,12 +23,7 @@ fn add_source(
     }
 }
 
-fn add_sources(
-    text: &mut List<u8>,
-    sources: &Sources,
-    to: u32,
-    labels: &[(u32, Text)],
-) -> Result<(), NoMemory>
+fn add_sources(text: &mut List<u8>, sources: &Sources, to: u32, labels: &[Label]) -> Made<()>
     ensures { OnOk result (text.new ≡ text.old ++ flat_map (source_word (is_source sources.now) to) labels.now) }
 {
     for label in labels {
@@ -43,12 +33,7 @@ fn add_sources(
 }
 
 /// The name of a label, and those of its sources.
-fn source_line(
-    alloc: Global,
-    sources: &Sources,
-    labels: &[(u32, Text)],
-    label: &(u32, Text),
-) -> Result<List<u8>, NoMemory>
+fn source_line(alloc: Global, sources: &Sources, labels: &[Label], label: &Label) -> Made<List<u8>>
     ensures { IfOk result (λ line. line ≡ source_line labels.now (is_source sources.now) label.now) }
 {
     let (number, name) = label;
@@ -59,12 +44,7 @@ fn source_line(
 }
 
 /// The line of a label.
-fn line_of(
-    alloc: Global,
-    upstream: &Upstream,
-    labels: &[(u32, Text)],
-    label: &(u32, Text),
-) -> Result<List<u8>, NoMemory>
+fn line_of(alloc: Global, upstream: &Upstream, labels: &[Label], label: &Label) -> Made<List<u8>>
     ensures { IfOk result (IsLine upstream.now labels.now label.now) }
 {
     let sources = upstream.sources(alloc, label.0)?;
@@ -73,7 +53,7 @@ fn line_of(
 }
 
 /// For each label of a policy a line of those that can come to influence it. Takes time for the labels times the edges.
-pub fn flows_text(alloc: Global, policy: &Policy) -> Result<List<u8>, NoMemory>
+pub fn flows_text(alloc: Global, policy: &Policy) -> Made<List<u8>>
     ensures { IfOk result (AreLines policy.now.edges policy.now.labels policy.now.labels) }
 {
     let upstream = Upstream::of(alloc, &policy.edges)?;

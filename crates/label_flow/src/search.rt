@@ -7,9 +7,9 @@ ghost use Rattle.std.specs.Prelude.{◌≡◌, ◌<◌, ◌+◌, length, slice_g
 
 use crate::exits::Exits;
 use crate::passing::passed_to;
-use cam_base::NoMemory;
 use cap_model::Edge;
 use std::alloc::Global;
+use view_text::Made;
 
 /// A label that was found, by the edge at a place, from what stands at a place before it, and by how many edges in all.
 /// Where these are none, it is the label that the search began with, and the places mean nothing.
@@ -31,7 +31,7 @@ pub struct Search {
 
 impl Search {
     /// Puts a label behind all others, unless it was found before.
-    fn meet(&mut self, next: Found) -> Result<(), NoMemory>
+    fn meet(&mut self, next: Found) -> Made<()>
         requires { next.label < length self.old.places.items }
         ensures found { OnOk result (self.new.found.items
             ≡ met_found self.old.places.items self.old.found.items next) }
@@ -48,7 +48,7 @@ impl Search {
     }
 }
 
-fn nowhere(alloc: Global, count: usize) -> Result<Vec<Option<usize>>, NoMemory>
+fn nowhere(alloc: Global, count: usize) -> Made<Vec<Option<usize>>>
     ensures { IfOk result (λ places. places.items ≡ blank count) }
 {
     let mut places = Vec::new(alloc);
@@ -59,7 +59,7 @@ fn nowhere(alloc: Global, count: usize) -> Result<Vec<Option<usize>>, NoMemory>
 }
 
 /// Only the label that the search begins with is found.
-fn begin(alloc: Global, edges: &[Edge], count: usize, from: u32) -> Result<Search, NoMemory>
+fn begin(alloc: Global, edges: &[Edge], count: usize, from: u32) -> Made<Search>
     requires { from < count }
     ensures { IfOk result (λ s. Searches edges.now from count s 0) }
 {
@@ -80,7 +80,7 @@ fn begin(alloc: Global, edges: &[Edge], count: usize, from: u32) -> Result<Searc
 }
 
 /// Looks at every edge at the label found at a place.
-fn look(edges: &[Edge], exits: &[Exits], search: &mut Search, at: usize) -> Result<(), NoMemory>
+fn look(edges: &[Edge], exits: &[Exits], search: &mut Search, at: usize) -> Made<()>
     requires search { Searches edges.now search.old.from (length search.old.places.items) search.old at }
     requires below { AreBelow (length search.old.places.items) edges.now }
     requires exits { AreExits edges.now (length search.old.places.items) (length edges.now) exits.now }
@@ -112,7 +112,7 @@ pub fn find_all(
     exits: &[Exits],
     count: usize,
     from: u32,
-) -> Result<Search, NoMemory>
+) -> Made<Search>
     requires below { AreBelow count edges.now }
     requires exits { AreExits edges.now count (length edges.now) exits.now }
     requires from { from < count }

@@ -9,10 +9,10 @@ ghost use Rattle.std.specs.Prelude.{◌≡◌, map, length, IfOk};
 use crate::edges::{all_turned, count_of};
 use crate::exits::{Exits, all_exits};
 use crate::search::find_all;
-use cam_base::NoMemory;
 use cap_model::{Edge, EdgeTable};
 use std::alloc::Global;
 use std::marker::Model;
+use view_text::Made;
 
 /// The labels that can come to influence a label: this label itself, and those that have a place.
 #[derive(Drop)]
@@ -60,7 +60,7 @@ impl Model for Upstream {
 
 impl Upstream {
     /// The edges of a table.
-    pub fn of(alloc: Global, table: &EdgeTable) -> Result<Upstream, NoMemory>
+    pub fn of(alloc: Global, table: &EdgeTable) -> Made<Upstream>
         ensures { IfOk result (λ upstream. upstream ≡ table.now) }
     {
         let edges = all_turned(alloc, table)?;
@@ -74,7 +74,7 @@ impl Upstream {
     }
 
     /// The labels from which something can come to a label, by chains of edges. Looks at each edge at most twice.
-    pub fn sources(&self, alloc: Global, to: u32) -> Result<Sources, NoMemory>
+    pub fn sources(&self, alloc: Global, to: u32) -> Made<Sources>
         ensures { IfOk result (λ sources. AreSources self.now to (is_source sources)) }
     {
         if to as usize >= self.count {

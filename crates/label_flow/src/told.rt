@@ -4,9 +4,10 @@ ghost use Rattle.std.specs.Prelude.{IfOk};
 
 use crate::chains::chain_text;
 use crate::flow;
-use cam_base::{List, NoMemory};
+use cam_base::List;
 use cap_model::Policy;
 use std::alloc::Global;
+use view_text::Made;
 
 /// What is told of two labels of a policy.
 #[derive(Drop)]
@@ -22,7 +23,7 @@ pub enum Told {
 }
 
 /// A shortest chain of edges by which something can pass from one label to another, as lines.
-pub fn tell_flow(alloc: Global, policy: &Policy, from: &[u8], to: &[u8]) -> Result<Told, NoMemory>
+pub fn tell_flow(alloc: Global, policy: &Policy, from: &[u8], to: &[u8]) -> Made<Told>
     requires { NumbersDiffer policy.now.labels }
     ensures { IfOk result (IsTold policy.now from.now to.now) }
 {

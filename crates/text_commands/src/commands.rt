@@ -5,12 +5,13 @@ ghost use Rattle.std.specs.Prelude.{[], ◌∷◌};
 ghost use Rattle.text_commands.specs.Commands.{IsAudited, IsCertified, IsChecked, IsPlanned, IsRun, IsTabled};
 ghost use Rattle.text_commands.specs.Inputs.{AlikeAsRead, AlikeInInputs};
 
+use crate::Outcome;
 use crate::decisions::{audit_system, certify_system, plan_system};
+use crate::fault::Found;
 use crate::replay::replay;
 use crate::turns::{
     label_system, read_edges, read_image, read_labels, read_regions, read_run, read_system,
 };
-use crate::{InputError, Outcome};
 use cam_io::Files;
 use cert_check::check;
 use policy_text::Names;
@@ -23,7 +24,7 @@ pub fn check_texts<F: Files>(
     cdl: &str,
     policy: &str,
     cert: &str,
-) -> Result<Outcome, InputError>
+) -> Found
     ensures kept { KeepsFiles F.told F.faults files.old files.new }
     ensures learned { LearnsOnly F.told (AlikeInInputs (cdl.now ∷ policy.now ∷ cert.now ∷ [])) files.old files.new }
     ensures checked { InAll (F.told files.new) (λ m. IsChecked m (F.faults files.old) (F.faults files.new) cdl.now policy.now
@@ -47,7 +48,7 @@ pub fn replay_texts<F: Files>(
     cdl: &str,
     policy: &str,
     steps: &str,
-) -> Result<Outcome, InputError>
+) -> Found
     ensures kept { KeepsFiles F.told F.faults files.old files.new }
     ensures learned { LearnsOnly F.told (AlikeInInputs (cdl.now ∷ policy.now ∷ steps.now ∷ [])) files.old files.new }
     ensures ran { InAll (F.told files.new) (λ m. IsRun m (F.faults files.old) (F.faults files.new) cdl.now policy.now
@@ -65,11 +66,7 @@ pub fn replay_texts<F: Files>(
 }
 
 /// The section table of an ELF file.
-pub fn table_of_elf<F: Files>(
-    alloc: Global,
-    files: &mut F,
-    elf: &str,
-) -> Result<Outcome, InputError>
+pub fn table_of_elf<F: Files>(alloc: Global, files: &mut F, elf: &str) -> Found
     ensures kept { KeepsFiles F.told F.faults files.old files.new }
     ensures learned { LearnsOnly F.told (AlikeAsRead elf.now) files.old files.new }
     ensures tabled { InAll (F.told files.new) (λ m. IsTabled m (F.faults files.old) (F.faults files.new) elf.now result) }
@@ -79,12 +76,7 @@ pub fn table_of_elf<F: Files>(
 }
 
 /// The edges that runs of the capDL's system reach, with steps that show each.
-pub fn audit_texts<F: Files>(
-    alloc: Global,
-    files: &mut F,
-    cdl: &str,
-    policy: &str,
-) -> Result<Outcome, InputError>
+pub fn audit_texts<F: Files>(alloc: Global, files: &mut F, cdl: &str, policy: &str) -> Found
     ensures kept { KeepsFiles F.told F.faults files.old files.new }
     ensures learned { LearnsOnly F.told (AlikeInInputs (cdl.now ∷ policy.now ∷ [])) files.old files.new }
     ensures audited { InAll (F.told files.new) (λ m. IsAudited m (F.faults files.old) (F.faults files.new) cdl.now policy.now
@@ -97,12 +89,7 @@ pub fn audit_texts<F: Files>(
 }
 
 /// The least certificate of the capDL's system.
-pub fn certify_texts<F: Files>(
-    alloc: Global,
-    files: &mut F,
-    cdl: &str,
-    policy: &str,
-) -> Result<Outcome, InputError>
+pub fn certify_texts<F: Files>(alloc: Global, files: &mut F, cdl: &str, policy: &str) -> Found
     ensures kept { KeepsFiles F.told F.faults files.old files.new }
     ensures learned { LearnsOnly F.told (AlikeInInputs (cdl.now ∷ policy.now ∷ [])) files.old files.new }
     ensures certified { InAll (F.told files.new) (λ m. IsCertified m (F.faults files.old) (F.faults files.new) cdl.now policy.now
@@ -115,12 +102,7 @@ pub fn certify_texts<F: Files>(
 }
 
 /// Places of the objects of the capDL's system in regions of untyped memory.
-pub fn plan_texts<F: Files>(
-    alloc: Global,
-    files: &mut F,
-    cdl: &str,
-    untypeds: &str,
-) -> Result<Outcome, InputError>
+pub fn plan_texts<F: Files>(alloc: Global, files: &mut F, cdl: &str, untypeds: &str) -> Found
     ensures kept { KeepsFiles F.told F.faults files.old files.new }
     ensures learned { LearnsOnly F.told (AlikeInInputs (cdl.now ∷ untypeds.now ∷ [])) files.old files.new }
     ensures planned { InAll (F.told files.new) (λ m. IsPlanned m (F.faults files.old) (F.faults files.new) cdl.now untypeds.now

@@ -5,8 +5,9 @@ ghost use Rattle.cap_model.specs.Kept.{IsKept};
 ghost use Rattle.std.specs.Prelude.{◌≡◌, ◌≤◌, length, true};
 ghost use Rattle.text_commands.specs.Decisions.{IsAudit, IsCertificateOf, IsPlan};
 
+use crate::fault::Found;
 use crate::hindered::{refuse_audit, refuse_close, refuse_plan};
-use crate::{InputError, KeptSpec, Outcome};
+use crate::{KeptSpec, Outcome};
 use boot_plan::{Untyped, plan};
 use cap_audit::audit;
 use cap_model::{Labels, Spec};
@@ -15,13 +16,7 @@ use policy_text::Names;
 use std::alloc::Global;
 
 /// The edges that runs of a system reach, with steps that show each, or the refusal, told of the capDL's file.
-pub fn audit_system(
-    alloc: Global,
-    cdl: &str,
-    spec: Spec,
-    labels: &Labels,
-    names: Names,
-) -> Result<Outcome, InputError>
+pub fn audit_system(alloc: Global, cdl: &str, spec: Spec, labels: &Labels, names: Names) -> Found
     requires kept { IsKept spec }
     requires labelled { length labels.now.by_object ≡ length spec.entries }
     ensures { IsAudit cdl.now spec labels.now.by_object names result }
@@ -41,12 +36,7 @@ pub fn audit_system(
 }
 
 /// The least certificate of a system, or the refusal, told of the capDL's file.
-pub fn certify_system(
-    alloc: Global,
-    cdl: &str,
-    spec: &Spec,
-    labels: &Labels,
-) -> Result<Outcome, InputError>
+pub fn certify_system(alloc: Global, cdl: &str, spec: &Spec, labels: &Labels) -> Found
     requires { length labels.now.by_object ≡ length spec.now.entries }
     ensures { IsCertificateOf cdl.now spec.now labels.now.by_object result }
 {
@@ -67,7 +57,7 @@ pub fn plan_system(
     untypeds: &str,
     spec: Spec,
     regions: &[Untyped],
-) -> Result<Outcome, InputError>
+) -> Found
     requires kept { IsKept spec }
     requires few { length regions.now ≤ 4096 }
     requires sound { are_regions regions.now ≡ true }

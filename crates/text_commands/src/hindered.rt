@@ -5,6 +5,7 @@ ghost use Rattle.text_commands.specs.Decisions.{hindered, tell_audit, tell_close
 ghost use Rattle.text_commands.specs.Inputs.{IsErrorFor, IsErrorOf};
 ghost use Rattle.cam_base.specs.declared.error.Unread.TheVariants.{NoMemory as InputNoMemory};
 
+use crate::fault::Made;
 use crate::input::in_file;
 use crate::{Hindrance, InputCode, InputError, InputFault};
 use boot_plan::PlanRefusal;
@@ -16,7 +17,7 @@ use least_cert::CloseError;
 use std::alloc::Global;
 
 /// Two words, with a space between them.
-fn words(alloc: Global, first: &[u8], second: &[u8]) -> Result<Text, NoMemory>
+fn words(alloc: Global, first: &[u8], second: &[u8]) -> Made<Text>
     ensures { IfOk result (λ text. text ≡ words first.now second.now) }
 {
     let mut text = first.to_vec(alloc)?;
@@ -26,7 +27,7 @@ fn words(alloc: Global, first: &[u8], second: &[u8]) -> Result<Text, NoMemory>
 }
 
 /// Two numbers in decimal, with a space between them.
-fn numbers(alloc: Global, first: u64, second: u64) -> Result<Text, NoMemory>
+fn numbers(alloc: Global, first: u64, second: u64) -> Made<Text>
     ensures { IfOk result (λ text. text ≡ words (decimal first) (decimal second)) }
 {
     let (mut front, mut back) = (Buffer::new(), Buffer::new());
@@ -38,7 +39,7 @@ fn numbers(alloc: Global, first: u64, second: u64) -> Result<Text, NoMemory>
 }
 
 /// Three numbers in decimal, with spaces between them.
-fn three_numbers(alloc: Global, first: u8, second: u64, third: u64) -> Result<Text, NoMemory>
+fn three_numbers(alloc: Global, first: u8, second: u64, third: u64) -> Made<Text>
     ensures { IfOk result (λ text. text ≡ words (decimal first) (words (decimal second) (decimal third))) }
 {
     let rest = numbers(alloc, second, third)?;
@@ -47,12 +48,7 @@ fn three_numbers(alloc: Global, first: u8, second: u64, third: u64) -> Result<Te
 }
 
 /// What hinders, told of a whole file.
-fn hindered(
-    alloc: Global,
-    file: &str,
-    hindrance: Hindrance,
-    name: Result<Text, NoMemory>,
-) -> InputError
+fn hindered(alloc: Global, file: &str, hindrance: Hindrance, name: Made<Text>) -> InputError
     ensures named { IfOk name (λ name. IsErrorOf (hindered hindrance name) file.now result) }
     ensures none { IfErr name (λ _. result ≡ InputNoMemory) }
 {

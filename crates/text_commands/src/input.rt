@@ -3,6 +3,7 @@ ghost use Rattle.cam_io.specs.Reading.{InAll, KeepsFiles, LearnsOnly};
 ghost use Rattle.text_commands.specs.Codes.{tell_elf, tell_text, tell_untyped};
 ghost use Rattle.text_commands.specs.Inputs.{AlikeAsRead, IsErrorOf, IsInput, IsReadFaultOf, IsRefusalOf, of_file};
 
+use crate::fault::Given;
 use crate::{InputCode, InputError, InputFault};
 use boot_plan::UntypedFault;
 use cam_base::{NoMemory, Refused, Text, TextCode, TextFault, Unread};
@@ -18,11 +19,7 @@ const MOST_BYTES: u64 = 67_108_864;
 /// # Errors
 ///
 /// That it is absent or too long, that a read failed, or want of memory.
-pub fn see_input<F: Files>(
-    alloc: Global,
-    files: &mut F,
-    name: &str,
-) -> Result<FileBytes, InputError>
+pub fn see_input<F: Files>(alloc: Global, files: &mut F, name: &str) -> Given<FileBytes>
     ensures kept { KeepsFiles F.told F.faults files.old files.new }
     ensures learned { LearnsOnly F.told (AlikeAsRead name.now) files.old files.new }
     ensures input { InAll (F.told files.new) (λ m. IsInput m (F.faults files.old) (F.faults files.new) name.now

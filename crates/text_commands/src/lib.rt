@@ -22,11 +22,11 @@ pub use code::{Hindrance, InputCode};
 pub use commands::{
     audit_texts, certify_texts, check_texts, plan_texts, replay_texts, table_of_elf,
 };
-pub use fault::{InputError, InputFault};
+pub use fault::{Found, Given, InputError, InputFault};
 pub use kept::KeptSpec;
 pub use laws::{
     answers_are_one, audits_are_replayed, certificates_are_read_back, tables_are_read_back,
 };
-pub use lines::{write_code, write_fault, write_place};
+pub use lines::{Written, write_code, write_fault, write_place};
 pub use outcome::Outcome;
 pub use replay::Replayed;

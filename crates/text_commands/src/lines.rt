@@ -15,6 +15,9 @@ use itoa::Buffer;
 use policy_text::{Names, write_edge, write_edges};
 use step_text::write_step_lines;
 
+/// Whether lines were written whole.
+pub type Written = Result<(), Failed>;
+
 fn space_before(name: &[u8]) -> &[u8]
     ensures { result.now ≡ space_before name.now }
 {
@@ -22,12 +25,7 @@ fn space_before(name: &[u8]) -> &[u8]
 }
 
 /// Writes the line of a fault to an open channel. After a failure the channel has a front of it.
-pub fn write_fault<O: Outputs>(
-    file: &[u8],
-    fault: &InputFault,
-    out: &mut O,
-    channel: u8,
-) -> Result<(), Failed>
+pub fn write_fault<O: Outputs>(file: &[u8], fault: &InputFault, out: &mut O, channel: u8) -> Written
     requires { IsOpen (O.sink out.old) channel }
     ensures { Writes result channel (fault_line file.now fault.now) (O.sink out.old) (O.sink out.new) (O.faults out.old)
         (O.faults out.new) }
@@ -81,7 +79,7 @@ pub fn write_refusal<O: Outputs>(
     names: &Names,
     out: &mut O,
     channel: u8,
-) -> Result<(), Failed>
+) -> Written
     requires { IsOpen (O.sink out.old) channel }
     ensures { Writes result channel (refusal_text names.now rule have.now lack.now) (O.sink out.old) (O.sink out.new)
         (O.faults out.old) (O.faults out.new) }
@@ -101,7 +99,7 @@ pub fn write_run<O: Outputs>(
     names: &Names,
     out: &mut O,
     channel: u8,
-) -> Result<(), Failed>
+) -> Written
     requires { IsOpen (O.sink out.old) channel }
     ensures { Writes result channel (run_text names.now count edges.now) (O.sink out.old) (O.sink out.new) (O.faults out.old)
         (O.faults out.new) }
@@ -147,12 +145,7 @@ fn number_text(number: Option<u64>, buffer: &mut Buffer) -> &[u8]
 }
 
 /// Writes that a step is illegal, and why.
-pub fn write_illegal<O: Outputs>(
-    number: u64,
-    why: Why,
-    out: &mut O,
-    channel: u8,
-) -> Result<(), Failed>
+pub fn write_illegal<O: Outputs>(number: u64, why: Why, out: &mut O, channel: u8) -> Written
     requires { IsOpen (O.sink out.old) channel }
     ensures { Writes result channel (illegal_text number why) (O.sink out.old) (O.sink out.new) (O.faults out.old)
         (O.faults out.new) }
@@ -178,7 +171,7 @@ pub fn write_report<O: Outputs>(
     names: &Names,
     out: &mut O,
     channel: u8,
-) -> Result<(), Failed>
+) -> Written
     requires { IsOpen (O.sink out.old) channel }
     ensures { Writes result channel (report_text names.now spec.now report.now) (O.sink out.old) (O.sink out.new)
         (O.faults out.old) (O.faults out.new) }

@@ -4,9 +4,9 @@ ghost use Rattle.text_commands.specs.Outcomes.{is_well, text_of};
 
 use crate::Replayed;
 use crate::kept::KeptSpec;
-use crate::lines::{write_illegal, write_refusal, write_report, write_run};
+use crate::lines::{Written, write_illegal, write_refusal, write_report, write_run};
 use boot_plan::{BootPlan, write_plan};
-use cam_io::{Failed, Outputs, write_all};
+use cam_io::{Outputs, write_all};
 use cap_audit::AuditReport;
 use cap_model::{EdgeTable, Spec};
 use cert_check::Verdict;
@@ -63,7 +63,7 @@ impl Outcome {
     }
 
     /// Writes what there is to say to an open channel. Takes no memory.
-    pub fn write<O: Outputs>(&self, out: &mut O, channel: u8) -> Result<(), Failed>
+    pub fn write<O: Outputs>(&self, out: &mut O, channel: u8) -> Written
         requires { IsOpen (O.sink out.old) channel }
         ensures { Writes result channel (text_of self.now) (O.sink out.old) (O.sink out.new) (O.faults out.old)
             (O.faults out.new) }

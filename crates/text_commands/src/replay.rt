@@ -4,6 +4,7 @@ ghost use Rattle.cap_model.specs.Kept.{IsKept};
 ghost use Rattle.std.specs.Prelude.{◌≡◌, ◌<◌, ◌-◌, ◌^◌, IfOk, length};
 ghost use Rattle.text_commands.specs.Replays.{IsReplayed};
 
+use crate::fault::Made;
 use cam_base::NoMemory;
 use cap_machine::{Step, StepError, Why, authorities, boot};
 use cap_model::{EdgeTable, Labels, Spec};
@@ -19,12 +20,7 @@ pub enum Replayed {
 }
 
 /// Makes the steps from boot on, until one is illegal.
-pub fn replay(
-    alloc: Global,
-    spec: &Spec,
-    labels: &Labels,
-    steps: &[Step],
-) -> Result<Replayed, NoMemory>
+pub fn replay(alloc: Global, spec: &Spec, labels: &Labels, steps: &[Step]) -> Made<Replayed>
     requires kept { IsKept spec.now }
     requires labelled { length labels.now.by_object ≡ length spec.now.entries }
     requires few { length steps.now < 2 ^ 32 - 1 }

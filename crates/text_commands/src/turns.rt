@@ -10,7 +10,7 @@ ghost use Rattle.text_commands.specs.Codes.{tell_text};
 ghost use Rattle.text_commands.specs.Commands.{AreRegions, AreSteps, IsCert, IsImage, IsPolicy, IsSystem};
 ghost use Rattle.text_commands.specs.Inputs.{AlikeAsRead, IsTold};
 
-use crate::InputError;
+use crate::fault::Given;
 use crate::input::{refuse_elf, refuse_text, refuse_untyped, see_input};
 use boot_plan::{Untyped, read_untypeds};
 use cam_base::{List, Name, Unread};
@@ -24,7 +24,7 @@ use std::alloc::Global;
 use step_text::read_steps;
 
 /// The system of a capDL file.
-pub fn read_system<F: Files>(alloc: Global, files: &mut F, file: &str) -> Result<Spec, InputError>
+pub fn read_system<F: Files>(alloc: Global, files: &mut F, file: &str) -> Given<Spec>
     ensures kept { KeepsFiles F.told F.faults files.old files.new }
     ensures learned { LearnsOnly F.told (AlikeAsRead file.now) files.old files.new }
     ensures system { InAll (F.told files.new) (λ m. IsSystem m (F.faults files.old) (F.faults files.new) file.now result) }
@@ -38,7 +38,7 @@ pub fn read_system<F: Files>(alloc: Global, files: &mut F, file: &str) -> Result
 }
 
 /// The policy of a file.
-pub fn read_labels<F: Files>(alloc: Global, files: &mut F, file: &str) -> Result<Policy, InputError>
+pub fn read_labels<F: Files>(alloc: Global, files: &mut F, file: &str) -> Given<Policy>
     ensures kept { KeepsFiles F.told F.faults files.old files.new }
     ensures learned { LearnsOnly F.told (AlikeAsRead file.now) files.old files.new }
     ensures policy { InAll (F.told files.new) (λ m. IsPolicy m (F.faults files.old) (F.faults files.new) file.now result) }
@@ -57,7 +57,7 @@ pub fn read_edges<F: Files>(
     files: &mut F,
     file: &str,
     policy: &Policy,
-) -> Result<EdgeTable, InputError>
+) -> Given<EdgeTable>
     ensures kept { KeepsFiles F.told F.faults files.old files.new }
     ensures learned { LearnsOnly F.told (AlikeAsRead file.now) files.old files.new }
     ensures edges { InAll (F.told files.new) (λ m. IsCert m (F.faults files.old) (F.faults files.new) policy.now file.now
@@ -76,7 +76,7 @@ pub fn read_run<F: Files>(
     files: &mut F,
     file: &str,
     spec: &Spec,
-) -> Result<List<Step>, InputError>
+) -> Given<List<Step>>
     requires { length spec.now.entries < 2 ^ 32 }
     ensures kept { KeepsFiles F.told F.faults files.old files.new }
     ensures learned { LearnsOnly F.told (AlikeAsRead file.now) files.old files.new }
@@ -92,7 +92,7 @@ pub fn read_run<F: Files>(
 }
 
 /// The image of an ELF file.
-pub fn read_image<F: Files>(alloc: Global, files: &mut F, file: &str) -> Result<Image, InputError>
+pub fn read_image<F: Files>(alloc: Global, files: &mut F, file: &str) -> Given<Image>
     ensures kept { KeepsFiles F.told F.faults files.old files.new }
     ensures learned { LearnsOnly F.told (AlikeAsRead file.now) files.old files.new }
     ensures image { InAll (F.told files.new) (λ m. IsImage m (F.faults files.old) (F.faults files.new) file.now result) }
@@ -109,11 +109,7 @@ pub fn read_image<F: Files>(alloc: Global, files: &mut F, file: &str) -> Result<
 }
 
 /// The regions of untyped memory of a file.
-pub fn read_regions<F: Files>(
-    alloc: Global,
-    files: &mut F,
-    file: &str,
-) -> Result<List<Untyped>, InputError>
+pub fn read_regions<F: Files>(alloc: Global, files: &mut F, file: &str) -> Given<List<Untyped>>
     ensures kept { KeepsFiles F.told F.faults files.old files.new }
     ensures learned { LearnsOnly F.told (AlikeAsRead file.now) files.old files.new }
     ensures regions { InAll (F.told files.new) (λ m. AreRegions m (F.faults files.old) (F.faults files.new) file.now result) }
@@ -128,12 +124,7 @@ pub fn read_regions<F: Files>(
 }
 
 /// The labels of a system's objects, as the policy of a file gives them.
-pub fn label_system(
-    alloc: Global,
-    file: &str,
-    spec: &Spec,
-    policy: &Policy,
-) -> Result<Labels, InputError>
+pub fn label_system(alloc: Global, file: &str, spec: &Spec, policy: &Policy) -> Given<Labels>
     ensures labels { IsTold tell_text file.now (IsLabelling spec.now policy.now) result }
     ensures each { IfOk result (λ labels. length labels.by_object ≡ length spec.now.entries) }
 {

@@ -4,12 +4,13 @@ ghost use Rattle.std.specs.Prelude.{◌≡◌, ◌++◌, IfOk, OnOk};
 ghost use Rattle.view_text.specs.Graphs.{arrow_line, arrow_lines, graph_of, node_line, note_at, quoted, quoted_byte};
 
 use crate::texts::add;
-use cam_base::{List, NoMemory, Text};
+use crate::{Label, Made};
+use cam_base::{List, Text};
 use cap_model::{Edge, EdgeTable, Policy};
 use itoa::Buffer;
 use std::alloc::Global;
 
-fn add_quoted_byte(text: &mut List<u8>, byte: u8) -> Result<(), NoMemory>
+fn add_quoted_byte(text: &mut List<u8>, byte: u8) -> Made<()>
     ensures { OnOk result (text.new ≡ text.old ++ quoted_byte byte) }
 {
     match byte {
@@ -21,7 +22,7 @@ fn add_quoted_byte(text: &mut List<u8>, byte: u8) -> Result<(), NoMemory>
 }
 
 /// The text as it stands between quotes.
-pub(crate) fn quoted(alloc: Global, text: &[u8]) -> Result<List<u8>, NoMemory>
+pub(crate) fn quoted(alloc: Global, text: &[u8]) -> Made<List<u8>>
     ensures { IfOk result (λ q. q ≡ quoted text.now) }
 {
     let mut quoted = List::new(alloc);
@@ -31,7 +32,7 @@ pub(crate) fn quoted(alloc: Global, text: &[u8]) -> Result<List<u8>, NoMemory>
     Ok(quoted)
 }
 
-fn add_node(alloc: Global, text: &mut List<u8>, label: &(u32, Text)) -> Result<(), NoMemory>
+fn add_node(alloc: Global, text: &mut List<u8>, label: &Label) -> Made<()>
     ensures { OnOk result (text.new ≡ text.old ++ node_line label.now) }
 {
     let (number, name) = label;
@@ -41,7 +42,7 @@ fn add_node(alloc: Global, text: &mut List<u8>, label: &(u32, Text)) -> Result<(
     add(text, &[number, b" [label=\"", name.as_slice(), b"\"];\n"])
 }
 
-fn add_arrow(alloc: Global, text: &mut List<u8>, edge: &Edge, note: &[u8]) -> Result<(), NoMemory>
+fn add_arrow(alloc: Global, text: &mut List<u8>, edge: &Edge, note: &[u8]) -> Made<()>
     ensures { OnOk result (text.new ≡ text.old ++ arrow_line note.now edge.now) }
 {
     let note = quoted(alloc, note)?;
@@ -64,7 +65,7 @@ fn add_arrow(alloc: Global, text: &mut List<u8>, edge: &Edge, note: &[u8]) -> Re
     )
 }
 
-fn add_nodes(alloc: Global, text: &mut List<u8>, labels: &[(u32, Text)]) -> Result<(), NoMemory>
+fn add_nodes(alloc: Global, text: &mut List<u8>, labels: &[Label]) -> Made<()>
     ensures { OnOk result (text.new ≡ text.old ++ flat_map node_line labels.now) }
 {
     for label in labels {
@@ -83,12 +84,7 @@ pub fn note_at(notes: &[Text], at: usize) -> &[u8]
     }
 }
 
-fn add_arrows(
-    alloc: Global,
-    text: &mut List<u8>,
-    edges: &EdgeTable,
-    notes: &[Text],
-) -> Result<(), NoMemory>
+fn add_arrows(alloc: Global, text: &mut List<u8>, edges: &EdgeTable, notes: &[Text]) -> Made<()>
     ensures { OnOk result (text.new ≡ text.old ++ arrow_lines notes.now edges.now) }
 {
     for at in 0..edges.len() {
@@ -100,7 +96,7 @@ fn add_arrows(
 }
 
 /// A policy as a graph in Graphviz's language, each edge with the note at its place, where there is one.
-pub fn graph_of(alloc: Global, policy: &Policy, notes: &[Text]) -> Result<List<u8>, NoMemory>
+pub fn graph_of(alloc: Global, policy: &Policy, notes: &[Text]) -> Made<List<u8>>
     ensures { IfOk result (λ text. text ≡ graph_of policy.now notes.now) }
 {
     let mut text = List::from_slice(alloc, b"digraph policy {\n")?;

@@ -3,9 +3,10 @@ ghost use Rattle.std.specs.Prelude.{◌≡◌, ◌++◌, map, codes, OnOk};
 ghost use Rattle.view_text.specs.Html.{escaped, escaped_byte, table_of, table_row, tagged, whole_table};
 
 use crate::texts::add;
-use cam_base::{List, NoMemory, Text};
+use crate::{Made, Row};
+use cam_base::{List, Text};
 
-fn add_escaped_byte(text: &mut List<u8>, byte: u8) -> Result<(), NoMemory>
+fn add_escaped_byte(text: &mut List<u8>, byte: u8) -> Made<()>
     ensures { OnOk result (text.new ≡ text.old ++ escaped_byte byte) }
 {
     match byte {
@@ -19,7 +20,7 @@ fn add_escaped_byte(text: &mut List<u8>, byte: u8) -> Result<(), NoMemory>
 }
 
 /// Puts a text behind another, so that nothing in it is markup.
-pub fn add_escaped(text: &mut List<u8>, bytes: &[u8]) -> Result<(), NoMemory>
+pub fn add_escaped(text: &mut List<u8>, bytes: &[u8]) -> Made<()>
     ensures { OnOk result (text.new ≡ text.old ++ escaped bytes.now) }
 {
     for byte in bytes {
@@ -29,7 +30,7 @@ pub fn add_escaped(text: &mut List<u8>, bytes: &[u8]) -> Result<(), NoMemory>
 }
 
 /// Puts an element that holds a text behind a text.
-pub fn add_tagged(text: &mut List<u8>, tag: &[u8], bytes: &[u8]) -> Result<(), NoMemory>
+pub fn add_tagged(text: &mut List<u8>, tag: &[u8], bytes: &[u8]) -> Made<()>
     ensures { OnOk result (text.new ≡ text.old ++ tagged tag.now bytes.now) }
 {
     add(text, &[b"<", tag, b">"])?;
@@ -38,7 +39,7 @@ pub fn add_tagged(text: &mut List<u8>, tag: &[u8], bytes: &[u8]) -> Result<(), N
 }
 
 /// Puts the cells of a row of names behind a text.
-fn add_heads(text: &mut List<u8>, heads: &[&[u8]]) -> Result<(), NoMemory>
+fn add_heads(text: &mut List<u8>, heads: &[&[u8]]) -> Made<()>
     ensures { OnOk result (text.new ≡ text.old ++ flat_map (tagged (codes "th")) (map (λ h. h.now) heads.now)) }
 {
     for head in heads {
@@ -47,7 +48,7 @@ fn add_heads(text: &mut List<u8>, heads: &[&[u8]]) -> Result<(), NoMemory>
     Ok(())
 }
 
-fn add_head_row(text: &mut List<u8>, heads: &[&[u8]]) -> Result<(), NoMemory>
+fn add_head_row(text: &mut List<u8>, heads: &[&[u8]]) -> Made<()>
     ensures { OnOk result (text.new ≡ text.old ++ table_row (codes "th") (map (λ h. h.now) heads.now)) }
 {
     text.extend(b"<tr>")?;
@@ -55,7 +56,7 @@ fn add_head_row(text: &mut List<u8>, heads: &[&[u8]]) -> Result<(), NoMemory>
     text.extend(b"</tr>\n")
 }
 
-fn add_cells(text: &mut List<u8>, cells: &[Text]) -> Result<(), NoMemory>
+fn add_cells(text: &mut List<u8>, cells: &[Text]) -> Made<()>
     ensures { OnOk result (text.new ≡ text.old ++ flat_map (tagged (codes "td")) cells.now) }
 {
     for cell in cells {
@@ -64,7 +65,7 @@ fn add_cells(text: &mut List<u8>, cells: &[Text]) -> Result<(), NoMemory>
     Ok(())
 }
 
-fn add_row(text: &mut List<u8>, cells: &[Text]) -> Result<(), NoMemory>
+fn add_row(text: &mut List<u8>, cells: &[Text]) -> Made<()>
     ensures { OnOk result (text.new ≡ text.old ++ table_row (codes "td") cells.now) }
 {
     text.extend(b"<tr>")?;
@@ -72,7 +73,7 @@ fn add_row(text: &mut List<u8>, cells: &[Text]) -> Result<(), NoMemory>
     text.extend(b"</tr>\n")
 }
 
-fn add_rows(text: &mut List<u8>, rows: &[List<Text>]) -> Result<(), NoMemory>
+fn add_rows(text: &mut List<u8>, rows: &[Row]) -> Made<()>
     ensures { OnOk result (text.new ≡ text.old ++ flat_map (table_row (codes "td")) rows.now) }
 {
     for row in rows {
@@ -81,12 +82,7 @@ fn add_rows(text: &mut List<u8>, rows: &[List<Text>]) -> Result<(), NoMemory>
     Ok(())
 }
 
-fn add_whole_table(
-    text: &mut List<u8>,
-    title: &[u8],
-    heads: &[&[u8]],
-    rows: &[List<Text>],
-) -> Result<(), NoMemory>
+fn add_whole_table(text: &mut List<u8>, title: &[u8], heads: &[&[u8]], rows: &[Row]) -> Made<()>
     ensures { OnOk result (text.new ≡ text.old ++ whole_table title.now (map (λ h. h.now) heads.now) rows.now) }
 {
     text.extend(b"<table>\n")?;
@@ -97,12 +93,7 @@ fn add_whole_table(
 }
 
 /// Puts a table with its title, the names of its columns and its rows behind a text, where it has rows.
-pub fn add_table(
-    text: &mut List<u8>,
-    title: &[u8],
-    heads: &[&[u8]],
-    rows: &[List<Text>],
-) -> Result<(), NoMemory>
+pub fn add_table(text: &mut List<u8>, title: &[u8], heads: &[&[u8]], rows: &[Row]) -> Made<()>
     ensures { OnOk result (text.new ≡ text.old ++ table_of title.now (map (λ h. h.now) heads.now) rows.now) }
 {
     match rows {

@@ -1,14 +1,15 @@
 ghost use Rattle.std.specs.Prelude.{◌≡◌, ◌≤◌, IfOk, length};
 ghost use Rattle.view_text.specs.Spots.{error_line, limit, lint_line};
 
+use crate::Made;
 use crate::place::{Place, place_behind};
 use crate::texts::join;
 use crate::view::front;
-use cam_base::{List, NoMemory};
+use cam_base::List;
 use itoa::Buffer;
 use std::alloc::Global;
 
-fn error_line(alloc: Global, file: &[u8], place: Place, rest: &[u8]) -> Result<List<u8>, NoMemory>
+fn error_line(alloc: Global, file: &[u8], place: Place, rest: &[u8]) -> Made<List<u8>>
     ensures { IfOk result (λ text. text ≡ error_line file.now place rest.now) }
 {
     let (mut line, mut column) = (Buffer::new(), Buffer::new());
@@ -27,7 +28,7 @@ pub fn lint_line(
     first: u64,
     rest: &[u8],
     bytes: &[u8],
-) -> Result<List<u8>, NoMemory>
+) -> Made<List<u8>>
     requires { length bytes.now ≤ limit }
     ensures { IfOk result (λ text. text ≡ lint_line file.now first rest.now bytes.now) }
 {

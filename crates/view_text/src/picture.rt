@@ -9,7 +9,8 @@ ghost use Rattle.view_text.specs.Pictures.{arrow_of, both_drawn, held_line, held
 use crate::graph::quoted;
 use crate::shape::{Shape, shape_at};
 use crate::texts::add;
-use cam_base::{List, NoMemory, Text};
+use crate::{Label, Made};
+use cam_base::List;
 use cap_model::{Authority, Edge, EdgeTable, Policy};
 use itoa::Buffer;
 use std::alloc::Global;
@@ -30,12 +31,7 @@ const AUTHORITIES: [Authority; 12] = [
     Authority::Handle,
 ];
 
-fn add_shaped(
-    alloc: Global,
-    text: &mut List<u8>,
-    shape: Shape,
-    label: &(u32, Text),
-) -> Result<(), NoMemory>
+fn add_shaped(alloc: Global, text: &mut List<u8>, shape: Shape, label: &Label) -> Made<()>
     ensures { OnOk result (text.new ≡ text.old ++ shaped_line shape label.now) }
 {
     let (number, name) = label;
@@ -55,12 +51,7 @@ fn add_shaped(
     )
 }
 
-fn add_node(
-    alloc: Global,
-    text: &mut List<u8>,
-    shape: Shape,
-    label: &(u32, Text),
-) -> Result<(), NoMemory>
+fn add_node(alloc: Global, text: &mut List<u8>, shape: Shape, label: &Label) -> Made<()>
     ensures { OnOk result (text.new ≡ text.old ++ node_of shape label.now) }
 {
     if shape.is_drawn() {
@@ -70,12 +61,7 @@ fn add_node(
     }
 }
 
-fn add_nodes(
-    alloc: Global,
-    text: &mut List<u8>,
-    labels: &[(u32, Text)],
-    shapes: &[Shape],
-) -> Result<(), NoMemory>
+fn add_nodes(alloc: Global, text: &mut List<u8>, labels: &[Label], shapes: &[Shape]) -> Made<()>
     ensures { OnOk result (text.new ≡ text.old ++ flat_map (λ l. node_of (shape_at shapes.now l.0) l) labels.now) }
 {
     for label in labels {
@@ -100,7 +86,7 @@ fn add_held_line(
     from: u32,
     to: u32,
     authority: Authority,
-) -> Result<(), NoMemory>
+) -> Made<()>
     ensures { OnOk result (text.new ≡ text.old ++ held_line edges.now from to authority) }
 {
     if has_edge(edges, from, authority, to) {
@@ -116,7 +102,7 @@ fn add_held_lines(
     from: u32,
     to: u32,
     authorities: &[Authority],
-) -> Result<(), NoMemory>
+) -> Made<()>
     ensures { OnOk result (text.new ≡ text.old ++ flat_map (held_line edges.now from to) authorities.now) }
 {
     for authority in authorities {
@@ -125,7 +111,7 @@ fn add_held_lines(
     Ok(())
 }
 
-fn held_lines(alloc: Global, edges: &EdgeTable, from: u32, to: u32) -> Result<List<u8>, NoMemory>
+fn held_lines(alloc: Global, edges: &EdgeTable, from: u32, to: u32) -> Made<List<u8>>
     ensures { IfOk result (λ text. text ≡ held_lines edges.now from to) }
 {
     let mut text = List::new(alloc);
@@ -152,12 +138,7 @@ fn is_first(edges: &EdgeTable, edge: &Edge) -> bool
     }
 }
 
-fn add_pair(
-    alloc: Global,
-    text: &mut List<u8>,
-    edges: &EdgeTable,
-    edge: &Edge,
-) -> Result<(), NoMemory>
+fn add_pair(alloc: Global, text: &mut List<u8>, edges: &EdgeTable, edge: &Edge) -> Made<()>
     ensures { OnOk result (text.new ≡ text.old ++ pair_line edges.now edge.now) }
 {
     let held = held_lines(alloc, edges, edge.from, edge.to)?;
@@ -182,7 +163,7 @@ fn add_arrow(
     shapes: &[Shape],
     edges: &EdgeTable,
     edge: &Edge,
-) -> Result<(), NoMemory>
+) -> Made<()>
     ensures { OnOk result (text.new ≡ text.old ++ arrow_of shapes.now edges.now edge.now) }
 {
     if both_drawn(shapes, edge) && is_first(edges, edge) {
@@ -192,12 +173,7 @@ fn add_arrow(
     }
 }
 
-fn add_arrows(
-    alloc: Global,
-    text: &mut List<u8>,
-    shapes: &[Shape],
-    edges: &EdgeTable,
-) -> Result<(), NoMemory>
+fn add_arrows(alloc: Global, text: &mut List<u8>, shapes: &[Shape], edges: &EdgeTable) -> Made<()>
     ensures { OnOk result (text.new ≡ text.old ++ gather (λ at e. arrow_of shapes.now edges.now e) edges.now) }
 {
     for edge in edges.iter() {
@@ -207,7 +183,7 @@ fn add_arrows(
 }
 
 /// A policy as a picture in Graphviz's language. Labels have the shapes at the places of their numbers.
-pub fn picture_of(alloc: Global, policy: &Policy, shapes: &[Shape]) -> Result<List<u8>, NoMemory>
+pub fn picture_of(alloc: Global, policy: &Policy, shapes: &[Shape]) -> Made<List<u8>>
     ensures { IfOk result (λ text. text ≡ picture_of policy.now shapes.now) }
 {
     let mut text = List::from_slice(

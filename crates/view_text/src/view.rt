@@ -2,10 +2,10 @@ ghost use Rattle.std.specs.List.{before_first, position};
 ghost use Rattle.std.specs.Prelude.{◌≡◌, ◌==◌, ◌≤◌, ◌-◌, ◌++◌, IfOk, OnOk, length, map, take, true};
 ghost use Rattle.view_text.specs.Spots.{drawn, head_line, limit, marks, stands_in, view_of, with_line};
 
-use crate::Range;
 use crate::place::{Place, place_behind};
 use crate::texts::{add, join};
-use cam_base::{List, NoMemory};
+use crate::{Made, Range};
+use cam_base::List;
 use itoa::Buffer;
 use std::alloc::Global;
 
@@ -33,7 +33,7 @@ fn drawn(sign: u8, byte: u8) -> u8
 }
 
 /// Puts a sign under each byte, a tab under a tab.
-fn add_drawn(text: &mut List<u8>, sign: u8, bytes: &[u8]) -> Result<(), NoMemory>
+fn add_drawn(text: &mut List<u8>, sign: u8, bytes: &[u8]) -> Made<()>
     ensures { OnOk result (text.new ≡ text.old ++ map (drawn sign) bytes.now) }
 {
     for byte in bytes {
@@ -42,7 +42,7 @@ fn add_drawn(text: &mut List<u8>, sign: u8, bytes: &[u8]) -> Result<(), NoMemory
     Ok(())
 }
 
-fn add_marks(text: &mut List<u8>, marked: &[u8]) -> Result<(), NoMemory>
+fn add_marks(text: &mut List<u8>, marked: &[u8]) -> Made<()>
     ensures { OnOk result (text.new ≡ text.old ++ marks marked.now) }
 {
     match marked {
@@ -52,7 +52,7 @@ fn add_marks(text: &mut List<u8>, marked: &[u8]) -> Result<(), NoMemory>
 }
 
 /// The first line of what is shown.
-fn head_line(alloc: Global, file: &str, place: Place, rest: &str) -> Result<List<u8>, NoMemory>
+fn head_line(alloc: Global, file: &str, place: Place, rest: &str) -> Made<List<u8>>
     ensures { IfOk result (λ text. text ≡ head_line file.now place rest.now) }
 {
     let (mut line, mut column) = (Buffer::new(), Buffer::new());
@@ -74,7 +74,7 @@ pub(crate) fn front(bytes: &[u8], count: u64) -> &[u8]
 }
 
 /// Puts the line and the marks below it behind the first line.
-fn add_line(text: &mut List<u8>, left: &[u8], right: &[u8], count: u64) -> Result<(), NoMemory>
+fn add_line(text: &mut List<u8>, left: &[u8], right: &[u8], count: u64) -> Made<()>
     ensures { OnOk result (text.new ≡ with_line text.old left.now right.now count) }
 {
     add(text, &[left, right, b"\n"])?;
@@ -84,13 +84,7 @@ fn add_line(text: &mut List<u8>, left: &[u8], right: &[u8], count: u64) -> Resul
 }
 
 /// What is shown of a fault at bytes of a file, behind whose place the rest stood.
-pub fn view_of(
-    alloc: Global,
-    file: &str,
-    range: Range,
-    rest: &str,
-    bytes: &[u8],
-) -> Result<List<u8>, NoMemory>
+pub fn view_of(alloc: Global, file: &str, range: Range, rest: &str, bytes: &[u8]) -> Made<List<u8>>
     requires stands { stands_in (range.first, range.end) bytes.now ≡ true }
     requires small { length bytes.now ≤ limit }
     ensures { IfOk result (λ text. text ≡ view_of file.now (range.first, range.end) rest.now bytes.now) }

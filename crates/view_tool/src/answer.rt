@@ -8,6 +8,7 @@ ghost use Rattle.std.specs.Prelude.{◌≡◌, IfOk, OnErr};
 
 use cam_base::{List, NoMemory};
 use cam_io::{Failed, Outputs, Writer, write_all};
+use view_text::Made;
 
 /// What is found, before anything is written.
 #[derive(Drop)]
@@ -30,7 +31,7 @@ pub enum Answer {
 
 impl Answer {
     /// What is shown.
-    pub fn shown(text: Result<List<u8>, NoMemory>) -> Answer
+    pub fn shown(text: Made<List<u8>>) -> Answer
         ensures ok { IfOk text (λ t. result ≡ answers.Shown t) }
         ensures none { OnErr text (result ≡ answers.NoMemory) }
     {
@@ -41,7 +42,7 @@ impl Answer {
     }
 
     /// A fault.
-    pub fn faulty(text: Result<List<u8>, NoMemory>) -> Answer
+    pub fn faulty(text: Made<List<u8>>) -> Answer
         ensures ok { IfOk text (λ t. result ≡ answers.Faulty t) }
         ensures none { OnErr text (result ≡ answers.NoMemory) }
     {
@@ -52,7 +53,7 @@ impl Answer {
     }
 
     /// What stands in the way.
-    pub fn refused(text: Result<List<u8>, NoMemory>) -> Answer
+    pub fn refused(text: Made<List<u8>>) -> Answer
         ensures ok { IfOk text (λ t. result ≡ answers.Refused t) }
         ensures none { OnErr text (result ≡ answers.NoMemory) }
     {
@@ -63,7 +64,7 @@ impl Answer {
     }
 
     /// A failed read.
-    pub fn read_fault(text: Result<List<u8>, NoMemory>) -> Answer
+    pub fn read_fault(text: Made<List<u8>>) -> Answer
         ensures ok { IfOk text (λ t. result ≡ answers.ReadFault t) }
         ensures none { OnErr text (result ≡ answers.NoMemory) }
     {

@@ -92,7 +92,7 @@ fn show_page(alloc: Global, build: &Build, root: &str) -> Answer
     }
 }
 
-fn show(alloc: Global, build: &Build, root: &str, asked: Asked<'_>) -> Answer
+fn show(alloc: Global, build: &Build, root: &str, asked: Asked) -> Answer
     requires few { length build.now.meaning.flat.domains < 2 ^ 32 }
     requires sound { HasMeaning build.now.meaning.source build.now.meaning.flat build.now.meaning.settled }
     ensures { ShowsBuild root.now (wanted asked.entry) build.now result }
@@ -104,12 +104,7 @@ fn show(alloc: Global, build: &Build, root: &str, asked: Asked<'_>) -> Answer
     }
 }
 
-fn refuse_build<F: Files>(
-    alloc: Global,
-    files: &mut F,
-    asked: Asked<'_>,
-    error: SourceError,
-) -> Answer
+fn refuse_build<F: Files>(alloc: Global, files: &mut F, asked: Asked, error: SourceError) -> Answer
     ensures kept { KeepsFiles F.told F.faults files.old files.new }
     ensures fits { InAll (F.told files.new) (λ m. RefusesAs m (F.faults files.old) (F.faults files.new) (wanted asked.entry)
         error result) }
@@ -122,12 +117,7 @@ fn refuse_build<F: Files>(
 }
 
 /// What is answered to the root of a source that is to be compiled.
-pub(crate) fn view_build<F: Files>(
-    alloc: Global,
-    root: &str,
-    asked: Asked<'_>,
-    files: &mut F,
-) -> Answer
+pub(crate) fn view_build<F: Files>(alloc: Global, root: &str, asked: Asked, files: &mut F) -> Answer
     ensures kept { KeepsFiles F.told F.faults files.old files.new }
     ensures fits { InAll (F.told files.new) (λ m. FitsBuild m (F.faults files.old) (F.faults files.new) root.now
         (wanted asked.entry) result) }

@@ -6,12 +6,12 @@ ghost use Rattle.std.specs.Prelude.{◌≡◌, ◌++◌, slice_get, IfOk, OnOk};
 ghost use Rattle.system_spec.specs.MapText.{named};
 
 use adl_meaning::{Connector, EndSetting, Flat, FlatConnection, FlatEnd, Settled};
-use cam_base::{List, NoMemory, Text, hexadecimal};
+use cam_base::{List, hexadecimal};
 use domain_table::{leaf_text, member_name, push_row};
 use itoa::Buffer;
 use std::alloc::Global;
 use system_spec::MapNames;
-use view_text::join;
+use view_text::{Made, Row, join};
 
 fn is_at_device(flat: &Flat, end: FlatEnd) -> bool
     ensures { result ≡ is_at_device flat.now end }
@@ -24,10 +24,10 @@ fn is_at_device(flat: &Flat, end: FlatEnd) -> bool
 
 fn device_text(
     alloc: Global,
-    names: &MapNames<'_>,
+    names: &MapNames,
     connection: &FlatConnection,
     end: FlatEnd,
-) -> Result<List<u8>, NoMemory>
+) -> Made<List<u8>>
     ensures { IfOk result (λ text. text ≡ device_text (named names.now) connection.now end) }
 {
     let leaf = leaf_text(alloc, names.flat, end.leaf)?;
@@ -41,11 +41,11 @@ fn device_text(
 
 fn push_device(
     alloc: Global,
-    rows: &mut List<List<Text>>,
+    rows: &mut List<Row>,
     connector: Connector,
     text: &[u8],
     setting: &EndSetting,
-) -> Result<(), NoMemory>
+) -> Made<()>
     ensures { OnOk result (rows.new ≡ rows.old ++ device_row connector text.now setting.now) }
 {
     let mut digits = [0; 18];
@@ -66,12 +66,12 @@ fn push_device(
 
 fn push_end(
     alloc: Global,
-    rows: &mut List<List<Text>>,
-    names: &MapNames<'_>,
+    rows: &mut List<Row>,
+    names: &MapNames,
     connection: &FlatConnection,
     setting: Option<&EndSetting>,
     end: FlatEnd,
-) -> Result<(), NoMemory>
+) -> Made<()>
     ensures { OnOk result (rows.new ≡ rows.old ++ end_rows (named names.now) connection.now
         (option_map (λ s. s.now) setting.entry) end) }
 {
@@ -101,11 +101,11 @@ fn setting_in(settings: &[EndSetting], end: usize) -> Option<&EndSetting>
 
 fn push_connection(
     alloc: Global,
-    rows: &mut List<List<Text>>,
-    names: &MapNames<'_>,
+    rows: &mut List<Row>,
+    names: &MapNames,
     connection: &FlatConnection,
     settings: &[EndSetting],
-) -> Result<(), NoMemory>
+) -> Made<()>
     ensures { OnOk result (rows.new ≡ rows.old ++ connection_rows (named names.now) settings.now connection.now) }
 {
     let ends = connection.ends.as_slice();
@@ -117,11 +117,7 @@ fn push_connection(
 }
 
 /// A row for the memory and for the interrupts of each device.
-pub(crate) fn device_rows(
-    alloc: Global,
-    names: &MapNames<'_>,
-    settled: &Settled,
-) -> Result<List<List<Text>>, NoMemory>
+pub(crate) fn device_rows(alloc: Global, names: &MapNames, settled: &Settled) -> Made<List<Row>>
     ensures { IfOk result (λ rows. rows ≡ device_rows (named names.now) settled.now) }
 {
     let mut rows = List::new(alloc);

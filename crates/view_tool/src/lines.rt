@@ -10,7 +10,7 @@ use crate::answer::Answer;
 use cam_base::{Fault, List, NoMemory, SourceError, TextFault, Unread};
 use itoa::Buffer;
 use std::alloc::Global;
-use view_text::join;
+use view_text::{Made, join};
 
 fn space_before(name: &[u8]) -> &[u8]
     ensures { result.now ≡ space_before name.now }
@@ -18,13 +18,7 @@ fn space_before(name: &[u8]) -> &[u8]
     if name.is_empty() { b"" } else { b" " }
 }
 
-fn place_line(
-    alloc: Global,
-    file: &[u8],
-    first: u64,
-    end: u64,
-    rest: &[u8],
-) -> Result<List<u8>, NoMemory>
+fn place_line(alloc: Global, file: &[u8], first: u64, end: u64, rest: &[u8]) -> Made<List<u8>>
     ensures { IfOk result (λ text. text ≡ place_line file.now first end rest.now) }
 {
     let (mut front, mut back) = (Buffer::new(), Buffer::new());
@@ -33,14 +27,14 @@ fn place_line(
     join(alloc, &[file, b":", first, b"-", end, b": ", rest, b"\n"])
 }
 
-fn words(alloc: Global, code: &[u8], title: &[u8], name: &[u8]) -> Result<List<u8>, NoMemory>
+fn words(alloc: Global, code: &[u8], title: &[u8], name: &[u8]) -> Made<List<u8>>
     ensures { IfOk result (λ text. text ≡ words code.now title.now name.now) }
 {
     join(alloc, &[code, b" ", title, space_before(name), name])
 }
 
 /// The line of a fault of a text.
-pub fn text_fault_line(alloc: Global, file: &str, fault: &TextFault) -> Result<List<u8>, NoMemory>
+pub fn text_fault_line(alloc: Global, file: &str, fault: &TextFault) -> Made<List<u8>>
     ensures { IfOk result (λ text. text ≡ text_fault_line file.now fault.now) }
 {
     let code = fault.code.word().as_bytes();
@@ -56,7 +50,7 @@ pub fn text_fault_line(alloc: Global, file: &str, fault: &TextFault) -> Result<L
 }
 
 /// The code, the title and the name of a fault of a source.
-pub fn fault_words(alloc: Global, fault: &Fault) -> Result<List<u8>, NoMemory>
+pub fn fault_words(alloc: Global, fault: &Fault) -> Made<List<u8>>
     ensures { IfOk result (λ text. text ≡ fault_words fault.now) }
 {
     let mut digits = Buffer::new();
@@ -69,7 +63,7 @@ pub fn fault_words(alloc: Global, fault: &Fault) -> Result<List<u8>, NoMemory>
 }
 
 /// The line of a fault of a source.
-fn fault_line(alloc: Global, file: &[u8], fault: &Fault) -> Result<List<u8>, NoMemory>
+fn fault_line(alloc: Global, file: &[u8], fault: &Fault) -> Made<List<u8>>
     ensures { IfOk result (λ text. text ≡ fault_line file.now fault.now) }
 {
     let rest = fault_words(alloc, fault)?;

@@ -5,10 +5,10 @@ ghost use Rattle.std.specs.List.{flat_map};
 ghost use Rattle.std.specs.Prelude.{◌≡◌, ◌++◌, ◌∷◌, [], codes, IfOk, OnOk};
 ghost use Rattle.view_text.specs.Html.{tagged};
 
-use cam_base::{List, NoMemory, Text};
+use cam_base::{List, Text};
 use cap_model::{Authority, Edge, EdgeTable, Policy};
 use std::alloc::Global;
-use view_text::{add, add_escaped, add_tagged, note_at};
+use view_text::{Label, Made, add, add_escaped, add_tagged, note_at};
 
 /// An edge, and the lines of its first reason.
 #[derive(Drop)]
@@ -17,7 +17,7 @@ pub(crate) struct Mark {
     pub(crate) note: Text,
 }
 
-fn push_mark(alloc: Global, marks: &mut List<Mark>, edge: Edge, note: &[u8]) -> Result<(), NoMemory>
+fn push_mark(alloc: Global, marks: &mut List<Mark>, edge: Edge, note: &[u8]) -> Made<()>
     ensures { OnOk result (marks.new ≡ marks.old ++ marked edge note.now ∷ []) }
 {
     marks.push(Mark {
@@ -26,7 +26,7 @@ fn push_mark(alloc: Global, marks: &mut List<Mark>, edge: Edge, note: &[u8]) -> 
     })
 }
 
-fn marks_of(alloc: Global, notes: &[Text], edges: &EdgeTable) -> Result<List<Mark>, NoMemory>
+fn marks_of(alloc: Global, notes: &[Text], edges: &EdgeTable) -> Made<List<Mark>>
     ensures { IfOk result (λ marks. marks ≡ marks_of notes.now edges.now) }
 {
     let mut marks = List::new(alloc);
@@ -38,13 +38,13 @@ fn marks_of(alloc: Global, notes: &[Text], edges: &EdgeTable) -> Result<List<Mar
     Ok(marks)
 }
 
-fn add_authority(text: &mut List<u8>, authority: Authority) -> Result<(), NoMemory>
+fn add_authority(text: &mut List<u8>, authority: Authority) -> Made<()>
     ensures { OnOk result (text.new ≡ text.old ++ authority_text authority) }
 {
     add(text, &[b"\">", authority.text().as_bytes(), b"</abbr> "])
 }
 
-fn add_mark(text: &mut List<u8>, mark: &Mark) -> Result<(), NoMemory>
+fn add_mark(text: &mut List<u8>, mark: &Mark) -> Made<()>
     ensures { OnOk result (text.new ≡ text.old ++ mark_text mark.now) }
 {
     text.extend(b"<abbr title=\"")?;
@@ -52,7 +52,7 @@ fn add_mark(text: &mut List<u8>, mark: &Mark) -> Result<(), NoMemory>
     add_authority(text, mark.edge.authority)
 }
 
-fn add_cell(text: &mut List<u8>, row: &[Mark], column: &(u32, Text)) -> Result<(), NoMemory>
+fn add_cell(text: &mut List<u8>, row: &[Mark], column: &Label) -> Made<()>
     ensures { OnOk result (text.new ≡ text.old ++ cell_text row.now column.now) }
 {
     text.extend(b"<td>")?;
@@ -64,7 +64,7 @@ fn add_cell(text: &mut List<u8>, row: &[Mark], column: &(u32, Text)) -> Result<(
     Ok(())
 }
 
-fn add_cells(text: &mut List<u8>, row: &[Mark], columns: &[(u32, Text)]) -> Result<(), NoMemory>
+fn add_cells(text: &mut List<u8>, row: &[Mark], columns: &[Label]) -> Made<()>
     ensures { OnOk result (text.new ≡ text.old ++ flat_map (cell_text row.now) columns.now) }
 {
     for column in columns {
@@ -73,12 +73,7 @@ fn add_cells(text: &mut List<u8>, row: &[Mark], columns: &[(u32, Text)]) -> Resu
     Ok(())
 }
 
-fn add_some_row(
-    text: &mut List<u8>,
-    row: &[Mark],
-    columns: &[(u32, Text)],
-    name: &[u8],
-) -> Result<(), NoMemory>
+fn add_some_row(text: &mut List<u8>, row: &[Mark], columns: &[Label], name: &[u8]) -> Made<()>
     ensures { OnOk result (text.new ≡ text.old ++ some_row row.now columns.now name.now) }
 {
     match row {
@@ -92,7 +87,7 @@ fn add_some_row(
     }
 }
 
-fn marks_from(alloc: Global, marks: &[Mark], from: u32) -> Result<List<Mark>, NoMemory>
+fn marks_from(alloc: Global, marks: &[Mark], from: u32) -> Made<List<Mark>>
     ensures { IfOk result (λ found. found ≡ marks_from marks.now from) }
 {
     let mut found = List::new(alloc);
@@ -110,11 +105,7 @@ fn is_target(marks: &[Mark], label: u32) -> bool
     marks.iter().any(|mark| mark.edge.to == label)
 }
 
-fn targets(
-    alloc: Global,
-    marks: &[Mark],
-    labels: &[(u32, Text)],
-) -> Result<List<(u32, Text)>, NoMemory>
+fn targets(alloc: Global, marks: &[Mark], labels: &[Label]) -> Made<List<Label>>
     ensures { IfOk result (λ found. found ≡ targets marks.now labels.now) }
 {
     let mut found = List::new(alloc);
@@ -127,7 +118,7 @@ fn targets(
     Ok(found)
 }
 
-fn add_heads(text: &mut List<u8>, columns: &[(u32, Text)]) -> Result<(), NoMemory>
+fn add_heads(text: &mut List<u8>, columns: &[Label]) -> Made<()>
     ensures { OnOk result (text.new ≡ text.old ++ flat_map (λ c. tagged (codes "th") c.1) columns.now) }
 {
     for column in columns {
@@ -140,9 +131,9 @@ fn add_label_rows(
     alloc: Global,
     text: &mut List<u8>,
     marks: &[Mark],
-    columns: &[(u32, Text)],
-    labels: &[(u32, Text)],
-) -> Result<(), NoMemory>
+    columns: &[Label],
+    labels: &[Label],
+) -> Made<()>
     ensures { OnOk result (text.new ≡ text.old ++ flat_map (label_row marks.now columns.now) labels.now) }
 {
     for label in labels {
@@ -156,9 +147,9 @@ fn add_matrix_by(
     alloc: Global,
     text: &mut List<u8>,
     marks: &[Mark],
-    columns: &[(u32, Text)],
-    labels: &[(u32, Text)],
-) -> Result<(), NoMemory>
+    columns: &[Label],
+    labels: &[Label],
+) -> Made<()>
     ensures { OnOk result (text.new ≡ text.old ++ matrix_by marks.now columns.now labels.now) }
 {
     text.extend(b"<table class=\"matrix\">\n<tr><td>")?;
@@ -169,12 +160,7 @@ fn add_matrix_by(
 }
 
 /// Puts the matrix of a policy behind a text. Each edge has the note at its place.
-pub(crate) fn add_matrix(
-    alloc: Global,
-    text: &mut List<u8>,
-    policy: &Policy,
-    notes: &[Text],
-) -> Result<(), NoMemory>
+pub fn add_matrix(alloc: Global, text: &mut List<u8>, policy: &Policy, notes: &[Text]) -> Made<()>
     ensures { OnOk result (text.new ≡ text.old ++ matrix_of policy.now notes.now) }
 {
     let marks = marks_of(alloc, notes, &policy.edges)?;

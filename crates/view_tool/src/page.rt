@@ -9,13 +9,13 @@ use crate::matrix::add_matrix;
 use adl_ast::Source;
 use adl_meaning::{Domain, Settled};
 use arch_compile::Summary;
-use cam_base::{List, NoMemory, Text};
+use cam_base::{List, Text};
 use cap_model::Policy;
 use domain_table::{DomainTables, heading, push_row, tables_in};
 use itoa::Buffer;
 use std::alloc::Global;
 use system_spec::{MapLine, MapNames};
-use view_text::{add, add_table, add_tagged};
+use view_text::{Made, Row, add, add_table, add_tagged};
 
 /// What a page tells of.
 #[derive(Clone, Copy)]
@@ -30,7 +30,7 @@ pub(crate) struct Page<'a> {
     pub(crate) notes: &'a [Text],
 }
 
-fn add_style(text: &mut List<u8>) -> Result<(), NoMemory>
+fn add_style(text: &mut List<u8>) -> Made<()>
     ensures { OnOk result (text.new ≡ text.old ++ style) }
 {
     add(
@@ -51,7 +51,7 @@ fn add_style(text: &mut List<u8>) -> Result<(), NoMemory>
     )
 }
 
-fn add_head(text: &mut List<u8>, root: &[u8]) -> Result<(), NoMemory>
+fn add_head(text: &mut List<u8>, root: &[u8]) -> Made<()>
     ensures { OnOk result (text.new ≡ text.old ++ page_head root.now) }
 {
     text.extend(b"<!DOCTYPE html>\n<html lang=\"en\">\n<head>\n<meta charset=\"utf-8\">\n")?;
@@ -60,7 +60,7 @@ fn add_head(text: &mut List<u8>, root: &[u8]) -> Result<(), NoMemory>
     add_tagged(text, b"h1", root)
 }
 
-fn add_theorem(text: &mut List<u8>) -> Result<(), NoMemory>
+fn add_theorem(text: &mut List<u8>) -> Made<()>
     ensures { OnOk result (text.new ≡ text.old ++ theorem) }
 {
     add(
@@ -77,7 +77,7 @@ fn add_theorem(text: &mut List<u8>) -> Result<(), NoMemory>
     )
 }
 
-fn file_rows(alloc: Global, source: &Source) -> Result<List<List<Text>>, NoMemory>
+fn file_rows(alloc: Global, source: &Source) -> Made<List<Row>>
     ensures { IfOk result (λ rows. rows ≡ map file_row source.now.files) }
 {
     let mut rows = List::new(alloc);
@@ -89,14 +89,14 @@ fn file_rows(alloc: Global, source: &Source) -> Result<List<List<Text>>, NoMemor
     Ok(rows)
 }
 
-fn add_files(alloc: Global, text: &mut List<u8>, source: &Source) -> Result<(), NoMemory>
+fn add_files(alloc: Global, text: &mut List<u8>, source: &Source) -> Made<()>
     ensures { OnOk result (text.new ≡ text.old ++ files_part source.now) }
 {
     let rows = file_rows(alloc, source)?;
     add_table(text, b"Files", &[b"file", b"bytes"], rows.as_slice())
 }
 
-fn add_summary(alloc: Global, text: &mut List<u8>, summary: Summary) -> Result<(), NoMemory>
+fn add_summary(alloc: Global, text: &mut List<u8>, summary: Summary) -> Made<()>
     ensures { OnOk result (text.new ≡ text.old ++ summary_part summary) }
 {
     let mut rows = List::new(alloc);
@@ -127,12 +127,7 @@ fn add_summary(alloc: Global, text: &mut List<u8>, summary: Summary) -> Result<(
     )
 }
 
-fn add_matrix_part(
-    alloc: Global,
-    text: &mut List<u8>,
-    policy: &Policy,
-    notes: &[Text],
-) -> Result<(), NoMemory>
+fn add_matrix_part(alloc: Global, text: &mut List<u8>, policy: &Policy, notes: &[Text]) -> Made<()>
     ensures { OnOk result (text.new ≡ text.old ++ matrix_part policy.now notes.now) }
 {
     add(
@@ -147,7 +142,7 @@ fn add_matrix_part(
     text.extend(b"</div>\n")
 }
 
-fn add_tables(text: &mut List<u8>, tables: &DomainTables) -> Result<(), NoMemory>
+fn add_tables(text: &mut List<u8>, tables: &DomainTables) -> Made<()>
     ensures { OnOk result (text.new ≡ text.old ++ tables_part tables.now) }
 {
     add_table(
@@ -179,11 +174,11 @@ fn add_tables(text: &mut List<u8>, tables: &DomainTables) -> Result<(), NoMemory
 fn add_domain(
     alloc: Global,
     text: &mut List<u8>,
-    names: &MapNames<'_>,
+    names: &MapNames,
     lines: &[MapLine],
     number: u32,
     domain: &Domain,
-) -> Result<(), NoMemory>
+) -> Made<()>
     ensures { OnOk result (text.new ≡ text.old ++ domain_part (named names.now) lines.now number domain.now) }
 {
     let label = domain.path.text(alloc)?;
@@ -193,12 +188,7 @@ fn add_domain(
     add_tables(text, &tables)
 }
 
-fn add_domains(
-    alloc: Global,
-    text: &mut List<u8>,
-    names: &MapNames<'_>,
-    lines: &[MapLine],
-) -> Result<(), NoMemory>
+fn add_domains(alloc: Global, text: &mut List<u8>, names: &MapNames, lines: &[MapLine]) -> Made<()>
     requires { length names.now.flat.now.domains < 2 ^ 32 }
     ensures { OnOk result (text.new ≡ text.old ++ domain_parts (named names.now) lines.now) }
 {
@@ -209,12 +199,7 @@ fn add_domains(
     Ok(())
 }
 
-fn add_devices(
-    alloc: Global,
-    text: &mut List<u8>,
-    names: &MapNames<'_>,
-    settled: &Settled,
-) -> Result<(), NoMemory>
+fn add_devices(alloc: Global, text: &mut List<u8>, names: &MapNames, settled: &Settled) -> Made<()>
     ensures { OnOk result (text.new ≡ text.old ++ devices_part (named names.now) settled.now) }
 {
     let rows = device_rows(alloc, names, settled)?;
@@ -226,7 +211,7 @@ fn add_devices(
     )
 }
 
-fn add_parts(alloc: Global, text: &mut List<u8>, page: &Page<'_>) -> Result<(), NoMemory>
+fn add_parts(alloc: Global, text: &mut List<u8>, page: &Page) -> Made<()>
     requires { length page.now.names.flat.now.domains < 2 ^ 32 }
     ensures { OnOk result (text.new ≡ text.old ++ page_text (told page.now)) }
 {
@@ -244,7 +229,7 @@ fn add_parts(alloc: Global, text: &mut List<u8>, page: &Page<'_>) -> Result<(), 
 }
 
 /// The page of a source, as HTML.
-pub(crate) fn page_text(alloc: Global, page: &Page<'_>) -> Result<List<u8>, NoMemory>
+pub(crate) fn page_text(alloc: Global, page: &Page) -> Made<List<u8>>
     requires { length page.now.names.flat.now.domains < 2 ^ 32 }
     ensures { IfOk result (λ text. text ≡ page_text (told page.now)) }
 {

@@ -10,6 +10,7 @@ use cam_base::{List, NoMemory, Text};
 use cap_model::{Edge, EdgeTable, Policy};
 use explain::{ExplainError, Reason, explain, reason_text};
 use std::alloc::Global;
+use view_text::{Label, Made};
 
 /// The most edges of which a page has the reasons.
 const MOST_NOTES: usize = 2000;
@@ -24,7 +25,7 @@ pub(crate) struct Grounds<'a> {
 }
 
 /// The text of the label at this place.
-fn label_at(labels: &[(u32, Text)], at: u32) -> &[u8]
+fn label_at(labels: &[Label], at: u32) -> &[u8]
     ensures { result.now ≡ label_at labels.now at }
 {
     match labels.get(at as usize) {
@@ -34,11 +35,7 @@ fn label_at(labels: &[(u32, Text)], at: u32) -> &[u8]
 }
 
 /// What is explained, as lines.
-fn note_text(
-    alloc: Global,
-    grounds: &Grounds<'_>,
-    reason: Result<Reason, ExplainError>,
-) -> Result<Text, NoMemory>
+fn note_text(alloc: Global, grounds: &Grounds, reason: Result<Reason, ExplainError>) -> Made<Text>
     ensures { IfOk result (Tells (told grounds.now) reason) }
 {
     match reason {
@@ -49,7 +46,7 @@ fn note_text(
 }
 
 /// The lines of an edge's first reason.
-fn note_of(alloc: Global, grounds: &Grounds<'_>, edge: &Edge) -> Result<Text, NoMemory>
+fn note_of(alloc: Global, grounds: &Grounds, edge: &Edge) -> Made<Text>
     requires { HasMeaning grounds.now.source.now grounds.now.flat.now grounds.now.settled.now }
     ensures { IfOk result (IsNote (told grounds.now) edge.now) }
 {
@@ -69,7 +66,7 @@ fn note_of(alloc: Global, grounds: &Grounds<'_>, edge: &Edge) -> Result<Text, No
 }
 
 /// The notes of all edges.
-pub(crate) fn notes_of(alloc: Global, grounds: &Grounds<'_>) -> Result<List<Text>, NoMemory>
+pub(crate) fn notes_of(alloc: Global, grounds: &Grounds) -> Made<List<Text>>
     requires { HasMeaning grounds.now.source.now grounds.now.flat.now grounds.now.settled.now }
     ensures { IfOk result (AreNotes (told grounds.now) grounds.now.policy.now.edges) }
 {
@@ -92,7 +89,7 @@ fn are_few(edges: &EdgeTable) -> bool
 }
 
 /// The notes of all edges, where they are not too many for a page.
-pub(crate) fn page_notes(alloc: Global, grounds: &Grounds<'_>) -> Result<List<Text>, NoMemory>
+pub(crate) fn page_notes(alloc: Global, grounds: &Grounds) -> Made<List<Text>>
     requires { HasMeaning grounds.now.source.now grounds.now.flat.now grounds.now.settled.now }
     ensures { IfOk result (ArePageNotes (told grounds.now)) }
 {

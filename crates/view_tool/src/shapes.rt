@@ -4,13 +4,13 @@ ghost use Rattle.view_tool.specs.Shapes.{device_labels, differ, domain_at, has_o
 ghost use Rattle.std.specs.Prelude.{◌≡◌, ◌++◌, [], IfOk, OnOk};
 
 use adl_meaning::Flat;
-use cam_base::{List, NoMemory, Text};
+use cam_base::{List, Text};
 use cap_model::EdgeTable;
 use domain_table::domain_labels;
 use std::alloc::Global;
-use view_text::{Shape, shape_at};
+use view_text::{Label, Made, Shape, shape_at};
 
-fn device_labels(alloc: Global, flat: &Flat) -> Result<List<Text>, NoMemory>
+fn device_labels(alloc: Global, flat: &Flat) -> Made<List<Text>>
     ensures { IfOk result (λ texts. texts ≡ device_labels flat.now) }
 {
     let mut texts = List::new(alloc);
@@ -44,8 +44,8 @@ fn shapes_by(
     alloc: Global,
     domains: &[Text],
     devices: &[Text],
-    labels: &[(u32, Text)],
-) -> Result<List<Shape>, NoMemory>
+    labels: &[Label],
+) -> Made<List<Shape>>
     ensures { IfOk result (λ shapes. shapes ≡ shapes_by domains.now devices.now labels.now) }
 {
     let mut shapes = List::new(alloc);
@@ -56,11 +56,7 @@ fn shapes_by(
 }
 
 /// The shape of each label.
-pub(crate) fn shapes_of(
-    alloc: Global,
-    flat: &Flat,
-    labels: &[(u32, Text)],
-) -> Result<List<Shape>, NoMemory>
+pub(crate) fn shapes_of(alloc: Global, flat: &Flat, labels: &[Label]) -> Made<List<Shape>>
     ensures { IfOk result (λ shapes. shapes ≡ shapes_of flat.now labels.now) }
 {
     let domains = domain_labels(alloc, flat)?;
@@ -74,7 +70,7 @@ fn is_domain(shape: Shape) -> bool
     matches!(shape, Shape::Domain)
 }
 
-fn push_domain(found: &mut List<u32>, shapes: &[Shape], number: u32) -> Result<(), NoMemory>
+fn push_domain(found: &mut List<u32>, shapes: &[Shape], number: u32) -> Made<()>
     ensures { OnOk result (found.new ≡ found.old ++ domain_at shapes.now number) }
 {
     if is_domain(shape_at(shapes, number)) {
@@ -83,12 +79,7 @@ fn push_domain(found: &mut List<u32>, shapes: &[Shape], number: u32) -> Result<(
     Ok(())
 }
 
-fn partners(
-    alloc: Global,
-    shapes: &[Shape],
-    edges: &EdgeTable,
-    label: usize,
-) -> Result<List<u32>, NoMemory>
+fn partners(alloc: Global, shapes: &[Shape], edges: &EdgeTable, label: usize) -> Made<List<u32>>
     ensures { IfOk result (λ found. found ≡ partners shapes.now edges.now label) }
 {
     let mut found = List::new(alloc);
@@ -123,7 +114,7 @@ fn kept_as(
     edges: &EdgeTable,
     label: usize,
     shape: Shape,
-) -> Result<Shape, NoMemory>
+) -> Made<Shape>
     ensures { IfOk result (λ kept. kept ≡ kept_as shapes.now edges.now label shape) }
 {
     let partners = partners(alloc, shapes, edges, label)?;
@@ -135,11 +126,7 @@ fn kept_as(
 }
 
 /// The same shapes, where what fewer than two domains touch is left out.
-pub(crate) fn overview(
-    alloc: Global,
-    shapes: &[Shape],
-    edges: &EdgeTable,
-) -> Result<List<Shape>, NoMemory>
+pub(crate) fn overview(alloc: Global, shapes: &[Shape], edges: &EdgeTable) -> Made<List<Shape>>
     ensures { IfOk result (λ kept. kept ≡ overview shapes.now edges.now) }
 {
     let mut kept = List::new(alloc);

@@ -15,7 +15,7 @@ use cam_base::{List, NoMemory};
 use cam_io::Files;
 use front_end::{FrontEnd, front};
 use std::alloc::Global;
-use view_text::{graph_of, picture_of};
+use view_text::{Made, graph_of, picture_of};
 
 /// Which picture is asked for.
 #[derive(Clone, Copy)]
@@ -44,14 +44,14 @@ fn draw_reasons(alloc: Global, front: &FrontEnd) -> Answer
     }
 }
 
-fn picture(alloc: Global, front: &FrontEnd) -> Result<List<u8>, NoMemory>
+fn picture(alloc: Global, front: &FrontEnd) -> Made<List<u8>>
     ensures { IfOk result (λ text. text ≡ picture_of front.now.policy (shapes_of front.now.flat front.now.policy.labels)) }
 {
     let shapes = shapes_of(alloc, &front.flat, front.policy.labels.as_slice())?;
     picture_of(alloc, &front.policy, shapes.as_slice())
 }
 
-fn overview_of(alloc: Global, front: &FrontEnd) -> Result<List<u8>, NoMemory>
+fn overview_of(alloc: Global, front: &FrontEnd) -> Made<List<u8>>
     ensures { IfOk result (λ text. text ≡ overview_of front.now) }
 {
     let shapes = shapes_of(alloc, &front.flat, front.policy.labels.as_slice())?;
@@ -72,12 +72,7 @@ fn draw(alloc: Global, front: &FrontEnd, drawing: Drawing) -> Answer
 }
 
 /// What is answered to the root of a source of which a picture is asked for.
-pub(crate) fn view_front<F: Files>(
-    alloc: Global,
-    root: &str,
-    drawing: Drawing,
-    files: &mut F,
-) -> Answer
+pub fn view_front<F: Files>(alloc: Global, root: &str, drawing: Drawing, files: &mut F) -> Answer
     ensures kept { KeepsFiles F.told F.faults files.old files.new }
     ensures fits { InAll (F.told files.new) (λ m. FitsFront m (F.faults files.old) (F.faults files.new) root.now drawing result) }
 {
