@@ -1,11 +1,7 @@
 -- The counts of uses are the lengths of their lists.
-use Rattle.cspace_layout.proofs.Common.{Bool, Flat, List, Member, SlotUse, Source, System, [], ap, arith, capped, cond, count_by, counts, domain_counts, domain_uses, ends_at, ends_of, false, flat_map, gather, greatest, is_lock, leaf_members, length}
-use Rattle.cspace_layout.proofs.Common.{length_append, list_any, lock_uses, ltb-false, ltb-true, map, max, nat_lt, plan_of, refl, slots_of, suc, sum, sym, true, uses_at, uses_of, ℕ, ◌+◌, ◌||◌, ◌∙◌, ◌∷◌, ◌≡◌}
+use Rattle.cspace_layout.proofs.Common.{Bool, List, Member, SlotUse, System, [], ap, arith, cond, count_by, ends_at, ends_of, false, flat_map, gather, is_lock, leaf_members, length, length_append, lock_uses, refl, suc, true, uses_at, uses_of, ℕ, ◌+◌}
+use Rattle.cspace_layout.proofs.Common.{◌∷◌, ◌≡◌}
 use Rattle.std.proofs.lemmas.List.Sums.{sum_by-cons}
-use Rattle.std.proofs.lemmas.Simd.{map-map}
-use lib.Dec.{ltb}
-use Rattle.adl_meaning.specs.declared.flat.Domain.{Domain}
-use Rattle.cspace_layout.specs.declared.plan.SlotPlan.{SlotPlan}
 use Rattle.cspace_layout.specs.declared.plan.SlotUse.TheVariants.{OwnLock}
 use Rattle.cspace_layout.proofs.Using.{leaf_laid}
 
@@ -42,33 +38,3 @@ leaf_counted s leaf =
       length_append ends (gather (λ m x. lock_uses leaf m x) members),
       length-locks (λ m. OwnLock leaf m) members,
     )
-
--- ---- domains
-
-pub counts_mapped : (source : Source) (flat : Flat)
-    → domain_counts source flat ≡ map capped (counts (slots_of source flat))
-counts_mapped source flat =
-    sym (map-map capped (λ (p : SlotPlan). length p.uses) (map (λ (d : Domain). plan_of (domain_uses source flat d.leaves))
-    flat.domains)
-    ∙ map-map (λ (p : SlotPlan). capped (length p.uses)) (λ (d : Domain). plan_of (domain_uses source flat d.leaves))
-    flat.domains)
-
--- ---- limits
-
-pub sum_capped : (ns : List ℕ) → capped (sum (map capped ns)) ≡ capped (sum ns)
-sum_capped [] = refl
-sum_capped (n ∷ ns) = omega (arith, sum_capped ns, sum_by-cons (λ x. x) n ns, sum_by-cons (λ x. x) (capped n) (map capped ns))
-
-over_either : (n m : ℕ) (b c d : Bool) → ltb 4095 (capped n) ≡ b → ltb 4095 m ≡ c → ltb 4095 (max n m) ≡ d → (b || c) ≡ d
-over_either n m true c true e f g = refl
-over_either n m true c false e f g = absurd (omega (arith, ltb-true 4095 (capped n) e, ltb-false 4095 (max n m) g))
-over_either n m false true true e f g = refl
-over_either n m false true false e f g = absurd (omega (arith, ltb-true 4095 m f, ltb-false 4095 (max n m) g))
-over_either n m false false true e f g =
-    absurd (omega (arith, ltb-false 4095 (capped n) e, ltb-false 4095 m f, ltb-true 4095 (max n m) g))
-over_either n m false false false e f g = refl
-
-pub any_over : (ns : List ℕ) → list_any (λ n. nat_lt 4095 n) (map capped ns) ≡ nat_lt 4095 (greatest ns)
-any_over [] = refl
-any_over (n ∷ ns) = ap (λ b. nat_lt 4095 (capped n) || b) (any_over ns) ∙ over_either n (greatest ns) (ltb 4095 (capped n))
-    (ltb 4095 (greatest ns)) (ltb 4095 (max n (greatest ns))) refl refl refl

@@ -1,5 +1,4 @@
 pub mod Counted
-pub mod Laid
 pub mod SlotFaults
 pub mod Uses
 pub mod LeafEnds
@@ -7,7 +6,6 @@ pub mod Limit
 pub mod Lookups
 pub mod Members
 pub mod Passes
-pub mod Spread
 pub mod System
 pub mod Within
 pub use Rattle.adl_meaning.specs.Faults

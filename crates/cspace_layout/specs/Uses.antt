@@ -1,7 +1,7 @@
 -- What the slots of a domain are for, in order, from slot 1 on: for each leaf of the domain, first its ends, by the
 -- interface that they join and then by connection, and then its locks. An end of an RPC or a notification has one slot.
 -- The `to` end of an interrupt has two: one for the notification, and then one for the interrupt. No other end has any.
-use Rattle.std.specs.Prelude.{ℕ, if◌then◌else◌, List, [], ◌∷◌, ◌++◌, map}
+use Rattle.std.specs.Prelude.{ℕ, if◌then◌else◌, List, [], ◌∷◌, ◌++◌, map, Option, Some, None}
 use Rattle.adl_ast.specs.declared.component.Member.{Member}
 use Rattle.adl_ast.specs.declared.composition.Role.{Role}
 use Rattle.adl_ast.specs.declared.composition.Role.TheVariants.{From, To}
@@ -18,6 +18,9 @@ use Rattle.cspace_layout.specs.declared.plan.SlotUse.{SlotUse}
 use Rattle.cspace_layout.specs.declared.plan.SlotUse.TheVariants.{OfEnd, Handler, OwnLock}
 use Rattle.cspace_layout.specs.declared.plan.SlotPlan.{SlotPlan}
 use Rattle.cspace_layout.specs.declared.plan.Slots.{Slots}
+use Rattle.cspace_layout.specs.declared.end_at.EndAt.{EndAt}
+use Rattle.cspace_layout.specs.Lookups.{end_of}
+use Rattle.cspace_layout.specs.System.{System}
 
 -- what end n of connection k has slots for
 abbrev pub end_uses : Connector → Role → ℕ → ℕ → List SlotUse
@@ -54,3 +57,14 @@ plan_of uses = record { uses = uses }
 -- the slots of all domains
 abbrev pub slots_of : Source → Flat → Slots
 slots_of source flat = record { domains = map (λ d. plan_of (domain_uses source flat d.leaves)) flat.domains }
+
+abbrev pub uses_by : Option (Connector × FlatEnd) → EndAt → List SlotUse
+uses_by None at = []
+uses_by (Some found) at = end_uses found.0 found.1.role at.connection at.end
+
+abbrev pub uses_at : Flat → EndAt → List SlotUse
+uses_at flat at = uses_by (end_of flat at.connection at.end) at
+
+-- of the leaf with this number
+abbrev pub uses_of : System → ℕ → List SlotUse
+uses_of s leaf = leaf_uses s.flat.connections leaf (leaf_members s.source s.flat leaf)

@@ -1,9 +1,8 @@
 //! The uses of slots, laid out by domain, leaf and member.
 
 ghost use Rattle.adl_meaning.specs.Faults.{Refuses};
-ghost use Rattle.cspace_layout.specs.Laid.{uses_at, uses_of};
+ghost use Rattle.cspace_layout.specs.Uses.{uses_at, uses_of, lock_uses, domain_uses, slots_of};
 ghost use Rattle.cspace_layout.specs.SlotFaults.{first_slot_fault};
-ghost use Rattle.cspace_layout.specs.Uses.{lock_uses, domain_uses, slots_of};
 ghost use Rattle.cspace_layout.specs.Within.{IsWithin};
 ghost use Rattle.cam_base.specs.Gather.{gather};
 ghost use Rattle.std.specs.List.{flat_map};

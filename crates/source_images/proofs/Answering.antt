@@ -1,10 +1,10 @@
 -- What is answered for readings, in terms of what was found.
+use Rattle.std.proofs.Common.{rules}
 use Rattle.source_images.proofs.Common.{AreFound, AreImagesRead, AreTablesRead, Bool, Bor, Contents, Err, Fault, Flat, Found, IfOk, Image, Images, IsAnswer, IsIn, Leaf, Line, List, Name, None, Ok, Option, Place, Reading, Result, Some, Source}
 use Rattle.source_images.proofs.Common.{SourceError, Table, [], absent, ap, arith, cond, earlier, false, file_name, files_told, first_arch, first_fault, first_missing, first_of, first_read, first_table_fault, flat_map, folder_of, get_or, image_of}
-use Rattle.source_images.proofs.Common.{images_in, images_of, least, length, length-map, line_faults, lines, listed, map, merged, missing, missing_at, missing_by, missing_reading, name_of_file, names_told, noted, noted-append, noted-none, option_map}
+use Rattle.source_images.proofs.Common.{images_in, least, length, length-map, line_faults, lines, listed, map, merged, missing, missing_at, missing_by, missing_reading, name_of_file, names_told, noted, noted-append, noted-none, option_map}
 use Rattle.source_images.proofs.Common.{option_map_or, precedes, reading_in, reading_of, readings_of, refl, slice_get, slice_get-get_or, slice_get_past, string_bytes, subst, suc, sym, table, table_at, table_name, table_names, tables_told, too_long}
 use Rattle.source_images.proofs.Common.{true, type_number, types, unwrap_or, zero, zip, ℕ, ◌++◌, ◌+◌, ◌-◌, ◌<◌, ◌∙◌, ◌∷◌, ◌≡◌, ◌≤◌}
-use Rattle.adl_ast.specs.declared.source.SourceFile.{SourceFile}
 use Rattle.source_images.proofs.TableReads.{found_count}
 use Rattle.source_images.proofs.Lines.{first_line_fault, least-append, least-line_faults}
 use Rattle.source_images.proofs.Merging.{IsMerged, merged_tables}
@@ -85,11 +85,7 @@ module _ (root : List ℕ) (source : Source) (flat : Flat) (all : List Found) wh
 
   missed_same : missed ≡ flat_map (λ (leaf : Leaf). missing_at (zip (table_names root source flat) all) leaf.place
       (type_number source flat leaf)) flat.leaves
-  missed_same =
-      each_same _ _ flat.leaves (λ leaf. missing_same leaf.place (length source.files) all_tables all
-      (type_number source flat leaf)
-      ∙ ap (λ z. missing_at (zip z all) leaf.place (type_number source flat leaf))
-      (files_are (folder_of root) (types source flat)))
+  missed_same = search (rules, each_same, missing_same, files_are)
 
   merged_here : length all_tables ≡ length all
       → IsMerged (merged all_readings) (first_line_fault (first_arch all) (length source.files) all)
@@ -97,19 +93,11 @@ module _ (root : List ℕ) (source : Source) (flat : Flat) (all : List Found) wh
   merged_here e = merged_tables (length source.files) all_tables all e
 
   first_same : length all_tables ≡ length all → first_read source flat all_readings ≡ first_table_fault root source flat all
-  first_same e =
-      read_first missed (merged all_readings).fault
-      ∙ ap (earlier (least missed)) ((merged_here e).faulty ∙ sym (least-line_faults (first_arch all) (length source.files) all))
-      ∙ ap (λ z. earlier (least z) (least (line_faults (first_arch all) (length source.files) all))) missed_same
-      ∙ sym (least-append missed_told (line_faults (first_arch all) (length source.files) all))
+  first_same e = search (rules, read_first, merged_here, least-line_faults, missed_same, least-append)
 
   images_same : length all_tables ≡ length all → first_read source flat all_readings ≡ None
       → (merged all_readings).images ≡ images_in (types source flat) all
-  images_same e none =
-      let line : (merged all_readings).fault ≡ None = no_right (least missed) (merged all_readings).fault
-      (sym (read_first missed (merged all_readings).fault) ∙ none) in
-      (merged_here e).sound (sym (merged_here e).faulty ∙ line) ∙ ap (λ z. images_in z all)
-      (names_are (folder_of root) (types source flat))
+  images_same e none = search (rules, no_right, read_first, merged_here, names_are)
 
   names_same : (n : ℕ) → unwrap_or (slice_get (map (λ f. f.name) source.files ++ map (λ t. t.1) all_tables) n) [] ≡ name_of_file
       root source flat n
@@ -128,17 +116,8 @@ module _ (root : List ℕ) (source : Source) (flat : Flat) (all : List Found) wh
 
       by_result : (r : Result Images SourceError) → IsAnswer source flat all_tables all_readings r
           → AreImagesRead contents root source flat r
-      by_result (Ok images) a =
-          let made : images ≡ images_of source flat all =
-          a.1 ∙ ap (λ z. record { images = z; of_leaf = map (type_number source flat) flat.leaves }) (images_same count a.0) in
-          record {
-            clean = ap (first_table_fault root source flat) (sym told_names) ∙ sym (first_same count) ∙ a.0;
-            images = made ∙ ap (images_of source flat) told_names;
-          }
-      by_result (Err (error.Fault fault file)) a = record {
-        first = ap (first_table_fault root source flat) (sym told_names) ∙ sym (first_same count) ∙ a.0;
-        named = a.1 ∙ names_same fault.place.file;
-      }
+      by_result (Ok images) a = search (rules, images_same, count, told_names, first_same)
+      by_result (Err (error.Fault fault file)) a = search (rules, told_names, first_same, count, names_same)
       by_result (Err (error.ReadFault file)) a = absurd a
       by_result (Err error.NoMemory) a = tt
 
@@ -149,10 +128,7 @@ pub answered : (contents : Contents) (root : List ℕ) (source : Source) (flat :
     → (all : List Found) × AreFound contents (map (λ t. t.1) tables) all
     × (readings ≡ readings_of (length source.files) tables all)
     → IsAnswer source flat tables readings result → AreImagesRead contents root source flat result
-answered contents root source flat tables readings result is (all, told, read) answer =
-    answer_told root source flat all contents result (subst (λ z. AreFound contents (map (λ t. t.1) z) all) is told)
-    (subst (λ z. IsAnswer source flat z (readings_of (length source.files) z all) result) is
-    (subst (λ z. IsAnswer source flat tables z result) read answer))
+answered contents root source flat tables readings result is (all, told, read) answer = search (rules, answer_told)
 
 -- the answer, where a table isn't read
 pub failed : (contents : Contents) (root : List ℕ) (source : Source) (flat : Flat) (tables : List (Name × List ℕ)) (file : List ℕ)
@@ -178,9 +154,7 @@ err_answered contents root source flat tables e result is read same = subst (Are
 pub first_answer : (source : Source) (flat : Flat) (readings slice : List Reading) (missing line first : Option Fault)
     (fault : Fault) → slice ≡ readings → missing ≡ first_missing source flat slice → line ≡ (merged readings).fault
     → first ≡ first_of missing line → first ≡ Some fault → first_read source flat readings ≡ Some fault
-first_answer source flat readings slice missing line first fault same a b c d =
-    ap (λ s. first_of (first_missing source flat s) (merged readings).fault) (sym same)
-    ∙ ap (λ z. first_of z (merged readings).fault) (sym a) ∙ ap (first_of missing) (sym b) ∙ sym c ∙ d
+first_answer source flat readings slice missing line first fault same a b c d = cc
 
 -- ---- names of files
 
@@ -199,31 +173,18 @@ told_at (t ∷ tables) (suc k) = told_at tables k
 pub name_behind : (source : Source) (tables : List Table) (n : ℕ) → length source.files ≤ n
     → file_name source (tables_told tables) n ≡ unwrap_or (option_map (λ (t : Table). string_bytes t.file)
     (slice_get tables (n - length source.files))) []
-name_behind source tables n h =
-    let count : length (map (λ (f : SourceFile). f.name) source.files) ≡ length source.files =
-    length-map source.files (λ f. f.name) in
-    ap (λ o. unwrap_or o []) (get_behind (map (λ (f : SourceFile). f.name) source.files) (map (λ t. t.1) (tables_told tables)) n
-    (omega (arith, count))
-    ∙ ap (λ k. slice_get (map (λ (t : Name × List ℕ). t.1) (tables_told tables)) (n - k)) count
-    ∙ told_at tables (n - length source.files))
+name_behind source tables n h = grind (arith, length-map, get_behind, told_at)
 
 -- of a table
 pub name_at_table : (source : Source) (tables : List Table) (n k : ℕ) (t : Table) → length source.files ≤ n
     → k ≡ n - length source.files → k < length tables → t ≡ get_or tables k t
     → string_bytes t.file ≡ file_name source (tables_told tables) n
-name_at_table source tables n k t h is lt at =
-    sym (name_behind source tables n h
-    ∙ ap (λ j. unwrap_or (option_map (λ (u : Table). string_bytes u.file) (slice_get tables j)) []) (sym is)
-    ∙ ap (λ o. unwrap_or (option_map (λ (u : Table). string_bytes u.file) o) []) (slice_get-get_or tables k t lt
-    ∙ ap (λ z. Some z) (sym at)))
+name_at_table source tables n k t h is lt at = search (rules, name_behind, slice_get-get_or)
 
 -- past all tables
 pub name_past : (source : Source) (tables : List Table) (n k : ℕ) → length source.files ≤ n → k ≡ n - length source.files
     → length tables ≤ k → [] ≡ file_name source (tables_told tables) n
-name_past source tables n k h is past =
-    sym (name_behind source tables n h
-    ∙ ap (λ j. unwrap_or (option_map (λ (u : Table). string_bytes u.file) (slice_get tables j)) []) (sym is)
-    ∙ ap (λ o. unwrap_or (option_map (λ (u : Table). string_bytes u.file) o) []) (slice_get_past tables k past))
+name_past source tables n k h is past = search (rules, name_behind, slice_get_past)
 
 pub ok_as : {E : Type 0} (r : Result (List ℕ) E) (x y : List ℕ) → x ≡ y → IfOk r (λ z. z ≡ x) → IfOk r (λ z. z ≡ y)
 ok_as (Ok z) x y e h = h ∙ e
@@ -234,9 +195,7 @@ pub tables_are : (root : List ℕ) (source : Source) (flat : Flat) (slice tables
     (folder : List ℕ) → slice ≡ tables → tables_told tables ≡ map (table_at folder) (names_told borrowed)
     → folder ≡ folder_of root → borrowed ≡ names → names_told names ≡ types source flat
     → tables_told slice ≡ map (table_at (folder_of root)) (types source flat)
-tables_are root source flat slice tables names borrowed folder a b c d e =
-    ap tables_told a ∙ b ∙ ap (λ f. map (table_at f) (names_told borrowed)) c
-    ∙ ap (λ z. map (table_at (folder_of root)) (names_told z)) d ∙ ap (map (table_at (folder_of root))) e
+tables_are root source flat slice tables names borrowed folder a b c d e = cc
 
 -- the names of their files
 pub files_named : (root : List ℕ) (source : Source) (flat : Flat) (tables : List Table)

@@ -1,7 +1,8 @@
 -- Sections of a domain that lie apart begin at addresses that differ.
+use Rattle.std.proofs.Common.{rules}
 use Rattle.source_images.proofs.Common.{AreApart, Bool, Image, Images, IsIn, List, None, Option, Placed, Section, Some, [], and_from, and_left, and_parts, and_right, ap, arith, both_ways, cases_Bool, clashes, clashes_with, eq-eqb, eqb-true, false}
-use Rattle.source_images.proofs.Common.{from_any, from_gather, image_number, in_any, inl, inr, is_run, is_sound, list_any, lt-ltb, ltb-true, nat_eq, ne_eqb, not, not-true, option_map_or, placed, refl, runs, sections_if, sections_of, share_page, suc}
-use Rattle.source_images.proofs.Common.{sym, true, zero, ℕ, ⊎_elim, ◌%◌, ◌&&◌, ◌+◌, ◌/◌, ◌<◌, ◌^◌, ◌∙◌, ◌∷◌, ◌≡◌}
+use Rattle.source_images.proofs.Common.{from_any, from_gather, image_number, in_any, inl, inr, is_run, is_sound, list_any, lt-ltb, ltb-true, nat_eq, ne_eqb, not, not-true, option_map_or, placed, refl, sections_if, sections_of, share_page, suc, sym}
+use Rattle.source_images.proofs.Common.{true, zero, ℕ, ⊎_elim, ◌%◌, ◌&&◌, ◌+◌, ◌/◌, ◌<◌, ◌^◌, ◌∙◌, ◌∷◌, ◌≡◌}
 use Rattle.std.specs.Prelude.{IsTrue}
 use Rattle.source_images.proofs.SectionsTold.{comes_from}
 use Rattle.source_images.proofs.Sorting.{Differ, Later, later_gather, later_within}
@@ -47,9 +48,7 @@ number_some (Some k) m e = ap (λ z. Some z) (eqb-true k m e)
 -- a leaf that runs the image of a section
 pub run_by : (images : Images) (leaves : List ℕ) (x : Placed) → IsIn x (sections_of images leaves) → (leaf : ℕ) × IsIn leaf leaves
     × (image_number images leaf ≡ Some x.image)
-run_by images leaves x i =
-    let leaf = from_any (runs images x.image) leaves (comes_from images leaves x i).run in
-    (leaf.0, leaf.1, number_some (image_number images leaf.0) x.image leaf.2)
+run_by images leaves x i = search (rules, from_any, comes_from, number_some)
 
 pub no_clash : (images : Images) (leaves : List ℕ) (x y : Placed) → AreApart images leaves → IsIn x (sections_of images leaves)
     → IsIn y (sections_of images leaves) → clashes_with x y ≡ false

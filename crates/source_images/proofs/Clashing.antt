@@ -1,7 +1,7 @@
 -- Which images clash, section by section.
-use Rattle.source_images.proofs.Common.{Bool, IsPermutation, List, Placed, [], and-false, ap, arith, at_drop_all, cases_eq, clashes, clashes_with, drop, drop_first, eq-eqb, false, get_or, get_or-set_other, get_or-set_same, length, length-map}
-use Rattle.source_images.proofs.Common.{list_any, list_any-IsPermutation, list_any-map, map, nat_eq, ne_eqb, not, or-false, placed_told, refl, region_of, replicate, sections_told, set, share_page, shares, suc, sym, true, zero, ℕ, ⊎_elim, ◌&&◌, ◌+◌}
-use Rattle.source_images.proofs.Common.{◌<◌, ◌||◌, ◌∙◌, ◌∷◌, ◌≡◌, ◌≤◌}
+use Rattle.std.proofs.Common.{rules}
+use Rattle.source_images.proofs.Common.{Bool, IsPermutation, List, Placed, [], and-false, ap, arith, at_drop_all, clashes, clashes_with, drop, drop_first, eq-eqb, false, get_or, get_or-set_other, get_or-set_same, length, length-map, list_any}
+use Rattle.source_images.proofs.Common.{list_any-IsPermutation, list_any-map, map, nat_eq, or-false, placed_told, refl, region_of, replicate, sections_told, set, shares, suc, sym, true, zero, ℕ, ◌&&◌, ◌+◌, ◌<◌, ◌||◌, ◌∙◌, ◌∷◌, ◌≡◌, ◌≤◌}
 use Rattle.name_tables.specs.declared.region.Region.{Region}
 use Rattle.source_images.specs.declared.sections.Placed.{Placed as Given}
 
@@ -18,11 +18,7 @@ any-shares all x index h = sym (list_any-IsPermutation (shares (region_of x)) (m
 -- a section alone clashes with none
 pub none_clash : (all : List Placed) → length all < 2 → (m : ℕ) → clashes all m ≡ false
 none_clash [] l m = refl
-none_clash (x ∷ []) l m =
-    let own : (nat_eq x.image x.image && nat_eq x.number x.number) ≡ true =
-    ap (λ b. b && nat_eq x.number x.number) (eq-eqb x.image x.image refl) ∙ eq-eqb x.number x.number refl in
-    ap (λ b. (nat_eq x.image m && ((not b && share_page x.section x.section) || false)) || false) own
-    ∙ ap (λ b. b || false) (and-false (nat_eq x.image m))
+none_clash (x ∷ []) l m = search (rules, nat_eq, eq-eqb, and-false)
 none_clash (x ∷ y ∷ all) l m = absurd (omega arith)
 
 unmarked_all : (n m : ℕ) → get_or (replicate n false) m false ≡ false
@@ -46,13 +42,7 @@ step_false false e r s = sym (ap (λ z. (z && true) || r) s)
 -- the mark of an image, where image k is marked for a section that clashes
 marked : (marks : List Bool) (k m : ℕ) (t r : Bool) → t ≡ true → k < length marks → get_or (set marks k true) m false
     || r ≡ get_or marks m false || ((nat_eq k m && t) || r)
-marked marks k m t r s l =
-    ⊎_elim
-    (λ e. ap (λ z. z || r) (ap (λ j. get_or (set marks k true) j false) (sym e) ∙ get_or-set_same marks k true false l)
-    ∙ step_true (get_or marks m false) (nat_eq k m) r (eq-eqb k m e))
-    (λ n. ap (λ z. z || r) (get_or-set_other marks k m true false (λ e. n (sym e))) ∙ step_false (get_or marks m false)
-    (nat_eq k m) r (ne_eqb k m n))
-    (cases_eq k m) ∙ ap (λ z. get_or marks m false || ((nat_eq k m && z) || r)) (sym s)
+marked marks k m t r s l = search (rules, set, get_or-set_same, step_true, nat_eq, eq-eqb, get_or-set_other, step_false)
 
 -- and where it is not
 unmarked : (b e t r : Bool) → t ≡ false → b || r ≡ b || ((e && t) || r)

@@ -30,14 +30,12 @@ pub use Rattle.sect_table.specs.declared.image.Section.{Section}
 pub use Rattle.source_images.specs.Archs.{at_first_line, differs, first_arch, header_in, is_other, other_arch}
 pub use Rattle.source_images.specs.ByAddress.{by_address, name_of, page_at, pages_of, put_section, section_page_count, section_pages}
 pub use Rattle.source_images.specs.Found.{AlikeAsRead, AlikeInTables, AreFound, Found, absent, folder_of, found_bytes, found_in, found_of, is_slash, table, table_name, table_names, too_long}
-pub use Rattle.source_images.specs.Images.{Placed, arch_of, image_number, is_run, placed, runs, sections_end, sections_if, sections_of}
-pub use Rattle.source_images.specs.ImagesRead.{AreImagesRead}
+pub use Rattle.source_images.specs.Images.{Placed, arch_of, image_number, is_run, placed, sections_end, sections_if, sections_of}
+pub use Rattle.source_images.specs.ImagesRead.{AreImagesRead, images_in, images_of}
 pub use Rattle.source_images.specs.Numbered.{AreApart, AreNumbered, AreSound}
-pub use Rattle.source_images.specs.ProgramsTold.{placed_told, region_of, sections_told}
-pub use Rattle.source_images.specs.SectionPages.{is_inside, page_count, share_page}
-pub use Rattle.source_images.specs.SpaceFaults.{clashes, clashes_with, domain_faults, fault_at, first_space_fault, image_faults, is_outside, leaf_faults, numbered_faults, space_faults}
+pub use Rattle.source_images.specs.SectionPages.{placed_told, region_of, sections_told, is_inside, page_count, share_page}
+pub use Rattle.source_images.specs.SpaceFaults.{clashes, clashes_with, domain_faults, fault_at, first_space_fault, image_faults, is_outside, leaf_faults, space_faults}
 pub use Rattle.source_images.specs.TableFaults.{first_table_fault, line_fault, line_faults, listed, missing, missing_at, name_of_file, table_faults}
-pub use Rattle.source_images.specs.TableImages.{images_in, images_of}
 pub use Rattle.source_images.specs.Told.{AreTablesRead, IsAnswer, IsFound, IsTableRead, file_name, files_told, first_missing, first_of, first_read, merged, merged_with, missing_by, missing_reading, names_told, reading_in, reading_of, readings_of}
 pub use Rattle.source_images.specs.Told.{table_at, table_told, tables_told, with_fault, with_more, with_type}
 pub use Rattle.source_images.specs.Types.{Name, type_number, type_of, types}

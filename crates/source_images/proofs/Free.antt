@@ -1,4 +1,5 @@
 -- Where no fault of address spaces stands, sections lie apart and where they may.
+use Rattle.std.proofs.Common.{rules}
 use Rattle.source_images.proofs.Common.{AreApart, AreNumbered, AreSound, Bool, Fault, Flat, Image, Images, IsIn, List, None, Placed, Some, [], arch_of, at_place, both_ways, cases_Bool, clashes, domain_faults, false, fault_at, first_space_fault}
 use Rattle.source_images.proofs.Common.{image_faults, image_number, in_any, in_place, is_inside, is_outside, leaf_faults, least-empty, list_any, none_in, not, not-false, refl, sections_end, sections_of, slice_get, space_faults, sym, true, where_true}
 use Rattle.source_images.proofs.Common.{ℕ, ⊎_elim, ◌++◌, ◌∙◌, ◌≡◌}
@@ -42,12 +43,7 @@ module _ (flat : Flat) (images : Images) (numbered : AreNumbered flat images) (n
       (image_free leaf m image.0 i e image.1).0
 
   pub free_apart : AreSound images → AreApart images domain.leaves
-  free_apart each = record {
-    counted = numbered.counted;
-    sound = λ x i. let from = comes_from images domain.leaves x i in
-        each x.image from.image from.at x.section (in_place x.section from.image.sections x.number from.section);
-    apart = clash_free;
-  }
+  free_apart each = search (rules, comes_from, in_place, clash_free)
 
   pub free_inside : (x : Placed) → IsIn x (sections_of images domain.leaves)
       → is_inside (sections_end (arch_of images.images)) x.section ≡ true

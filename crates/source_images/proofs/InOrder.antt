@@ -1,4 +1,5 @@
 -- Sections by address.
+use Rattle.std.proofs.Common.{rules}
 use Rattle.source_images.proofs.Common.{AreApart, Bool, Image, Images, IsIn, IsNonDecreasingBy, IsPermutation, IsPermutation-cons, IsPermutation-map, IsPermutation-middle, IsPermutation-refl, IsPermutation-trans, List, Placed, Some, [], ap, arith}
 use Rattle.source_images.proofs.Common.{by_address, cond, false, get_or, leb, leb-false, leb-true, length, name_of, option_map_or, placed_told, put_section, refl, sections_of, sections_told, slice_get, subst, sym, true, ℕ, ⊎_elim, ◌<◌, ◌∷◌, ◌≡◌, ◌≤◌}
 use Rattle.source_images.specs.declared.sections.Placed.{Placed as Given}
@@ -25,9 +26,7 @@ order_moves (x ∷ xs) = IsPermutation-trans (x ∷ xs) (x ∷ by_address xs) (p
 
 climbs_by : (b : Bool) (x y : Placed) (ys zs : List Placed) → leb x.section.vaddr y.section.vaddr ≡ b → Climbs address (y ∷ ys)
     → Climbs address zs → IsPermutation (x ∷ ys) zs → Climbs address (cond b (x ∷ y ∷ ys) (y ∷ zs))
-climbs_by true x y ys zs t h k p =
-    let le = leb-true x.section.vaddr y.section.vaddr t in
-    ((λ z i. ⊎_elim (λ e. omega (arith, le, ap address e)) (λ j. omega (arith, le, h.0 z j)) i), h)
+climbs_by true x y ys zs t h k p = search (rules, leb-true, address)
 climbs_by false x y ys zs t h k p =
     let le = leb-false x.section.vaddr y.section.vaddr t in
     ((λ z i. ⊎_elim (λ e. omega (arith, le, ap address e)) (λ j. h.0 z j) (in_permutation (x ∷ ys) zs z p i)), k)

@@ -1,6 +1,7 @@
 -- The faults of tables' lines stand in the order of the tables, so that the first of them in the list is the first fault.
-use Rattle.source_images.proofs.Common.{Arch, Bool, Fault, Found, Header, Line, List, None, Option, Some, [], absent, ap, arith, at_first_line, bad_line, cond, earlier, earlier_assoc, false, fault_in, first_bad, first_fault, header_of, least, length}
-use Rattle.source_images.proofs.Common.{line_fault, line_faults, lines, listed, nat_eq, nat_lt, nat_tests, option_map, option_or, other_arch, refl, spaced_fields, sym, table, too_long, true, ℕ, ◌++◌, ◌+◌, ◌<◌, ◌∙◌, ◌∷◌, ◌≡◌, ◌≤◌}
+use Rattle.std.proofs.Common.{rules}
+use Rattle.source_images.proofs.Common.{Arch, Bool, Fault, Found, Header, Line, List, None, Option, Some, [], absent, ap, arith, at_first_line, bad_line, cond, earlier, earlier_assoc, false, fault_in, first_bad, header_of, least, line_fault}
+use Rattle.source_images.proofs.Common.{line_faults, listed, nat_eq, nat_lt, nat_tests, option_map, option_or, refl, spaced_fields, sym, table, too_long, true, ℕ, ◌++◌, ◌+◌, ◌<◌, ◌∙◌, ◌∷◌, ◌≡◌, ◌≤◌}
 use Rattle.cam_base.specs.Codes.{number_of}
 
 -- the first fault of two lists
@@ -46,9 +47,7 @@ where_stands file false a s = tt
 line_stands : (first : Option Arch) (file : ℕ) (x : Found) → StandsIn file (line_fault first file x)
 line_stands first file absent = tt
 line_stands first file too_long = tt
-line_stands first file (table bytes) =
-    or_stands file (first_fault file bytes) (other_arch first file bytes) (fault_stands_in file (length bytes) (lines bytes))
-    (where_stands file _ (at_first_line file (lines bytes)) (first_line_stands file (lines bytes)))
+line_stands first file (table bytes) = search (rules, or_stands, fault_stands_in, where_stands, first_line_stands)
 
 later : (file n : ℕ) (o : Option Fault) → n ≤ file → StandsFrom file o → StandsFrom n o
 later file n None h s = tt

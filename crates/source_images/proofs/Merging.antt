@@ -1,4 +1,5 @@
 -- What comes of all that is read, in terms of what was found.
+use Rattle.std.proofs.Common.{rules}
 use Rattle.source_images.proofs.Common.{Aarch64, Arch, Arm11, Bool, Fault, Found, Header, Image, Line, List, Name, None, Option, Reading, Some, [], absent, ap, append-nil, append_assoc, arith, at_first_line, bad_between, bad_line, cond, cons_option}
 use Rattle.source_images.proofs.Common.{differs, false, fault_in, first_arch, first_bad, fold, header_in, header_of, image, image_in, images_in, is_other, is_some, length, lines, map, merged, merged_with, option_map, option_map_or, option_or}
 use Rattle.source_images.proofs.Common.{reading_in, readings_of, refl, spaced_fields, sym, table, too_long, true, true≢false, with_fault, with_more, ℕ, ◌++◌, ◌+◌, ◌∙◌, ◌∷◌, ◌≡◌}
@@ -23,10 +24,7 @@ pub record IsMerged (m : Merged) (fault : Option Fault) (images : List Image) : 
 -- at a fault
 stopped : (first : Option Arch) (before images : List Image) (f : Fault) (more : Option Fault) (rs : List Reading)
     → IsMerged (fold merged_with (with_fault (clean first before) f) rs) (option_or (Some f) more) images
-stopped first before images f more rs =
-    let same : fold merged_with (with_fault (clean first before) f) rs ≡ with_fault (clean first before) f =
-    kept (with_fault (clean first before) f) rs refl in
-    record { faulty = ap (λ m. m.fault) same; sound = λ e. absurd (cc) }
+stopped first before images f more rs = search (rules, kept)
 
 same_arch : (a b : Arch) → differs a b ≡ false → a ≡ b
 same_arch Arm11 Arm11 e = refl
@@ -81,11 +79,7 @@ module _ (tables : List (Name × List ℕ)) (more : List Found) (next : ℕ) whe
       let was : is_other (arch_with first h.arch more) h.arch ≡ true = other_same first h.arch more ∙ e in
       rw (e, was) (stopped first before (before ++ image name lines h ∷ images_in names more) (bad_line n line)
       (first_line_fault (arch_with first h.arch more) next more) rest)
-  sound_line behind n name first before line lines h false e =
-      let was : is_other (arch_with first h.arch more) h.arch ≡ false = other_same first h.arch more ∙ e in
-      let is : arch_with first h.arch more ≡ Some h.arch = arch_same first h.arch more e in
-      let after = behind (Some h.arch) (before ++ image name lines h ∷ []) in
-      rw (e, was, is) (rw append_assoc at after)
+  sound_line behind n name first before line lines h false e = search (rules, other_same, arch_same, append_assoc)
 
   at_line : Behind → (n : ℕ) (name : Name) (first : Option Arch) (before : List Image) (line : Line) (lines : List Line)
       (header : Option Header) (bad : Option Line) → AtLine n name first before line lines header bad

@@ -1,6 +1,5 @@
 -- In given contents there is one answer.
-use Rattle.source_images.proofs.Common.{AreImagesRead, Contents, Err, Fault, Flat, Images, List, None, Ok, Option, Result, Some, Source, SourceError, ap, false, first_table_fault, found_of, name_of_file, same_Some, sym, true≢false, yields, ℕ, ◌∙◌}
-use Rattle.source_images.proofs.Common.{◌≡◌}
+use Rattle.source_images.proofs.Common.{AreImagesRead, Contents, Err, Fault, Flat, Images, List, None, Ok, Option, Result, Some, Source, SourceError, ap, false, first_table_fault, found_of, sym, true≢false, yields, ℕ, ◌∙◌, ◌≡◌}
 use Rattle.cam_base.specs.declared.error.Unread.TheVariants as error
 
 some_other : (o : Option Fault) (f : Fault) {T : Type 0} → o ≡ None → o ≡ Some f → T
@@ -16,10 +15,7 @@ one_answer m root source flat (Ok a) (Err (error.ReadFault file)) p q x y = absu
 one_answer m root source flat (Ok a) (Err error.NoMemory) p q x y = absurd (true≢false q)
 one_answer m root source flat (Err (error.Fault f file)) (Ok b) p q x y =
     some_other (first_table_fault root source flat (found_of m root source flat)) f y.clean x.first
-one_answer m root source flat (Err (error.Fault f file)) (Err (error.Fault g other)) p q x y =
-    let same : f ≡ g = same_Some f g (sym x.first ∙ y.first) in
-    let named : file ≡ other = x.named ∙ ap (λ (z : Fault). name_of_file root source flat z.place.file) same ∙ sym y.named in
-    λ i. Err (error.Fault (same i) (named i))
+one_answer m root source flat (Err (error.Fault f file)) (Err (error.Fault g other)) p q x y = cc
 one_answer m root source flat (Err (error.Fault f file)) (Err (error.ReadFault other)) p q x y = absurd (true≢false q)
 one_answer m root source flat (Err (error.Fault f file)) (Err error.NoMemory) p q x y = absurd (true≢false q)
 one_answer m root source flat (Err (error.ReadFault file)) b p q x y = absurd (true≢false p)

@@ -1,7 +1,8 @@
 -- The pages of sections that lie apart, by address.
+use Rattle.std.proofs.Common.{rules}
 use Rattle.source_images.proofs.Common.{Aarch64, All, AllPairs, Arch, AreApart, Arm11, Images, IsIn, List, Placed, [], and_cases, and_from, and_parts, ap, arith, both_ways, by_address, cases_Bool, clashes_with, eqb-true, false, flat_map}
-use Rattle.source_images.proofs.Common.{from_flat_map, from_map, get_or, inl, inr, is_inside, leb, leb-true, ltb-false, name_of, nat_eq, nat_lt, not, page_at, page_count, pages_of, range_with_len, refl, same_Some, section_pages, sections_end}
-use Rattle.source_images.proofs.Common.{sections_of, share_page, slice_get, suc, sym, true, zero, ℕ, ⊎_elim, ◌%◌, ◌&&◌, ◌*◌, ◌+◌, ◌/◌, ◌<◌, ◌∙◌, ◌∷◌, ◌≡◌, ◌≤◌}
+use Rattle.source_images.proofs.Common.{from_flat_map, from_map, get_or, inl, inr, is_inside, leb, leb-true, ltb-false, nat_eq, nat_lt, not, page_count, pages_of, range_with_len, refl, same_Some, section_pages, sections_end, sections_of, share_page}
+use Rattle.source_images.proofs.Common.{slice_get, suc, sym, true, zero, ℕ, ⊎_elim, ◌%◌, ◌&&◌, ◌*◌, ◌+◌, ◌/◌, ◌<◌, ◌∙◌, ◌∷◌, ◌≡◌, ◌≤◌}
 use Rattle.source_images.specs.declared.pages.SectionPage.{SectionPage}
 use Rattle.source_images.proofs.Apart.{address, addresses_differ, no_clash, same_numbers, sound_numbers}
 use Rattle.source_images.proofs.InOrder.{order_climbs, order_moves}
@@ -41,27 +42,17 @@ Precedes p q = p.vaddr + 4096 ≤ q.vaddr
 
 from_page : (images : Images) (x : Placed) (p : SectionPage) → IsIn p (pages_of images x) → (j : ℕ) × (j < page_count x.section)
     × (p.vaddr ≡ x.section.vaddr + 4096 * j)
-from_page images x p i =
-    let k = from_map (page_at (name_of images x.image) x.section) p (range_with_len 0 (page_count x.section)) i in
-    (k.0, omega (arith, (in_range 0 (page_count x.section) k.0 k.1).1), ap (λ q. q.vaddr) (sym k.2))
+from_page images x p i = grind (arith, from_map, in_range)
 
 pages_later : (images : Images) (x : Placed) → Later Precedes (pages_of images x)
-pages_later images x =
-    let all = range_with_len 0 (page_count x.section) in
-    later_map (page_at (name_of images x.image) x.section) Precedes all
-    (later_within (λ i j. i < j) (λ i j. (x.section.vaddr + 4096 * i) + 4096 ≤ x.section.vaddr + 4096 * j) all
-    (λ i j m n l. omega arith) (range_later 0 (page_count x.section)))
+pages_later images x = search (rules, later_map, later_within, range_later)
 
 -- ---- the pages of two sections
 
 apart_pages : (v w n m : ℕ) → v % 4096 ≡ 0 → w % 4096 ≡ 0 → v < w → 0 < m
     → (nat_lt (v / 4096) (w / 4096 + (m + 4095) / 4096) && nat_lt (w / 4096) (v / 4096 + (n + 4095) / 4096)) ≡ false
     → v + 4096 * ((n + 4095) / 4096) ≤ w
-apart_pages v w n m a b l k e =
-    ⊎_elim
-    (λ f. let h = ltb-false (v / 4096) (w / 4096 + (m + 4095) / 4096) f in absurd (omega arith))
-    (λ f. let h = ltb-false (w / 4096) (v / 4096 + (n + 4095) / 4096) f in omega arith)
-    (and_cases (nat_lt (v / 4096) (w / 4096 + (m + 4095) / 4096)) (nat_lt (w / 4096) (v / 4096 + (n + 4095) / 4096)) e)
+apart_pages v w n m a b l k e = grind (arith, ltb-false, and_cases, nat_lt)
 
 one_section : (images : Images) (leaves : List ℕ) (x y : Placed) → IsIn x (sections_of images leaves)
     → IsIn y (sections_of images leaves) → same_numbers x y ≡ true → x.section ≡ y.section

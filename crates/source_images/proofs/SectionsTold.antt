@@ -1,6 +1,7 @@
 -- What the sections of a domain are, and what is told of them.
+use Rattle.std.proofs.Common.{rules}
 use Rattle.source_images.proofs.Common.{Bool, Image, Images, IsIn, List, Placed, Some, [], ap, append_assoc, drop, drop_first, false, flat_map, from_gather, get_or, in_place, inl, inr, is_run, length, map_push, placed, placed_told, refl, sections_if}
-use Rattle.source_images.proofs.Common.{sections_of, sections_told, slice_get, slice_get_read, subst, sym, true, ℕ, ◌++◌, ◌+◌, ◌<◌, ◌∙◌, ◌∷◌, ◌≡◌}
+use Rattle.source_images.proofs.Common.{sections_of, sections_told, slice_get, slice_get_read, subst, true, ℕ, ◌++◌, ◌+◌, ◌<◌, ◌∙◌, ◌∷◌, ◌≡◌}
 use Rattle.source_images.specs.declared.sections.Placed.{Placed as Given}
 
 pub told_push : (new old : List Given) (x : Given) → new ≡ old ++ x ∷ [] → sections_told new ≡ sections_told old
@@ -37,9 +38,7 @@ comes_if images leaves x m image true r e i =
     by_hit n section s (inr q) = absurd q
 
 pub comes_from : (images : Images) (leaves : List ℕ) (x : Placed) → IsIn x (sections_of images leaves) → ComesFrom images leaves x
-comes_from images leaves x i =
-    let k = from_gather (λ m image. sections_if (is_run images leaves m) m image) x images.images i in
-    comes_if images leaves x k.0 k.1 (is_run images leaves k.0) refl k.2 k.3
+comes_from images leaves x i = search (rules, from_gather, comes_if)
 
 -- ---- elements that a slice gives
 
@@ -47,7 +46,4 @@ comes_from images leaves x i =
 pub told_turn : {Y : Type 0} (f : Placed → List Y) (ps : List Given) (i : ℕ) (p : Given) (old new : List Y) → i < length ps
     → p ≡ get_or ps i p → new ≡ old ++ f (placed_told p)
     → new ++ flat_map f (sections_told (drop (i + 1) ps)) ≡ old ++ flat_map f (sections_told (drop i ps))
-told_turn f ps i p old new l e n =
-    let rest = flat_map f (sections_told (drop (i + 1) ps)) in
-    ap (λ z. z ++ rest) n ∙ append_assoc old (f (placed_told p)) rest ∙ ap (λ z. old ++ flat_map f (sections_told z))
-    (sym (drop_first ps i p l e))
+told_turn f ps i p old new l e n = search (rules, append_assoc, drop_first)

@@ -1,4 +1,5 @@
 -- Tables, read one after another.
+use Rattle.std.proofs.Common.{rules}
 use Rattle.source_images.proofs.Common.{AlikeAsRead, AlikeInTables, AreFound, AreTablesRead, Bor, Contents, Err, Found, InAll, IsFound, IsIn, IsTableRead, LearnsOnly, List, Name, Ok, Option, Reading, Result, Some, SourceError, Table, [], add-one, ap}
 use Rattle.source_images.proofs.Common.{arith, cond, false, files_told, found_bytes, found_in, get_map, get_or, in_place, length, length-append, length-map, map, names_told, nat_lt, nat_tests, reading_of, readings_of, refl, slice_get}
 use Rattle.source_images.proofs.Common.{slice_get-get_or, string_bytes, subst, suc, sym, table, table_at, table_told, tables_told, take, too_long, zero, ℕ, ◌++◌, ◌+◌, ◌<◌, ◌∙◌, ◌∷◌, ◌≡◌, ◌≤◌}
@@ -28,11 +29,7 @@ read_push : (file : ℕ) (tables : List (Name × List ℕ)) (all : List Found) (
     → slice_get tables (length all) ≡ Some t
     → readings_of file tables (all ++ x ∷ []) ≡ readings_of file tables all ++ reading_of (file + length all) t x ∷ []
 read_push file [] all t x e = absurd (cc)
-read_push file (u ∷ ts) [] t x e =
-    let same : u ≡ t = cc in
-    let none : readings_of (file + 1) ts [] ≡ [] = nothing_read (file + 1) ts in
-    ap (λ z. reading_of file u x ∷ z) none ∙ ap (λ z. reading_of file z x ∷ []) same ∙ ap (λ n. reading_of n t x ∷ [])
-    (omega arith)
+read_push file (u ∷ ts) [] t x e = grind (arith, nothing_read)
 read_push file (u ∷ ts) (y ∷ all) t x e =
     ap (λ z. reading_of file u y ∷ z) (read_push (file + 1) ts all t x e)
     ∙ ap (λ n. reading_of file u y ∷ (readings_of (file + 1) ts all ++ reading_of n t x ∷ [])) (omega arith)
@@ -71,12 +68,7 @@ read_more contents file tables n old new t r before at read push =
 pub all_read : (contents : Contents) (file : ℕ) (tables : List (Name × List ℕ)) (readings : List Reading)
     → AreRead contents file tables (length tables) readings
     → (all : List Found) × AreFound contents (map (λ t. t.1) tables) all × (readings ≡ readings_of file tables all)
-all_read contents file tables readings a =
-    let count : length (map (λ (t : Name × List ℕ). t.1) tables) ≡ length tables = length-map tables (λ t. t.1) in
-    let told : a.found ≡ found_in contents (take (length (map (λ (t : Name × List ℕ). t.1) tables))
-    (map (λ (t : Name × List ℕ). t.1) tables)) =
-    subst (λ k. a.found ≡ found_in contents (take k (map (λ t. t.1) tables))) (sym count) a.told in
-    (a.found, told ∙ ap (found_in contents) (take-length (map (λ t. t.1) tables)), a.readings)
+all_read contents file tables readings a = search (rules, length-map, take-length)
 
 -- ---- files
 
@@ -141,6 +133,4 @@ tables_all contents file tables readings a = all_read contents file (tables_told
 
 pub same_length : (tables : List Table) (names : List (Bor Name)) (folder : List ℕ)
     → tables_told tables ≡ map (table_at folder) (names_told names) → length tables ≡ length names
-same_length tables names folder e =
-    sym (length-map tables table_told) ∙ ap length e ∙ length-map (names_told names) (table_at folder)
-    ∙ length-map names (λ (b : Bor Name). b.now)
+same_length tables names folder e = search (rules, length-map)

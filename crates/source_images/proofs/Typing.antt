@@ -1,4 +1,5 @@
 -- Types, one more at a time.
+use Rattle.std.proofs.Common.{rules}
 use Rattle.source_images.proofs.Common.{Bool, Bor, Fault, Flat, Leaf, List, Name, None, Option, Some, Source, [], ap, append-nil, append_assoc, arith, at_drop_more, bytes_eq, cond, cons_option, drop, false, filter_map, firsts, firsts_after, flat_map}
 use Rattle.source_images.proofs.Common.{flat_map-append, get_or, is_some, length, length-append, length-map, map, map-append, names_told, noted, noted-append, option_and_then, option_or, position, position_from, position_from-snoc}
 use Rattle.source_images.proofs.Common.{position_from-zero, refl, sym, take, take_more, true, types, with_type, ℕ, ◌++◌, ◌+◌, ◌<◌, ◌||◌, ◌∙◌, ◌∷◌, ◌≡◌, ◌≤◌}
@@ -6,10 +7,7 @@ use Rattle.source_images.proofs.Common.{position_from-zero, refl, sym, take, tak
 -- where something stands behind all others
 pub position-push : {X : Type 0} (p : X → Bool) (xs : List X) (x : X)
     → position p (xs ++ x ∷ []) ≡ option_or (position p xs) (cond (p x) (Some (length xs)) None)
-position-push p xs x =
-    position_from-zero p (xs ++ x ∷ []) ∙ position_from-snoc p 0 xs x
-    ∙ ap (λ n. option_or (position_from p 0 xs) (cond (p x) (Some n) None)) (omega arith)
-    ∙ ap (λ o. option_or o (cond (p x) (Some (length xs)) None)) (sym (position_from-zero p xs))
+position-push p xs x = grind (arith, position_from-zero, position_from-snoc)
 
 -- whether a name is among these
 abbrev pub has : List Name → Name → Bool
@@ -54,13 +52,8 @@ pub behind-more : (names xs : List Name) (x : Name) → with_type names x ++ beh
 behind-more names xs x = by_test (has names x) refl
   where
     by_test : (b : Bool) → has names x ≡ b → with_type names x ++ behind (with_type names x) xs ≡ names ++ behind names (x ∷ xs)
-    by_test true e =
-        ap (λ z. cond z names (names ++ x ∷ []) ++ behind (cond z names (names ++ x ∷ [])) xs) e
-        ∙ sym (ap (λ z. names ++ cond z (behind names xs) (x ∷ behind (names ++ x ∷ []) xs)) e)
-    by_test false e =
-        ap (λ z. cond z names (names ++ x ∷ []) ++ behind (cond z names (names ++ x ∷ [])) xs) e
-        ∙ append_assoc names (x ∷ []) (behind (names ++ x ∷ []) xs)
-        ∙ sym (ap (λ z. names ++ cond z (behind names xs) (x ∷ behind (names ++ x ∷ []) xs)) e)
+    by_test true e = cc
+    by_test false e = search (rules, append_assoc)
 
 -- ---- numbers
 
@@ -69,12 +62,7 @@ pub number_new : (old new : List (Bor Name)) (x : Bor Name) (k : ℕ) (f g : Nam
     → ((n : Name) → f n ≡ position (bytes_eq n) (names_told old))
     → ((n : Name) → g n ≡ option_or (f n) (cond (bytes_eq n x.now) (Some k) None)) → (n : Name)
     → g n ≡ position (bytes_eq n) (names_told new)
-number_new old new x k f g push count before put n =
-    put n ∙ ap (λ o. option_or o (cond (bytes_eq n x.now) (Some k) None)) (before n)
-    ∙ ap (λ j. option_or (position (bytes_eq n) (names_told old)) (cond (bytes_eq n x.now) (Some j) None))
-    (count ∙ sym (length-map old (λ (b : Bor Name). b.now)))
-    ∙ sym (position-push (bytes_eq n) (names_told old) x.now)
-    ∙ ap (position (bytes_eq n)) (sym (map-append (λ (b : Bor Name). b.now) old (x ∷ [])) ∙ sym (ap names_told push))
+number_new old new x k f g push count before put n = search (rules, length-map, position-push, map-append)
 
 -- a number that is looked up
 pub number_is : (source : Source) (flat : Flat) (f : Name → Option ℕ) (o : Option Name)

@@ -3,7 +3,6 @@ pub mod Types
 pub mod Found
 pub mod Archs
 pub mod TableFaults
-pub mod TableImages
 pub mod ImagesRead
 pub mod Told
 pub mod ByAddress
@@ -11,7 +10,6 @@ pub mod Images
 pub mod Numbered
 pub mod SectionPages
 pub mod SpaceFaults
-pub mod ProgramsTold
 pub use Rattle.cam_base.specs.Gather
 pub use Rattle.cam_io.specs.Causes
 pub use Rattle.cam_io.specs.Contents

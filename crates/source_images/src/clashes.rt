@@ -3,7 +3,7 @@
 ghost use Rattle.cam_base.specs.Gather.{IsIn};
 ghost use Rattle.source_images.specs.Images.{Placed as Told};
 ghost use Rattle.source_images.specs.SpaceFaults.{clashes};
-ghost use Rattle.source_images.specs.ProgramsTold.{placed_told, region_of, sections_told};
+ghost use Rattle.source_images.specs.SectionPages.{placed_told, region_of, sections_told};
 ghost use Rattle.std.specs.List.Sorted.{IsPermutation};
 ghost use Rattle.std.specs.Prelude.{◌≡◌, ◌<◌, ℕ, false, length, map, slice_index_or, IfOk};
 

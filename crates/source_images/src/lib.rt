@@ -1,7 +1,7 @@
 //! The images of a source's software, read from the section tables beside its root, and their sections in address spaces.
 //!
 //! The types of software stand in `specs/Types.antt`, the names of their tables and what is found under them in
-//! `specs/Found.antt`, the faults in `specs/TableFaults.antt`, the images in `specs/TableImages.antt`. Which sections a domain
+//! `specs/Found.antt`, the faults in `specs/TableFaults.antt`, the images in `specs/ImagesRead.antt`. Which sections a domain
 //! has stands in `specs/Images.antt`, whether they lie apart and where sections may in `specs/SpaceFaults.antt`, their pages in
 //! `specs/SectionPages.antt` and `specs/ByAddress.antt`, and what callers have to know in `specs/Numbered.antt`.
 #![tactic(auto)]

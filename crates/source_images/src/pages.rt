@@ -3,8 +3,7 @@
 ghost use Rattle.source_images.specs.ByAddress.{by_address, page_at, section_page_count, section_pages};
 ghost use Rattle.source_images.specs.Images.{sections_of};
 ghost use Rattle.source_images.specs.Numbered.{AreApart, AreCounted};
-ghost use Rattle.source_images.specs.SectionPages.{fill_of, page_count};
-ghost use Rattle.source_images.specs.ProgramsTold.{sections_told};
+ghost use Rattle.source_images.specs.SectionPages.{fill_of, page_count, sections_told};
 ghost use Rattle.sect_table.specs.Sections.{is_sound};
 ghost use Rattle.std.specs.List.{range_with_len};
 ghost use Rattle.std.specs.Prelude.{◌≡◌, ◌<◌, ◌-◌, ◌^◌, ◌++◌, map, min, IfOk, IsTrue, OnOk};

@@ -2,8 +2,7 @@
 
 ghost use Rattle.source_images.specs.Images.{is_run, sections_if, sections_of};
 ghost use Rattle.source_images.specs.Numbered.{AreCounted};
-ghost use Rattle.source_images.specs.SectionPages.{page_count, is_inside};
-ghost use Rattle.source_images.specs.ProgramsTold.{sections_told};
+ghost use Rattle.source_images.specs.SectionPages.{page_count, is_inside, sections_told};
 ghost use Rattle.std.specs.Prelude.{◌≡◌, ◌<◌, ◌^◌, ◌++◌, length, true, IfOk, OnOk};
 
 use crate::images::Images;

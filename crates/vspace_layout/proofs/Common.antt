@@ -9,6 +9,7 @@ pub use Rattle.cam_base.proofs.NumberedLists.{at_place, below, from_flat_map, fr
 pub use Rattle.cam_base.specs.Gather.{IsIn, before, gather}
 pub use Rattle.cap_model.specs.declared.level.Arch.{Arch}
 pub use Rattle.cap_model.specs.declared.level.Arch.TheVariants.{Aarch64, Arm11}
+pub use Rattle.cspace_layout.specs.Counted.{capped}
 pub use Rattle.cspace_layout.proofs.Taking.{Turned, gather_push, turned}
 pub use Rattle.cspace_layout.specs.LeafEnds.{ends_at}
 pub use Rattle.cspace_layout.specs.System.{all_ends}
@@ -33,12 +34,11 @@ pub use Rattle.std.proofs.lemmas.Option.{get_or_from_slice_get, same_Some, slice
 pub use Rattle.std.proofs.lemmas.Simd.{map-map}
 pub use Rattle.std.specs.List.{All, AllPairs, count_by, flat_map, position, position_from, range_with_len, slice_get}
 pub use Rattle.std.specs.Option.{option_and_then, option_map_or, option_or}
-pub use Rattle.std.specs.Prelude.{codes, leb, nat_lt, option_map, slice_index_or, sum, ◌%◌}
+pub use Rattle.std.specs.Prelude.{codes, leb, option_map, slice_index_or, sum, ◌%◌}
 pub use Rattle.std.specs.Vec.Iter.{into_iter_len}
 pub use Rattle.vspace_layout.specs.CanLay.{CanLay}
-pub use Rattle.vspace_layout.specs.Counted.{capped, limit_over, tables_of}
 pub use Rattle.vspace_layout.specs.FrameNumbers.{AreFirsts, IsNumbered, all_numbered, all_own, first_of, firsts_from, frames_by, frames_where, is_own, is_own_frame, is_that, memory_first, memory_firsts, number_of, numbered_page, own_added}
-pub use Rattle.vspace_layout.specs.FrameNumbers.{pages_numbered, places_of}
+pub use Rattle.vspace_layout.specs.FrameNumbers.{pages_numbered, places_of, first_at, first_number, first_numbers, key_of, leads_by, same_key}
 pub use Rattle.vspace_layout.specs.Frames.{device_frame, frame, frames, frames_at, is_first, memory_before, memory_number, memory_part, number_shown, own_frame, own_frames, own_number, own_part, register_frame, register_frames, register_part}
 pub use Rattle.vspace_layout.specs.Frames.{registers_before, shared_frames, shared_part}
 pub use Rattle.vspace_layout.specs.Given.{Given, arch, base, ends, given_by, leaves_of, wired_of}
@@ -46,8 +46,7 @@ pub use Rattle.vspace_layout.specs.MappedPages.{mapped_pages, page_of, pages_fro
 pub use Rattle.vspace_layout.specs.Memory.{first_to, is_shared, leads_to, memory_paddr, memory_pages, registers, registers_in, same_port}
 pub use Rattle.vspace_layout.specs.Outlines.{AreFew, AreFit, AreOutlined, RegionsFit, StacksFit, all_counted, all_mapped, counted_by, domain_counted, domain_mapped, mapped_by, mapped_of, no_outline, outline, outlines, page_count_of, pages_at}
 pub use Rattle.vspace_layout.specs.Outlines.{regions_at, space_at, space_in, spaces_in, spaces_with, start_at, starting, starts_in, thread_at, thread_places, window_place, window_places}
-pub use Rattle.vspace_layout.specs.PageLimits.{limits_passed, page_counts, table_counts, tables_needed}
-pub use Rattle.vspace_layout.specs.Ports.{first_at, first_number, first_numbers, key_of, leads_by, same_key}
+pub use Rattle.vspace_layout.specs.PageLimits.{limit_over, limits_passed, page_counts, table_counts, tables_needed, tables_of}
 pub use Rattle.vspace_layout.specs.Regions.{domain_windows, end_window, leaf_windows, pages_in, region, region_start, regions, regions_in, stack_pages, start, thread_regions, threads_of, window_pages, window_region, windows_of}
 pub use Rattle.vspace_layout.specs.SpaceLaws.{AddressesAreLow, FramesStand, PagesRise, RegionsAreApart, SectionsStand, address_limit}
 pub use Rattle.vspace_layout.specs.Threads.{domain_threads, leaf_threads, server, thread}
@@ -57,7 +56,7 @@ pub use Rattle.vspace_layout.specs.declared.mapped.Shown.TheVariants.{Memory, Ow
 pub use Rattle.vspace_layout.specs.declared.outline.Outline.{Outline}
 pub use Rattle.vspace_layout.specs.declared.owner.Owner.TheVariants.{OfConnection, OfDomain}
 pub use Rattle.vspace_layout.specs.declared.ports.PortKey.{PortKey}
-pub use Rattle.vspace_layout.specs.declared.region.Content.TheVariants.{Buffer, Stack, Window}
+pub use Rattle.vspace_layout.specs.declared.region.Content.TheVariants.{Stack, Window}
 pub use Rattle.vspace_layout.specs.declared.region.Region.{Region}
 pub use Rattle.vspace_layout.specs.declared.spaces.FrameInfo.{FrameInfo}
 pub use Rattle.vspace_layout.specs.declared.spaces.Page.{Page}

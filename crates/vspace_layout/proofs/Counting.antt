@@ -1,7 +1,7 @@
 -- How many pages a space has
-use Rattle.vspace_layout.proofs.Common.{Bool, Images, List, Placed, Region, Settled, [], ap, arch_of, arith, by_address, cond, false, flat_map, gather, leb, length, length-map, length-map-range_with_len, length_append, map, mapped_of, name_of}
-use Rattle.vspace_layout.proofs.Common.{page_at, page_count, page_count_of, page_of, pages_from, pages_in, pages_of, put_section, refl, region_part, region_start, section_page, section_page_count, section_pages, section_part, sections_end}
-use Rattle.vspace_layout.proofs.Common.{sections_of, suc, sum, sum_by-cons, true, ℕ, ◌+◌, ◌∙◌, ◌∷◌, ◌≡◌}
+use Rattle.vspace_layout.proofs.Common.{Bool, Images, List, Placed, Region, Settled, [], ap, arith, by_address, cond, false, flat_map, gather, leb, length, length-map, length-map-range_with_len, length_append, map, mapped_of, name_of, page_at}
+use Rattle.vspace_layout.proofs.Common.{page_count, page_count_of, page_of, pages_from, pages_in, pages_of, put_section, refl, region_part, region_start, section_page_count, section_pages, sections_of, suc, sum, sum_by-cons, true, ℕ, ◌+◌, ◌∙◌, ◌∷◌}
+use Rattle.vspace_layout.proofs.Common.{◌≡◌}
 
 -- ---- of sections
 
@@ -55,10 +55,4 @@ length-region_part settled base rs = region_counted settled (λ n. region_start 
 -- the pages of a space are as many as are counted before any is listed
 pub counted : (settled : Settled) (images : Images) (leaves : List ℕ) (rs : List Region)
     → length (mapped_of settled images leaves rs) ≡ page_count_of images leaves rs
-counted settled images leaves rs =
-    let base = sections_end (arch_of images.images) in
-    let a = length_append (section_part images leaves) (region_part settled base rs) in
-    let b = length-map (section_pages images leaves) section_page in
-    let d = length-section_pages images leaves in
-    let e = length-region_part settled base rs in
-    omega (arith, a, b, d, e)
+counted settled images leaves rs = grind (arith, length_append, length-map, length-section_pages, length-region_part)

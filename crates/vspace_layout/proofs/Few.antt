@@ -1,8 +1,8 @@
 -- Where no limit on pages is passed, regions and frames are few
-use Rattle.vspace_layout.proofs.Common.{AreFew, Bool, CanLay, Domain, FlatConnection, FlatEnd, Given, List, MappedPage, Memory, None, OfConnection, Option, Own, Shown, Some, [], ap, arith, base, cond, device_frame, false, frame, frames, frames_at}
-use Rattle.vspace_layout.proofs.Common.{gather, is_first, is_shared, leaves_of, length, length-gather, length-map-range_with_len, length_append, map, mapped_pages, memory_paddr, memory_pages, memory_part, option_map_or, own_frame, own_frames}
-use Rattle.vspace_layout.proofs.Common.{own_part, page_counts, pages_in, range_with_len, refl, region_part, regions, register_frames, register_part, registers, same_Some, section_part, shared_frames, shared_part, slice_get, suc, sum, sum_by-cons}
-use Rattle.vspace_layout.proofs.Common.{threads_of, true, windows_of, zero, ℕ, ◌*◌, ◌<◌, ◌^◌, ◌∷◌, ◌≡◌, ◌≤◌}
+use Rattle.vspace_layout.proofs.Common.{AreFew, Bool, CanLay, Domain, FlatConnection, FlatEnd, Given, List, MappedPage, Memory, None, OfConnection, Option, Own, Shown, Some, [], ap, arith, cond, device_frame, false, frame, frames, frames_at, gather}
+use Rattle.vspace_layout.proofs.Common.{is_first, is_shared, length, length-gather, length-map-range_with_len, length_append, map, mapped_pages, memory_paddr, memory_pages, option_map_or, own_frame, own_frames, own_part, page_counts, pages_in}
+use Rattle.vspace_layout.proofs.Common.{range_with_len, refl, region_part, regions, register_frames, register_part, registers, same_Some, shared_frames, shared_part, slice_get, suc, sum, sum_by-cons, threads_of, true, windows_of, zero, ℕ, ◌*◌, ◌<◌}
+use Rattle.vspace_layout.proofs.Common.{◌^◌, ◌∷◌, ◌≡◌, ◌≤◌}
 use Rattle.vspace_layout.proofs.Counting.{length-region_part}
 use Rattle.vspace_layout.proofs.Fitting.{few_regions}
 
@@ -42,10 +42,7 @@ at_most f (x ∷ xs) h =
 -- ---- regions
 
 pages_below : (t : Given) (d : ℕ) → pages_in (regions t d) ≤ length (mapped_pages t d)
-pages_below t d =
-    let a = length_append (section_part t.images (leaves_of t.flat d)) (region_part t.settled (base t) (regions t d)) in
-    let b = length-region_part t.settled (base t) (regions t d) in
-    omega (arith, a, b)
+pages_below t d = grind (arith, length_append, length-region_part)
 
 pub few_at : (t : Given) → CanLay t → sum (page_counts t) ≤ 65536 → (d : ℕ) (x : Domain) → slice_get t.flat.domains d ≡ Some x
     → AreFew (regions t d)
@@ -92,11 +89,4 @@ registers_few t can = at_most (register_frames t.flat t.settled) t.flat.connecti
     by_end k c (Some f) l = by_test k c f (is_first t.flat k f) l
 
 pub frames_few : (t : Given) → CanLay t → sum (page_counts t) ≤ 65536 → length (frames t) < 2 ^ 32
-frames_few t can l =
-    let a = own_few t in
-    let b = shared_few t can in
-    let d = registers_few t can in
-    let e = can.connections in
-    let f = length_append (own_part t) (memory_part t.flat t.settled) in
-    let g = length_append (shared_part t.flat t.settled) (register_part t.flat t.settled) in
-    omega (arith, l, a, b, d, e, f, g)
+frames_few t can l = grind (arith, own_few, shared_few, registers_few, length_append)

@@ -1,4 +1,5 @@
 -- What tables of first connections find.
+use Rattle.std.proofs.Common.{rules}
 use Rattle.vspace_layout.proofs.Common.{Bool, FlatConnection, FlatEnd, List, None, Option, PortKey, Some, [], add-one, and_parts, ap, at_drop_more, cond, drop, eq-eqb, eqb-true, false, first_number, get_or, key_of, leads_by, leads_to, length, map}
 use Rattle.vspace_layout.proofs.Common.{option_and_then, option_map_or, option_or, position, position_from, position_from-zero, refl, registers, same_Some, same_key, slice_get, suc, sym, take, true, zero, ℕ, ◌&&◌, ◌++◌, ◌+◌, ◌<◌, ◌==◌, ◌∙◌, ◌∷◌, ◌≡◌}
 use Rattle.std.specs.Map.{lookup}
@@ -7,11 +8,7 @@ use Rattle.cam_base.proofs.Options.{option_or-none, option_or-cond}
 -- ---- keys
 
 same_key-true : (k l : PortKey) → same_key k l ≡ true → k ≡ l
-same_key-true k l e =
-    let parts = and_parts (k.leaf == l.leaf) (k.member == l.member) e in
-    let leaf_is = eqb-true k.leaf l.leaf parts.0 in
-    let member_is = eqb-true k.member l.member parts.1 in
-    λ i. record { leaf = leaf_is i; member = member_is i }
+same_key-true k l e = search (rules, and_parts, eqb-true)
 
 pub same_key-refl : (k : PortKey) → same_key k k ≡ true
 same_key-refl k = ap (λ b. b && (k.member == k.member)) (eq-eqb k.leaf k.leaf refl) ∙ eq-eqb k.member k.member refl
@@ -89,11 +86,7 @@ first_is cs c i f g rest put after = by_end (registers c) refl
     by_end : (o : Option FlatEnd) → registers c ≡ o → option_and_then (λ e. g (key_of e)) o ≡ option_and_then
         (λ e. position (leads_to e) cs) o
     by_end None e = refl
-    by_end (Some x) e =
-        let k : PortKey = key_of x in
-        let led : leads_by k c ≡ true = ap (λ r. option_map_or (λ y. same_key (key_of y) k) r false) e ∙ same_key-refl k in
-        told (f k) (g k) (rest k) (position_from (leads_by k) 0 cs) i (put k ∙ ap (λ b. option_or (f k) (cond b (Some i) None))
-        led) (after k) ∙ sym (position_from-zero (leads_by k) cs)
+    by_end (Some x) e = search (rules, same_key-refl, told, position_from-zero)
 
 pub firsts_more : {X Y : Type 0} (f : X → Y) (xs : List X) (i : ℕ) (x : X) (old new : List Y) → slice_get xs i ≡ Some x
     → old ≡ map f (take i xs) → new ≡ old ++ f x ∷ [] → new ≡ map f (take (i + 1) xs)

@@ -1,9 +1,10 @@
 -- Where no limit on pages is passed, pages are few and have numbers
+use Rattle.std.proofs.Common.{rules}
 use Rattle.vspace_layout.proofs.Common.{AreFit, CanLay, Domain, EndAt, Flat, FlatConnection, Given, Images, IsIn, IsNumbered, List, MappedPage, None, Option, Region, SectionPage, Settled, Some, ThreadOf, [], all_mapped, all_own, ap, arch_of, arith}
 use Rattle.vspace_layout.proofs.Common.{below, domain_threads, domain_windows, ends, flat_map, from_gather, from_get_map, from_map, from_range, gather_map, gather_ones, gather_same, get_or, in_append, in_place, inl, inr, length, length-map}
-use Rattle.vspace_layout.proofs.Common.{length_append, map, map-map, mapped_pages, memory_before, memory_first, memory_firsts, memory_pages, memory_part, option_map_or, page_counts, page_of, pages_from, pages_of_region, range_with_len, refl}
-use Rattle.vspace_layout.proofs.Common.{region_part, region_start, regions_at, regions_in, register_part, section_page, section_pages, section_part, sections_end, shared_part, slice_get, subst, sum, sym, thread_regions, window_region, wired_of, ℕ}
-use Rattle.vspace_layout.proofs.Common.{⊎_elim, ◌++◌, ◌+◌, ◌<◌, ◌^◌, ◌∙◌, ◌∷◌, ◌≡◌, ◌≤◌}
+use Rattle.vspace_layout.proofs.Common.{length_append, map, map-map, mapped_pages, memory_before, memory_first, memory_firsts, memory_pages, memory_part, option_map_or, page_counts, page_of, pages_from, pages_of_region, refl, region_part}
+use Rattle.vspace_layout.proofs.Common.{region_start, regions_at, regions_in, section_page, section_pages, section_part, sections_end, slice_get, subst, sum, sym, thread_regions, window_region, wired_of, ℕ, ⊎_elim, ◌++◌, ◌+◌, ◌<◌, ◌^◌, ◌∙◌, ◌∷◌, ◌≡◌}
+use Rattle.vspace_layout.proofs.Common.{◌≤◌}
 use Rattle.vspace_layout.proofs.Few.{own_few, registers_few, shared_few}
 use Rattle.vspace_layout.proofs.Joining.{here, mapped_here, own_number_of}
 use Rattle.vspace_layout.proofs.Laying.{ones_or}
@@ -75,11 +76,7 @@ pages_numbered firsts settled images leaves base rs all p i =
     (in_append p (section_part images leaves) (region_part settled base rs) i)
   where
     by_page : (start : ℕ) (r : Region) → HasNumbers firsts settled r → IsIn p (pages_from settled start r) → PageHas firsts p
-    by_page start r has i =
-        let m : (j : ℕ) × IsIn j (range_with_len 0 r.pages) × (page_of settled start r j ≡ p) =
-        from_map (page_of settled start r) p (range_with_len 0 r.pages) i in
-        let l = from_range 0 r.pages m.0 m.1 in
-        subst (PageHas firsts) m.2 (has start m.0 (omega (arith, l)))
+    by_page start r has i = search (rules, from_map, from_range)
 
     by_region : (k : ℕ) (r : Region) → slice_get rs k ≡ Some r → IsIn p (pages_of_region settled base rs k r) → PageHas firsts p
     by_region k r at i = by_page (region_start base rs k) r (all r (in_place r rs k at)) i
@@ -112,14 +109,7 @@ are_fit t can few = record {
     own = all_own mapped
 
     small : own + length (memory_part t.flat t.settled) + 65536 < 2 ^ 32
-    small =
-        let a = own_number_of t in
-        let b = own_few t in
-        let d = shared_few t can in
-        let e = registers_few t can in
-        let f = can.connections in
-        let g = length_append (shared_part t.flat t.settled) (register_part t.flat t.settled) in
-        omega (arith, few, a, b, d, e, f, g)
+    small = grind (arith, own_number_of, own_few, shared_few, registers_few, length_append)
 
     numbered : (d n : ℕ) (pages : List MappedPage) (page : MappedPage) → slice_get mapped d ≡ Some pages
         → slice_get pages n ≡ Some page → IsNumbered (memory_firsts own t.flat t.settled) page.shown

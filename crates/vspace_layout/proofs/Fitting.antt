@@ -21,12 +21,7 @@ few_windows flat settled (w ∷ ws) h = let ih = few_windows flat settled ws (λ
 pub few_regions : (flat : Flat) (settled : Settled) (ts : List ThreadOf) (ws : List EndAt)
     → ((e : EndAt) → IsIn e ws → 0 < window_pages flat settled e)
     → length (regions_in flat settled ts ws) ≤ 2 * pages_in (regions_in flat settled ts ws)
-few_regions flat settled ts ws h =
-    let a = few_threads settled ts in
-    let b = few_windows flat settled ws h in
-    let d = length_append (flat_map (thread_regions settled) ts) (map (window_region flat settled) ws) in
-    let e = pages_append (flat_map (thread_regions settled) ts) (map (window_region flat settled) ws) in
-    omega (arith, a, b, d, e)
+few_regions flat settled ts ws h = grind (arith, few_threads, few_windows, length_append, pages_append)
 
 pub pages_next : (rs : List Region) (i : ℕ) (r : Region) → slice_get rs i ≡ Some r
     → pages_in (take (suc i) rs) ≡ pages_in (take i rs) + r.pages

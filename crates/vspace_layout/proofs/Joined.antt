@@ -1,7 +1,8 @@
 -- Spaces and frames, put together
-use Rattle.vspace_layout.proofs.Common.{AreFew, AreOutlined, CanLay, Domain, Flat, FrameInfo, Given, IsIn, List, MappedPage, Option, Outline, Page, Settled, Some, Space, [], all_numbered, all_own, ap, arith, at_place, before, below, capped, from_map}
-use Rattle.vspace_layout.proofs.Common.{gather, gather_ones, gather_same, get_ones, get_or, get_or_from_slice_get, length, length-map, memory_firsts, option_map_or, outline, outlines, own_added, page_counts, pages_numbered, place_of, refl}
-use Rattle.vspace_layout.proofs.Common.{regions_at, regions_in, slice_get, space_at, space_in, spaces_with, subst, sum, sym, wired_of, ℕ, ◌+◌, ◌<◌, ◌^◌, ◌∙◌, ◌∷◌, ◌≡◌, ◌≤◌}
+use Rattle.std.proofs.Common.{rules}
+use Rattle.vspace_layout.proofs.Common.{AreFew, AreOutlined, CanLay, Domain, Flat, FrameInfo, Given, IsIn, List, MappedPage, Outline, Settled, Some, Space, [], all_numbered, all_own, ap, arith, at_place, before, below, capped, from_map, gather}
+use Rattle.vspace_layout.proofs.Common.{gather_ones, gather_same, get_ones, get_or, get_or_from_slice_get, length, length-map, memory_firsts, outline, outlines, own_added, page_counts, pages_numbered, place_of, refl, regions_at, regions_in}
+use Rattle.vspace_layout.proofs.Common.{slice_get, space_at, spaces_with, subst, sum, sym, wired_of, ℕ, ◌+◌, ◌<◌, ◌^◌, ◌∙◌, ◌∷◌, ◌≡◌, ◌≤◌}
 use Rattle.vspace_layout.specs.declared.spaces.Spaces.{Spaces}
 use Rattle.vspace_layout.proofs.Few.{few_at}
 
@@ -28,12 +29,7 @@ pub spaces_same : (flat : Flat) (settled : Settled) (base : ℕ) (os : List Outl
     → length mapped ≡ length os
     → spaces_with flat settled base os (all_numbered (memory_firsts (all_own mapped) flat settled) 0 mapped) ≡ gather
     (λ d (o : Outline). space_at flat settled base mapped d o ∷ []) os
-spaces_same flat settled base os mapped many =
-    let firsts = memory_firsts (all_own mapped) flat settled in
-    gather_same (λ d (o : Outline). space_in flat settled base o (get_or (all_numbered firsts 0 mapped) d []) ∷ [])
-    (λ d (o : Outline). space_at flat settled base mapped d o ∷ []) os
-    (λ d o e. let l = below os d o e in ap (λ (z : List Page). space_in flat settled base o z ∷ [])
-    (numbered_here firsts mapped d (omega (arith, many, l))))
+spaces_same flat settled base os mapped many = grind (arith, gather_same, below, numbered_here)
 
 pub capped_own : (n m : ℕ) → n + m < 2 ^ 64 → capped n ≡ n
 capped_own n m l = omega arith
@@ -41,10 +37,7 @@ capped_own n m l = omega arith
 -- regions are few in each domain
 pub few_in : (t : Given) → CanLay t → sum (page_counts t) ≤ 65536 → (x : Domain) → IsIn x t.flat.domains
     → AreFew (regions_at (wired_of t) x.leaves)
-few_in t can few x i =
-    let d : (n : ℕ) × (slice_get t.flat.domains n ≡ Some x) = place_of x t.flat.domains i in
-    subst (λ (ls : List ℕ). AreFew (regions_at (wired_of t) ls))
-    (ap (λ (o : Option Domain). option_map_or (λ y. y.leaves) o []) d.1) (few_at t can few d.0 x d.1)
+few_in t can few x i = search (rules, place_of, few_at)
 
 -- the outlines of a system whose pages are few
 pub outlined : (t : Given) → CanLay t → sum (page_counts t) ≤ 65536

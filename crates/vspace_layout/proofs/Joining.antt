@@ -1,8 +1,9 @@
 -- What is counted and listed domain by domain is what the definitions say of all
+use Rattle.std.proofs.Common.{rules}
 use Rattle.vspace_layout.proofs.Common.{Domain, FrameInfo, Given, List, MappedPage, Memory, Option, Outline, Own, Shown, Some, [], all_counted, all_mapped, all_own, ap, arch, arith, before, cond, count_by, counted_by, domain_counted, domain_mapped}
 use Rattle.vspace_layout.proofs.Common.{gather, gather_map, gather_same, get_map, get_or, get_or_from_slice_get, is_own, is_own_frame, length, length_append, map, map-map, mapped_by, mapped_of, mapped_pages, no_outline, option_map_or, outline}
-use Rattle.vspace_layout.proofs.Common.{outlines, own_added, own_frame, own_frames, own_part, page_counts, pages_in, refl, regions_at, section_page_count, slice_get, suc, sum, sum_by-cons, sym, table_counts, tables_needed, tables_of, take, wired_of}
-use Rattle.vspace_layout.proofs.Common.{zero, ℕ, ◌++◌, ◌+◌, ◌∙◌, ◌∷◌, ◌≡◌}
+use Rattle.vspace_layout.proofs.Common.{outlines, own_added, own_frame, own_frames, own_part, page_counts, refl, regions_at, slice_get, suc, sum, sum_by-cons, sym, table_counts, tables_needed, tables_of, take, wired_of, zero, ℕ, ◌++◌, ◌+◌, ◌∙◌, ◌∷◌}
+use Rattle.vspace_layout.proofs.Common.{◌≡◌}
 use Rattle.vspace_layout.proofs.Counting.{counted}
 
 abbrev pub here : Given → List ℕ → List MappedPage
@@ -53,9 +54,7 @@ apart f g h (d ∷ ds) =
     omega (arith, ih, a, b, e)
 
 pub counted_same : (t : Given) → counted_by t.flat t.images (outlines (wired_of t)) ≡ sum (page_counts t)
-counted_same t =
-    apart (λ x. section_page_count t.images x.leaves) (λ o. pages_in o.regions) (λ x. outline (wired_of t) x.leaves)
-    t.flat.domains ∙ sym (pages_counted t)
+counted_same t = search (rules, apart, pages_counted)
 
 pub mapped_same : (t : Given) → mapped_by t.flat t.settled t.images (outlines (wired_of t)) ≡ all_mapped t
 mapped_same t =
@@ -88,10 +87,7 @@ get_taken (y ∷ xs) (suc n) (suc k) x e = get_taken xs n k x e
 
 -- the own frames of all domains, and of those before one
 pub own_gathered : (t : Given) → gather own_added (all_mapped t) ≡ own_part t
-own_gathered t =
-    gather_mapped own_added (λ (x : Domain). here t x.leaves) t.flat.domains
-    ∙ gather_same (λ d (x : Domain). own_added d (here t x.leaves)) (own_frames t) t.flat.domains
-    (λ k x e. ap (own_added k) (sym (mapped_here t k x e)))
+own_gathered t = search (rules, gather_mapped, gather_same, mapped_here)
 
 pub own_before : (t : Given) (d : ℕ) → before own_added (all_mapped t) d ≡ before (own_frames t)
     t.flat.domains d

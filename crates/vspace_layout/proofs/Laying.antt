@@ -1,8 +1,9 @@
 -- Spaces that are laid domain by domain are those of the definition
+use Rattle.std.proofs.Common.{rules}
 use Rattle.vspace_layout.proofs.Common.{Domain, EndAt, Flat, Given, List, MappedPage, Memory, Option, Outline, Own, Page, Region, Settled, Shown, Some, Space, ThreadOf, [], all_mapped, ap, arith, at_place, base, before, below, domain_mapped}
-use Rattle.vspace_layout.proofs.Common.{flat_map, gather, gather_same, get_map, get_or, get_or_from_slice_get, leaves_of, length, length-map, length_append, map, mapped_pages, memory_firsts, memory_part, number_of, number_shown, numbered_page}
-use Rattle.vspace_layout.proofs.Common.{option_map_or, outline, outlines, own_added, own_frames, own_number, own_part, pages_at, pages_numbered, refl, region_start, regions, regions_in, slice_get, space_at, space_in, spaces_in, stack_pages, start}
-use Rattle.vspace_layout.proofs.Common.{start_at, starts_in, suc, sym, thread_at, thread_places, thread_regions, threads_of, window_pages, window_place, window_places, window_region, windows_of, wired_of, zero, ℕ, ◌*◌, ◌++◌, ◌+◌, ◌<◌, ◌∙◌, ◌∷◌, ◌≡◌}
+use Rattle.vspace_layout.proofs.Common.{flat_map, gather, gather_same, get_map, get_or, get_or_from_slice_get, leaves_of, length, length-map, length_append, map, mapped_pages, memory_firsts, memory_part, number_of, number_shown, option_map_or}
+use Rattle.vspace_layout.proofs.Common.{outline, outlines, own_added, own_frames, own_number, own_part, pages_at, pages_numbered, refl, region_start, regions, regions_in, slice_get, space_at, space_in, spaces_in, stack_pages, start, start_at}
+use Rattle.vspace_layout.proofs.Common.{starts_in, suc, sym, thread_at, thread_places, thread_regions, threads_of, window_pages, window_place, window_places, windows_of, wired_of, zero, ℕ, ◌*◌, ◌++◌, ◌+◌, ◌<◌, ◌∙◌, ◌∷◌, ◌≡◌}
 use Rattle.vspace_layout.specs.declared.spaces.ThreadPlace.{ThreadPlace}
 use Rattle.vspace_layout.specs.declared.spaces.Window.{Window}
 use Rattle.vspace_layout.specs.FrameNumbers.{memory_first as first_for}
@@ -37,11 +38,7 @@ with_frame p frame = record { vaddr = p.at; frame = frame; write = p.write; read
 pages_same : (t : Given) (d : ℕ)
     → pages_numbered d (memory_firsts (length (own_part t)) t.flat t.settled) (before (own_frames t) t.flat.domains d)
     (mapped_pages t d) ≡ gather (λ n p. page t d n p ∷ []) (mapped_pages t d)
-pages_same t d =
-    let firsts = memory_firsts (length (own_part t)) t.flat t.settled in
-    let at = before (own_frames t) t.flat.domains d in
-    gather_same (λ n p. numbered_page d firsts at (mapped_pages t d) n p ∷ []) (λ n p. page t d n p ∷ []) (mapped_pages t d)
-    (λ n p e. ap (λ m. with_frame p m ∷ []) (number_same t d n p.shown))
+pages_same t d = search (rules, gather_same, number_same)
 
 mapped_at : (t : Given) (d : ℕ) (x : Domain) → slice_get t.flat.domains d ≡ Some x
     → get_or (all_mapped t) d [] ≡ mapped_pages t d
@@ -69,11 +66,7 @@ length_threads settled (t ∷ ts) = let ih = length_threads settled ts in omega 
 
 pub length_regions : (flat : Flat) (settled : Settled) (ts : List ThreadOf) (ws : List EndAt)
     → length (regions_in flat settled ts ws) ≡ 2 * length ts + length ws
-length_regions flat settled ts ws =
-    let a = length_threads settled ts in
-    let b = length_append (flat_map (thread_regions settled) ts) (map (window_region flat settled) ws) in
-    let d = length-map ws (window_region flat settled) in
-    omega (arith, a, b, d)
+length_regions flat settled ts ws = grind (arith, length_threads, length_append, length-map)
 
 pub start_same : (base : ℕ) (rs : List Region) (n : ℕ) → n < length rs → start_at (starts_in base rs) n ≡ region_start base rs n
 start_same base rs n l =

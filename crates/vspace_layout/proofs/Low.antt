@@ -1,7 +1,7 @@
 -- Addresses are low: what is mapped, and what regions end at.
 use Rattle.vspace_layout.proofs.Common.{Aarch64, AddressesAreLow, Arch, Arm11, CanLay, Domain, Given, IsIn, List, MappedPage, Region, SectionPage, SectionsStand, Some, address_limit, ap, arch, arith, base, below, from_gather, from_map, from_range}
 use Rattle.vspace_layout.proofs.Common.{in_append, leaves_of, length, map, mapped_pages, page_counts, page_of, pages_in, pages_of_region, range_with_len, region_part, region_start, regions, section_page, section_pages, section_part, sections_end}
-use Rattle.vspace_layout.proofs.Common.{slice_get, subst, suc, sum, sym, ℕ, ⊎_elim, ◌*◌, ◌+◌, ◌<◌, ◌∙◌, ◌≡◌, ◌≤◌}
+use Rattle.vspace_layout.proofs.Common.{slice_get, subst, sum, sym, ℕ, ⊎_elim, ◌*◌, ◌+◌, ◌<◌, ◌∙◌, ◌≡◌, ◌≤◌}
 use Rattle.vspace_layout.proofs.Few.{few_at}
 use Rattle.vspace_layout.proofs.Fitting.{pages_next, pages_upto}
 use Rattle.vspace_layout.proofs.Rising.{each_all, each_in, region_at}
@@ -9,11 +9,7 @@ use Rattle.vspace_layout.proofs.Rising.{each_all, each_in, region_at}
 -- the end of a region, where all regions have few pages
 end_low : (base : ℕ) (rs : List Region) (n : ℕ) (r : Region) → length rs + pages_in rs ≤ 262144 → slice_get rs n ≡ Some r
     → region_start base rs n + 4096 * r.pages ≤ base + 1073741824
-end_low base rs n r few at =
-    let a = pages_next rs n r at in
-    let b = pages_upto rs (suc n) in
-    let c = below rs n r at in
-    omega (arith, few, a, b, c)
+end_low base rs n r few at = grind (arith, pages_next, pages_upto, below)
 
 module _ (g : Given) (d : ℕ) (stand : SectionsStand g d) where
   section_low : (x : SectionPage) → IsIn x (section_pages g.images (leaves_of g.flat d)) → x.vaddr < base g + 1073741824

@@ -1,6 +1,7 @@
 -- The pages of spaces with the numbers of their frames, domain by domain
-use Rattle.vspace_layout.proofs.Common.{FrameInfo, List, MappedPage, Some, [], ap, append_assoc, arith, before, gather, gather_push, length, length-gather, length_append, map, own_added, own_frame, same_Some, slice_get, suc, sum, sum_by-cons, sym}
-use Rattle.vspace_layout.proofs.Common.{take, zero, ℕ, ◌++◌, ◌+◌, ◌∙◌, ◌∷◌, ◌≡◌, ◌≤◌}
+use Rattle.std.proofs.Common.{rules}
+use Rattle.vspace_layout.proofs.Common.{FrameInfo, List, MappedPage, Some, [], ap, append_assoc, arith, before, gather, gather_push, length, length-gather, length_append, map, own_added, own_frame, same_Some, slice_get, suc, sum, sum_by-cons, take}
+use Rattle.vspace_layout.proofs.Common.{zero, ℕ, ◌++◌, ◌+◌, ◌∷◌, ◌≡◌, ◌≤◌}
 use Rattle.vspace_layout.proofs.Few.{own_one}
 
 -- ---- pages of a domain
@@ -12,16 +13,11 @@ own_upto d ps = length-gather (λ n (p : MappedPage). own_frame d p.shown) ps (�
 pub frames_so_far : (d : ℕ) (mapped sofar : List MappedPage) (old frames : List FrameInfo) → sofar ≡ take (length sofar) mapped
     → frames ≡ old ++ own_added d sofar
     → length frames ≡ length old + before (λ m (q : MappedPage). own_frame d q.shown) mapped (length sofar)
-frames_so_far d mapped sofar old frames front e =
-    ap (λ (z : List FrameInfo). length z) e
-    ∙ length_append old (own_added d sofar)
-    ∙ ap (λ (z : List MappedPage). length old + length (own_added d z)) front
+frames_so_far d mapped sofar old frames front e = search (rules, length_append)
 
 pub frames_more : (d : ℕ) (sofar : List MappedPage) (p : MappedPage) (old mid new : List FrameInfo)
     → mid ≡ old ++ own_added d sofar → new ≡ mid ++ own_frame d p.shown → new ≡ old ++ own_added d (sofar ++ p ∷ [])
-frames_more d sofar p old mid new e g =
-    g ∙ ap (λ z. z ++ own_frame d p.shown) e ∙ append_assoc old (own_added d sofar) (own_frame d p.shown)
-    ∙ ap (λ z. old ++ z) (sym (gather_push (λ n (q : MappedPage). own_frame d q.shown) sofar p))
+frames_more d sofar p old mid new e g = search (rules, append_assoc, gather_push)
 
 -- ---- pages of all domains
 
@@ -48,7 +44,4 @@ few_so_far ms k ps e = sum_from own_added ms k ps (λ n qs. own_upto n qs) e
 -- how many frames there are before the own ones of a domain, when those of the domains before it were added
 pub own_so_far : (ms sofar : List (List MappedPage)) (old frames : List FrameInfo) → sofar ≡ take (length sofar) ms
     → frames ≡ old ++ gather own_added sofar → length frames ≡ length old + before own_added ms (length sofar)
-own_so_far ms sofar old frames front e =
-    ap (λ (z : List FrameInfo). length z) e
-    ∙ length_append old (gather own_added sofar)
-    ∙ ap (λ (z : List (List MappedPage)). length old + length (gather own_added z)) front
+own_so_far ms sofar old frames front e = search (rules, length_append)

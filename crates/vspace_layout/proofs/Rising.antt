@@ -1,5 +1,5 @@
 -- The pages of a space rise
-use Rattle.vspace_layout.proofs.Common.{All, AllPairs, Buffer, Given, IsIn, Later, List, MappedPage, PagesRise, Region, SectionPage, SectionsStand, Settled, Some, Stack, Window, [], ap, arith, base, flat_map, gather, in_map, inl, inr, leaves_of, map}
+use Rattle.vspace_layout.proofs.Common.{All, AllPairs, Given, IsIn, Later, List, MappedPage, PagesRise, Region, SectionPage, SectionsStand, Settled, Some, Window, [], ap, arith, base, flat_map, gather, in_map, inl, inr, leaves_of, map}
 use Rattle.vspace_layout.proofs.Common.{map-append, mapped_pages, page_of, pages_from, range_with_len, refl, region_page, region_part, regions, section_page, section_pages, section_part, slice_get, start, subst, suc, sym, zero, ℕ, ◌%◌, ◌*◌, ◌++◌}
 use Rattle.vspace_layout.proofs.Common.{◌+◌, ◌<◌, ◌∙◌, ◌∷◌, ◌≡◌, ◌≤◌}
 use Rattle.page_tables.specs.Runs.{Rises}
@@ -123,9 +123,8 @@ abbrev region_blocks : (ℕ → ℕ) → List Region → List Block
 region_blocks f rs = gather (λ n r. block (f n) r.pages ∷ []) rs
 
 pub region_at : (settled : Settled) (c : Content) (at j : ℕ) → at_of (region_page settled c at j) ≡ at
-region_at settled Stack at j = refl
-region_at settled Buffer at j = refl
 region_at settled (Window e) at j = refl
+region_at settled _ at j = refl
 
 region_addresses : (settled : Settled) (f : ℕ → ℕ) (rs : List Region)
     → map at_of (gather (λ n r. pages_from settled (f n) r) rs) ≡ addresses (region_blocks f rs)

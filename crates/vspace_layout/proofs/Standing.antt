@@ -1,11 +1,12 @@
 -- Frames stand under their numbers
+use Rattle.std.proofs.Common.{rules}
 use Rattle.vspace_layout.proofs.Common.{Bool, Flat, FlatConnection, FlatEnd, FrameInfo, FramesStand, Given, List, MappedPage, None, OfConnection, OfDomain, Option, Own, Some, [], and_parts, ap, arith, at_place, before, cond, eq-eqb, eqb-true, false}
 use Rattle.vspace_layout.proofs.Common.{first_to, frame, frames, frames_at, gathered, get_behind, get_front, get_or, get_or_from_slice_get, is_shared, leads_to, length, map, mapped_pages, memory_before, memory_number, memory_pages, memory_part}
 use Rattle.vspace_layout.proofs.Common.{number_shown, option_map_or, own_frame, own_frames, own_number, own_part, position, position-Some, range_with_len, refl, register_frame, register_frames, register_part, registers, registers_before}
 use Rattle.vspace_layout.proofs.Common.{registers_in, same_port, shared_frames, shared_part, slice_get, suc, sym, true, zero, ℕ, ◌&&◌, ◌+◌, ◌<◌, ◌∙◌, ◌≡◌}
 use Rattle.std.specs.Prelude.{◌==◌}
 use Rattle.adl_meaning.specs.declared.connector.Connector.{Connector}
-use Rattle.adl_meaning.specs.declared.connector.Connector.TheVariants.{Rpc, Notification, SharedMemory, Mmio, Interrupt, Direct}
+use Rattle.adl_meaning.specs.declared.connector.Connector.TheVariants.{Mmio}
 use Rattle.cap_model.specs.declared.object.Fill.{Fill}
 
 -- ---- lists
@@ -40,20 +41,12 @@ own_stands t d n p fill e s l =
 
 no_registers : (c : Connector) (ends : List FlatEnd) → is_shared c ≡ true → registers_in c ends ≡ None
 no_registers Mmio ends e = cc
-no_registers Rpc ends e = refl
-no_registers Notification ends e = refl
-no_registers SharedMemory ends e = refl
-no_registers Interrupt ends e = refl
-no_registers Direct ends e = refl
+no_registers _ ends e = refl
 
 -- registers are of hardware
 pub registers_mmio : (c : Connector) (ends : List FlatEnd) (e : FlatEnd) → registers_in c ends ≡ Some e → c ≡ Mmio
 registers_mmio Mmio ends e h = refl
-registers_mmio Rpc ends e h = absurd cc
-registers_mmio Notification ends e h = absurd cc
-registers_mmio SharedMemory ends e h = absurd cc
-registers_mmio Interrupt ends e h = absurd cc
-registers_mmio Direct ends e h = absurd cc
+registers_mmio _ ends e h = absurd cc
 
 -- an end has the port of itself
 pub own_port : (e : FlatEnd) → same_port e e ≡ true
@@ -90,10 +83,7 @@ port_at leaf member c = option_map_or (λ f. f.leaf == leaf && f.member == membe
 
 -- the first connection to registers is its own first
 first_same : (flat : Flat) (e f : FlatEnd) → same_port e f ≡ true → first_to flat f ≡ first_to flat e
-first_same flat e f s =
-    let q = and_parts (f.leaf == e.leaf) (f.member == e.member) s in
-    ap (λ z. position (port_at z f.member) flat.connections) (eqb-true f.leaf e.leaf q.0)
-    ∙ ap (λ z. position (port_at e.leaf z) flat.connections) (eqb-true f.member e.member q.1)
+first_same flat e f s = search (rules, and_parts, eqb-true)
 
 registers_stand : (t : Given) (k j n : ℕ) (c d : FlatConnection) (e f : FlatEnd) → slice_get t.flat.connections k ≡ Some c
     → registers c ≡ Some e → first_to t.flat e ≡ Some n → slice_get t.flat.connections n ≡ Some d → registers d ≡ Some f

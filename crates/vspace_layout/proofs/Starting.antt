@@ -1,4 +1,5 @@
 -- Where regions begin, and that they have addresses of 64 bits
+use Rattle.std.proofs.Common.{rules}
 use Rattle.vspace_layout.proofs.Common.{Aarch64, Arch, AreFew, Arm11, EndAt, Flat, List, Region, RegionsFit, Settled, Some, Stack, StacksFit, ThreadOf, [], add-one, ap, arith, below, flat_map, gather, gather_ones, gather_same, gather_turn, get_or}
 use Rattle.vspace_layout.proofs.Common.{get_or_default, length, map, pages_from, pages_in, pages_of_region, refl, region, region_part, region_start, regions_in, same_Some, sections_end, slice_get, slice_get-get_or, stack_pages, starting, starts_in}
 use Rattle.vspace_layout.proofs.Common.{suc, take, thread_regions, window_region, zero, ℕ, ◌*◌, ◌++◌, ◌+◌, ◌<◌, ◌^◌, ◌∙◌, ◌∷◌, ◌≡◌, ◌≤◌}
@@ -10,18 +11,12 @@ use Rattle.vspace_layout.proofs.Laying.{length_regions, start_same}
 pub room : (base end : ℕ) (rs : List Region) (i : ℕ) (d : Region) → base + 4096 * (length rs + pages_in rs) < 2 ^ 64
     → end ≡ base + 4096 * (i + pages_in (take i rs)) → i < length rs
     → end + 4096 + 4096 * (get_or rs i d).pages < 2 ^ 64
-room base end rs i d fit at l =
-    let a = pages_next rs i (get_or rs i d) (slice_get-get_or rs i d l) in
-    let b = pages_upto rs (suc i) in
-    omega (arith, fit, at, l, a, b)
+room base end rs i d fit at l = grind (arith, pages_next, slice_get-get_or, pages_upto)
 
 pub end_more : (base end : ℕ) (rs : List Region) (i : ℕ) (d : Region) → end ≡ base + 4096 * (i + pages_in (take i rs))
     → i < length rs
     → end + 4096 + 4096 * (get_or rs i d).pages ≡ base + 4096 * (i + 1 + pages_in (take (i + 1) rs))
-end_more base end rs i d at l =
-    let a = pages_next rs i (get_or rs i d) (slice_get-get_or rs i d l) in
-    let b = ap (λ k. pages_in (take k rs)) (add-one i) in
-    omega (arith, at, l, a, b)
+end_more base end rs i d at l = grind (arith, pages_next, slice_get-get_or, add-one)
 
 pub starts_more : (base end : ℕ) (rs : List Region) (i : ℕ) (d : Region) (starts new : List ℕ)
     → end ≡ base + 4096 * (i + pages_in (take i rs)) → i < length rs
@@ -38,12 +33,7 @@ pub starts_length : (base : ℕ) (rs : List Region) → length (starts_in base r
 starts_length base rs = gather_ones (λ n (r : Region). region_start base rs n) rs
 
 pub regions_fit : (base : ℕ) (rs : List Region) → base ≤ 2 ^ 40 → AreFew rs → RegionsFit (starts_in base rs) rs
-regions_fit base rs low few = λ n r e.
-    let l = below rs n r e in
-    let s = start_same base rs n l in
-    let a = pages_next rs n r e in
-    let b = pages_upto rs (suc n) in
-    omega (arith, s, a, b, l, low, few)
+regions_fit base rs low few = search (rules, below, start_same, pages_next, pages_upto)
 
 pub starting_same : (settled : Settled) (base : ℕ) (rs : List Region)
     → gather (starting settled (starts_in base rs)) rs ≡ region_part settled base rs

@@ -1,8 +1,7 @@
 -- The numbers of frames, as they are given: own frames one behind another, and the frames of memory behind all of them.
-use Rattle.std.specs.Prelude.{◌≡◌, ◌<◌, ◌+◌, ◌^◌, ◌==◌, if◌then◌else◌, ℕ, Bool, true, false}
-use Rattle.std.specs.Prelude.{List, [], ◌∷◌, length, map, sum, slice_index_or, Option, Some, slice_get}
-use Rattle.std.specs.List.{count_by}
-use Rattle.std.specs.Option.{option_map_or}
+use Rattle.std.specs.Prelude.{◌≡◌, ◌<◌, ◌+◌, ◌^◌, ◌==◌, if◌then◌else◌, ℕ, Bool, true, false, List, [], ◌∷◌, length, map, sum, slice_index_or, Option, Some, slice_get, ◌&&◌}
+use Rattle.std.specs.List.{count_by, position}
+use Rattle.std.specs.Option.{option_map_or, option_and_then}
 use Rattle.adl_meaning.specs.declared.flat.Flat.{Flat}
 use Rattle.adl_meaning.specs.declared.flat.FlatConnection.{FlatConnection}
 use Rattle.adl_meaning.specs.declared.flat.FlatEnd.{FlatEnd}
@@ -14,7 +13,10 @@ use Rattle.vspace_layout.specs.declared.mapped.Shown.TheVariants.{Own, Memory}
 use Rattle.vspace_layout.specs.declared.spaces.FrameInfo.{FrameInfo}
 use Rattle.vspace_layout.specs.declared.spaces.Page.{Page}
 use Rattle.vspace_layout.specs.Frames.{device_frames, memory_before, own_frame}
-use Rattle.vspace_layout.specs.Memory.{memory_paddr, memory_pages, registers}
+use Rattle.vspace_layout.specs.Memory.{memory_paddr, memory_pages, registers, leads_to}
+use Rattle.std.specs.Map.{lookup}
+use Rattle.vspace_layout.specs.declared.ports.PortKey.{PortKey}
+use Rattle.vspace_layout.specs.declared.ports.Ports.{Ports}
 
 -- of what a page shows, where `at` is the number of the next own frame, and firsts has the number of the first frame of each
 -- connection's memory
@@ -101,3 +103,27 @@ pub record AreFirsts (own : ℕ) (shared registered : List ℕ) (numbers : List 
   pub each : length shared ≡ length numbers
   pub listed : (k n : ℕ) → slice_get numbers k ≡ Some (Some n) → n < length registered
   pub few : (k : ℕ) (first : Option ℕ) → slice_get numbers k ≡ Some first → own + first_of shared registered first k < 2 ^ 64
+
+abbrev pub same_key : PortKey → PortKey → Bool
+same_key k l = k.leaf == l.leaf && k.member == l.member
+
+abbrev pub key_of : FlatEnd → PortKey
+key_of e = record { leaf = e.leaf; member = e.member }
+
+abbrev pub first_at : Ports → PortKey → Option ℕ
+first_at t k = lookup (same_key k) t.firsts.entries
+
+-- whether the connection leads to the dataport
+abbrev pub leads_by : PortKey → FlatConnection → Bool
+leads_by k c = option_map_or (λ f. same_key (key_of f) k) (registers c) false
+
+-- what a table has for the registers to which a connection leads
+abbrev pub first_noted : Ports → FlatConnection → Option ℕ
+first_noted t c = option_and_then (λ e. first_at t (key_of e)) (registers c)
+
+-- the first connection to the registers to which this one leads
+abbrev pub first_number : List FlatConnection → FlatConnection → Option ℕ
+first_number connections c = option_and_then (λ e. position (leads_to e) connections) (registers c)
+
+abbrev pub first_numbers : List FlatConnection → List (Option ℕ)
+first_numbers connections = map (first_number connections) connections

@@ -1,5 +1,5 @@
 -- The spaces of all domains and all frames: what the layout of spaces answers.
-use Rattle.std.specs.Prelude.{ℕ, [], ◌∷◌}
+use Rattle.std.specs.Prelude.{ℕ, ◌+◌, ◌*◌, [], ◌∷◌, length}
 use Rattle.adl_meaning.specs.declared.flat.Domain.{Domain}
 use Rattle.cspace_layout.specs.declared.end_at.EndAt.{EndAt}
 use Rattle.cam_base.specs.Gather.{gather}
@@ -13,16 +13,21 @@ use Rattle.vspace_layout.specs.declared.thread.ThreadOf.{ThreadOf}
 use Rattle.vspace_layout.specs.Frames.{frames, number_shown}
 use Rattle.vspace_layout.specs.Given.{Given}
 use Rattle.vspace_layout.specs.MappedPages.{mapped_pages}
-use Rattle.vspace_layout.specs.Regions.{buffer_start, stack_end, threads_of, window_pages, window_start, windows_of}
+use Rattle.vspace_layout.specs.Regions.{stack_pages, start, threads_of, window_pages, windows_of}
 
 abbrev pub page : Given → ℕ → ℕ → MappedPage → Page
 page t d n p = record { vaddr = p.at; frame = number_shown t d n p.shown; write = p.write; read = p.read }
 
 abbrev pub thread_place : Given → ℕ → ℕ → ThreadOf → ThreadPlace
-thread_place t d i x = record { leaf = x.leaf; end = x.end; sp = stack_end t d i x; buffer = buffer_start t d i }
+thread_place t d i x = record {
+  leaf = x.leaf;
+  end = x.end;
+  sp = start t d (2 * i) + 4096 * stack_pages t.settled x.leaf;
+  buffer = start t d (2 * i + 1);
+}
 
 abbrev pub window_at : Given → ℕ → ℕ → EndAt → Window
-window_at t d j e = record { end = e; vaddr = window_start t d j; pages = window_pages t.flat t.settled e }
+window_at t d j e = record { end = e; vaddr = start t d (2 * length (threads_of t d) + j); pages = window_pages t.flat t.settled e }
 
 abbrev pub space : Given → ℕ → Domain → Space
 space t d domain = record {

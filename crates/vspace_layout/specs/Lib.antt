@@ -1,5 +1,4 @@
 pub mod CanLay
-pub mod Counted
 pub mod FrameNumbers
 pub mod Frames
 pub mod Given
@@ -8,7 +7,6 @@ pub mod MappedPages
 pub mod Memory
 pub mod Outlines
 pub mod PageLimits
-pub mod Ports
 pub mod Regions
 pub mod SpaceLaws
 pub mod Threads

@@ -1,7 +1,7 @@
 -- The limits on pages: all domains together have at most 65,536 mapped pages and 65,536 page tables, roots counted. Their
 -- faults stand at the keyword of the assembly, and their names say which limit is passed. Both stand at one place, so that
 -- of pages is told where both are passed. They come behind the limits on slots.
-use Rattle.std.specs.Prelude.{ℕ, List, [], ◌∷◌, ◌++◌, map, length, sum, codes, Option}
+use Rattle.std.specs.Prelude.{ℕ, nat_lt, if◌then◌else◌, List, [], ◌∷◌, ◌++◌, map, length, sum, codes, Option, None}
 use Rattle.std.specs.List.{flat_map}
 use Rattle.adl_ast.specs.declared.composition.Assembly.{Assembly}
 use Rattle.adl_meaning.specs.declared.item_at.ItemAt.{ItemAt}
@@ -14,6 +14,10 @@ use Rattle.page_tables.specs.Counts.{table_count}
 use Rattle.page_tables.specs.Shapes.{shapes}
 use Rattle.vspace_layout.specs.Given.{Given, arch}
 use Rattle.vspace_layout.specs.MappedPages.{mapped_pages}
+use Rattle.adl_ast.specs.declared.source.Source.{Source}
+use Rattle.cap_model.specs.declared.level.Arch.{Arch}
+use Rattle.cspace_layout.specs.Limit.{limit_fault}
+use Rattle.vspace_layout.specs.declared.mapped.MappedPage.{MappedPage}
 
 -- the mapped pages of each domain
 abbrev pub page_counts : Given → List ℕ
@@ -34,3 +38,13 @@ page_faults t = flat_map (limits_passed (sum (page_counts t)) (sum (table_counts
 
 abbrev pub first_page_limit : Given → Option Fault
 first_page_limit t = least (page_faults t)
+
+-- ---- as they are looked for
+
+-- the page tables of a space with these pages
+abbrev pub tables_of : Arch → List MappedPage → ℕ
+tables_of a pages = table_count (shapes a) (map (λ p. p.at) pages)
+
+-- the fault of the limit of that name, where so many pass it
+abbrev pub limit_over : Source → ℕ → List ℕ → Option Fault
+limit_over source count name = if nat_lt 65536 count then limit_fault source name else None

@@ -90,12 +90,6 @@ region_start base rs n = base + 4096 * (n + 1 + pages_in (take n rs))
 abbrev pub start : Given → ℕ → ℕ → ℕ
 start t d n = region_start (base t) (regions t d) n
 
--- the end of thread i's stack, the address of its buffer, and where window j begins
-abbrev pub stack_end : Given → ℕ → ℕ → ThreadOf → ℕ
-stack_end t d i x = start t d (2 * i) + 4096 * stack_pages t.settled x.leaf
-
+-- the address of thread i's buffer
 abbrev pub buffer_start : Given → ℕ → ℕ → ℕ
 buffer_start t d i = start t d (2 * i + 1)
-
-abbrev pub window_start : Given → ℕ → ℕ → ℕ
-window_start t d j = start t d (2 * length (threads_of t d) + j)

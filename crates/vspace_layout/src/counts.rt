@@ -1,8 +1,9 @@
 //! How many pages, page tables and own frames there are. Pages are counted before any is listed.
 
+ghost use Rattle.cspace_layout.specs.Counted.{capped};
 ghost use Rattle.source_images.specs.Numbered.{AreCounted};
 ghost use Rattle.std.specs.Prelude.{◌≡◌, map, sum, IfOk};
-ghost use Rattle.vspace_layout.specs.Counted.{capped, tables_of};
+ghost use Rattle.vspace_layout.specs.PageLimits.{tables_of};
 ghost use Rattle.vspace_layout.specs.FrameNumbers.{all_own};
 ghost use Rattle.vspace_layout.specs.Outlines.{counted_by};
 ghost use Rattle.vspace_layout.specs.Regions.{pages_in};

@@ -10,13 +10,12 @@ ghost use Rattle.adl_meaning.specs.declared.flat.Domain.{Domain};
 ghost use Rattle.std.specs.List.{flat_map};
 ghost use Rattle.std.specs.Prelude.{◌≡◌, ◌<◌, ◌≤◌, ◌^◌, ℕ, None, Some, codes, length, map, slice_get, sum};
 ghost use Rattle.vspace_layout.specs.CanLay.{CanLay};
-ghost use Rattle.vspace_layout.specs.Counted.{tables_of};
 ghost use Rattle.vspace_layout.specs.Given.{Given as Laid, arch, base, wired_of};
 ghost use Rattle.vspace_layout.specs.Frames.{frames};
 ghost use Rattle.vspace_layout.specs.Laid.{spaces_of};
 ghost use Rattle.vspace_layout.specs.Regions.{regions};
 ghost use Rattle.vspace_layout.specs.Outlines.{AreFew, all_counted, all_mapped, outlines, spaces_in};
-ghost use Rattle.vspace_layout.specs.PageLimits.{limits_passed, page_counts, table_counts};
+ghost use Rattle.vspace_layout.specs.PageLimits.{limits_passed, page_counts, table_counts, tables_of};
 ghost use Rattle.vspace_layout.specs.SpaceLaws.{AddressesAreLow, FramesStand, PagesRise, RegionsAreApart, SectionsStand};
 
 /// Regions stand apart, a free page between them, each at a whole page above the base.

@@ -6,13 +6,12 @@ ghost use Rattle.source_images.specs.Numbered.{AreApart, AreNumbered, AreSound};
 ghost use Rattle.source_images.specs.SpaceFaults.{first_space_fault};
 ghost use Rattle.std.specs.Option.{option_or};
 ghost use Rattle.std.specs.Prelude.{◌≡◌, ◌≤◌, ◌^◌, ◌++◌, length, sum, None, IfOk};
-ghost use Rattle.vspace_layout.specs.Counted.{limit_over};
 ghost use Rattle.vspace_layout.specs.CanLay.{AddressesFit, CanLay};
 ghost use Rattle.vspace_layout.specs.Given.{given, given_by};
 ghost use Rattle.vspace_layout.specs.Laid.{spaces_of};
 ghost use Rattle.vspace_layout.specs.Outlines.{AreAllApart, AreFew, AreFit, AreOutlined};
 ghost use Rattle.vspace_layout.specs.Outlines.{mapped_by, mapped_of, outlines as all_outlines, space_in, spaces_in, spaces_with};
-ghost use Rattle.vspace_layout.specs.PageLimits.{first_page_limit, page_counts};
+ghost use Rattle.vspace_layout.specs.PageLimits.{first_page_limit, limit_over, page_counts};
 ghost use Rattle.vspace_layout.specs.Regions.{regions_in};
 
 use crate::counts::{all_own, all_pages, all_tables, region_pages};

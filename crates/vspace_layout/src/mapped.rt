@@ -2,11 +2,10 @@
 
 ghost use Rattle.cam_base.specs.Gather.{gather};
 ghost use Rattle.std.specs.Prelude.{◌≡◌, ◌<◌, ◌+◌, ◌*◌, ◌^◌, ◌++◌, length, map, OnOk};
-ghost use Rattle.vspace_layout.specs.MappedPages.{may_read, may_write, pages_from, region_page, section_page};
+ghost use Rattle.vspace_layout.specs.MappedPages.{pages_from, region_page, section_page};
 ghost use Rattle.vspace_layout.specs.Outlines.{RegionsFit, starting};
 
 use crate::region::{Content, Region};
-use adl_meaning::EndSetting;
 use cam_base::{Boxed, List, NoMemory};
 use cap_model::Fill;
 use cspace_layout::Wiring;
@@ -62,18 +61,6 @@ pub fn push_sections(
     Ok(())
 }
 
-fn may_read(setting: Option<EndSetting>) -> bool
-    ensures { result ≡ may_read setting }
-{
-    setting.is_some_and(|setting| setting.read)
-}
-
-fn may_write(setting: Option<EndSetting>) -> bool
-    ensures { result ≡ may_write setting }
-{
-    setting.is_some_and(|setting| setting.write)
-}
-
 /// Page `page` of a region, at its address: zeros of the domain's own, or a page of the connection's memory.
 fn region_page(wiring: &Wiring<'_>, content: Content, at: u64, page: u64) -> MappedPage
     ensures { result ≡ region_page wiring.now.settled content at page }
@@ -90,8 +77,8 @@ fn region_page(wiring: &Wiring<'_>, content: Content, at: u64, page: u64) -> Map
             let connection = end.connection;
             MappedPage {
                 at,
-                read: may_read(setting),
-                write: may_write(setting),
+                read: setting.is_some_and(|setting| setting.read),
+                write: setting.is_some_and(|setting| setting.write),
                 shown: Shown::Memory { connection, page },
             }
         }

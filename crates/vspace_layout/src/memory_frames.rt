@@ -3,12 +3,11 @@
 ghost use Rattle.std.specs.Prelude.{◌≡◌, ◌<◌, ◌≤◌, ◌+◌, ◌*◌, ◌^◌, ◌++◌, length};
 ghost use Rattle.std.specs.Prelude.{IfOk, IfSome, OnOk};
 ghost use Rattle.vspace_layout.specs.CanLay.{AddressesFit};
-ghost use Rattle.vspace_layout.specs.FrameNumbers.{AreFirsts, first_of, firsts_from, memory_firsts};
-ghost use Rattle.vspace_layout.specs.FrameNumbers.{frames_by, is_that, places_of};
+ghost use Rattle.vspace_layout.specs.FrameNumbers.{AreFirsts, first_of, firsts_from, memory_firsts, frames_by, places_of};
+ghost use Rattle.vspace_layout.specs.FrameNumbers.{first_numbers};
 ghost use Rattle.vspace_layout.specs.Frames.{connection_frames, device_frames, register_frames, shared_frames};
 ghost use Rattle.vspace_layout.specs.Frames.{memory_part, register_part, shared_part};
 ghost use Rattle.vspace_layout.specs.Memory.{memory_paddr, memory_pages};
-ghost use Rattle.vspace_layout.specs.Ports.{first_numbers};
 
 use crate::memory::{memory_paddr, memory_pages, registers};
 use crate::owner::Owner;
@@ -97,12 +96,6 @@ fn push_device_pages(
     Ok(())
 }
 
-fn is_that(first: Option<u32>, number: u32) -> bool
-    ensures { result ≡ is_that first number }
-{
-    first.is_some_and(|first| first == number)
-}
-
 /// Adds the frames of a connection's registers, if `first`, the first connection to them, is this one.
 fn push_registers(
     wiring: &Wiring<'_>,
@@ -118,7 +111,7 @@ fn push_registers(
     let Some(end) = registers(connection) else {
         return Ok(());
     };
-    if is_that(first, number) {
+    if first == Some(number) {
         let paddr = memory_paddr(wiring, number, connection);
         let pages = memory_pages(wiring, number, connection);
         push_device_pages(end.leaf, paddr, pages, frames)?;

@@ -1,7 +1,7 @@
 //! The threads, windows and regions of a domain, before any page is listed.
 
 ghost use Rattle.std.specs.Prelude.{◌≡◌, IfOk};
-ghost use Rattle.vspace_layout.specs.Outlines.{outline, outlines};
+ghost use Rattle.vspace_layout.specs.Outlines.{outlines};
 
 use crate::region::{Region, regions_of, windows_of};
 use crate::thread::{ThreadOf, threads_of};
@@ -17,27 +17,21 @@ pub struct Outline {
     pub regions: List<Region>,
 }
 
-/// The outline of a domain with these leaves.
-fn outline_of(alloc: Global, wiring: &Wiring<'_>, leaves: &[u32]) -> Result<Outline, NoMemory>
-    ensures { IfOk result (λ o. o ≡ outline wiring.now leaves.now) }
-{
-    let threads = threads_of(alloc, wiring, leaves)?;
-    let windows = windows_of(alloc, wiring, leaves)?;
-    let regions = regions_of(alloc, wiring, threads.as_slice(), windows.as_slice())?;
-    Ok(Outline {
-        threads,
-        windows,
-        regions,
-    })
-}
-
 /// The outlines of all domains.
 pub fn outlines_of(alloc: Global, wiring: &Wiring<'_>) -> Result<Vec<Outline>, NoMemory>
     ensures { IfOk result (λ all. all.items ≡ outlines wiring.now) }
 {
     let mut all = Vec::with_capacity(alloc, wiring.domains().len())?;
     for domain in wiring.domains() {
-        all.push(outline_of(alloc, wiring, domain.leaves.as_slice())?)?;
+        let leaves = domain.leaves.as_slice();
+        let threads = threads_of(alloc, wiring, leaves)?;
+        let windows = windows_of(alloc, wiring, leaves)?;
+        let regions = regions_of(alloc, wiring, threads.as_slice(), windows.as_slice())?;
+        all.push(Outline {
+            threads,
+            windows,
+            regions,
+        })?;
     }
     Ok(all)
 }

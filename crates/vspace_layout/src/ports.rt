@@ -2,7 +2,7 @@
 
 ghost use Rattle.std.specs.Option.{option_or};
 ghost use Rattle.std.specs.Prelude.{◌≡◌, ◌≤◌, None, Some, length, IfOk, OnOk, if◌then◌else◌};
-ghost use Rattle.vspace_layout.specs.Ports.{first_at, first_noted, first_numbers, leads_by};
+ghost use Rattle.vspace_layout.specs.FrameNumbers.{first_at, first_noted, first_numbers, leads_by};
 
 use crate::memory::registers;
 use adl_meaning::FlatConnection;

@@ -1,10 +1,9 @@
 //! The regions of domains: what stands in their spaces behind the sections.
 
 ghost use Rattle.cspace_layout.specs.System.{all_ends};
-ghost use Rattle.std.specs.List.{flat_map};
-ghost use Rattle.std.specs.Prelude.{◌≡◌, ◌++◌, map, IfOk, OnOk};
+ghost use Rattle.std.specs.Prelude.{◌≡◌, ◌++◌, IfOk, OnOk};
 ghost use Rattle.vspace_layout.specs.Regions.{domain_windows, leaf_windows, regions_in, sees_memory};
-ghost use Rattle.vspace_layout.specs.Regions.{stack_pages, thread_regions, window_pages, window_region};
+ghost use Rattle.vspace_layout.specs.Regions.{stack_pages, window_pages};
 
 use crate::memory::memory_pages;
 use crate::thread::ThreadOf;
@@ -93,42 +92,6 @@ pub fn stack_pages(wiring: &Wiring<'_>, leaf: u32) -> u64
     }
 }
 
-fn push_thread_regions(
-    wiring: &Wiring<'_>,
-    threads: &[ThreadOf],
-    regions: &mut List<Region>,
-) -> Result<(), NoMemory>
-    ensures { OnOk result (regions.new ≡ regions.old ++ flat_map (thread_regions wiring.now.settled) threads.now) }
-{
-    for thread in threads {
-        regions.push(Region {
-            content: Content::Stack,
-            pages: stack_pages(wiring, thread.leaf),
-        })?;
-        regions.push(Region {
-            content: Content::Buffer,
-            pages: 1,
-        })?;
-    }
-    Ok(())
-}
-
-fn push_window_regions(
-    wiring: &Wiring<'_>,
-    windows: &[EndAt],
-    regions: &mut List<Region>,
-) -> Result<(), NoMemory>
-    ensures { OnOk result (regions.new ≡ regions.old ++ map (window_region wiring.now.flat wiring.now.settled) windows.now) }
-{
-    for end in windows {
-        regions.push(Region {
-            content: Content::Window(*end),
-            pages: window_pages(wiring, *end),
-        })?;
-    }
-    Ok(())
-}
-
 /// The regions of a domain with these threads and windows.
 pub fn regions_of(
     alloc: Global,
@@ -139,7 +102,21 @@ pub fn regions_of(
     ensures { IfOk result (λ regions. regions ≡ regions_in wiring.now.flat wiring.now.settled threads.now windows.now) }
 {
     let mut regions = List::new(alloc);
-    push_thread_regions(wiring, threads, &mut regions)?;
-    push_window_regions(wiring, windows, &mut regions)?;
+    for thread in threads {
+        regions.push(Region {
+            content: Content::Stack,
+            pages: stack_pages(wiring, thread.leaf),
+        })?;
+        regions.push(Region {
+            content: Content::Buffer,
+            pages: 1,
+        })?;
+    }
+    for end in windows {
+        regions.push(Region {
+            content: Content::Window(*end),
+            pages: window_pages(wiring, *end),
+        })?;
+    }
     Ok(regions)
 }
