@@ -5,7 +5,7 @@ pub use Rattle.adl_meaning.specs.declared.flat.Domain.{Domain}
 pub use Rattle.adl_meaning.specs.declared.flat.FlatConnection.{FlatConnection}
 pub use Rattle.arch_policy.specs.declared.owner.Owner.{Owner}
 pub use Rattle.arch_policy.specs.declared.owner.Owner.TheVariants.{OfConnection, OfDomain}
-pub use Rattle.cam_base.proofs.Gathered.{from_gather, from_ones, from_place, gather_map, gather_more, gather_ones, gather_same, gather_turn, get_behind, get_front, get_ones, in_append, in_gather, in_left, in_place, in_right, length_append, place_of}
+pub use Rattle.cam_base.proofs.Gathered.{from_gather, from_ones, from_place, gather_map, gather_more, gather_ones, gather_same, gather_turn, get_ones, in_append, in_gather, in_left, in_place, in_right, length_append, place_of}
 pub use Rattle.cam_base.proofs.Gathered.{split_get}
 pub use Rattle.cam_base.proofs.NumberedLists.{at_place, get_map, length-gather, read_in, read_place, single, taken_le}
 pub use Rattle.cam_base.specs.Gather.{IsIn, before, gather}
@@ -18,10 +18,10 @@ pub use Rattle.cap_model.specs.declared.object.Object.{Object}
 pub use Rattle.cap_model.specs.declared.object.Object.TheVariants.{Endpoint, Irq}
 pub use Rattle.conn_rules.specs.Row.{RW}
 pub use Rattle.cspace_layout.specs.declared.plan.SlotUse.{SlotUse}
-pub use Rattle.cspace_layout.specs.declared.plan.SlotUse.TheVariants.{Handler, OfEnd, OwnLock}
+pub use Rattle.cspace_layout.specs.declared.plan.SlotUse.TheVariants.{OfEnd, OwnLock}
 pub use Rattle.page_tables.proofs.Counted.{counts_of_addresses, levels_of_addresses}
 pub use Rattle.page_tables.proofs.Leveled.{as_many}
-pub use Rattle.page_tables.specs.Levels.{layers}
+pub use Rattle.page_tables.specs.Levels.{layers, level_of}
 pub use Rattle.page_tables.specs.Runs.{Rises}
 pub use Rattle.page_tables.specs.Shapes.{shapes}
 pub use Rattle.std.proofs.Common.{Bool, List, None, Option, Some, [], add-one, ap, append_assoc, arith, cond, drop, false, filter, get_or, inl, inr, is_lt, length, map, nat_cmp, nat_lt, refl, rules, subst, suc, suc-le-suc, sym, take, true, zero}
@@ -39,19 +39,15 @@ pub use Rattle.std.specs.Option.{option_map, option_map_or}
 pub use Rattle.std.specs.Prelude.{leb, slice_index}
 pub use Rattle.std.specs.Vec.Iter.{into_iter_items, into_iter_len, into_iter_steps}
 pub use Rattle.system_spec.specs.Bits.{IsLeastBits, bits_for, bits_from}
-pub use Rattle.system_spec.specs.Few.{AreFew, AreShown, table_count}
-pub use Rattle.system_spec.specs.Landmarks.{IsThere, all_spaces, space_tables}
-pub use Rattle.system_spec.specs.LevelNumbers.{counted, counts, counts_in, one_more}
+pub use Rattle.system_spec.specs.Buildable.{AreFew, AreShown, table_count, AreNamed, NamesOneOf}
+pub use Rattle.system_spec.specs.Landmarks.{IsThere, all_spaces, space_tables, has_endpoint, has_irq, has_notification, holds_lock, mark, one, places_from, stands}
+pub use Rattle.system_spec.specs.Parts.{counted, counts, counts_in, one_more, all_tables, cnodes, domain_locks, domain_tables, domain_tcbs, endpoint, endpoint_by, endpoints, first_of, frame_part, frame_parts, irq, irq_by, irqs, is_of, lock}
+pub use Rattle.system_spec.specs.Parts.{locks, notification, notification_by, notifications, numbered, owned, page_mapping, page_table, part, parts, place, sections, table_part, table_parts, tables_at, tcbs, threads_of, together}
 pub use Rattle.system_spec.specs.Made.{entry, entry_with, part_label, spec_of}
 pub use Rattle.system_spec.specs.MapLines.{domain_lines, domain_slots, domain_threads, domain_windows, slot_line, slot_lines, thread_lines, thread_lines_from, window_line, window_lines}
 pub use Rattle.system_spec.specs.MapText.{line_text, named}
 pub use Rattle.system_spec.specs.Objects.{buffer_cap, by_number, cap, frame_at, joint, joint_by, line, line_by, object, put_line, rights_at, tcb, use_cap, use_cap_at}
-pub use Rattle.system_spec.specs.Parts.{all_tables, cnodes, domain_locks, domain_tables, domain_tcbs, endpoint, endpoint_by, endpoints, first_of, frame_part, frame_parts, irq, irq_by, irqs, is_of, level_of, lock, locks, notification, notification_by}
-pub use Rattle.system_spec.specs.Parts.{notifications, numbered, owned, page_mapping, page_table, part, parts, place, sections, table_part, table_parts, tables_at, tcbs, threads_of, together}
-pub use Rattle.system_spec.specs.Places.{has_endpoint, has_irq, has_notification, holds_lock, mark, one, places_from, stands}
-pub use Rattle.system_spec.specs.Ready.{AreNamed, NamesOneOf}
-pub use Rattle.system_spec.specs.Tables.{Tables, arch, frame_owner, irq_owner, leaf_entry, leaf_name, pages_at, priority, threads_at, uses_at}
-pub use Rattle.system_spec.specs.Told.{told}
+pub use Rattle.system_spec.specs.Tables.{Tables, arch, frame_owner, irq_owner, leaf_entry, leaf_name, pages_at, priority, threads_at, uses_at, told}
 pub use Rattle.system_spec.specs.declared.map_line.MapLine.TheVariants.{DomainLine, ThreadLine}
 pub use Rattle.system_spec.specs.declared.part.Owned.{Owned}
 pub use Rattle.system_spec.specs.declared.part.PageTable.{PageTable}

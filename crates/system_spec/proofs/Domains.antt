@@ -11,12 +11,12 @@ together_gather : {X : Type 0} (xs : List (List X)) → flat_map (λ x. x) xs �
 together_gather [] = refl
 together_gather (x ∷ xs) = ap (λ z. x ++ z) (together_gather xs)
 
-taken_none : {X Y : Type 0} (F : ℕ → X → List Y) (xs : List X) → length (gather F (take 0 xs)) ≡ 0
+pub taken_none : {X Y : Type 0} (F : ℕ → X → List Y) (xs : List X) → length (gather F (take 0 xs)) ≡ 0
 taken_none F [] = refl
 taken_none F (x ∷ xs) = refl
 
 -- one more element gives so many more
-grown : {X Y : Type 0} (F : ℕ → X → List Y) (xs : List X) (i n : ℕ) → i < length xs → ((x : X) → length (F i x) ≡ n)
+pub grown : {X Y : Type 0} (F : ℕ → X → List Y) (xs : List X) (i n : ℕ) → i < length xs → ((x : X) → length (F i x) ≡ n)
     → length (gather F (take (i + 1) xs)) ≡ length (gather F (take i xs)) + n
 grown {X} {Y} F xs i n l h =
     let at : (x : X) × (slice_get xs i ≡ Some x) = at_place xs i l in

@@ -5,9 +5,7 @@ use Rattle.std.proofs.lemmas.List.Sums.{count_by-le-length, count_by_more_no, co
 
 pub counted_in : (xs : List PageTable) (l : Level) → counted (counts_in xs) l ≡ count_by (is_of l) xs
 counted_in xs Global = refl
-counted_in xs Upper = refl
-counted_in xs Directory = refl
-counted_in xs Table = refl
+counted_in xs _ = refl
 
 same : (a b c d e f g h : ℕ) → a ≡ e → b ≡ f → c ≡ g → d ≡ h → counts a b c d ≡ counts e f g h
 same a b c d e f g h p q r s = ap (λ z. counts z b c d) p ∙ ap (λ z. counts e z c d) q ∙ ap (λ z. counts e f z d) r

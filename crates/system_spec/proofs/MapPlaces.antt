@@ -1,50 +1,24 @@
 -- Places of the threads and the locks that lines of the map name
-use Rattle.system_spec.proofs.Common.{AreFew, Domain, List, LockOf, OfDomain, Owned, Part, SlotUse, Some, Tables, ThreadOf, ThreadPlace, [], add-one, all_tables, ap, arith, at_place, before, cnodes, domain_locks, domain_tcbs, domain_threads}
-use Rattle.system_spec.proofs.Common.{endpoints, first_of, frame_parts, gather, gather_more, gather_ones, irqs, length, length_append, lock, locks, notifications, numbered, owned, part, place, refl, slice_get, subst, sym, table_parts, take, take_all}
-use Rattle.system_spec.proofs.Common.{taken_le, tcbs, thread_lines_from, threads_at, together, uses_at, ℕ, ◌++◌, ◌+◌, ◌<◌, ◌^◌, ◌∙◌, ◌∷◌, ◌≡◌, ◌≤◌}
+use Rattle.system_spec.proofs.Common.{AreFew, List, LockOf, OfDomain, Part, SlotUse, Tables, ThreadOf, ThreadPlace, ap, arith, before, domain_locks, domain_tcbs, domain_threads, first_of, gather, gather_ones, length, lock, locks, numbered, owned}
+use Rattle.system_spec.proofs.Common.{place, refl, subst, sym, take, take_all, taken_le, tcbs, thread_lines_from, threads_at, together, uses_at, ℕ, ◌+◌, ◌<◌, ◌^◌, ◌∙◌, ◌≡◌, ◌≤◌}
 use Rattle.system_spec.specs.declared.series.Series.TheVariants as series
-use Rattle.system_spec.proofs.Bounds.{ends}
-use Rattle.system_spec.specs.Grouped.{but_frames}
-
-none_before : {X Y : Type 0} (f : ℕ → X → List Y) (xs : List X) → before f xs 0 ≡ 0
-none_before f [] = refl
-none_before f (x ∷ xs) = refl
-
--- one element more
-before_more : {X Y : Type 0} (f : ℕ → X → List Y) (xs : List X) (i : ℕ) (x : X) → slice_get xs i ≡ Some x
-    → before f xs (i + 1) ≡ before f xs i + length (f i x)
-before_more {X} {Y} f xs i x at =
-    ap (λ (z : List Y). length z) (ap (λ k. gather f (take k xs)) (add-one i) ∙ gather_more f xs i x at)
-    ∙ length_append (gather f (take i xs)) (f i x)
-
-length-behind : {X : Type 0} (a b c : List X) → length (a ++ []) + length b ≤ length (a ++ (b ++ c))
-length-behind a b c = omega (arith, length_append a [], length_append a (b ++ c), length_append b c)
+use Rattle.system_spec.proofs.Domains.{grown, taken_none}
+use Rattle.system_spec.proofs.Bounds.{ends, length-numbered, section_few}
+use Rattle.system_spec.specs.Parts.{but_frames}
 
 -- ---- threads
 
 thread_end : (t : Tables) → AreFew t → first_of t 1 + length (tcbs t) < 2 ^ 32
-thread_end t few =
-    let b = numbered series.Tcb (tcbs t) in
-    let rest =
-    endpoints t
-    ++ (notifications t
-    ++ (numbered series.Lock (locks t)
-    ++ (numbered series.Irq (irqs t)
-    ++ (table_parts (all_tables t) ++ (numbered series.Frame (frame_parts t.spaces.frames) ++ []))))) in
-    let within = length-behind (numbered series.CNode (cnodes t.flat.domains)) b rest in
-    let all = few.objects in
-    let long = gather_ones (λ n (x : Owned). part series.Tcb n x.owner x.what) (tcbs t) in
-    omega (arith, within, all, long)
+thread_end t few = omega (arith, section_few t few 1 _ refl, length-numbered series.Tcb (tcbs t))
 
 -- the first thread of the next domain stands behind those of this one
 pub threads_turn : (t : Tables) (first d next : ℕ) (threads : List ThreadPlace) → threads ≡ threads_at t d
     → d < length t.flat.domains → next ≡ first + before (domain_tcbs t) t.flat.domains d
     → next + length threads ≡ first + before (domain_tcbs t) t.flat.domains (d + 1)
 threads_turn t first d next threads same l e =
-    let x : (y : Domain) × (slice_get t.flat.domains d ≡ Some y) = at_place t.flat.domains d l in
-    let more = before_more (domain_tcbs t) t.flat.domains d x.0 x.1 in
     let long = gather_ones (λ i (y : ThreadPlace). owned (OfDomain d) (ThreadOf d i)) (threads_at t d) in
-    omega (arith, e, ap (λ (z : List ThreadPlace). length z) same, more, long)
+    let more = grown (domain_tcbs t) t.flat.domains d (length (threads_at t d)) l (λ x. long) in
+    omega (arith, e, ap (λ (z : List ThreadPlace). length z) same, more)
 
 pub threads_within : (t : Tables) → AreFew t → (first d next : ℕ) → first ≡ first_of t 1
     → next ≡ first + before (domain_tcbs t) t.flat.domains d → next < 2 ^ 32
@@ -62,14 +36,13 @@ domain_threads_are t first d next threads f e same =
 -- the first lock of a domain
 pub first_lock_is : (t : Tables) (first d next : ℕ) → first ≡ first_of t 4
     → next ≡ first + before (domain_locks t) t.flat.domains d → next ≡ place t (LockOf d 0)
-first_lock_is t first d next f e = omega (arith, f, e, none_before (lock d) (uses_at t d))
+first_lock_is t first d next f e = omega (arith, f, e, taken_none (lock d) (uses_at t d))
 
 pub locks_turn : (t : Tables) (first d next after : ℕ) (uses : List SlotUse) → uses ≡ uses_at t d → d < length t.flat.domains
     → next ≡ first + before (domain_locks t) t.flat.domains d
     → after ≡ next + length (gather (lock d) uses) → after ≡ first + before (domain_locks t) t.flat.domains (d + 1)
 locks_turn t first d next after uses same l e a =
-    let x : (y : Domain) × (slice_get t.flat.domains d ≡ Some y) = at_place t.flat.domains d l in
-    let more = before_more (domain_locks t) t.flat.domains d x.0 x.1 in
+    let more = grown (domain_locks t) t.flat.domains d (length (gather (lock d) (uses_at t d))) l (λ x. refl) in
     omega (arith, e, a, ap (λ z. length (gather (lock d) z)) same, more)
 
 pub locks_within : (t : Tables) → AreFew t → (first d after : ℕ) → first ≡ first_of t 4

@@ -21,7 +21,7 @@ in_together {X} (r ∷ ss) zero s x e i =
     let P : List X → Type 0 = λ z. IsIn x z in in_left x r (flat_map (λ z. z) ss) (subst P same i)
 in_together (r ∷ ss) (suc n) s x e i = in_right x r (flat_map (λ z. z) ss) (in_together ss n s x e i)
 
-has_cnode : (t : Tables) (d : ℕ) (x : Domain) → slice_get t.flat.domains d ≡ Some x
+pub has_cnode : (t : Tables) (d : ℕ) (x : Domain) → slice_get t.flat.domains d ≡ Some x
     → IsIn (part series.CNode d (OfDomain d) (CNodeOf d)) (parts t)
 has_cnode t d x e =
     let f : ℕ → Domain → Owned = λ n z. owned (OfDomain n) (CNodeOf n) in
@@ -30,7 +30,7 @@ has_cnode t d x e =
     in_together (sections t) 0 (numbered series.CNode (cnodes t.flat.domains)) p refl
     (in_gather g p (cnodes t.flat.domains) d (owned (OfDomain d) (CNodeOf d)) (get_ones f t.flat.domains d x e) (inl refl))
 
-has_endpoint : (t : Tables) (k : ℕ) (c : FlatConnection) → slice_get t.flat.connections k ≡ Some c → c.connector ≡ Rpc
+pub has_endpoint : (t : Tables) (k : ℕ) (c : FlatConnection) → slice_get t.flat.connections k ≡ Some c → c.connector ≡ Rpc
     → IsIn (part series.Ep k (OfConnection k) (EndpointOf k)) (parts t)
 has_endpoint t k c e r =
     let p = part series.Ep k (OfConnection k) (EndpointOf k) in
@@ -38,7 +38,7 @@ has_endpoint t k c e r =
     in_together (sections t) 2 (gather endpoint t.flat.connections) p refl (in_gather endpoint p t.flat.connections k c e
     (subst P (sym r) (inl refl)))
 
-has_notification : (t : Tables) (k : ℕ) (c : FlatConnection) → slice_get t.flat.connections k ≡ Some c → (p : Part)
+pub has_notification : (t : Tables) (k : ℕ) (c : FlatConnection) → slice_get t.flat.connections k ≡ Some c → (p : Part)
     → IsIn p (notification_by k c.connector) → IsIn p (parts t)
 has_notification t k c e p i = in_together (sections t) 3 (gather notification t.flat.connections) p refl
     (in_gather notification p t.flat.connections k c e i)

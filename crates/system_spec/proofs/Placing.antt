@@ -1,8 +1,8 @@
 -- Places as they are counted
-use Rattle.system_spec.proofs.Common.{Bool, Connector, Direct, EndpointOf, FlatConnection, Handler, Interrupt, IrqOf, List, LockOf, Mmio, Notification, NotificationOf, OfEnd, OwnLock, Owner, Rpc, SharedMemory, SlotUse, Some, Tables, [], add-one, ap}
-use Rattle.system_spec.proofs.Common.{arith, at_place, before, cond, endpoint, endpoint_by, false, first_of, gather, gather_more, gather_same, gather_turn, get_ones, get_or, get_or_from_slice_get, has_endpoint, has_irq, has_notification, holds_lock}
-use Rattle.system_spec.proofs.Common.{irq, irq_by, irq_owner, joint, joint_by, length, length_append, lock, mark, notification, notification_by, one, option_map_or, place, places_from, refl, slice_get, slice_get-get_or, slice_get_read, slice_index}
-use Rattle.system_spec.proofs.Common.{stands, subst, suc, sym, take, taken_le, true, uses_at, ℕ, ◌++◌, ◌+◌, ◌<◌, ◌∙◌, ◌∷◌, ◌≡◌, ◌≤◌}
+use Rattle.system_spec.proofs.Common.{Bool, Connector, EndpointOf, FlatConnection, Interrupt, IrqOf, List, LockOf, Notification, NotificationOf, OwnLock, Owner, Rpc, SlotUse, Some, Tables, [], add-one, ap, arith, at_place, before, cond, endpoint}
+use Rattle.system_spec.proofs.Common.{endpoint_by, false, first_of, gather, gather_more, gather_same, gather_turn, get_ones, get_or, get_or_from_slice_get, has_endpoint, has_irq, has_notification, holds_lock, irq, irq_by, irq_owner, joint, joint_by}
+use Rattle.system_spec.proofs.Common.{length, length_append, lock, mark, notification, notification_by, one, option_map_or, place, places_from, refl, slice_get, slice_get-get_or, slice_get_read, slice_index, stands, subst, suc, sym, take, taken_le}
+use Rattle.system_spec.proofs.Common.{true, uses_at, ℕ, ◌++◌, ◌+◌, ◌<◌, ◌∙◌, ◌∷◌, ◌≡◌, ◌≤◌}
 use Rattle.system_spec.specs.declared.places.Standing.{Standing}
 use Rattle.system_spec.specs.declared.places.Standing.TheVariants as standings
 
@@ -38,27 +38,16 @@ length-mark standing k c = by_test (stands standing c.connector)
 
 length-endpoint : (k : ℕ) (c : Connector) → length (endpoint_by k c) ≡ one (has_endpoint c)
 length-endpoint k Rpc = refl
-length-endpoint k Notification = refl
-length-endpoint k Interrupt = refl
-length-endpoint k SharedMemory = refl
-length-endpoint k Mmio = refl
-length-endpoint k Direct = refl
+length-endpoint k _ = refl
 
 length-notification : (k : ℕ) (c : Connector) → length (notification_by k c) ≡ one (has_notification c)
-length-notification k Rpc = refl
 length-notification k Notification = refl
 length-notification k Interrupt = refl
-length-notification k SharedMemory = refl
-length-notification k Mmio = refl
-length-notification k Direct = refl
+length-notification k _ = refl
 
 length-irq : (k : ℕ) (o : Owner) (c : Connector) → length (irq_by k o c) ≡ one (has_irq c)
-length-irq k o Rpc = refl
-length-irq k o Notification = refl
 length-irq k o Interrupt = refl
-length-irq k o SharedMemory = refl
-length-irq k o Mmio = refl
-length-irq k o Direct = refl
+length-irq k o _ = refl
 
 pub endpoints_marked : (cs : List FlatConnection) → length (gather (mark standings.Endpoint) cs) ≡ length (gather endpoint cs)
 endpoints_marked cs = as_long (mark standings.Endpoint) endpoint cs (λ k c. length-mark standings.Endpoint k c
@@ -137,18 +126,13 @@ joint_read t read k d same l =
 
 pub not_called : (k : ℕ) (c : Connector) → (c ≡ Rpc → ⊥) → joint_by k c ≡ NotificationOf k
 not_called k Rpc h = absurd (h refl)
-not_called k Notification h = refl
-not_called k SharedMemory h = refl
-not_called k Mmio h = refl
-not_called k Interrupt h = refl
-not_called k Direct h = refl
+not_called k _ h = refl
 
 -- ---- locks
 
 pub length-lock : (d n : ℕ) (u : SlotUse) → length (lock d n u) ≡ one (holds_lock u)
-length-lock d n (OfEnd k m) = refl
-length-lock d n (Handler k m) = refl
 length-lock d n (OwnLock leaf m) = refl
+length-lock d n _ = refl
 
 pub lock_turn : (t : Tables) (d : ℕ) (uses : List SlotUse) (n at more : ℕ) (u : SlotUse) → uses ≡ uses_at t d → n < length uses
     → u ≡ get_or uses n u → more ≡ one (holds_lock u)

@@ -1,37 +1,10 @@
 -- Each part stands at its place
-use Rattle.system_spec.proofs.Common.{CNodeOf, Connector, Direct, Domain, EndpointOf, FrameInfo, FrameOf, Handler, Interrupt, IrqOf, IsIn, List, LockOf, Mmio, Notification, NotificationOf, Object, OfConnection, OfDomain, OfEnd, OwnLock, Owned, Owner}
-use Rattle.system_spec.proofs.Common.{PageTable, Part, Rpc, Series, SharedMemory, SlotUse, Some, TableOf, Tables, ThreadOf, ThreadPlace, [], all_tables, ap, arith, before, cnodes, domain_locks, domain_tables, domain_tcbs, endpoint, endpoint_by}
-use Rattle.system_spec.proofs.Common.{endpoints, first_of, flat_map, frame_owner, frame_parts, from_ones, from_place, get_behind, get_front, inl, inr, irq, irq_by, irq_owner, irqs, length, length_append, level_of, lock, locks, notification}
-use Rattle.system_spec.proofs.Common.{notification_by, notifications, numbered, owned, page_table, part, parts, place, place_of, refl, sections, single, slice_get, split_get, subst, suc, sym, table_part, table_parts, tables_at, take, tcbs}
-use Rattle.system_spec.proofs.Common.{threads_at, uses_at, zero, ℕ, ◌++◌, ◌+◌, ◌∙◌, ◌∷◌, ◌≡◌}
+use Rattle.system_spec.proofs.Common.{CNodeOf, Connector, Domain, EndpointOf, FrameInfo, FrameOf, Interrupt, IrqOf, IsIn, List, LockOf, Notification, NotificationOf, Object, OfConnection, OfDomain, OwnLock, Owned, Owner, PageTable, Part, Rpc, Series}
+use Rattle.system_spec.proofs.Common.{SlotUse, Some, TableOf, Tables, ThreadOf, ThreadPlace, [], all_tables, ap, arith, before, cnodes, domain_locks, domain_tables, domain_tcbs, endpoint, endpoint_by, endpoints, first_of, flat_map, frame_owner}
+use Rattle.system_spec.proofs.Common.{frame_parts, from_ones, from_place, inl, inr, irq, irq_by, irq_owner, irqs, length, length_append, level_of, lock, locks, notification, notification_by, notifications, numbered, owned, page_table, part, parts}
+use Rattle.system_spec.proofs.Common.{place, place_of, sections, single, slice_get, split_get, sym, table_part, table_parts, tables_at, tcbs, threads_at, together, uses_at, ℕ, ◌++◌, ◌+◌, ◌∙◌, ◌∷◌, ◌≡◌}
+use Rattle.std.proofs.lemmas.List.Concat.{flat_map-append}
 use Rattle.system_spec.specs.declared.series.Series.TheVariants as series
-
--- ---- sections
-
--- part j of section n stands behind the sections before it
-in_section : {X : Type 0} (ss : List (List X)) (n : ℕ) (s : List X) (j : ℕ) (y : X) → slice_get ss n ≡ Some s
-    → slice_get s j ≡ Some y → slice_get (flat_map (λ z. z) ss) (length (flat_map (λ z. z) (take n ss)) + j) ≡ Some y
-in_section [] n s j y a e = cc
-in_section {X} (r ∷ ss) zero s j y a e =
-    let same : s ≡ r = cc in
-    let here : 0 + j ≡ j = omega arith in
-    ap (λ k. slice_get (r ++ flat_map (λ z. z) ss) k) here ∙ get_front r (flat_map (λ z. z) ss) j y
-    (subst (λ (z : List X). slice_get z j ≡ Some y) same e)
-in_section (r ∷ ss) (suc n) s j y a e =
-    let ih = in_section ss n s j y a e in
-    let long = length_append r (flat_map (λ z. z) (take n ss)) in
-    get_behind r (flat_map (λ z. z) ss) (length (flat_map (λ z. z) (take n ss)) + j)
-    (length (r ++ flat_map (λ z. z) (take n ss)) + j) (omega (arith, long)) ∙ ih
-
--- and every part is one of a section
-pub from_sections : {X : Type 0} (ss : List (List X)) (m : ℕ) (y : X) → slice_get (flat_map (λ z. z) ss) m ≡ Some y
-    → (n : ℕ) × (s : List X) × (j : ℕ) × (slice_get ss n ≡ Some s) × (slice_get s j ≡ Some y)
-from_sections [] m y e = cc
-from_sections {X} (r ∷ ss) m y e = elim (split_get r (flat_map (λ z. z) ss) m y e) [
-  | inl h ↦ (0, r, m, refl, h)
-  | inr h ↦ let k : (n : ℕ) × (s : List X) × (j : ℕ) × (slice_get ss n ≡ Some s) × (slice_get s j ≡ Some y) =
-      from_sections ss h.0 y h.2 in (suc k.0, k.1, k.2, k.3, k.4)
-]
 
 -- ---- each section
 
@@ -66,11 +39,7 @@ endpoints_stand t j p e =
         → place t p.what ≡ first_of t 2 + j
     by_kind Rpc k i h a = let s = single (part _ k (OfConnection k) (EndpointOf k)) p i h in let z = s.0 in
         ap (λ (q : Part). place t q.what) (sym s.1) ∙ omega (arith, a, z)
-    by_kind Notification k i h a = cc
-    by_kind SharedMemory k i h a = cc
-    by_kind Mmio k i h a = cc
-    by_kind Interrupt k i h a = cc
-    by_kind Direct k i h a = cc
+    by_kind _ k i h a = cc
 
 notifications_stand : (t : Tables) (j : ℕ) (p : Part) → slice_get (notifications t) j ≡ Some p → place t p.what ≡ first_of t 3 + j
 notifications_stand t j p e =
@@ -83,10 +52,7 @@ notifications_stand t j p e =
         ap (λ (q : Part). place t q.what) (sym s.1) ∙ omega (arith, a, z)
     by_kind Interrupt k i h a = let s = single (part _ k (OfConnection k) (NotificationOf k)) p i h in let z = s.0 in
         ap (λ (q : Part). place t q.what) (sym s.1) ∙ omega (arith, a, z)
-    by_kind Rpc k i h a = cc
-    by_kind SharedMemory k i h a = cc
-    by_kind Mmio k i h a = cc
-    by_kind Direct k i h a = cc
+    by_kind _ k i h a = cc
 
 locks_stand : (t : Tables) (j : ℕ) (x : Owned) → slice_get (locks t) j ≡ Some x → place t x.what ≡ first_of t 4 + j
 locks_stand t j x e =
@@ -96,10 +62,9 @@ locks_stand t j x e =
   where
     by_use : (u : SlotUse) (d n i m : ℕ) → slice_get (lock d n u) m ≡ Some x → j ≡ before (domain_locks t) t.flat.domains d + i
         → i ≡ before (lock d) (uses_at t d) n + m → place t x.what ≡ first_of t 4 + j
-    by_use (OfEnd k l) d n i m h a b = cc
-    by_use (Handler k l) d n i m h a b = cc
     by_use (OwnLock leaf l) d n i m h a b = let s = single (owned (OfDomain d) (LockOf d n)) x m h in let z = s.0 in
         ap (λ (q : Owned). place t q.what) (sym s.1) ∙ omega (arith, a, b, z)
+    by_use _ d n i m h a b = cc
 
 irqs_stand : (t : Tables) (j : ℕ) (x : Owned) → slice_get (irqs t) j ≡ Some x → place t x.what ≡ first_of t 5 + j
 irqs_stand t j x e =
@@ -110,11 +75,7 @@ irqs_stand t j x e =
         → j ≡ before irq t.flat.connections k + i → place t x.what ≡ first_of t 5 + j
     by_kind Interrupt k o i h a = let s = single (owned o (IrqOf k)) x i h in let z = s.0 in
         ap (λ (q : Owned). place t q.what) (sym s.1) ∙ omega (arith, a, z)
-    by_kind Rpc k o i h a = cc
-    by_kind Notification k o i h a = cc
-    by_kind SharedMemory k o i h a = cc
-    by_kind Mmio k o i h a = cc
-    by_kind Direct k o i h a = cc
+    by_kind _ k o i h a = cc
 
 tables_stand : (t : Tables) (j : ℕ) (p : Part) → slice_get (table_parts (all_tables t)) j ≡ Some p
     → place t p.what ≡ first_of t 6 + j
@@ -140,52 +101,54 @@ frames_stand t j x e =
 pub same : {X : Type 0} (x y : X) → Some x ≡ Some y → y ≡ x
 same x y e = cc
 
--- part j of section n stands at its place
-by_section : (t : Tables) (n : ℕ) (s : List Part) (j : ℕ) (p : Part) → slice_get (sections t) n ≡ Some s → slice_get s j ≡ Some p
-    → place t p.what ≡ first_of t n + j
-by_section t zero s j p a e = of_items t series.CNode (cnodes t.flat.domains) (first_of t 0) (cnodes_stand t) j p
-    (subst (λ (z : List Part). slice_get z j ≡ Some p) (same (numbered series.CNode (cnodes t.flat.domains)) s a) e)
-by_section t (suc zero) s j p a e = of_items t series.Tcb (tcbs t) (first_of t 1) (tcbs_stand t) j p
-    (subst (λ (z : List Part). slice_get z j ≡ Some p) (same (numbered series.Tcb (tcbs t)) s a) e)
-by_section t (suc (suc zero)) s j p a e =
-    endpoints_stand t j p (subst (λ (z : List Part). slice_get z j ≡ Some p) (same (endpoints t) s a) e)
-by_section t (suc (suc (suc zero))) s j p a e =
-    notifications_stand t j p (subst (λ (z : List Part). slice_get z j ≡ Some p) (same (notifications t) s a) e)
-by_section t (suc (suc (suc (suc zero)))) s j p a e = of_items t series.Lock (locks t) (first_of t 4) (locks_stand t) j p
-    (subst (λ (z : List Part). slice_get z j ≡ Some p) (same (numbered series.Lock (locks t)) s a) e)
-by_section t (suc (suc (suc (suc (suc zero))))) s j p a e = of_items t series.Irq (irqs t) (first_of t 5) (irqs_stand t) j p
-    (subst (λ (z : List Part). slice_get z j ≡ Some p) (same (numbered series.Irq (irqs t)) s a) e)
-by_section t (suc (suc (suc (suc (suc (suc zero)))))) s j p a e =
-    tables_stand t j p (subst (λ (z : List Part). slice_get z j ≡ Some p) (same (table_parts (all_tables t)) s a) e)
-by_section t (suc (suc (suc (suc (suc (suc (suc zero))))))) s j p a e = of_items t series.Frame (frame_parts t.spaces.frames)
-    (first_of t 7) (frames_stand t) j p (subst (λ (z : List Part). slice_get z j ≡ Some p)
-    (same (numbered series.Frame (frame_parts t.spaces.frames)) s a) e)
-by_section t (suc (suc (suc (suc (suc (suc (suc (suc n)))))))) s j p a e = cc
+-- in each of these lists, which stand behind others, part j stands j places behind the front
+abbrev StandBehind : Tables → List (List Part) → List (List Part) → Type 0
+StandBehind t front [] = Unit {0}
+StandBehind t front (s ∷ ss) =
+    ((j : ℕ) (p : Part) → slice_get s j ≡ Some p → place t p.what ≡ length (together front) + j)
+    × StandBehind t (front ++ s ∷ []) ss
 
-pub stands : (t : Tables) (p : Part) → IsIn p (parts t) → slice_get (parts t) (place t p.what) ≡ Some p
-stands t p i =
-    let m = place_of p (parts t) i in
-    let s = from_sections (sections t) m.0 p m.1 in
-    let at = by_section t s.0 s.1 s.2 p s.3 s.4 in
-    ap (λ k. slice_get (parts t) k) at ∙ in_section (sections t) s.0 s.1 s.2 p s.3 s.4
-
--- where a part is found, there is its place
-section_of_place : {X : Type 0} (ss : List (List X)) (m : ℕ) (y : X) → slice_get (flat_map (λ z. z) ss) m ≡ Some y
-    → (n : ℕ) × (s : List X) × (j : ℕ) × (slice_get ss n ≡ Some s) × (slice_get s j ≡ Some y)
-    × (m ≡ length (flat_map (λ z. z) (take n ss)) + j)
-section_of_place [] m y e = cc
-section_of_place {X} (r ∷ ss) m y e = elim (split_get r (flat_map (λ z. z) ss) m y e) [
-  | inl h ↦ (0, r, m, refl, h, omega arith)
-  | inr h ↦
-      let k : (n : ℕ) × (s : List X) × (j : ℕ) × (slice_get ss n ≡ Some s) × (slice_get s j ≡ Some y)
-      × (h.0 ≡ length (flat_map (λ z. z) (take n ss)) + j) = section_of_place ss h.0 y h.2 in
-      let long = length_append r (flat_map (λ z. z) (take k.0 ss)) in
-      let p = h.1 in
-      let q = k.5 in
-      (suc k.0, k.1, k.2, k.3, k.4, omega (arith, long, p, q))
+behind : (t : Tables) (front ss : List (List Part)) → StandBehind t front ss → (m : ℕ) (p : Part)
+    → slice_get (together ss) m ≡ Some p → place t p.what ≡ length (together front) + m
+behind t front [] h m p e = cc
+behind t front (s ∷ ss) h m p e = elim (split_get s (together ss) m p e) [
+  | inl here ↦ h.0 m p here
+  | inr later ↦
+      let at = later.1 in
+      let ih = behind t (front ++ s ∷ []) ss h.1 later.0 p later.2 in
+      let long = ap (λ (z : List Part). length z) (flat_map-append (λ (z : List Part). z) front (s ∷ [])) in
+      let more = length_append (together front) (s ++ []) in
+      let last = length_append s [] in
+      omega (arith, at, ih, long, more, last)
 ]
 
+-- where a part is found, there is its place
 pub place_is : (t : Tables) (m : ℕ) (p : Part) → slice_get (parts t) m ≡ Some p → place t p.what ≡ m
-place_is t m p e =
-    let s = section_of_place (sections t) m p e in
-    by_section t s.0 s.1 s.2 p s.3 s.4 ∙ sym s.5
+place_is t m p e = let at = behind t [] (sections t) (
+  of_items t series.CNode (cnodes t.flat.domains) (first_of t 0) (cnodes_stand t),
+  (
+    of_items t series.Tcb (tcbs t) (first_of t 1) (tcbs_stand t),
+    (
+      endpoints_stand t,
+      (
+        notifications_stand t,
+        (
+          of_items t series.Lock (locks t) (first_of t 4) (locks_stand t),
+          (
+            of_items t series.Irq (irqs t) (first_of t 5) (irqs_stand t),
+            (
+              tables_stand t,
+              (
+                of_items t series.Frame (frame_parts t.spaces.frames) (first_of t 7) (frames_stand t),
+                tt,
+              ),
+            ),
+          ),
+        ),
+      ),
+    ),
+  ),
+) m p e in omega (arith, at)
+
+pub stands : (t : Tables) (p : Part) → IsIn p (parts t) → slice_get (parts t) (place t p.what) ≡ Some p
+stands t p i = let m = place_of p (parts t) i in ap (slice_get (parts t)) (place_is t m.0 p m.1) ∙ m.1

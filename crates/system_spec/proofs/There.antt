@@ -1,10 +1,11 @@
 -- The parts of a system are of what there is: domains, threads, connections, locks, page tables and frames, each by its number.
-use Rattle.system_spec.proofs.Common.{Bool, CNodeOf, Connector, Direct, Domain, EndpointOf, FlatConnection, FrameInfo, FrameOf, Handler, Interrupt, IrqOf, IsIn, List, LockOf, Mmio, Notification, NotificationOf, Object, OfConnection, OfDomain, OfEnd}
-use Rattle.system_spec.proofs.Common.{OwnLock, Owned, Owner, PageTable, Part, Rpc, Series, SharedMemory, SlotUse, Some, TableOf, Tables, ThreadOf, ThreadPlace, [], all_tables, ap, cnodes, domain_locks, domain_tables, domain_tcbs, endpoint}
-use Rattle.system_spec.proofs.Common.{endpoint_by, endpoints, false, frame_owner, frame_parts, from_gather, from_ones, gather, in_append, in_gather, in_place, inl, inr, irq, irq_by, irq_owner, irqs, level_of, lock, locks, notification}
-use Rattle.system_spec.proofs.Common.{notification_by, notifications, numbered, object, object_at, option_map, owned, page_table, part, parts, place, place_of, refl, sections, slice_get, slice_get_within, spec_of, subst, sym, table_part, table_parts}
-use Rattle.system_spec.proofs.Common.{tables_at, take, tcbs, threads_at, together, true, uses_at, ℕ, ◌++◌, ◌∷◌, ◌≡◌, ◌⊎◌}
+use Rattle.system_spec.proofs.Common.{Bool, CNodeOf, Connector, Domain, EndpointOf, FlatConnection, FrameInfo, FrameOf, Interrupt, IrqOf, IsIn, List, LockOf, Notification, NotificationOf, Object, OfConnection, OfDomain, OwnLock, Owned, Owner}
+use Rattle.system_spec.proofs.Common.{PageTable, Part, Rpc, Series, SlotUse, Some, TableOf, Tables, ThreadOf, ThreadPlace, [], all_tables, ap, cnodes, domain_locks, domain_tables, domain_tcbs, endpoint, endpoint_by, endpoints, false, frame_owner}
+use Rattle.system_spec.proofs.Common.{frame_parts, from_gather, from_ones, in_append, in_gather, in_place, inl, inr, irq, irq_by, irq_owner, irqs, level_of, lock, locks, notification, notification_by, notifications, numbered, object, object_at}
+use Rattle.system_spec.proofs.Common.{option_map, owned, page_table, part, parts, place, place_of, refl, sections, slice_get, slice_get_within, spec_of, subst, sym, table_part, table_parts, tables_at, take, tcbs, threads_at, together, true, uses_at}
+use Rattle.system_spec.proofs.Common.{ℕ, ◌∷◌, ◌≡◌, ◌⊎◌}
 use Rattle.cap_model.specs.Kinds.{kind_at, kind_of_object}
+use Rattle.system_spec.proofs.Objects as objects
 use Rattle.system_spec.proofs.Objects.{in_together, objects_stand}
 use Rattle.system_spec.specs.declared.part.What.{What}
 use Rattle.system_spec.specs.declared.series.Series.TheVariants as series
@@ -55,14 +56,7 @@ numbered_part t n s xs x e i =
 
 has_endpoint : (t : Tables) (k : ℕ) (c : FlatConnection) → slice_get t.flat.connections k ≡ Some c → c.connector ≡ Rpc
     → HasPart t (EndpointOf k)
-has_endpoint t k c e r =
-    let p = part series.Ep k (OfConnection k) (EndpointOf k) in
-    let P : Connector → Type 0 = λ z. IsIn p (endpoint_by k z) in (
-      p,
-      in_together (sections t) 2 (gather endpoint t.flat.connections) p refl (in_gather endpoint p t.flat.connections k c e
-          (subst P (sym r) (inl refl))),
-      refl,
-    )
+has_endpoint t k c e r = (part series.Ep k (OfConnection k) (EndpointOf k), objects.has_endpoint t k c e r, refl)
 
 has_notification : (t : Tables) (k : ℕ) (c : FlatConnection) → slice_get t.flat.connections k ≡ Some c → Notifies c.connector
     → HasPart t (NotificationOf k)
@@ -73,12 +67,7 @@ has_notification t k c e n =
       | inl r ↦ subst P (sym r) (inl refl)
       | inr r ↦
           subst P (sym r) (inl refl)
-    ] in (
-      p,
-      in_together (sections t) 3 (gather notification t.flat.connections) p refl (in_gather notification p t.flat.connections k
-          c e here),
-      refl,
-    )
+    ] in (p, objects.has_notification t k c e p here, refl)
 
 has_lock : (t : Tables) (d n leaf m : ℕ) (x : Domain) → slice_get t.flat.domains d ≡ Some x
     → slice_get (uses_at t d) n ≡ Some (OwnLock leaf m) → HasPart t (LockOf d n)
@@ -103,10 +92,7 @@ has_thread t d i x y h u =
     numbered_part t 1 series.Tcb (tcbs t) o refl (in_gather (domain_tcbs t) o t.flat.domains d x h inner)
 
 has_cnode : (t : Tables) (d : ℕ) (x : Domain) → slice_get t.flat.domains d ≡ Some x → HasPart t (CNodeOf d)
-has_cnode t d x h =
-    let o = owned (OfDomain d) (CNodeOf d) in
-    let f : ℕ → Domain → List Owned = λ n z. owned (OfDomain n) (CNodeOf n) ∷ [] in
-    numbered_part t 0 series.CNode (cnodes t.flat.domains) o refl (in_gather f o t.flat.domains d x h (inl refl))
+has_cnode t d x h = (part series.CNode d (OfDomain d) (CNodeOf d), objects.has_cnode t d x h, refl)
 
 has_frame : (t : Tables) (f : ℕ) (x : FrameInfo) → slice_get t.spaces.frames f ≡ Some x → HasPart t (FrameOf f)
 has_frame t f x h =
@@ -187,11 +173,7 @@ of_endpoint t p i =
     by_kind : (c : Connector) (k : ℕ) → IsIn p (endpoint_by k c) → (c ≡ Rpc → IsAlone t (EndpointOf k)) → IsAlone t p.what
     by_kind Rpc k i h = subst (λ (z : Part). IsAlone t z.what) (single (part series.Ep k (OfConnection k) (EndpointOf k))
         p i) (h refl)
-    by_kind Notification k i h = absurd i
-    by_kind SharedMemory k i h = absurd i
-    by_kind Mmio k i h = absurd i
-    by_kind Interrupt k i h = absurd i
-    by_kind Direct k i h = absurd i
+    by_kind _ k i h = absurd i
 
 of_notification : (t : Tables) (p : Part) → IsIn p (notifications t) → IsAlone t p.what
 of_notification t p i =
@@ -206,10 +188,7 @@ of_notification t p i =
     by_kind Interrupt k i h =
         subst (λ (z : Part). IsAlone t z.what) (single (part series.Ntfn k (OfConnection k) (NotificationOf k)) p i)
         (h (inr refl))
-    by_kind Rpc k i h = absurd i
-    by_kind SharedMemory k i h = absurd i
-    by_kind Mmio k i h = absurd i
-    by_kind Direct k i h = absurd i
+    by_kind _ k i h = absurd i
 
 of_lock : (t : Tables) (o : Owned) → IsIn o (locks t) → IsAlone t o.what
 of_lock t o i =
@@ -218,10 +197,9 @@ of_lock t o i =
     by_use u.1 g.0 u.0 u.3 (g.1, g.2) u.2
   where
     by_use : (u : SlotUse) (d n : ℕ) → IsIn o (lock d n u) → IsDomain t d → slice_get (uses_at t d) n ≡ Some u → IsAlone t o.what
-    by_use (OfEnd k l) d n i x h = absurd i
-    by_use (Handler k l) d n i x h = absurd i
     by_use (OwnLock leaf l) d n i x h = subst (λ (z : Owned). IsAlone t z.what) (single (owned (OfDomain d) (LockOf d n)) o i)
         ((x, (leaf, l, h)), refl)
+    by_use _ d n i x h = absurd i
 
 of_irq : (t : Tables) (o : Owned) → IsIn o (irqs t) → IsAlone t o.what
 of_irq t o i =
@@ -231,11 +209,7 @@ of_irq t o i =
     by_kind : (c : Connector) (k : ℕ) (w : Owner) → IsIn o (irq_by k w c) → (c ≡ Interrupt → IsAlone t (IrqOf k))
         → IsAlone t o.what
     by_kind Interrupt k w i h = subst (λ (z : Owned). IsAlone t z.what) (single (owned w (IrqOf k)) o i) (h refl)
-    by_kind Rpc k w i h = absurd i
-    by_kind Notification k w i h = absurd i
-    by_kind SharedMemory k w i h = absurd i
-    by_kind Mmio k w i h = absurd i
-    by_kind Direct k w i h = absurd i
+    by_kind _ k w i h = absurd i
 
 of_table : (t : Tables) (p : Part) → IsIn p (table_parts (all_tables t)) → IsThere t p.what
 of_table t p i =
@@ -257,6 +231,14 @@ of_frame t o i =
     subst (λ (z : Owned). IsAlone t z.what) (single (owned (frame_owner g.1.owner) (FrameOf g.0)) o g.3) ((g.1, g.2), refl)
 
 -- whatever holds of the parts of each section holds of each part
+abbrev HoldsIn : (Part → Type 0) → List (List Part) → Type 0
+HoldsIn P [] = Unit {0}
+HoldsIn P (s ∷ ss) = ((p : Part) → IsIn p s → P p) × HoldsIn P ss
+
+in_each : (P : Part → Type 0) (ss : List (List Part)) → HoldsIn P ss → (p : Part) → IsIn p (together ss) → P p
+in_each P [] h p i = absurd i
+in_each P (s ∷ ss) h p i = elim (in_append p s (together ss) i) [ inl j ↦ h.0 p j | inr j ↦ in_each P ss h.1 p j ]
+
 pub by_section : (t : Tables) (P : Part → Type 0)
     → ((p : Part) → IsIn p (numbered series.CNode (cnodes t.flat.domains)) → P p)
     → ((p : Part) → IsIn p (numbered series.Tcb (tcbs t)) → P p)
@@ -265,42 +247,7 @@ pub by_section : (t : Tables) (P : Part → Type 0)
     → ((p : Part) → IsIn p (table_parts (all_tables t)) → P p)
     → ((p : Part) → IsIn p (numbered series.Frame (frame_parts t.spaces.frames)) → P p)
     → (p : Part) → IsIn p (parts t) → P p
-by_section t P a b c d e f g h p i =
-    let s0 = numbered series.CNode (cnodes t.flat.domains) in
-    let s1 = numbered series.Tcb (tcbs t) in
-    let s4 = numbered series.Lock (locks t) in
-    let s5 = numbered series.Irq (irqs t) in
-    let s6 = table_parts (all_tables t) in
-    let s7 = numbered series.Frame (frame_parts t.spaces.frames) in
-    let r7 = s7 ++ [] in
-    let r6 = s6 ++ r7 in
-    let r5 = s5 ++ r6 in
-    let r4 = s4 ++ r5 in
-    let r3 = notifications t ++ r4 in
-    let r2 = endpoints t ++ r3 in
-    let r1 = s1 ++ r2 in
-    elim (in_append p s0 r1 i) [
-      | inl j ↦ a p j
-      | inr i ↦ elim (in_append p s1 r2 i) [
-        | inl j ↦ b p j
-        | inr i ↦ elim (in_append p (endpoints t) r3 i) [
-          | inl j ↦ c p j
-          | inr i ↦ elim (in_append p (notifications t) r4 i) [
-            | inl j ↦ d p j
-            | inr i ↦ elim (in_append p s4 r5 i) [
-              | inl j ↦ e p j
-              | inr i ↦ elim (in_append p s5 r6 i) [
-                | inl j ↦ f p j
-                | inr i ↦ elim (in_append p s6 r7 i) [
-                  | inl j ↦ g p j
-                  | inr i ↦ elim (in_append p s7 [] i) [ inl j ↦ h p j | inr n ↦ absurd n ]
-                ]
-              ]
-            ]
-          ]
-        ]
-      ]
-    ]
+by_section t P a b c d e f g h p i = in_each P (sections t) (a, (b, (c, (d, (e, (f, (g, (h, tt)))))))) p i
 
 pub there : (t : Tables) (p : Part) → IsIn p (parts t) → IsThere t p.what
 there t = by_section t (λ p. IsThere t p.what)
@@ -317,41 +264,28 @@ there t = by_section t (λ p. IsThere t p.what)
 counted : (t : Tables) (w : What) → IsAlone t w → IsCounted t w
 counted t (CNodeOf d) h = slice_get_within t.flat.domains d h.0.0 h.0.1
 counted t (ThreadOf d i) h = slice_get_within t.flat.domains d h.0.0.0 h.0.0.1
-counted t (EndpointOf k) h = tt
-counted t (NotificationOf k) h = tt
-counted t (LockOf d n) h = tt
 counted t (IrqOf k) h = slice_get_within t.flat.connections k h.0.0 h.0.1
 counted t (TableOf d j) h = let e = h.1 in cc
-counted t (FrameOf f) h = tt
+counted t _ h = tt
 
 -- a part before page tables
 pub alone : (t : Tables) (p : Part) → IsIn p (together (take 6 (sections t))) → IsCounted t p.what
-alone t p i =
-    let s0 = numbered series.CNode (cnodes t.flat.domains) in
-    let s1 = numbered series.Tcb (tcbs t) in
-    let s4 = numbered series.Lock (locks t) in
-    let s5 = numbered series.Irq (irqs t) in
-    let r5 = s5 ++ [] in
-    let r4 = s4 ++ r5 in
-    let r3 = notifications t ++ r4 in
-    let r2 = endpoints t ++ r3 in
-    let r1 = s1 ++ r2 in
-    counted t p.what (elim (in_append p s0 r1 i) [
-      | inl j ↦ in_order t series.CNode (cnodes t.flat.domains) p (of_cnode t) j
-      | inr i ↦ elim (in_append p s1 r2 i) [
-        | inl j ↦ in_order t series.Tcb (tcbs t) p (of_thread t) j
-        | inr i ↦ elim (in_append p (endpoints t) r3 i) [
-          | inl j ↦ of_endpoint t p j
-          | inr i ↦ elim (in_append p (notifications t) r4 i) [
-            | inl j ↦ of_notification t p j
-            | inr i ↦ elim (in_append p s4 r5 i) [
-              | inl j ↦ in_order t series.Lock (locks t) p (of_lock t) j
-              | inr i ↦ elim (in_append p s5 [] i) [
-                | inl j ↦ in_order t series.Irq (irqs t) p (of_irq t) j
-                | inr n ↦ absurd n
-              ]
-            ]
-          ]
-        ]
-      ]
-    ])
+alone t p i = counted t p.what (in_each (λ q. IsAlone t q.what) (take 6 (sections t)) (
+  (λ q j. in_order t series.CNode (cnodes t.flat.domains) q (of_cnode t) j),
+  (
+    (λ q j. in_order t series.Tcb (tcbs t) q (of_thread t) j),
+    (
+      of_endpoint t,
+      (
+        of_notification t,
+        (
+          (λ q j. in_order t series.Lock (locks t) q (of_lock t) j),
+          (
+            (λ q j. in_order t series.Irq (irqs t) q (of_irq t) j),
+            tt,
+          ),
+        ),
+      ),
+    ),
+  ),
+) p i)

@@ -56,14 +56,13 @@ name_in _ = []
 abbrev pub member_name : Named → ℕ → ℕ → List ℕ
 member_name n l m = option_map_or name_in (slice_get (leaf_members n.source n.flat l) m) []
 
--- PATH INTERFACE CONNECTION of an end at a leaf
-abbrev pub joined_text : Named → ℕ → ℕ → ℕ → List ℕ
-joined_text n k l m = joined (leaf_path n.flat l) ⊹ together (codes " " ∷ member_name n l m ∷ codes " " ∷ []) ⊹ joined
-    (connection_path n.flat k)
-
--- of end e of connection k
+-- PATH INTERFACE CONNECTION of end e of connection k
 abbrev pub end_text : Named → ℕ → ℕ → List ℕ
-end_text n k e = option_map_or (λ x. joined_text n k x.1.leaf x.1.member) (end_of n.flat k e) []
+end_text n k e =
+    option_map_or
+    (λ x. joined (leaf_path n.flat x.1.leaf) ⊹ together (codes " " ∷ member_name n x.1.leaf x.1.member ∷ codes " " ∷ [])
+    ⊹ joined (connection_path n.flat k))
+    (end_of n.flat k e) []
 
 abbrev pub domain_line : Named → ℕ → List ℕ
 domain_line n d =

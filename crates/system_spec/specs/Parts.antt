@@ -28,8 +28,7 @@ use Rattle.cspace_layout.specs.declared.plan.SlotUse.{SlotUse}
 use Rattle.cspace_layout.specs.declared.plan.SlotUse.TheVariants.{OfEnd, Handler, OwnLock}
 use Rattle.cam_base.specs.Gather.{before, gather}
 use Rattle.page_tables.specs.declared.mapping.Mapping.{Mapping}
-pub use Rattle.page_tables.specs.Levels.{level_of}
-use Rattle.page_tables.specs.Levels.{tables_of}
+use Rattle.page_tables.specs.Levels.{level_of, tables_of}
 use Rattle.page_tables.specs.Shapes.{shapes}
 use Rattle.vspace_layout.specs.declared.spaces.FrameInfo.{FrameInfo}
 use Rattle.vspace_layout.specs.declared.spaces.Page.{Page}
@@ -43,6 +42,7 @@ use Rattle.system_spec.specs.declared.series.Series.{Series}
 use Rattle.system_spec.specs.declared.series.Series.TheVariants as series
 use Rattle.system_spec.specs.Names.{level_series}
 use Rattle.system_spec.specs.Tables.{Tables, arch, frame_owner, irq_owner, pages_at, threads_at, uses_at}
+use Rattle.system_spec.specs.declared.levels.LevelCounts.{LevelCounts}
 
 abbrev pub part : Series → ℕ → Owner → What → Part
 part s n o w = record { series = s; number = n; owner = o; what = w }
@@ -180,6 +180,16 @@ sections t =
     ∷ numbered series.Frame (frame_parts t.spaces.frames)
     ∷ []
 
+abbrev pub holders : Tables → List (List Part)
+holders t = numbered series.CNode (cnodes t.flat.domains) ∷ numbered series.Tcb (tcbs t) ∷ []
+
+abbrev pub joints : Tables → List (List Part)
+joints t = endpoints t ∷ notifications t ∷ numbered series.Lock (locks t) ∷ numbered series.Irq (irqs t) ∷ []
+
+-- all but the last, that of frames
+abbrev pub but_frames : Tables → List (List Part)
+but_frames t = take 7 (sections t)
+
 abbrev pub together : List (List Part) → List Part
 together xs = flat_map (λ x. x) xs
 
@@ -202,3 +212,23 @@ place t (LockOf d n) = first_of t 4 + before (domain_locks t) t.flat.domains d +
 place t (IrqOf k) = first_of t 5 + before irq t.flat.connections k
 place t (TableOf d j) = first_of t 6 + before (domain_tables t) t.flat.domains d + j
 place t (FrameOf f) = first_of t 7 + f
+
+abbrev pub counts : ℕ → ℕ → ℕ → ℕ → LevelCounts
+counts g u d t = record { global = g; upper = u; directory = d; table = t }
+
+abbrev pub counted : LevelCounts → Level → ℕ
+counted c Global = c.global
+counted c Upper = c.upper
+counted c Directory = c.directory
+counted c Table = c.table
+
+abbrev pub one_more : LevelCounts → Level → LevelCounts
+one_more c Global = counts (c.global + 1) c.upper c.directory c.table
+one_more c Upper = counts c.global (c.upper + 1) c.directory c.table
+one_more c Directory = counts c.global c.upper (c.directory + 1) c.table
+one_more c Table = counts c.global c.upper c.directory (c.table + 1)
+
+-- of those in the list
+abbrev pub counts_in : List PageTable → LevelCounts
+counts_in xs = counts (count_by (is_of Global) xs) (count_by (is_of Upper) xs) (count_by (is_of Directory) xs)
+    (count_by (is_of Table) xs)

@@ -29,6 +29,7 @@ use Rattle.vspace_layout.specs.declared.spaces.Page.{Page}
 use Rattle.vspace_layout.specs.declared.spaces.Spaces.{Spaces}
 use Rattle.vspace_layout.specs.declared.spaces.ThreadPlace.{ThreadPlace}
 use Rattle.vspace_layout.specs.declared.spaces.Window.{Window}
+use Rattle.system_spec.specs.declared.tables.Tables.{Tables as Given}
 
 pub record Tables : Type 0 where
   pub source : Source
@@ -38,6 +39,18 @@ pub record Tables : Type 0 where
   pub slots : Slots
   pub spaces : Spaces
   pub numbers : LabelNumbers
+
+-- those that references lead to
+abbrev pub told : Given → Tables
+told t = record {
+  source = t.source.now;
+  flat = t.flat.now;
+  settled = t.settled.now;
+  images = t.images.now;
+  slots = t.slots.now;
+  spaces = t.spaces.now;
+  numbers = t.numbers.now;
+}
 
 abbrev pub arch : Tables → Arch
 arch t = arch_of t.images.images

@@ -5,11 +5,10 @@ ghost use Rattle.cam_base.specs.Gather.{gather};
 ghost use Rattle.std.specs.Prelude.{◌≡◌, ◌+◌, ◌<◌, ◌^◌, length, IfOk};
 ghost use Rattle.system_spec.specs.Objects.{joint, slots_at, use_cap_at};
 ghost use Rattle.system_spec.specs.Parts.{lock, place};
-ghost use Rattle.system_spec.specs.Places.{ArePlaces, holds_lock, one};
-ghost use Rattle.system_spec.specs.Ready.{AreNamed, NamesOneOf};
-ghost use Rattle.system_spec.specs.Tables.{uses_at};
+ghost use Rattle.system_spec.specs.Landmarks.{ArePlaces, holds_lock, one};
+ghost use Rattle.system_spec.specs.Buildable.{AreNamed, NamesOneOf};
+ghost use Rattle.system_spec.specs.Tables.{uses_at, told};
 ghost use Rattle.system_spec.specs.declared.part.What.TheVariants.{LockOf};
-ghost use Rattle.system_spec.specs.Told.{told};
 
 use crate::ends::{badge_at, rights_at};
 use crate::places::Places;
@@ -63,19 +62,20 @@ pub fn use_cap(tables: &Tables<'_>, places: &Places, lock: u32, used: SlotUse) -
     requires named { NamesOneOf (length tables.now.flat.now.connections) used }
     ensures { result ≡ use_cap_at (told tables.now) lock used }
 {
+    let object = use_object(tables, places, lock, used);
     match used {
         SlotUse::OfEnd(connection, number) => Cap {
-            object: joint_place(tables, places, connection),
+            object,
             rights: rights_at(tables, connection, number),
             badge: badge_at(tables, connection, number),
         },
-        SlotUse::Handler(connection, _) => Cap {
-            object: number_at(places.irqs.as_slice(), connection),
+        SlotUse::Handler(_, _) => Cap {
+            object,
             rights: Rights::none(),
             badge: 0,
         },
         SlotUse::OwnLock(_, _) => Cap {
-            object: lock,
+            object,
             rights: lock_rights(),
             badge: 0,
         },

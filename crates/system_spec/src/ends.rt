@@ -2,7 +2,7 @@
 
 ghost use Rattle.std.specs.Prelude.{◌≡◌};
 ghost use Rattle.system_spec.specs.Objects.{badge_at, rights_at};
-ghost use Rattle.system_spec.specs.Told.{told};
+ghost use Rattle.system_spec.specs.Tables.{told};
 
 use crate::tables::Tables;
 use adl_ast::Role;

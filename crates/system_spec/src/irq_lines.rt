@@ -2,12 +2,11 @@
 
 ghost use Rattle.cam_base.specs.Gather.{gather};
 ghost use Rattle.std.specs.Prelude.{◌≡◌, ◌++◌, IfOk, OnOk};
-ghost use Rattle.system_spec.specs.Few.{AreFew};
+ghost use Rattle.system_spec.specs.Buildable.{AreFew};
 ghost use Rattle.system_spec.specs.Objects.{line, lines};
 ghost use Rattle.system_spec.specs.Parts.{first_of, place};
-ghost use Rattle.system_spec.specs.Tables.{irq_number};
+ghost use Rattle.system_spec.specs.Tables.{irq_number, told};
 ghost use Rattle.system_spec.specs.declared.part.What.TheVariants.{IrqOf};
-ghost use Rattle.system_spec.specs.Told.{told};
 
 use crate::tables::{Tables, device_place};
 use adl_meaning::{Connector, FlatConnection, Settled};

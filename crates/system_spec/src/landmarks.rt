@@ -4,9 +4,8 @@ ghost use Rattle.cam_base.specs.Gather.{gather};
 ghost use Rattle.std.specs.Prelude.{◌≡◌, ◌<◌, ◌^◌, length, IfOk};
 ghost use Rattle.system_spec.specs.Buildable.{IsBuildable};
 ghost use Rattle.system_spec.specs.Landmarks.{AreLandmarks, IsPlan, all_spaces, first_locks, roots as roots_of};
-ghost use Rattle.system_spec.specs.Grouped.{but_frames};
-ghost use Rattle.system_spec.specs.Parts.{first_of, lock};
-ghost use Rattle.system_spec.specs.Told.{told};
+ghost use Rattle.system_spec.specs.Parts.{but_frames, first_of, lock};
+ghost use Rattle.system_spec.specs.Tables.{told};
 
 use crate::Part;
 use crate::caps::lock_number;
@@ -26,12 +25,16 @@ pub struct SpaceTables {
     pub objects: List<Object>,
 }
 
-/// The places of the objects of connections, of the first lock and the space root of each domain, and of the first frame.
+/// The places of the objects of connections, of the first lock and the space root of each domain, and of the first thread, lock,
+/// interrupt and frame of all.
 #[derive(Drop)]
 pub struct Landmarks {
     pub connections: Places,
     pub locks: List<u32>,
     pub roots: List<u32>,
+    pub first_thread: u32,
+    pub first_lock: u32,
+    pub first_irq: u32,
     pub first_frame: u32,
 }
 
@@ -95,30 +98,33 @@ fn all_spaces(
     Ok(SpaceTables { roots, objects })
 }
 
-/// Where the objects of a system with these sections stand, whose space roots stand at these places.
+/// Where the objects of a system with these sections stand, and its page tables.
 fn landmarks_of(
     alloc: Global,
     tables: &Tables<'_>,
     sections: &[List<Part>],
-    roots: List<u32>,
-) -> Result<Landmarks, NoMemory>
+) -> Result<(Landmarks, List<Object>), NoMemory>
     requires buildable { IsBuildable (told tables.now) }
     requires sections { sections.now ≡ but_frames (told tables.now) }
-    requires roots { roots ≡ roots_of (told tables.now) }
-    ensures { IfOk result (λ marks. AreLandmarks (told tables.now) marks) }
+    ensures marks { IfOk result (λ made. AreLandmarks (told tables.now) made.0) }
+    ensures tables { IfOk result (λ made. made.1 ≡ all_spaces (told tables.now)) }
 {
-    Ok(Landmarks {
-        connections: places_of(
-            alloc,
-            tables,
-            first_of(sections, 2),
-            first_of(sections, 3),
-            first_of(sections, 5),
-        )?,
-        locks: first_locks(alloc, tables, first_of(sections, 4))?,
-        roots,
-        first_frame: first_of(sections, 7),
-    })
+    let first_lock = first_of(sections, 4);
+    let first_irq = first_of(sections, 5);
+    let first_frame = first_of(sections, 7);
+    let spaces = all_spaces(alloc, tables, first_of(sections, 6), first_frame)?;
+    let endpoint = first_of(sections, 2);
+    let notification = first_of(sections, 3);
+    let marks = Landmarks {
+        connections: places_of(alloc, tables, endpoint, notification, first_irq)?,
+        locks: first_locks(alloc, tables, first_lock)?,
+        roots: spaces.roots,
+        first_thread: first_of(sections, 1),
+        first_lock,
+        first_irq,
+        first_frame,
+    };
+    Ok((marks, spaces.objects))
 }
 
 /// The plan of a system, of which its spec, its labels and its map are made.
@@ -127,17 +133,10 @@ pub fn plan_of(alloc: Global, tables: &Tables<'_>) -> Result<Plan, NoMemory>
     ensures { IfOk result (λ plan. IsPlan (told tables.now) plan) }
 {
     let sections = sections(alloc, tables)?;
-    let parts = sections.as_slice();
-    let SpaceTables { roots, objects } = all_spaces(
-        alloc,
-        tables,
-        first_of(parts, 6),
-        first_of(parts, 7),
-    )?;
-    let marks = landmarks_of(alloc, tables, parts, roots)?;
+    let (marks, tables) = landmarks_of(alloc, tables, sections.as_slice())?;
     Ok(Plan {
         sections,
         marks,
-        tables: objects,
+        tables,
     })
 }

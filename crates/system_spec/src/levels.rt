@@ -2,11 +2,9 @@
 
 ghost use Rattle.cam_base.specs.Gather.{gather};
 ghost use Rattle.std.specs.Prelude.{◌≡◌, ◌<◌, ◌+◌, ◌^◌, ◌++◌, ◌∷◌, [], map, length, IfOk, OnOk};
-ghost use Rattle.system_spec.specs.Few.{AreFew, AreShown, IsShown, table_count};
-ghost use Rattle.system_spec.specs.LevelNumbers.{counted, one_more};
-ghost use Rattle.system_spec.specs.Parts.{all_tables, page_mapping, page_table, table_parts, tables_at};
-ghost use Rattle.system_spec.specs.Tables.{pages_at};
-ghost use Rattle.system_spec.specs.Told.{told};
+ghost use Rattle.system_spec.specs.Buildable.{AreFew, AreShown, IsShown, table_count};
+ghost use Rattle.system_spec.specs.Parts.{counted, one_more, all_tables, page_mapping, page_table, table_parts, tables_at};
+ghost use Rattle.system_spec.specs.Tables.{pages_at, told};
 
 use crate::tables::{Tables, pages_at};
 use crate::{PageTable, Part, Series, What};

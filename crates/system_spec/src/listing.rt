@@ -2,12 +2,11 @@
 
 ghost use Rattle.cam_base.specs.Gather.{gather};
 ghost use Rattle.std.specs.Prelude.{◌≡◌, ◌≤◌, ◌<◌, ◌^◌, ◌++◌, ◌∷◌, [], length, take, IfOk, OnOk};
-ghost use Rattle.system_spec.specs.Few.{AreFew};
-ghost use Rattle.system_spec.specs.Grouped.{but_frames, holders, joints};
-ghost use Rattle.system_spec.specs.Parts.{cnodes, tcbs, threads_of, lock, locks, endpoint, endpoint_by, endpoints};
-ghost use Rattle.system_spec.specs.Parts.{notification, notification_by, notifications, irq, irq_by, irqs};
-ghost use Rattle.system_spec.specs.Parts.{all_tables, frame_part, numbered, table_parts, together};
-ghost use Rattle.system_spec.specs.Told.{told};
+ghost use Rattle.system_spec.specs.Buildable.{AreFew};
+ghost use Rattle.system_spec.specs.Parts.{but_frames, holders, joints, cnodes, tcbs, threads_of, lock, locks, endpoint};
+ghost use Rattle.system_spec.specs.Parts.{endpoint_by, endpoints, notification, notification_by, notifications, irq, irq_by};
+ghost use Rattle.system_spec.specs.Parts.{irqs, all_tables, frame_part, numbered, table_parts, together};
+ghost use Rattle.system_spec.specs.Tables.{told};
 
 use crate::levels::{all_tables, table_parts};
 use crate::tables::{Tables, frame_owner, irq_owner, threads_at, uses_at};

@@ -1,19 +1,18 @@
 //! The spec of a system, the labels of its objects, and its map.
 
 ghost use Rattle.std.specs.Prelude.{◌≡◌, ◌++◌, ◌∷◌, [], map, IfOk, OnOk};
-ghost use Rattle.system_spec.specs.Buildable.{IsBuildable};
+ghost use Rattle.system_spec.specs.Buildable.{IsBuildable, IsWindowed};
 ghost use Rattle.system_spec.specs.Landmarks.{AreLandmarks, AreThere, IsPlan, IsThere};
 ghost use Rattle.system_spec.specs.Made.{entry, entry_with, labels_of, part_label, spec_of};
 ghost use Rattle.system_spec.specs.MapLines.{map_lines};
 ghost use Rattle.system_spec.specs.Objects.{object};
 ghost use Rattle.system_spec.specs.Parts.{frame_parts, numbered};
-ghost use Rattle.system_spec.specs.Told.{told};
-ghost use Rattle.system_spec.specs.Windowed.{IsWindowed};
+ghost use Rattle.system_spec.specs.Tables.{told};
 ghost use Rattle.system_spec.specs.declared.series.Series.TheVariants.{Frame};
 
 use crate::irq_lines::irq_lines;
 use crate::landmarks::{Landmarks, Plan, plan_of};
-use crate::listing::{first_of, frame_part};
+use crate::listing::frame_part;
 use crate::map_listing::lines_of;
 use crate::object::object;
 use crate::{MapLine, Part, Tables};
@@ -144,7 +143,7 @@ fn system_of(alloc: Global, tables: &Tables<'_>, plan: Plan) -> Result<System, N
         tables: objects,
     } = plan;
     let sections = sections.as_slice();
-    let count = first_of(sections, 7) as usize + tables.spaces.frames.len();
+    let count = marks.first_frame as usize + tables.spaces.frames.len();
     let mut entries = List::from_vec(Vec::with_capacity(alloc, count)?);
     let mut by_object = List::from_vec(Vec::with_capacity(alloc, count)?);
     let others = &sections[..6];
@@ -155,7 +154,7 @@ fn system_of(alloc: Global, tables: &Tables<'_>, plan: Plan) -> Result<System, N
     let parts = sections[6].as_slice();
     push_tables(alloc, tables, parts, objects, &mut entries, &mut by_object)?;
     push_frames(alloc, tables, &marks, &mut entries, &mut by_object)?;
-    let irqs = irq_lines(alloc, tables, first_of(sections, 5))?;
+    let irqs = irq_lines(alloc, tables, marks.first_irq)?;
     Ok(System {
         spec: Spec {
             arch: tables.images.arch(),

@@ -2,21 +2,16 @@
 
 ghost use Rattle.cam_base.specs.Gather.{gather};
 ghost use Rattle.std.specs.Prelude.{◌≡◌, ◌+◌, ◌<◌, ◌^◌, ◌++◌, ◌∷◌, [], length, IfOk, OnOk};
-ghost use Rattle.system_spec.specs.Buildable.{IsBuildable};
-ghost use Rattle.system_spec.specs.Few.{AreFew};
-ghost use Rattle.system_spec.specs.Landmarks.{IsPlan};
+ghost use Rattle.system_spec.specs.Buildable.{IsBuildable, AreFew, AreSized, IsWindowed};
+ghost use Rattle.system_spec.specs.Landmarks.{IsPlan, ArePlaces};
 ghost use Rattle.system_spec.specs.MapLines.{domain_lines, domain_slots, map_lines, slot_line, slot_lines, thread_lines, thread_lines_from, window_line, window_lines};
 ghost use Rattle.system_spec.specs.Parts.{first_of, lock, place};
-ghost use Rattle.system_spec.specs.Places.{ArePlaces};
-ghost use Rattle.system_spec.specs.Tables.{uses_at};
-ghost use Rattle.system_spec.specs.Windowed.{AreSized, IsWindowed};
+ghost use Rattle.system_spec.specs.Tables.{uses_at, told};
 ghost use Rattle.system_spec.specs.declared.part.What.TheVariants.{LockOf};
-ghost use Rattle.system_spec.specs.Told.{told};
 
 use crate::MapLine;
 use crate::caps::{lock_number, use_object};
 use crate::landmarks::Plan;
-use crate::listing::first_of;
 use crate::places::Places;
 use crate::tables::{Tables, threads_at, uses_at, windows_at};
 use cam_base::{List, NoMemory};
@@ -173,16 +168,11 @@ pub fn lines_of(alloc: Global, tables: &Tables<'_>, plan: &Plan) -> Result<List<
     requires plan { IsPlan (told tables.now) plan.now }
     ensures { IfOk result (λ lines. lines ≡ map_lines (told tables.now)) }
 {
-    let sections = plan.sections.as_slice();
+    let marks = &plan.marks;
     let mut lines = List::new(alloc);
     push_domains(tables, &mut lines)?;
-    push_threads(tables, first_of(sections, 1), &mut lines)?;
-    push_slots(
-        tables,
-        &plan.marks.connections,
-        first_of(sections, 4),
-        &mut lines,
-    )?;
+    push_threads(tables, marks.first_thread, &mut lines)?;
+    push_slots(tables, &marks.connections, marks.first_lock, &mut lines)?;
     push_windows(tables, &mut lines)?;
     Ok(lines)
 }

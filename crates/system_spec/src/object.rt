@@ -4,7 +4,7 @@ ghost use Rattle.std.specs.Prelude.{◌≡◌, ◌<◌, length, IfOk};
 ghost use Rattle.system_spec.specs.Buildable.{IsBuildable};
 ghost use Rattle.system_spec.specs.Landmarks.{AreLandmarks, IsThere};
 ghost use Rattle.system_spec.specs.Objects.{object};
-ghost use Rattle.system_spec.specs.Told.{told};
+ghost use Rattle.system_spec.specs.Tables.{told};
 ghost use Rattle.system_spec.specs.declared.part.What.TheVariants.{CNodeOf, FrameOf};
 
 use crate::What;

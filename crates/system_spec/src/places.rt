@@ -2,10 +2,10 @@
 
 ghost use Rattle.cam_base.specs.Gather.{gather};
 ghost use Rattle.std.specs.Prelude.{◌≡◌, ◌+◌, ◌<◌, ◌^◌, length, IfOk};
-ghost use Rattle.system_spec.specs.Few.{AreFew};
+ghost use Rattle.system_spec.specs.Buildable.{AreFew};
 ghost use Rattle.system_spec.specs.Parts.{first_of};
-ghost use Rattle.system_spec.specs.Places.{ArePlaces, mark, one, places_from, stands};
-ghost use Rattle.system_spec.specs.Told.{told};
+ghost use Rattle.system_spec.specs.Landmarks.{ArePlaces, mark, one, places_from, stands};
+ghost use Rattle.system_spec.specs.Tables.{told};
 
 use crate::tables::Tables;
 use adl_meaning::{Connector, FlatConnection};

@@ -1,8 +1,6 @@
 ghost use Rattle.std.specs.Prelude.{◌≡◌};
-ghost use Rattle.system_spec.specs.Tables.{component_name, device_place, irq_owner};
-ghost use Rattle.system_spec.specs.Tables.{frame_owner, leaf_entry};
-ghost use Rattle.system_spec.specs.Tables.{leaf_name, pages_at, priority, threads_at, uses_at, windows_at};
-ghost use Rattle.system_spec.specs.Told.{told};
+ghost use Rattle.system_spec.specs.Tables.{component_name, device_place, irq_owner, frame_owner, leaf_entry, leaf_name, pages_at};
+ghost use Rattle.system_spec.specs.Tables.{priority, threads_at, uses_at, windows_at, told};
 
 use adl_ast::{Item, Source};
 use adl_meaning::{Connector, Flat, FlatConnection, FlatEnd, ItemAt, Settled};

@@ -8,7 +8,7 @@ ghost use Rattle.std.specs.Prelude.{◌≡◌, ◌<◌, ◌+◌, ◌^◌, length
 ghost use Rattle.system_spec.specs.Buildable.{IsBuildable};
 ghost use Rattle.system_spec.specs.Landmarks.{AreLandmarks};
 ghost use Rattle.system_spec.specs.Objects.{cap, frame_at, object, tcb};
-ghost use Rattle.system_spec.specs.Told.{told};
+ghost use Rattle.system_spec.specs.Tables.{told};
 ghost use Rattle.system_spec.specs.declared.part.What.TheVariants.{ThreadOf};
 ghost use Rattle.vspace_layout.specs.declared.spaces.Page.{Page};
 

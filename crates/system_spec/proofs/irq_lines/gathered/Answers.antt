@@ -6,12 +6,8 @@ use Rattle.system_spec.proofs.irq_lines.gathered.Goals as goal
 
 length-line : (t : Tables) (k : ℕ) (c : FlatConnection) (o : Owner) (by : Connector)
     → length (line_by t k c by) ≡ length (irq_by k o by)
-length-line t k c o Rpc = refl
-length-line t k c o Notification = refl
 length-line t k c o Interrupt = refl
-length-line t k c o SharedMemory = refl
-length-line t k c o Mmio = refl
-length-line t k c o Direct = refl
+length-line t k c o _ = refl
 
 -- as many lines as interrupts so far
 so_far : (t : Tables) (i n : ℕ) (lines : List (ℕ × ℕ)) → lines ≡ gather (line t) (take i t.flat.connections) → n ≡ length lines

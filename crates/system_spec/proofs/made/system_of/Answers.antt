@@ -5,25 +5,16 @@ use Rattle.cap_model.specs.declared.spec.Entry.{Entry}
 use Rattle.cap_model.specs.declared.spec.Spec.{Spec}
 use Rattle.system_spec.proofs.Bounds.{ends}
 use Rattle.system_spec.proofs.Domains.{mapped_whole}
-use Rattle.system_spec.proofs.MapPlaces.{at_most_seven, few_in, first_is}
 use Rattle.system_spec.proofs.Objects.{in_together}
 use Rattle.system_spec.proofs.TableObjects.{tables_whole}
 use Rattle.system_spec.proofs.There.{alone}
 use Rattle.system_spec.proofs.Turning.{mapped_parts}
 use Rattle.system_spec.proofs.made.system_of.Goals as goal
 
-pub first_of-requires : goal.first_of-requires
-first_of-requires c =
-    let t = told c.args.tables.now in
-    let same = c.as_slice-sections.ensures ∙ c.requires.plan.sections in
-    record { few = few_in t _ same c.requires.buildable.few; within = at_most_seven t _ 7 same (omega arith) }
-
 pub overflow_add-count : goal.overflow_add-count
 overflow_add-count c =
-    let t = told c.args.tables.now in
-    let first = first_is t _ 7 _ (c.as_slice-sections.ensures ∙ c.requires.plan.sections) c.first_of.ensures in
-    let all = (ends t c.requires.buildable.few).frames in
-    omega (arith, first, all, c.len.ensures)
+    let all = (ends (told c.args.tables.now) c.requires.buildable.few).frames in
+    omega (arith, c.requires.plan.marks.frames, all, c.len.ensures)
 
 pub push_objects-requires-clause-there : goal.push_objects-requires-clause-there
 push_objects-requires-clause-there c = λ p i.
@@ -53,16 +44,6 @@ push_tables-requires c =
     let same = c.as_slice-sections.ensures ∙ c.requires.plan.sections in
     let last = c.as_slice-parts-2.ensures ∙ c.index-sections-6.is ∙ ap (λ z. get_or z 6 c.index-sections-6.result) same in
     c.requires.plan.tables ∙ tables_whole t ∙ ap (map (λ (p : Part). object t p.what)) (sym last)
-
-pub first_of-requires-2 : goal.first_of-requires-2
-first_of-requires-2 c =
-    let t = told c.args.tables.now in
-    let same = c.as_slice-sections.ensures ∙ c.requires.plan.sections in
-    record { few = few_in t _ same c.requires.buildable.few; within = at_most_seven t _ 5 same (omega arith) }
-
-pub irq_lines-requires-clause-first : goal.irq_lines-requires-clause-first
-irq_lines-requires-clause-first c = first_is (told c.args.tables.now) _ 5 _ (c.as_slice-sections.ensures
-    ∙ c.requires.plan.sections) c.first_of-2.ensures
 
 abbrev spec : Arch → List Entry → List (ℕ × ℕ) → Spec
 spec a es lines = record { arch = a; entries = es; irqs = lines }

@@ -1,5 +1,5 @@
 use Rattle.system_spec.proofs.Common.{Domain, Window, [], ap, arith, domain_windows, gather, subst, sym, told, window_line, ◌++◌, ◌∙◌, ◌∷◌}
-use Rattle.system_spec.specs.Windowed.{AreSized}
+use Rattle.system_spec.specs.Buildable.{AreSized}
 use Rattle.system_spec.proofs.Turning.{place_turn}
 use Rattle.system_spec.proofs.map_listing.push_windows.Goals as goal
 
