@@ -5,6 +5,7 @@ use Rattle.std.specs.Prelude.{ℕ, Bool, ◌&&◌, ◌==◌, not, if◌then◌el
 use Rattle.arch_policy.specs.Below.{AsyncSend, Authority, Connector, Edge, FlatConnection, FlatEnd, From, Handle, Interrupt, NoObject, Notification, ObjectKind, OfDevice, OfEndpoint, OfFrames, OfIrq, OfNotification, Reply, Role, Rpc, To, edge}
 use Rattle.arch_policy.specs.Below.{filter, gather, is_lock, list_any, members_at, rows_of, same_connector, same_role, set_has, setting_of}
 use Rattle.authorities.specs.Authorities.{authorities}
+use Rattle.adl_meaning.specs.declared.settled.EndSetting.{EndSetting}
 use Rattle.conn_rules.specs.declared.rule.RuleRow.{RuleRow}
 use Rattle.arch_policy.specs.Gives.{leaves, opposite}
 use Rattle.arch_policy.specs.Tables.{Tables, connection_label, domain_label, leaf_label}
@@ -29,9 +30,12 @@ targets t k c r NoObject = []
 abbrev pub row_gives : Tables → ℕ → ℕ → RuleRow → Authority → Bool
 row_gives t k n row a = set_has row.authorities.bits a && leaves (setting_of t.settled k n) a
 
--- the edges from one label to another with the authorities of the row
+-- the edges from one label to another with the authorities that the row gives an end with this setting
+abbrev pub given_with : Option EndSetting → RuleRow → ℕ → ℕ → List Edge
+given_with o row l m = gather (λ i a. where_true (set_has row.authorities.bits a && leaves o a) (edge l a m)) authorities
+
 abbrev pub given_edges : Tables → ℕ → ℕ → RuleRow → ℕ → ℕ → List Edge
-given_edges t k n row l m = gather (λ i a. where_true (row_gives t k n row a) (edge l a m)) authorities
+given_edges t k n row l m = given_with (setting_of t.settled k n) row l m
 
 abbrev pub row_edges : Tables → ℕ → FlatConnection → ℕ → FlatEnd → RuleRow → List Edge
 row_edges t k c n e row = gather (λ i m. given_edges t k n row (leaf_label t e.leaf) m) (targets t k c e.role row.object)

@@ -5,7 +5,8 @@ ghost use Rattle.adl_ast.specs.declared.composition.Role.TheVariants.{From, To};
 ghost use Rattle.adl_meaning.specs.declared.connector.Connector.TheVariants.{Notification};
 ghost use Rattle.adl_meaning.specs.declared.flat.FlatConnection.{FlatConnection as Line};
 ghost use Rattle.arch_policy.specs.Tables.{leaf_label, told};
-ghost use Rattle.arch_policy.specs.Triples.{crossed, crossed_at, crossed_edges, direct_edges, end_edges, given_edges, labels_in_role, lock_edge, lock_edges, row_edges, row_gives, signal_edges, signals_at};
+ghost use Rattle.arch_policy.specs.Triples.{crossed, crossed_at, crossed_edges, direct_edges, end_edges, given_with, labels_in_role, lock_edges, row_edges, signal_edges};
+ghost use Rattle.authorities.specs.AuthoritySets.{set_has};
 ghost use Rattle.cap_model.specs.Edges.{edge};
 ghost use Rattle.cap_model.specs.Tables.{has};
 ghost use Rattle.cap_model.specs.declared.edge.Edge.{Edge as Triple};
@@ -73,7 +74,7 @@ fn opposite(role: Role) -> Role
 // ---- direct
 
 /// The labels at the ends in this role.
-pub fn labels_in_role(
+fn labels_in_role(
     alloc: Global,
     tables: &Tables<'_>,
     role: Role,
@@ -90,30 +91,26 @@ pub fn labels_in_role(
     Ok(labels)
 }
 
-fn row_gives(here: EndHere<'_>, row: RuleRow, authority: Authority) -> bool
-    ensures { result ≡ row_gives (told here.entry.tables) here.entry.place here.entry.number row authority }
+/// Whether a row gives an authority to an end with this setting.
+fn gives(row: RuleRow, setting: Option<EndSetting>, authority: Authority) -> bool
+    ensures { result ≡ (set_has row.authorities.bits authority && leaves setting authority) }
 {
-    row.authorities.has(authority)
-        && leaves(
-            setting_of(here.tables.settled, here.place, here.number),
-            authority,
-        )
+    row.authorities.has(authority) && leaves(setting, authority)
 }
 
-/// Puts the edges from the end's label to another with the authorities of the row behind the others.
+/// Puts the edges from one label to another with the authorities that a row gives an end with this setting behind the others.
 fn push_given(
-    here: EndHere<'_>,
     row: RuleRow,
+    setting: Option<EndSetting>,
     from: u32,
     to: u32,
     edges: &mut List<Edge>,
 ) -> Result<(), NoMemory>
-    ensures { OnOk result (edges.new ≡ edges.old ++ given_edges (told here.entry.tables) here.entry.place
-        here.entry.number row from to) }
+    ensures { OnOk result (edges.new ≡ edges.old ++ given_with setting row from to) }
 {
     let authorities = AUTHORITIES;
     for authority in authorities.as_slice() {
-        if row_gives(here, row, *authority) {
+        if gives(row, setting, *authority) {
             edges.push(Edge {
                 from,
                 authority: *authority,
@@ -124,98 +121,72 @@ fn push_given(
     Ok(())
 }
 
+/// The same, to each of the labels.
 fn push_given_to_each(
-    here: EndHere<'_>,
     row: RuleRow,
+    setting: Option<EndSetting>,
     from: u32,
     targets: &[u32],
     edges: &mut List<Edge>,
 ) -> Result<(), NoMemory>
-    ensures { OnOk result (edges.new ≡ edges.old ++ gather (λ i m. given_edges (told here.entry.tables) here.entry.place
-        here.entry.number row from m) targets.now) }
+    ensures { OnOk result (edges.new ≡ edges.old ++ gather (λ i m. given_with setting row from m) targets.now) }
 {
     for to in targets {
-        push_given(here, row, from, *to, edges)?;
+        push_given(row, setting, from, *to, edges)?;
     }
     Ok(())
 }
 
-fn push_row(
-    alloc: Global,
-    here: EndHere<'_>,
-    row: RuleRow,
-    edges: &mut List<Edge>,
-) -> Result<(), NoMemory>
-    ensures { OnOk result (edges.new ≡ edges.old ++ row_edges (told here.entry.tables) here.entry.place
-        here.entry.connection.now here.entry.number here.entry.end row) }
-{
-    let from = leaf_label(&here.tables, here.end.leaf);
-    match row.object {
-        ObjectKind::OfEndpoint | ObjectKind::OfNotification | ObjectKind::OfFrames => {
-            let own = connection_label(&here.tables, here.place);
-            push_given_to_each(here, row, from, &[own], edges)
+impl EndHere<'_> {
+    fn push_row(self, alloc: Global, row: RuleRow, edges: &mut List<Edge>) -> Result<(), NoMemory>
+        ensures { OnOk result (edges.new ≡ edges.old ++ row_edges (told self.entry.tables) self.entry.place
+            self.entry.connection.now self.entry.number self.entry.end row) }
+    {
+        let setting = setting_of(self.tables.settled, self.place, self.number);
+        let from = leaf_label(&self.tables, self.end.leaf);
+        match row.object {
+            ObjectKind::OfEndpoint | ObjectKind::OfNotification | ObjectKind::OfFrames => {
+                let own = connection_label(&self.tables, self.place);
+                push_given_to_each(row, setting, from, &[own], edges)
+            }
+            ObjectKind::OfDevice | ObjectKind::OfIrq => {
+                let ends = self.connection.ends.as_slice();
+                let others = labels_in_role(alloc, &self.tables, opposite(self.end.role), ends)?;
+                push_given_to_each(row, setting, from, others.as_slice(), edges)
+            }
+            ObjectKind::NoObject => Ok(()),
         }
-        ObjectKind::OfDevice | ObjectKind::OfIrq => {
-            let ends = here.connection.ends.as_slice();
-            let others = labels_in_role(alloc, &here.tables, opposite(here.end.role), ends)?;
-            push_given_to_each(here, row, from, others.as_slice(), edges)
+    }
+
+    fn push_all(self, alloc: Global, edges: &mut List<Edge>) -> Result<(), NoMemory>
+        ensures { OnOk result (edges.new ≡ edges.old ++ end_edges (told self.entry.tables) self.entry.place
+            self.entry.connection.now self.entry.number self.entry.end) }
+    {
+        let (first, second) = row(self.connection.connector, self.end.role);
+        self.push_row(alloc, first, edges)?;
+        match second {
+            Some(second) => self.push_row(alloc, second, edges),
+            None => Ok(()),
         }
-        ObjectKind::NoObject => Ok(()),
     }
-}
 
-fn push_end(alloc: Global, here: EndHere<'_>, edges: &mut List<Edge>) -> Result<(), NoMemory>
-    ensures { OnOk result (edges.new ≡ edges.old ++ end_edges (told here.entry.tables) here.entry.place
-        here.entry.connection.now here.entry.number here.entry.end) }
-{
-    let (first, second) = row(here.connection.connector, here.end.role);
-    push_row(alloc, here, first, edges)?;
-    match second {
-        Some(second) => push_row(alloc, here, second, edges),
-        None => Ok(()),
+    /// Whether the connector table gives the end the authority of the edge, over the label that the edge leads to.
+    ///
+    /// # Errors
+    ///
+    /// Want of memory.
+    pub fn gives(self, alloc: Global, edge: Edge) -> Result<bool, NoMemory>
+        ensures { IfOk result (λ given. given ≡ has (end_edges (told self.entry.tables) self.entry.place
+            self.entry.connection.now self.entry.number self.entry.end) edge) }
+    {
+        if leaf_label(&self.tables, self.end.leaf) != edge.from {
+            return Ok(false);
+        }
+        let mut edges = List::new(alloc);
+        self.push_all(alloc, &mut edges)?;
+        let table = EdgeTable::from_list(alloc, edges.as_slice())?;
+        Ok(table.contains(&edge))
     }
-}
-
-/// Whether the connector table gives the end the authority of the edge, over the label that the edge leads to.
-///
-/// # Errors
-///
-/// Want of memory.
-pub fn end_gives(alloc: Global, here: EndHere<'_>, edge: Edge) -> Result<bool, NoMemory>
-    ensures { IfOk result (λ given. given ≡ has (end_edges (told here.entry.tables) here.entry.place here.entry.connection.now
-        here.entry.number here.entry.end) edge) }
-{
-    if leaf_label(&here.tables, here.end.leaf) != edge.from {
-        return Ok(false);
-    }
-    let mut edges = List::new(alloc);
-    push_end(alloc, here, &mut edges)?;
-    let table = EdgeTable::from_list(alloc, edges.as_slice())?;
-    Ok(table.contains(&edge))
-}
-
-fn push_ends<'a>(
-    alloc: Global,
-    tables: &Tables<'a>,
-    place: u32,
-    connection: &'a FlatConnection,
-    edges: &mut List<Edge>,
-) -> Result<(), NoMemory>
-    requires { length connection.now.ends < 2 ^ 32 }
-    ensures { OnOk result (edges.new ≡ edges.old ++ gather (λ n e. end_edges (told tables.now) place connection.now n e)
-        connection.now.ends) }
-{
-    for (number, end) in connection.ends.as_slice().iter().enumerate() {
-        let here = EndHere {
-            tables: *tables,
-            place,
-            connection,
-            number: number as u32,
-            end: *end,
-        };
-        push_end(alloc, here, edges)?;
-    }
-    Ok(())
 }
 
 /// The edges that the connector table gives ends.
@@ -226,7 +197,16 @@ pub fn direct_edges(alloc: Global, tables: &Tables<'_>) -> Result<List<Edge>, No
 {
     let mut edges = List::new(alloc);
     for (place, connection) in tables.flat.connections.as_slice().iter().enumerate() {
-        push_ends(alloc, tables, place as u32, connection, &mut edges)?;
+        for (number, end) in connection.ends.as_slice().iter().enumerate() {
+            let here = EndHere {
+                tables: *tables,
+                place: place as u32,
+                connection,
+                number: number as u32,
+                end: *end,
+            };
+            here.push_all(alloc, &mut edges)?;
+        }
     }
     Ok(edges)
 }
@@ -330,34 +310,21 @@ fn signals(connection: &FlatConnection, end: FlatEnd) -> bool
     connection.connector == Connector::Notification && end.role == Role::From
 }
 
-fn push_signals_of(
-    tables: &Tables<'_>,
-    place: u32,
-    connection: &FlatConnection,
-    edges: &mut List<Edge>,
-) -> Result<(), NoMemory>
-    ensures { OnOk result (edges.new ≡ edges.old ++ gather (λ n e. signals_at (told tables.now) place connection.now e)
-        connection.now.ends) }
-{
-    for end in connection.ends.as_slice() {
-        if signals(connection, *end) {
-            edges.push(Edge {
-                from: leaf_label(tables, end.leaf),
-                authority: Authority::AsyncSend,
-                to: connection_label(tables, place),
-            })?;
-        }
-    }
-    Ok(())
-}
-
 /// Puts who signals on which notification behind the others.
 fn push_signals(tables: &Tables<'_>, edges: &mut List<Edge>) -> Result<(), NoMemory>
     requires { length tables.now.flat.now.connections < 2 ^ 32 }
     ensures { OnOk result (edges.new ≡ edges.old ++ signal_edges (told tables.now)) }
 {
     for (place, connection) in tables.flat.connections.as_slice().iter().enumerate() {
-        push_signals_of(tables, place as u32, connection, edges)?;
+        for end in connection.ends.as_slice() {
+            if signals(connection, *end) {
+                edges.push(Edge {
+                    from: leaf_label(tables, end.leaf),
+                    authority: Authority::AsyncSend,
+                    to: connection_label(tables, place as u32),
+                })?;
+            }
+        }
     }
     Ok(())
 }
@@ -369,34 +336,21 @@ pub fn has_lock(members: &[Member]) -> bool
     members.iter().any(|member| is_lock(member))
 }
 
-fn push_own(
-    tables: &Tables<'_>,
-    domain: Option<u32>,
-    locks: bool,
-    edges: &mut List<Edge>,
-) -> Result<(), NoMemory>
-    ensures { OnOk result (edges.new ≡ edges.old ++ lock_edge (told tables.now) domain locks) }
-{
-    match domain {
-        Some(domain) if locks => {
-            let label = domain_label(tables, domain);
-            edges.push(Edge {
-                from: label,
-                authority: Authority::AsyncSend,
-                to: label,
-            })
-        }
-        _ => Ok(()),
-    }
-}
-
 /// Puts which domains have a lock behind the others.
 fn push_locks(tables: &Tables<'_>, edges: &mut List<Edge>) -> Result<(), NoMemory>
     ensures { OnOk result (edges.new ≡ edges.old ++ lock_edges (told tables.now)) }
 {
     for leaf in tables.flat.leaves.as_slice() {
-        let members = members_at(tables.source, leaf.component);
-        push_own(tables, leaf.domain, has_lock(members), edges)?;
+        if let Some(domain) = leaf.domain {
+            if has_lock(members_at(tables.source, leaf.component)) {
+                let label = domain_label(tables, domain);
+                edges.push(Edge {
+                    from: label,
+                    authority: Authority::AsyncSend,
+                    to: label,
+                })?;
+            }
+        }
     }
     Ok(())
 }

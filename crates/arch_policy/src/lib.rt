@@ -17,7 +17,7 @@ mod policy;
 mod tables;
 
 pub use cert::certificate_of;
-pub use edges::{EndHere, end_gives, signal_table};
+pub use edges::{EndHere, signal_table};
 pub use labels::{Labelling, labels_of};
 pub use laws::triples_are_the_policy;
 pub use numbers::LabelNumbers;

@@ -6,7 +6,7 @@ ghost use Rattle.cspace_layout.specs.Within.{IsWithin};
 ghost use Rattle.std.specs.Prelude.{◌+◌, ◌<◌, ◌^◌, ◌≡◌, length, position, IfOk};
 ghost use Rattle.std.specs.Str.{bytes_eq};
 
-use crate::search::{Found, Search, Sought, first_lock};
+use crate::search::{Search, Sought, first_lock};
 use crate::{ExplainError, Reason, Rule};
 use adl_ast::Source;
 use adl_meaning::{Flat, Settled};
@@ -14,12 +14,6 @@ use arch_policy::{Labelling, Tables, labels_of, signal_table};
 use cam_base::{NoMemory, Text};
 use cap_model::{Authority, Edge};
 use std::alloc::Global;
-
-fn numbers(found: Found) -> (u32, u32)
-    ensures { result ≡ (found.place, found.number) }
-{
-    (found.place, found.number)
-}
 
 fn direct_reason(search: &Search<'_>, alloc: Global) -> Result<Option<Reason>, NoMemory>
     requires { CanSearch (told search.now.tables) search.now.signals.now }
@@ -31,7 +25,7 @@ fn direct_reason(search: &Search<'_>, alloc: Global) -> Result<Option<Reason>, N
     };
     Ok(Some(Reason {
         rule: Rule::Direct,
-        first: numbers(end),
+        first: (end.place, end.number),
         second: None,
         lock: None,
     }))
@@ -50,8 +44,8 @@ fn call_reason(search: &Search<'_>, alloc: Global) -> Result<Option<Reason>, NoM
     };
     Ok(Some(Reason {
         rule: Rule::ByCall,
-        first: numbers(caller),
-        second: Some(numbers(server)),
+        first: (caller.place, caller.number),
+        second: Some((server.place, server.number)),
         lock: None,
     }))
 }
@@ -69,8 +63,8 @@ fn bind_reason(search: &Search<'_>, alloc: Global) -> Result<Option<Reason>, NoM
     };
     Ok(Some(Reason {
         rule: Rule::ByBind,
-        first: numbers(handler),
-        second: Some(numbers(signaller)),
+        first: (handler.place, handler.number),
+        second: Some((signaller.place, signaller.number)),
         lock: None,
     }))
 }
@@ -88,7 +82,7 @@ fn lock_reason(search: &Search<'_>, alloc: Global) -> Result<Option<Reason>, NoM
     };
     Ok(Some(Reason {
         rule: Rule::ByBind,
-        first: numbers(handler),
+        first: (handler.place, handler.number),
         second: None,
         lock: Some(lock),
     }))

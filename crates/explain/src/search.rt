@@ -10,7 +10,7 @@ ghost use Rattle.std.specs.Prelude.{◌≡◌, ◌<◌, ◌^◌, length, slice_g
 
 use adl_ast::{Member, Role};
 use adl_meaning::{Connector, FlatConnection, FlatEnd, Leaf};
-use arch_policy::{EndHere, Tables, connection_label, domain_label, end_gives, leaf_label};
+use arch_policy::{EndHere, Tables, connection_label, domain_label, leaf_label};
 use cam_base::NoMemory;
 use cap_model::{Authority, Edge, EdgeTable};
 use cspace_layout::{is_lock, members_at};
@@ -123,7 +123,7 @@ impl<'a> Search<'a> {
     {
         let end = here.end;
         Ok(match sought {
-            Sought::Given => end_gives(alloc, here, self.edge)?,
+            Sought::Given => here.gives(alloc, self.edge)?,
             Sought::Caller => is_side(&self.tables, Role::From, self.edge.to, end),
             Sought::Server(_) => is_side(&self.tables, Role::To, self.edge.from, end),
             Sought::Handler => {

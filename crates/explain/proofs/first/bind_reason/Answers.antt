@@ -1,4 +1,4 @@
-use Rattle.explain.proofs.Common.{Handler, IsFirstEnd, Signaller, subst, told}
+use Rattle.explain.proofs.Common.{Handler, IsFirstEnd, Signaller, refl, subst, told}
 use Rattle.explain.proofs.Stages.{bind_first, bind_none, signalled}
 use Rattle.explain.proofs.first.bind_reason.Goals as goal
 
@@ -19,7 +19,8 @@ pub returns : goal.returns
 returns c =
     let t = told c.args.search.now.tables in
     let e = c.args.search.now.edge in
-    bind_first t e c.in-Some.handler c.in-Some-2.signaller c.numbers.result c.numbers-2.result c.numbers.ensures
-    c.numbers-2.ensures
+    let h = c.in-Some.handler in
+    let s = c.in-Some-2.signaller in
+    bind_first t e h s (h.place, h.number) (s.place, s.number) refl refl
     (subst (λ o. IsFirstEnd t e Handler o) c.in-Some.is c.in_ok-handler.ensures)
     (subst (λ o. IsFirstEnd t e (Signaller c.in-Some.handler.label) o) c.in-Some-2.is c.in_ok-signaller.ensures)

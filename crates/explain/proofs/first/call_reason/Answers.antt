@@ -1,4 +1,4 @@
-use Rattle.explain.proofs.Common.{Caller, IsFirstEnd, Server, subst, told}
+use Rattle.explain.proofs.Common.{Caller, IsFirstEnd, Server, refl, subst, told}
 use Rattle.explain.proofs.Stages.{call_first, call_none, served}
 use Rattle.explain.proofs.first.call_reason.Goals as goal
 
@@ -19,6 +19,8 @@ pub returns : goal.returns
 returns c =
     let t = told c.args.search.now.tables in
     let e = c.args.search.now.edge in
-    call_first t e c.in-Some.caller c.in-Some-2.server c.numbers.result c.numbers-2.result c.numbers.ensures c.numbers-2.ensures
+    let x = c.in-Some.caller in
+    let y = c.in-Some-2.server in
+    call_first t e x y (x.place, x.number) (y.place, y.number) refl refl
     (subst (λ o. IsFirstEnd t e Caller o) c.in-Some.is c.in_ok-caller.ensures)
     (subst (λ o. IsFirstEnd t e (Server c.in-Some.caller.place) o) c.in-Some-2.is c.in_ok-server.ensures)

@@ -1,4 +1,4 @@
-use Rattle.explain.proofs.Common.{Given, IsFirstEnd, subst, told}
+use Rattle.explain.proofs.Common.{Given, IsFirstEnd, refl, subst, told}
 use Rattle.explain.proofs.Stages.{direct_first, direct_none}
 use Rattle.explain.proofs.first.direct_reason.Goals as goal
 
@@ -12,5 +12,5 @@ pub returns : goal.returns
 returns c =
     let t = told c.args.search.now.tables in
     let e = c.args.search.now.edge in
-    direct_first t e c.in-Some.end c.numbers.result c.numbers.ensures (subst (λ o. IsFirstEnd t e Given o) c.in-Some.is
-    c.in_ok-end.ensures)
+    let x = c.in-Some.end in
+    direct_first t e x (x.place, x.number) refl (subst (λ o. IsFirstEnd t e Given o) c.in-Some.is c.in_ok-end.ensures)
