@@ -39,23 +39,6 @@ fn show(alloc: Global, words: &[String], files: &mut MemFiles, out: &mut MemOutp
     }
 }
 
-/// Makes the run over these files, where the begin or write of this number fails.
-fn run_over(
-    alloc: Global,
-    wanted: &Run,
-    files: &mut MemFiles,
-    failing: u64,
-) -> Result<Done, NoMemory> {
-    let words = wanted.words.as_slice();
-    let mut out = MemOutputs::new(alloc, ROOM)?;
-    out.fail_at(failing)?;
-    let status = match wanted.program {
-        Program::Camkes => run(alloc, words, files, &mut out),
-        Program::View => show(alloc, words, files, &mut out),
-    };
-    Ok(Done { status, out })
-}
-
 /// Makes the run over these files. Calls that fail are counted from 1; 0 stands for none.
 pub fn perform(
     alloc: Global,
@@ -65,5 +48,12 @@ pub fn perform(
     failing_write: u64,
 ) -> Result<Done, NoMemory> {
     let mut files = files_of(alloc, files, failing_read)?;
-    run_over(alloc, wanted, &mut files, failing_write)
+    let mut out = MemOutputs::new(alloc, ROOM)?;
+    out.fail_at(failing_write)?;
+    let words = wanted.words.as_slice();
+    let status = match wanted.program {
+        Program::Camkes => run(alloc, words, &mut files, &mut out),
+        Program::View => show(alloc, words, &mut files, &mut out),
+    };
+    Ok(Done { status, out })
 }

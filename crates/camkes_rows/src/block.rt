@@ -18,10 +18,7 @@ fn head_of(line: &str) -> Option<(&str, &str)> {
         return Some(("==", name));
     }
     let head = line.strip_prefix("-- ")?;
-    match head.split_once(' ') {
-        Some(parts) => Some(parts),
-        None => Some((head, "")),
-    }
+    Some(head.split_once(' ').unwrap_or((head, "")))
 }
 
 /// The blocks of a text. Lines in front of the first head line are passed over.

@@ -19,7 +19,7 @@ use std::alloc::Global;
 use std::io::ErrorKind;
 use std::process::ExitCode;
 use std::{env, fs, io};
-use verdict::{Verdict, judge};
+use verdict::judge;
 
 /// How many cases there were, and how many of them differ from what is wanted.
 #[derive(Clone, Copy)]
@@ -28,26 +28,21 @@ struct Count {
     differ: u64,
 }
 
-/// Prints a case that differs.
-fn tell(rt: &impl Print, case: &Case, verdict: &Verdict) -> io::Result<()> {
-    let name = case.name.as_str();
-    let number = verdict.number;
-    let part = verdict.part;
-    let status = verdict.status;
-    let text = verdict.text.as_str();
-    println!(rt; "{name}: run {number} differs: {part}: status {status}, {text}")
-}
-
+/// Prints what was found of a case, and answers whether it is as wanted.
 fn show(rt: &impl Print, alloc: Global, case: &Case) -> io::Result<bool> {
+    let name = case.name.as_str();
     match judge(alloc, case) {
         Err(NoMemory) => Err(io::Error::from(ErrorKind::OutOfMemory)),
         Ok(None) => {
-            let name = case.name.as_str();
             println!(rt; "{name}: ok")?;
             Ok(true)
         }
         Ok(Some(verdict)) => {
-            tell(rt, case, &verdict)?;
+            let number = verdict.number;
+            let part = verdict.part;
+            let status = verdict.status;
+            let text = verdict.text.as_str();
+            println!(rt; "{name}: run {number} differs: {part}: status {status}, {text}")?;
             Ok(false)
         }
     }

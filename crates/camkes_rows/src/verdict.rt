@@ -109,11 +109,7 @@ fn difference(wanted: &Run, done: &Done) -> Option<Part> {
     if !is_front && done.out.bytes(0) != print {
         return Some(Part::Print);
     }
-    if is_written(wanted, &done.out) {
-        None
-    } else {
-        Some(Part::Outputs)
-    }
+    (!is_written(wanted, &done.out)).then_some(Part::Outputs)
 }
 
 /// How much of a text is there.
@@ -200,11 +196,7 @@ fn writes_differ(alloc: Global, case: &Case, wanted: &Run) -> Result<Option<Part
         let done = perform(alloc, wanted, case.files.as_slice(), 0, number)?;
         if done.status != 5 {
             let is_told = number > 1 && difference(wanted, &done).is_none();
-            return Ok(if is_told {
-                None
-            } else {
-                Some(Part::Write(number))
-            });
+            return Ok((!is_told).then_some(Part::Write(number)));
         }
         if !is_cut_short(wanted, &done.out) {
             return Ok(Some(Part::Write(number)));
@@ -237,27 +229,21 @@ fn text_of(alloc: Global, part: Part, done: &Done) -> Result<String, AllocError>
 }
 
 fn judge_run(alloc: Global, case: &Case, wanted: &Run) -> Result<Option<Verdict>, NoMemory> {
-    let files = case.files.as_slice();
-    let done = perform(
-        alloc,
-        wanted,
-        files,
-        wanted.failing_read,
-        wanted.failing_write,
-    )?;
+    let (read, write) = (wanted.failing_read, wanted.failing_write);
+    let done = perform(alloc, wanted, case.files.as_slice(), read, write)?;
     let part = match difference(wanted, &done) {
         Some(part) => Some(part),
         None => failures_differ(alloc, case, wanted)?,
     };
-    match part {
-        Some(part) => Ok(Some(Verdict {
-            number: 1,
-            part,
-            status: done.status,
-            text: text_of(alloc, part, &done)?,
-        })),
-        None => Ok(None),
-    }
+    let Some(part) = part else {
+        return Ok(None);
+    };
+    Ok(Some(Verdict {
+        number: 1,
+        part,
+        status: done.status,
+        text: text_of(alloc, part, &done)?,
+    }))
 }
 
 /// The first run of a case that differs from what it must do, if one does. A case without runs has none.
