@@ -59,12 +59,11 @@ pub use Rattle.std.proofs.lemmas.List.{length-map}
 pub use Rattle.std.specs.List.{cons_option, filter_map, position, slice_get, zip}
 pub use Rattle.std.specs.Option.{option_and_then, option_map_or, option_or}
 pub use Rattle.std.specs.Prelude.{IfOk, if◌then◌else◌, nat_lt, ◌↔◌}
-pub use Rattle.system_spec.specs.Buildable.{IsBuildable}
+pub use Rattle.system_spec.specs.Buildable.{IsBuildable, IsWindowed}
 pub use Rattle.system_spec.specs.Made.{entry, labels_of, part_label, spec_of}
 pub use Rattle.system_spec.specs.Parts.{parts}
 pub use Rattle.system_spec.specs.Tables.{Tables, name_of_item}
 pub use Rattle.system_spec.specs.TablesFrom.{tables_from}
-pub use Rattle.system_spec.specs.Windowed.{IsWindowed}
 pub use Rattle.vspace_layout.specs.Given.{given}
 pub use Rattle.vspace_layout.specs.Laid.{spaces_of}
 pub use Rattle.vspace_layout.specs.PageLimits.{first_page_limit}

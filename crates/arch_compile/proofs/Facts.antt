@@ -23,8 +23,7 @@ pub record AreFacts (contents : Contents) (s : Source) (images : Images) : Type 
 pub build_facts : (root : List ℕ) (contents : Contents) (b : Build) → IsBuildOf root contents b
     → AreFacts contents b.meaning.source (images_beside contents b.meaning.source)
 build_facts root contents b is =
-    let s = b.meaning.source in
-    let found = found_beside contents s in
+    let s = b.meaning.source in let found = found_beside contents s in
     let images = images_beside contents s in
     let whole : IsWhole s = loaded_whole contents root s is.meant.loaded in
     let front : first_front_fault s ≡ None = no_first (first_front_fault s) (first_layout_fault s found) is.clean in
@@ -33,10 +32,8 @@ build_facts root contents b is =
     no_first (first_table_fault (root_of s) s (flat_of s) found) (first_imaged_fault s images) layout in
     let imaged : first_imaged_fault s images ≡ None = no_second (first_table_fault (root_of s) s (flat_of s) found)
     (first_imaged_fault s images) layout in
-    let space = first_space_fault (flat_of s) images in
-    let slot = first_slot_fault s (flat_of s) in
-    let page = first_page_limit (spaced s images) in
-    let edges = first_edge_fault (source_tables s) in
+    let space = first_space_fault (flat_of s) images in let slot = first_slot_fault s (flat_of s) in
+    let page = first_page_limit (spaced s images) in let edges = first_edge_fault (source_tables s) in
     let behind = no_second space (option_or slot (option_or page edges)) imaged in
     let last = no_second slot (option_or page edges) behind in
     record {

@@ -30,10 +30,8 @@ module _ (contents : Contents) (s : Source) (images : Images) (facts : AreFacts 
 
 pub build_of_source : (root : List ℕ) (contents : Contents) (b : Build) → IsBuildOf root contents b → IsOfSource contents b
 build_of_source root contents b is =
-    let s = b.meaning.source in
-    let images = images_beside contents s in
-    let t = system_tables s images in
-    let facts = build_facts root contents b is in
+    let s = b.meaning.source in let images = images_beside contents s in
+    let t = system_tables s images in let facts = build_facts root contents b is in
     let slot = can_slot contents s images facts in
     let labels : labels_of t ≡ object_labels b = ap (λ (z : List ℕ). let l : Labels = record { by_object = z } in
     l) (sym (labels_are s images facts b is.made)) in

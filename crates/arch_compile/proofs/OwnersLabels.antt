@@ -13,8 +13,7 @@ module _ (s : Source) (images : Images) (b : Build) (made : IsMade s images b.sp
   given : (at label : ℕ) → slice_get (object_labels b).by_object at ≡ Some label
       → slice_get b.policy.objects at ≡ Some (name_at b.spec at, label)
   given at label e =
-      let t = system_tables s images in
-      let laid = (labels_of t).by_object in
+      let t = system_tables s images in let laid = (labels_of t).by_object in
       let o = from_get_map (λ (o : List ℕ × ℕ). o.1) b.policy.objects at label e in
       let F : ℕ → Entry → List ℕ × ℕ = λ n e. (e.name, label_of laid n) in
       let w = from_ones F (spec_of t).entries at o.0 (ap (λ z. slice_get z at) (sym made.objects) ∙ o.1) in
@@ -28,8 +27,7 @@ module _ (s : Source) (images : Images) (b : Build) (made : IsMade s images b.sp
   pub has_label : (at : ℕ) (owner : Owner) (path : Path) → HasPath (flat_of s) owner path
       → IsOf (system_tables s images) (object_labels b) at owner → HasLabel b at (joined path)
   has_label at owner path has is_of =
-      let t = source_tables s in
-      let label = number_of t.numbers owner in
+      let t = source_tables s in let label = number_of t.numbers owner in
       let line = called_line t refl label (joined path) (path, record { labelled = owner; there = has; is = refl }, refl) in
       record {
         label = label;

@@ -102,10 +102,7 @@ module _ {contents : Contents} (s : Source) (images : Images) (facts : AreFacts 
             | inl x ↦ let r = f.0 x in (r.0, r.1, r.2, r.3, inl r.4)
             | inr x ↦ let r = g.0 x in (r.0, r.1, r.2, r.3, inr r.4)
           ],
-          λ r. elim r.4 [
-            | inl x ↦ inl (f.1 (r.0, r.1, r.2, r.3, x))
-            | inr x ↦ inr (g.1 (r.0, r.1, r.2, r.3, x))
-          ],
+          λ r. elim r.4 [ inl x ↦ inl (f.1 (r.0, r.1, r.2, r.3, x)) | inr x ↦ inr (g.1 (r.0, r.1, r.2, r.3, x)) ],
         )
 
     cert_assigned : (from : List ℕ) (a : Authority) (to : List ℕ) → HasText b b.cert from a to

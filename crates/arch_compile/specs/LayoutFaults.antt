@@ -19,7 +19,7 @@ use Rattle.source_images.specs.SpaceFaults.{first_space_fault}
 use Rattle.source_images.specs.declared.images.Images.{Images}
 use Rattle.source_images.specs.Found.{Found, found_in, table_names}
 use Rattle.source_images.specs.TableFaults.{first_table_fault, name_of_file as name_with_tables}
-use Rattle.source_images.specs.TableImages.{images_of}
+use Rattle.source_images.specs.ImagesRead.{images_of}
 use Rattle.vspace_layout.specs.Given.{Given, given}
 use Rattle.vspace_layout.specs.PageLimits.{first_page_limit}
 

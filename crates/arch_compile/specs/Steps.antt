@@ -31,12 +31,11 @@ use Rattle.cam_base.specs.Gather.{IsIn}
 use Rattle.source_images.specs.Numbered.{AreNumbered, AreSound}
 use Rattle.source_images.specs.SpaceFaults.{first_space_fault}
 use Rattle.source_images.specs.declared.images.Images.{Images}
-use Rattle.system_spec.specs.Buildable.{IsBuildable}
+use Rattle.system_spec.specs.Buildable.{IsBuildable, IsWindowed}
 use Rattle.system_spec.specs.Made.{labels_of, spec_of}
 use Rattle.system_spec.specs.MapLines.{map_lines}
 use Rattle.system_spec.specs.Tables.{Tables}
 use Rattle.system_spec.specs.TablesFrom.{tables_from}
-use Rattle.system_spec.specs.Windowed.{IsWindowed}
 use Rattle.vspace_layout.specs.Given.{Given, given}
 use Rattle.vspace_layout.specs.Laid.{spaces_of}
 use Rattle.vspace_layout.specs.PageLimits.{first_page_limit}

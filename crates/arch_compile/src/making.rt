@@ -4,9 +4,8 @@ ghost use Rattle.arch_compile.specs.Steps.{IsMadeOf, policy_tables};
 ghost use Rattle.arch_policy.specs.Policies.{IsCertificateOf, IsPolicyOf};
 ghost use Rattle.cap_model.specs.Tables.{IsSorted};
 ghost use Rattle.std.specs.Prelude.{IfOk};
-ghost use Rattle.system_spec.specs.Buildable.{IsBuildable};
-ghost use Rattle.system_spec.specs.Told.{told};
-ghost use Rattle.system_spec.specs.Windowed.{IsWindowed};
+ghost use Rattle.system_spec.specs.Buildable.{IsBuildable, IsWindowed};
+ghost use Rattle.system_spec.specs.Tables.{told};
 
 use arch_policy::{Tables as PolicyTables, certificate_of};
 use cam_base::{List, NoMemory};

@@ -117,8 +117,7 @@ module _ (s : Source) (sound : AreNamesSound s) (dotted : AreDotted (hierarchy_o
   interface_name y x e w d =
       let k = hierarchy_of s in
       let p : Placed = record { path = y.path ++ w.reach.path; part = w.reach.part } in
-      let leaf = leaf_path y x e w d.leaf d.here in
-      let c = leaf_component s sound p w.placed in
+      let leaf = leaf_path y x e w d.leaf d.here in let c = leaf_component s sound p w.placed in
       let b = body_number s w.reach.part.kind c.0 c.1 in
       let ms : members_at s d.leaf.component ≡ c.0.1.members = ap (λ (z : Leaf). members_at s z.component) (sym leaf)
       ∙ members_of_part s w.reach.part c.0 c.1 in
@@ -138,11 +137,9 @@ module _ (s : Source) (sound : AreNamesSound s) (dotted : AreDotted (hierarchy_o
       → (f : Found) × (setting_of (settled_of s) x.place x.number ≡ Some (end_setting f))
       × (access_at f ≡ access_of (hierarchy_of s) e.leaf e.interface)
   settled_access y x e w memory =
-      let h = hierarchy_of s in
-      let d = typed_at x in
+      let h = hierarchy_of s in let d = typed_at x in
       let g = setting_at_number s x.place x.number x.connection x.end x.here (all_join x) x.stands in
-      let f = g.0 in
-      let at = g.1 in
+      let f = g.0 in let at = g.1 in
       let leaves_same : Some f.joint.leaf ≡ Some d.leaf = sym at.leaf ∙ d.here in
       let leaf : f.joint.leaf ≡ d.leaf = cc in
       let interfaces_same : Some f.joint.interface ≡ Some d.interface = sym at.interface
@@ -180,11 +177,9 @@ module _ (s : Source) (sound : AreNamesSound s) (dotted : AreDotted (hierarchy_o
       → leaves (setting_of (tables_with s numbers).settled x.place x.number) a ≡ allows
       (access_of (hierarchy_of s) e.leaf e.interface) a
   access_left y x e w o Read given =
-      let m = memory_of y x e w (reader y.wire.0 e.role o given) in
-      let g = settled_access y x e w m in
+      let m = memory_of y x e w (reader y.wire.0 e.role o given) in let g = settled_access y x e w m in
       ap (λ (z : Option EndSetting). leaves z Read) g.1 ∙ ap (λ (z : Access). z.read) g.2
   access_left y x e w o Write given =
-      let m = memory_of y x e w (writer y.wire.0 e.role o given) in
-      let g = settled_access y x e w m in
+      let m = memory_of y x e w (writer y.wire.0 e.role o given) in let g = settled_access y x e w m in
       ap (λ (z : Option EndSetting). leaves z Write) g.1 ∙ ap (λ (z : Access). z.write) g.2
   access_left y x e w o _ given = refl

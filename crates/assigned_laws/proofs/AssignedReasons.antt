@@ -37,10 +37,8 @@ module _ (s : Source) (sound : AreNamesSound s) (dotted : AreDotted (hierarchy_o
       → Direct (hierarchy_of s) p a q
   cause_direct l a m p q np nq d =
       let h = hierarchy_of s in
-      let g = strung_at s sound dotted numbers d.at.place d.at.connection d.at.here in
-      let y = g.0 in
-      let f = met s sound dotted numbers d.at y g.1 in
-      let e = f.0 in
+      let g = strung_at s sound dotted numbers d.at.place d.at.connection d.at.here in let y = g.0 in
+      let f = met s sound dotted numbers d.at y g.1 in let e = f.0 in
       let w = f.1 in
       let given = given_to y.wire.0 d.at.connection.connector e.role d.at.end.role d.object a (same_connector_as y d.at e w)
       w.role d.given in
@@ -53,20 +51,21 @@ module _ (s : Source) (sound : AreNamesSound s) (dotted : AreDotted (hierarchy_o
         allowed = sym (access_left s sound dotted types numbers y d.at e w d.object a given) ∙ d.left;
         from_is = path_is t apart l (leaf_label t d.at.end.leaf) p (owner h e.leaf) d.from np w.named;
         to_is = lead y d.at g.1 e w d.object given d.to;
-      }
-    where
-      lead : (y : Strung) (x : EndAt (flat_of s)) → slice_get (connections (hierarchy_of s)) x.place ≡ Some y
-          → (e : EndOf (hierarchy_of s) y.path y.wire) → Matches s sound dotted numbers y x e → (o : ObjectKind)
-          → gives y.wire.0 e.role o a ≡ true → FlatLeads t x o m
-          → LeadsTo (hierarchy_of s) y.path y.wire e o q
-      lead y x here e w OfEndpoint given to = path_is t apart m (connection_label t x.place) q (connection_path y.path y.wire) to
-          nq (connection_named s numbers y x.place here (labelled_endpoint y.wire.0 e.role a given))
-      lead y x here e w OfNotification given to = path_is t apart m (connection_label t x.place) q (connection_path y.path y.wire)
-          to nq (connection_named s numbers y x.place here (labelled_notification y.wire.0 e.role a given))
-      lead y x here e w OfFrames given to = path_is t apart m (connection_label t x.place) q (connection_path y.path y.wire) to nq
-          (connection_named s numbers y x.place here (labelled_frames y.wire.0 e.role a given))
-      lead y x here e w OfDevice given to = other y x here e w to
-        where
+      } where
+        lead : (y : Strung) (x : EndAt (flat_of s)) → slice_get (connections (hierarchy_of s)) x.place ≡ Some y
+            → (e : EndOf (hierarchy_of s) y.path y.wire) → Matches s sound dotted numbers y x e → (o : ObjectKind)
+            → gives y.wire.0 e.role o a ≡ true → FlatLeads t x o m
+            → LeadsTo (hierarchy_of s) y.path y.wire e o q
+        lead y x here e w OfEndpoint given to = path_is t apart m (connection_label t x.place) q
+            (connection_path y.path y.wire) to
+            nq (connection_named s numbers y x.place here (labelled_endpoint y.wire.0 e.role a given))
+        lead y x here e w OfNotification given to = path_is t apart m (connection_label t x.place) q
+            (connection_path y.path y.wire)
+            to nq (connection_named s numbers y x.place here (labelled_notification y.wire.0 e.role a given))
+        lead y x here e w OfFrames given to = path_is t apart m (connection_label t x.place) q
+            (connection_path y.path y.wire) to nq
+            (connection_named s numbers y x.place here (labelled_frames y.wire.0 e.role a given))
+        lead y x here e w OfDevice given to = other y x here e w to where
           other : (y : Strung) (x : EndAt (flat_of s)) → slice_get (connections (hierarchy_of s)) x.place ≡ Some y
               → (e : EndOf (hierarchy_of s) y.path y.wire) → Matches s sound dotted numbers y x e → FlatOther t x m
               → AtOtherEnd (hierarchy_of s) y.path y.wire e q
@@ -78,23 +77,22 @@ module _ (s : Source) (sound : AreNamesSound s) (dotted : AreDotted (hierarchy_o
                 label_is = path_is t apart m (leaf_label t to.at.end.leaf) q (owner (hierarchy_of s) v.0.leaf) to.label_is
                     nq v.1.named;
               }
-      lead y x here e w OfIrq given to =
-          let v = met s sound dotted numbers to.at y (at_place x.place to.at.place y to.same here) in
-          record {
-            other = v.0;
-            role = v.1.role ∙ to.role ∙ ap opposite (sym w.role);
-            label_is = path_is t apart m (leaf_label t to.at.end.leaf) q (owner (hierarchy_of s) v.0.leaf) to.label_is
-                nq v.1.named;
-          }
-      lead y x here e w NoObject given to = absurd to
+        lead y x here e w OfIrq given to =
+            let v = met s sound dotted numbers to.at y (at_place x.place to.at.place y to.same here) in
+            record {
+              other = v.0;
+              role = v.1.role ∙ to.role ∙ ap opposite (sym w.role);
+              label_is = path_is t apart m (leaf_label t to.at.end.leaf) q (owner (hierarchy_of s) v.0.leaf) to.label_is
+                  nq v.1.named;
+            }
+        lead y x here e w NoObject given to = absurd to
 
   cause_called : (l : ℕ) (a : Authority) (m : ℕ) (p q : Path) → IsNamed t l p → IsNamed t m q → CallReason t (edge l a m)
       → Called (hierarchy_of s) p a q
   cause_called l a m p q np nq c =
       let h = hierarchy_of s in
       let g = strung_at s sound dotted numbers c.caller.place c.caller.connection c.caller.here in
-      let y = g.0 in
-      let f = met s sound dotted numbers c.caller y g.1 in
+      let y = g.0 in let f = met s sound dotted numbers c.caller y g.1 in
       let v = met s sound dotted numbers c.server y (at_place c.caller.place c.server.place y c.same g.1) in
       record {
         composition = y.path;
@@ -113,8 +111,7 @@ module _ (s : Source) (sound : AreNamesSound s) (dotted : AreDotted (hierarchy_o
   cause_handles l d p q np nq c =
       let h = hierarchy_of s in
       let g = strung_at s sound dotted numbers c.handler.place c.handler.connection c.handler.here in
-      let y = g.0 in
-      let f = met s sound dotted numbers c.handler y g.1 in
+      let y = g.0 in let f = met s sound dotted numbers c.handler y g.1 in
       let v = met s sound dotted numbers c.source y (at_place c.handler.place c.source.place y c.same g.1) in
       record {
         composition = y.path;
@@ -133,8 +130,7 @@ module _ (s : Source) (sound : AreNamesSound s) (dotted : AreDotted (hierarchy_o
   cause_bound l a m p q np nq b =
       let h = hierarchy_of s in
       let g = strung_at s sound dotted numbers b.signaller.place b.signaller.connection b.signaller.here in
-      let y = g.0 in
-      let f = met s sound dotted numbers b.signaller y g.1 in
+      let y = g.0 in let f = met s sound dotted numbers b.signaller y g.1 in
       let domain = owner h f.0.leaf in
       let notification : y.wire.0 ≡ Notification = same_connector_as y b.signaller f.0 f.1 ∙ b.signals.connector in
       let named : IsNamed t b.label domain = subst (λ z. IsNamed t z domain) (sym b.same) f.1.named in
@@ -193,13 +189,10 @@ module _ (s : Source) (sound : AreNamesSound s) (dotted : AreDotted (hierarchy_o
 
   reason_direct : (p : Path) (a : Authority) (q : Path) → Direct (hierarchy_of s) p a q → Reasoned (DirectReason t) p a q
   reason_direct p a q d =
-      let h = hierarchy_of s in
-      let g = strung_here s sound dotted numbers d.composition d.connection d.end in
+      let h = hierarchy_of s in let g = strung_here s sound dotted numbers d.composition d.connection d.end in
       let y : Strung = record { path = d.composition; inside = g.1; wire = d.connection } in
-      let f = put s sound dotted numbers y g.0 g.2 d.end in
-      let x = f.0 in
-      let w = f.2 in
-      let l = leaf_label t x.end.leaf in
+      let f = put s sound dotted numbers y g.0 g.2 d.end in let x = f.0 in
+      let w = f.2 in let l = leaf_label t x.end.leaf in
       let lead = leading y g.0 g.2 d.end x f.1 w d.object d.given d.to_is in
       record {
         l = l;
@@ -215,38 +208,37 @@ module _ (s : Source) (sound : AreNamesSound s) (dotted : AreDotted (hierarchy_o
           from = refl;
           to = lead.to;
         };
-      }
-    where
-      leading : (y : Strung) (k : ℕ) → slice_get (connections (hierarchy_of s)) k ≡ Some y
-          → (e : EndOf (hierarchy_of s) y.path y.wire) (x : EndAt (flat_of s)) → x.place ≡ k
-          → Matches s sound dotted numbers y x e → (o : ObjectKind) → gives y.wire.0 e.role o a ≡ true
-          → LeadsTo (hierarchy_of s) y.path y.wire e o q → Leading x o q
-      leading y k here e x at w OfEndpoint given to = record {
-        m = connection_label t x.place;
-        nq = subst (λ z. IsNamed t (connection_label t x.place) z) (sym to) (connection_named s numbers y x.place w.here
-            (labelled_endpoint y.wire.0 e.role a given));
-        to = refl;
-      }
-      leading y k here e x at w OfNotification given to = record {
-        m = connection_label t x.place;
-        nq = subst (λ z. IsNamed t (connection_label t x.place) z) (sym to) (connection_named s numbers y x.place w.here
-            (labelled_notification y.wire.0 e.role a given));
-        to = refl;
-      }
-      leading y k here e x at w OfFrames given to = record {
-        m = connection_label t x.place;
-        nq = subst (λ z. IsNamed t (connection_label t x.place) z) (sym to) (connection_named s numbers y x.place w.here
-            (labelled_frames y.wire.0 e.role a given));
-        to = refl;
-      }
-      leading y k here e x at w NoObject given to = absurd to
-      leading y k here e x at w _ given to =
-          let v = put s sound dotted numbers y k here to.other in
-          record {
-            m = leaf_label t v.0.end.leaf;
-            nq = subst (λ z. IsNamed t (leaf_label t v.0.end.leaf) z) (sym to.label_is) v.2.named;
-            to = record { at = v.0; same = v.1 ∙ sym at; role = sym v.2.role ∙ to.role ∙ ap opposite w.role; label_is = refl };
-          }
+      } where
+        leading : (y : Strung) (k : ℕ) → slice_get (connections (hierarchy_of s)) k ≡ Some y
+            → (e : EndOf (hierarchy_of s) y.path y.wire) (x : EndAt (flat_of s)) → x.place ≡ k
+            → Matches s sound dotted numbers y x e → (o : ObjectKind) → gives y.wire.0 e.role o a ≡ true
+            → LeadsTo (hierarchy_of s) y.path y.wire e o q → Leading x o q
+        leading y k here e x at w OfEndpoint given to = record {
+          m = connection_label t x.place;
+          nq = subst (λ z. IsNamed t (connection_label t x.place) z) (sym to) (connection_named s numbers y x.place w.here
+              (labelled_endpoint y.wire.0 e.role a given));
+          to = refl;
+        }
+        leading y k here e x at w OfNotification given to = record {
+          m = connection_label t x.place;
+          nq = subst (λ z. IsNamed t (connection_label t x.place) z) (sym to) (connection_named s numbers y x.place w.here
+              (labelled_notification y.wire.0 e.role a given));
+          to = refl;
+        }
+        leading y k here e x at w OfFrames given to = record {
+          m = connection_label t x.place;
+          nq = subst (λ z. IsNamed t (connection_label t x.place) z) (sym to) (connection_named s numbers y x.place w.here
+              (labelled_frames y.wire.0 e.role a given));
+          to = refl;
+        }
+        leading y k here e x at w NoObject given to = absurd to
+        leading y k here e x at w _ given to =
+            let v = put s sound dotted numbers y k here to.other in
+            record {
+              m = leaf_label t v.0.end.leaf;
+              nq = subst (λ z. IsNamed t (leaf_label t v.0.end.leaf) z) (sym to.label_is) v.2.named;
+              to = record { at = v.0; same = v.1 ∙ sym at; role = sym v.2.role ∙ to.role ∙ ap opposite w.role; label_is = refl };
+            }
 
   -- an end as it is asked for
   is_end : (c : Connector) (r : Role) (y : Strung) (x : EndAt (flat_of s)) (e : EndOf (hierarchy_of s) y.path y.wire)
@@ -301,12 +293,10 @@ module _ (s : Source) (sound : AreNamesSound s) (dotted : AreDotted (hierarchy_o
   reason_bound : ArePathsApart (flat_of s) → (p : Path) (a : Authority) (q : Path) → Bound (hierarchy_of s) p a q
       → Reasoned (Reason t) p a q
   reason_bound paths p a q b =
-      let h = hierarchy_of s in
-      let k = reason_handles b.domain p b.handles in
+      let h = hierarchy_of s in let k = reason_handles b.domain p b.handles in
       let g = strung_here s sound dotted numbers b.composition b.connection b.signaller in
       let y : Strung = record { path = b.composition; inside = g.1; wire = b.connection } in
-      let f = put s sound dotted numbers y g.0 g.2 b.signaller in
-      let x = f.0 in
+      let f = put s sound dotted numbers y g.0 g.2 b.signaller in let x = f.0 in
       record {
         l = k.d;
         m = connection_label t x.place;
@@ -327,8 +317,7 @@ module _ (s : Source) (sound : AreNamesSound s) (dotted : AreDotted (hierarchy_o
   reason_locked : ArePathsApart (flat_of s) → (p : Path) (a : Authority) (q : Path) → Locked (hierarchy_of s) p a q
       → Reasoned (Reason t) p a q
   reason_locked paths p a q b =
-      let k = reason_handles q p b.handles in
-      let o = lock_at s sound numbers b.lock in
+      let k = reason_handles q p b.handles in let o = lock_at s sound numbers b.lock in
       record {
         l = k.d;
         m = k.l;

@@ -51,13 +51,12 @@ line_names l w x m = elim w.1 [
     | inr none ↦ absurd none
   ]
   | inr (inr (inr a)) ↦ absurd (subst (λ z. IsIn x (held_by z)) a.1 m)
-]
-  where
-    of_group : (g : Group) → IsOne group_line g → IsIn x (held_by (lines.Group g)) → IsIdentifier x.0.name
-    of_group g w (inl e) = subst (λ (z : Id × Held). IsIdentifier z.0.name) e (group_name g w)
-    of_group g w (inr j) =
-        let i = from_map as_held x g.instances j in
-        same_name (as_held i.0) x i.2 (instance_name i.0 (group_instance g w i.0 i.1))
+] where
+  of_group : (g : Group) → IsOne group_line g → IsIn x (held_by (lines.Group g)) → IsIdentifier x.0.name
+  of_group g w (inl e) = subst (λ (z : Id × Held). IsIdentifier z.0.name) e (group_name g w)
+  of_group g w (inr j) =
+      let i = from_map as_held x g.instances j in
+      same_name (as_held i.0) x i.2 (instance_name i.0 (group_instance g w i.0 i.1))
 
 -- ---- paths
 

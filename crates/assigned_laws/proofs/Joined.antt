@@ -33,8 +33,7 @@ module _ (s : Source) (sound : AreNamesSound s) (dotted : AreDotted (hierarchy_o
   reached_named q r i =
       let h = hierarchy_of s in
       let x : Placed = record { path = q ++ r.path; part = r.part } in
-      let n = place_of x (leaves h) i in
-      let is = leaf_number_is s sound n.0 x n.1 in
+      let n = place_of x (leaves h) i in let is = leaf_number_is s sound n.0 x n.1 in
       subst (λ z. IsNamed t (leaf_label t z) (owner h x.path)) (sym is) (leaf_named s numbers sound x n.0 n.1)
 
   -- from the flat system
@@ -86,8 +85,7 @@ module _ (s : Source) (sound : AreNamesSound s) (dotted : AreDotted (hierarchy_o
       → (k : ℕ) × (inside : ℕ)
       × (slice_get (connections (hierarchy_of s)) k ≡ Some (record { path = q; inside = inside; wire = w }))
   strung_here q w e =
-      let h = hierarchy_of s in
-      let j = e.joins in
+      let h = hierarchy_of s in let j = e.joins in
       let y : Strung = record { path = q; inside = j.inside; wire = w } in
       let n = place_of y (connections h) ((connections_stand s sound y).1 (j.there, j.stands)) in
       (n.0, j.inside, n.1)
@@ -98,10 +96,8 @@ module _ (s : Source) (sound : AreNamesSound s) (dotted : AreDotted (hierarchy_o
   put y k here e =
       let h = hierarchy_of s in
       let i : IsIn y (connections h) = in_get (connections h) k y here in
-      let j = joins_joined s sound y e.number e.role e.leaf e.interface i e.joins in
-      let end = j.0 in
-      let r = j.3 in
-      let flat = end_numbers_kept s sound dotted y e.number end r i j.1 j.4 in
+      let j = joins_joined s sound y e.number e.role e.leaf e.interface i e.joins in let end = j.0 in
+      let r = j.3 in let flat = end_numbers_kept s sound dotted y e.number end r i j.1 j.4 in
       let x : EndAt (flat_of s) = record {
         place = k;
         connection = flat_connection h y;

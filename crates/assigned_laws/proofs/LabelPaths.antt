@@ -26,13 +26,12 @@ not_last x y (z ∷ xs) e = cc
 pub held_instance : (i : Instance) (ls : List Line) → IsIn i (flat_map instances_by ls) → IsIn (as_held i) (flat_map held_by ls)
 held_instance i ls m =
     let l = from_flat_map instances_by i ls m in
-    in_flat_map held_by l.0 (as_held i) ls l.1 (by_line l.0 l.2)
-  where
-    by_line : (l : Line) → IsIn i (instances_by l) → IsIn (as_held i) (held_by l)
-    by_line (lines.Instance j) (inl e) = inl (ap as_held e)
-    by_line (lines.Instance j) (inr m) = absurd m
-    by_line (lines.Group g) m = inr (in_map as_held i g.instances m)
-    by_line _ m = absurd m
+    in_flat_map held_by l.0 (as_held i) ls l.1 (by_line l.0 l.2) where
+      by_line : (l : Line) → IsIn i (instances_by l) → IsIn (as_held i) (held_by l)
+      by_line (lines.Instance j) (inl e) = inl (ap as_held e)
+      by_line (lines.Instance j) (inr m) = absurd m
+      by_line (lines.Group g) m = inr (in_map as_held i g.instances m)
+      by_line _ m = absurd m
 
 -- a group of an instance
 record GroupIn (ls : List Line) (name : Name) : Type 0 where
@@ -45,38 +44,36 @@ held_group : (numbers : Name → Option ℕ) (ls : List Line) (x : Part) (g : Na
     → x.group ≡ Some g → GroupIn ls g
 held_group numbers ls x g m e =
     let l = from_flat_map (parts_by numbers) x ls m in
-    by_line l.0 l.1 l.2
-  where
-    grouped : (o : Option Name) (is : List Instance) → IsIn x (filter_map (part_of numbers o) is) → x.group ≡ o
-    grouped o is m =
-        let i = from_filter_map (part_of numbers o) x is m in
-        let k = map_some (λ k. let part : Part = record { instance = i.0; group = o; kind = k } in
-        part) (numbers i.0.component.name) x i.2 in
-        ap (λ (z : Part). z.group) (sym k.2)
+    by_line l.0 l.1 l.2 where
+      grouped : (o : Option Name) (is : List Instance) → IsIn x (filter_map (part_of numbers o) is) → x.group ≡ o
+      grouped o is m =
+          let i = from_filter_map (part_of numbers o) x is m in
+          let k = map_some (λ k. let part : Part = record { instance = i.0; group = o; kind = k } in
+          part) (numbers i.0.component.name) x i.2 in
+          ap (λ (z : Part). z.group) (sym k.2)
 
-    by_line : (l : Line) → IsIn l ls → IsIn x (parts_by numbers l) → GroupIn ls g
-    by_line (lines.Instance i) there m = absurd (let w = sym (grouped None (i ∷ []) m) ∙ e in cc)
-    by_line (lines.Group h) there m =
-        let w : Some h.id.name ≡ Some g = sym (grouped (Some h.id.name) h.instances m) ∙ e in
-        record {
-          id = h.id;
-          members = member_of h;
-          stands = in_flat_map held_by (lines.Group h) (h.id, a_group (member_of h)) ls
-              there (inl refl);
-          named = cc;
-        }
-    by_line _ there m = absurd m
+      by_line : (l : Line) → IsIn l ls → IsIn x (parts_by numbers l) → GroupIn ls g
+      by_line (lines.Instance i) there m = absurd (let w = sym (grouped None (i ∷ []) m) ∙ e in cc)
+      by_line (lines.Group h) there m =
+          let w : Some h.id.name ≡ Some g = sym (grouped (Some h.id.name) h.instances m) ∙ e in
+          record {
+            id = h.id;
+            members = member_of h;
+            stands = in_flat_map held_by (lines.Group h) (h.id, a_group (member_of h)) ls
+                there (inl refl);
+            named = cc;
+          }
+      by_line _ there m = absurd m
 
 held_wire : (k : Connection) (ls : List Line) → IsIn k (filter_map as_connection ls)
     → IsIn (k.id, held_connection) (flat_map held_by ls)
 held_wire k ls m =
     let l = from_filter_map as_connection k ls m in
-    in_flat_map held_by l.0 (k.id, held_connection) ls l.1 (by_line l.0 l.2)
-  where
-    by_line : (l : Line) → as_connection l ≡ Some k → IsIn (k.id, held_connection) (held_by l)
-    by_line (lines.Connection j) e = let same : j ≡ k = cc in
-        inl (ap (λ (z : Connection). let held : Id × Held = (z.id, held_connection) in held) same)
-    by_line _ e = absurd cc
+    in_flat_map held_by l.0 (k.id, held_connection) ls l.1 (by_line l.0 l.2) where
+      by_line : (l : Line) → as_connection l ≡ Some k → IsIn (k.id, held_connection) (held_by l)
+      by_line (lines.Connection j) e = let same : j ≡ k = cc in
+          inl (ap (λ (z : Connection). let held : Id × Held = (z.id, held_connection) in held) same)
+      by_line _ e = absurd cc
 
 -- ---- the last name of a path
 
@@ -110,8 +107,7 @@ one_held s sound k n a b x y =
 
 same_held : (s : Source) → AreNamesSound s → (p : Path) (a b : Held) → Ends s p a → Ends s p b → a ≡ b
 same_held s sound p a b x y =
-    let h = hierarchy_of s in
-    let last = snoc_same x.above y.above x.name y.name (sym x.path ∙ y.path) in
+    let h = hierarchy_of s in let last = snoc_same x.above y.above x.name y.name (sym x.path ∙ y.path) in
     let both : Some x.kind ≡ Some y.kind = sym x.there ∙ ap (at h (top_number h)) last.0 ∙ y.there in
     let kind : x.kind ≡ y.kind = cc in
     one_held s sound y.kind y.name a b (subst (λ k. HoldsIn s k y.name a) kind (subst (λ n. HoldsIn s x.kind n a) last.1 x.holds))
@@ -133,10 +129,8 @@ module _ (s : Source) (sound : AreNamesSound s) where
   instance_ends : (q : Path) (n : Name) (x : Part) → part_at (hierarchy_of s) (top_number (hierarchy_of s)) (q ++ n ∷ []) ≡ Some x
       → Ends s (q ++ n ∷ []) (an_instance x.instance)
   instance_ends q n x e =
-      let h = hierarchy_of s in
-      let r = split_last h (top_number h) q n x e in
-      let i = named_in (body h r.0).parts n x r.2 in
-      let p = part_of_body s r.0 x i.0 in
+      let h = hierarchy_of s in let r = split_last h (top_number h) q n x e in
+      let i = named_in (body h r.0).parts n x r.2 in let p = part_of_body s r.0 x i.0 in
       record {
         above = q;
         name = n;
@@ -155,10 +149,8 @@ module _ (s : Source) (sound : AreNamesSound s) where
   group_ends : (q : Path) (n g : Name) (x : Part) → part_at (hierarchy_of s) (top_number (hierarchy_of s)) (q ++ n ∷ []) ≡ Some x
       → x.group ≡ Some g → (f : Name → Option Instance) × Ends s (q ++ g ∷ []) (a_group f)
   group_ends q n g x e grouped =
-      let h = hierarchy_of s in
-      let r = split_last h (top_number h) q n x e in
-      let i = named_in (body h r.0).parts n x r.2 in
-      let p = part_of_body s r.0 x i.0 in
+      let h = hierarchy_of s in let r = split_last h (top_number h) q n x e in
+      let i = named_in (body h r.0).parts n x r.2 in let p = part_of_body s r.0 x i.0 in
       let parts : IsIn x (parts_in (kind_named s) (body h r.0).composition) = subst (λ xs. IsIn x xs) (parts_of s r.0) i.0 in
       let inside : IsIn x (flat_map (parts_by (kind_named s)) p.composition.lines) =
       subst (λ o. IsIn x (parts_in (kind_named s) o)) p.composed parts in
@@ -182,8 +174,7 @@ module _ (s : Source) (sound : AreNamesSound s) where
 
   leaf_ends : (x : Placed) → IsIn x (leaves (hierarchy_of s)) → (i : Instance) × Ends s x.path (an_instance i)
   leaf_ends x i =
-      let h = hierarchy_of s in
-      let stands = ((leaves_stand s sound x).0 i).0 in
+      let h = hierarchy_of s in let stands = ((leaves_stand s sound x).0 i).0 in
       let q = last_of h (top_number h) x.path x.part stands in (
         x.part.instance,
         subst (λ p. Ends s p (an_instance x.part.instance)) (sym q.1) (instance_ends q.0 (name_of x.part) x.part
@@ -193,8 +184,7 @@ module _ (s : Source) (sound : AreNamesSound s) where
   connection_ends : (y : Strung) → IsIn y (connections (hierarchy_of s))
       → Ends s (y.path ++ y.wire.1.id.name ∷ []) held_connection
   connection_ends y i =
-      let h = hierarchy_of s in
-      let stands = (connections_stand s sound y).0 i in
+      let h = hierarchy_of s in let stands = (connections_stand s sound y).0 i in
       let own = own_connection (body h y.inside).composition y.wire stands.1 in
       record {
         above = y.path;
@@ -219,20 +209,18 @@ module _ (s : Source) (sound : AreNamesSound s) where
 
   of_domain : (p : Path) → IsIn p (domains (hierarchy_of s)) → DomainPath p
   of_domain p i =
-      let h = hierarchy_of s in
-      let w = (domains_are h p).0 i in
-      go w.0 (group_above h (top_number h) w.0.path) refl w.1 w.2 w.3
-    where
-      go : (x : Placed) (o : Option Path) → group_above (hierarchy_of s) (top_number (hierarchy_of s)) x.path ≡ o
-          → IsIn x (leaves (hierarchy_of s)) → is_hardware (hierarchy_of s) x.part ≡ false → domain_of (hierarchy_of s) x.path ≡ p
-          → DomainPath p
-      go x None above i soft is = own_leaf x i soft (sym (ap (λ o. unwrap_or o x.path) above) ∙ is)
-      go x (Some d) above i soft is =
-          let h = hierarchy_of s in
-          let o = above_outermost h (top_number h) x.path d above in
-          let same : d ≡ p = sym (ap (λ o. unwrap_or o x.path) above) ∙ is in
-          let w = group_ends o.above o.name o.group o.part o.stands o.grouped in
-          of_group w.0 (subst (λ z. Ends s z (a_group w.0)) (sym o.path ∙ same) w.1)
+      let h = hierarchy_of s in let w = (domains_are h p).0 i in
+      go w.0 (group_above h (top_number h) w.0.path) refl w.1 w.2 w.3 where
+        go : (x : Placed) (o : Option Path) → group_above (hierarchy_of s) (top_number (hierarchy_of s)) x.path ≡ o
+            → IsIn x (leaves (hierarchy_of s)) → is_hardware (hierarchy_of s) x.part ≡ false
+            → domain_of (hierarchy_of s) x.path ≡ p
+            → DomainPath p
+        go x None above i soft is = own_leaf x i soft (sym (ap (λ o. unwrap_or o x.path) above) ∙ is)
+        go x (Some d) above i soft is =
+            let h = hierarchy_of s in let o = above_outermost h (top_number h) x.path d above in
+            let same : d ≡ p = sym (ap (λ o. unwrap_or o x.path) above) ∙ is in
+            let w = group_ends o.above o.name o.group o.part o.stands o.grouped in
+            of_group w.0 (subst (λ z. Ends s z (a_group w.0)) (sym o.path ∙ same) w.1)
 
   -- ---- no two labels have one path
 
@@ -252,11 +240,10 @@ module _ (s : Source) (sound : AreNamesSound s) where
         ap (λ (z : Leaf). z.path) g.2 ∙ h.3,
         by_test (domain_number k (domain_of k g.0.path)) (is_hardware k g.0.part)
             (ap (λ (z : Leaf). z.domain) g.2 ∙ h.2),
-      )
-    where
-      by_test : (n : ℕ) (b : Bool) → cond b None (Some n) ≡ None → b ≡ true
-      by_test n true e = refl
-      by_test n false e = cc
+      ) where
+        by_test : (n : ℕ) (b : Bool) → cond b None (Some n) ≡ None → b ≡ true
+        by_test n true e = refl
+        by_test n false e = cc
 
   connection_path_of : (k : ℕ) (p : Path) → HasPath (flat_of s) (OfConnection k) p
       → (y : Strung) × (slice_get (connections (hierarchy_of s)) k ≡ Some y) × (y.path ++ y.wire.1.id.name ∷ [] ≡ p)
@@ -273,54 +260,47 @@ module _ (s : Source) (sound : AreNamesSound s) where
       subst (λ z. Ends s z held_connection) w.2 (connection_ends w.0 (in_get (connections (hierarchy_of s)) k w.0 w.1))
 
   no_domain_connection : (d k : ℕ) (p : Path) → HasPath (flat_of s) (OfDomain d) p → HasPath (flat_of s) (OfConnection k) p → ⊥
-  no_domain_connection d k p h g = by_case (domain_ends d p h)
-    where
-      by_case : DomainPath p → ⊥
-      by_case (own_leaf x i soft e) =
-          let w = leaf_ends x i in
-          let same = same_held s sound p (an_instance w.0) held_connection (subst (λ z. Ends s z (an_instance w.0)) e w.1)
-          (connection_held k p g) in
-          cc
-      by_case (of_group f e) = let same = same_held s sound p (a_group f) held_connection e (connection_held k p g) in cc
+  no_domain_connection d k p h g = by_case (domain_ends d p h) where
+    by_case : DomainPath p → ⊥
+    by_case (own_leaf x i soft e) =
+        let w = leaf_ends x i in
+        let same = same_held s sound p (an_instance w.0) held_connection (subst (λ z. Ends s z (an_instance w.0)) e w.1)
+        (connection_held k p g) in
+        cc
+    by_case (of_group f e) = let same = same_held s sound p (a_group f) held_connection e (connection_held k p g) in cc
 
   no_device_connection : (l k : ℕ) (p : Path) → HasPath (flat_of s) (OfLeaf l) p → HasPath (flat_of s) (OfConnection k) p → ⊥
   no_device_connection l k p h g =
-      let x = device_path l p h in
-      let w = leaf_ends x.0 (in_get (leaves (hierarchy_of s)) l x.0 x.1) in
+      let x = device_path l p h in let w = leaf_ends x.0 (in_get (leaves (hierarchy_of s)) l x.0 x.1) in
       let same = same_held s sound p (an_instance w.0) held_connection (subst (λ z. Ends s z (an_instance w.0)) x.2 w.1)
       (connection_held k p g) in
       cc
 
   no_domain_device : (d l : ℕ) (p : Path) → HasPath (flat_of s) (OfDomain d) p → HasPath (flat_of s) (OfLeaf l) p → ⊥
-  no_domain_device d l p h g = by_case (domain_ends d p h) (device_path l p g)
-    where
-      by_case : DomainPath p → (x : Placed) × (slice_get (leaves (hierarchy_of s)) l ≡ Some x) × (x.path ≡ p)
-          × (is_hardware (hierarchy_of s) x.part ≡ true) → ⊥
-      by_case (own_leaf y i soft e) x =
-          let k = hierarchy_of s in
-          let n = place_of y (leaves k) i in
-          let a = leaf_number_is s sound n.0 y n.1 in
-          let b = leaf_number_is s sound l x.0 x.1 in
-          let number : n.0 ≡ l = sym a ∙ ap (leaf_number k) (e ∙ sym x.2) ∙ b in
-          let both : Some y ≡ Some x.0 = sym n.1 ∙ ap (slice_get (leaves k)) number ∙ x.1 in
-          let same : y ≡ x.0 = cc in
-          true≢false (sym x.3 ∙ ap (λ (z : Placed). is_hardware k z.part) (sym same) ∙ soft)
-      by_case (of_group f e) x =
-          let w = leaf_ends x.0 (in_get (leaves (hierarchy_of s)) l x.0 x.1) in
-          let same = same_held s sound p (a_group f) (an_instance w.0) e (subst (λ z. Ends s z (an_instance w.0)) x.2 w.1) in
-          cc
+  no_domain_device d l p h g = by_case (domain_ends d p h) (device_path l p g) where
+    by_case : DomainPath p → (x : Placed) × (slice_get (leaves (hierarchy_of s)) l ≡ Some x) × (x.path ≡ p)
+        × (is_hardware (hierarchy_of s) x.part ≡ true) → ⊥
+    by_case (own_leaf y i soft e) x =
+        let k = hierarchy_of s in let n = place_of y (leaves k) i in
+        let a = leaf_number_is s sound n.0 y n.1 in let b = leaf_number_is s sound l x.0 x.1 in
+        let number : n.0 ≡ l = sym a ∙ ap (leaf_number k) (e ∙ sym x.2) ∙ b in
+        let both : Some y ≡ Some x.0 = sym n.1 ∙ ap (slice_get (leaves k)) number ∙ x.1 in
+        let same : y ≡ x.0 = cc in
+        true≢false (sym x.3 ∙ ap (λ (z : Placed). is_hardware k z.part) (sym same) ∙ soft)
+    by_case (of_group f e) x =
+        let w = leaf_ends x.0 (in_get (leaves (hierarchy_of s)) l x.0 x.1) in
+        let same = same_held s sound p (a_group f) (an_instance w.0) e (subst (λ z. Ends s z (an_instance w.0)) x.2 w.1) in
+        cc
 
   -- a label's path has a last name, which a composition holds
   pub label_ends : (x : Owner) (p : Path) → HasPath (flat_of s) x p → (held : Held) × Ends s p held
-  label_ends (OfDomain d) p h = by_case (domain_ends d p h)
-    where
-      by_case : DomainPath p → (held : Held) × Ends s p held
-      by_case (own_leaf x i soft e) = let w = leaf_ends x i in (an_instance w.0, subst (λ z. Ends s z (an_instance w.0)) e w.1)
-      by_case (of_group f e) = (a_group f, e)
+  label_ends (OfDomain d) p h = by_case (domain_ends d p h) where
+    by_case : DomainPath p → (held : Held) × Ends s p held
+    by_case (own_leaf x i soft e) = let w = leaf_ends x i in (an_instance w.0, subst (λ z. Ends s z (an_instance w.0)) e w.1)
+    by_case (of_group f e) = (a_group f, e)
   label_ends (OfConnection k) p h = (held_connection, connection_held k p h)
   label_ends (OfLeaf l) p h =
-      let x = device_path l p h in
-      let w = leaf_ends x.0 (in_get (leaves (hierarchy_of s)) l x.0 x.1) in
+      let x = device_path l p h in let w = leaf_ends x.0 (in_get (leaves (hierarchy_of s)) l x.0 x.1) in
       (an_instance w.0, subst (λ z. Ends s z (an_instance w.0)) x.2 w.1)
 
   pub not_empty : (x : Owner) (p : Path) → HasPath (flat_of s) x p → p ≡ [] → ⊥
@@ -331,13 +311,11 @@ module _ (s : Source) (sound : AreNamesSound s) where
       let k = hierarchy_of s in
       ap OfDomain (sym (domain_number_is k d p (domain_path d p h)) ∙ domain_number_is k e p (domain_path e p g))
   paths_apart (OfLeaf l) (OfLeaf m) p h g =
-      let k = hierarchy_of s in
-      let x = device_path l p h in
+      let k = hierarchy_of s in let x = device_path l p h in
       let y = device_path m p g in
       ap OfLeaf (sym (leaf_number_is s sound l x.0 x.1) ∙ ap (leaf_number k) (x.2 ∙ sym y.2) ∙ leaf_number_is s sound m y.0 y.1)
   paths_apart (OfConnection j) (OfConnection k) p h g =
-      let c = hierarchy_of s in
-      let x = connection_path_of j p h in
+      let c = hierarchy_of s in let x = connection_path_of j p h in
       let y = connection_path_of k p g in
       let F : Strung → Path = λ z. z.path ++ z.wire.1.id.name ∷ [] in
       let once = connections_once s sound in

@@ -30,25 +30,22 @@ module _ (s : Source) (sound : AreNamesSound s) where
       ap (λ b. cond b x.path (domain_of h x.path)) (device_is s numbers sound x n e ∙ hard)
 
   hardware_of : (x : Placed) → (leaf_of (hierarchy_of s) x).domain ≡ None → is_hardware (hierarchy_of s) x.part ≡ true
-  hardware_of x e = by_test (is_hardware (hierarchy_of s) x.part) e
-    where
-      by_test : (b : Bool) → cond b None (Some (domain_number (hierarchy_of s) (domain_of (hierarchy_of s) x.path))) ≡ None
-          → b ≡ true
-      by_test true e = refl
-      by_test false e = cc
+  hardware_of x e = by_test (is_hardware (hierarchy_of s) x.part) e where
+    by_test : (b : Bool) → cond b None (Some (domain_number (hierarchy_of s) (domain_of (hierarchy_of s) x.path))) ≡ None
+        → b ≡ true
+    by_test true e = refl
+    by_test false e = cc
 
   -- ---- by numbers
 
   labelled : (numbers : LabelNumbers) (p : Path) → HasLabel (hierarchy_of s) p → (l : ℕ) × IsNamed (tables_with s numbers) l p
   labelled numbers p (inl (leaf, is, e)) =
-      let h = hierarchy_of s in
-      let t = tables_with s numbers in
+      let h = hierarchy_of s in let t = tables_with s numbers in
       let x = leaf_at leaf is in
       let same : owner h x.0.path ≡ p = ap (owner h) x.3 ∙ sym e in
       (leaf_label t x.1, subst (IsNamed t (leaf_label t x.1)) same (leaf_named s numbers sound x.0 x.1 x.2))
   labelled numbers p (inr j) =
-      let h = hierarchy_of s in
-      let t = tables_with s numbers in
+      let h = hierarchy_of s in let t = tables_with s numbers in
       let y : Strung = record { path = j.composition; inside = j.inside; wire = j.connection } in
       let n = place_of y (connections h) ((connections_stand s sound y).1 (j.there, j.stands)) in (
         connection_label t n.0,
@@ -58,15 +55,12 @@ module _ (s : Source) (sound : AreNamesSound s) where
 
   has_of : (numbers : LabelNumbers) (x : Owner) (p : Path) → HasPath (flat_of s) x p → HasLabel (hierarchy_of s) p
   has_of numbers (OfDomain d) p (domain, here, is) =
-      let h = hierarchy_of s in
-      let g = from_get_map (flat_domain h) (domains h) d domain here in
-      let x = (domains_are h g.0).0 (in_get (domains h) d g.0 g.1) in
-      let n = place_of x.0 (leaves h) x.1 in
+      let h = hierarchy_of s in let g = from_get_map (flat_domain h) (domains h) d domain here in
+      let x = (domains_are h g.0).0 (in_get (domains h) d g.0 g.1) in let n = place_of x.0 (leaves h) x.1 in
       let path : g.0 ≡ p = ap (λ (z : Domain). z.path) g.2 ∙ is in
       inl (x.0.path, at_leaf x.0 n.0 n.1, sym (owner_is numbers x.0 n.0 false n.1 x.2 ∙ x.3 ∙ path))
   has_of numbers (OfConnection k) p (c, here, has, is) =
-      let h = hierarchy_of s in
-      let g = from_get_map (flat_connection h) (connections h) k c here in
+      let h = hierarchy_of s in let g = from_get_map (flat_connection h) (connections h) k c here in
       let y = (connections_stand s sound g.0).0 (in_get (connections h) k g.0 g.1) in
       inr (record {
         composition = g.0.path;
@@ -78,8 +72,7 @@ module _ (s : Source) (sound : AreNamesSound s) where
         path_is = sym is ∙ ap (λ (z : FlatConnection). z.path) (sym g.2);
       })
   has_of numbers (OfLeaf l) p (leaf, here, none, is) =
-      let h = hierarchy_of s in
-      let g = from_get_map (leaf_of h) (leaves h) l leaf here in
+      let h = hierarchy_of s in let g = from_get_map (leaf_of h) (leaves h) l leaf here in
       let hard = hardware_of g.0 (ap (λ (z : Leaf). z.domain) g.2 ∙ none) in
       let path : g.0.path ≡ p = ap (λ (z : Leaf). z.path) g.2 ∙ is in
       inl (g.0.path, at_leaf g.0 l g.1, sym (owner_is numbers g.0 l true g.1 hard ∙ path))

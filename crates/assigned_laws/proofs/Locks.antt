@@ -15,8 +15,7 @@ module _ (s : Source) (sound : AreNamesSound s) (numbers : LabelNumbers) where
       → IsNamed t (domain_label t (domain_number (hierarchy_of s) (domain_of (hierarchy_of s) x.path)))
       (domain_of (hierarchy_of s) x.path)
   domain_named x i soft =
-      let h = hierarchy_of s in
-      let d = domain_of h x.path in
+      let h = hierarchy_of s in let d = domain_of h x.path in
       let there = domain_found h d ((domains_are h d).1 (x, i, soft, refl)) in
       record {
         labelled = OfDomain (domain_number h d);
@@ -33,8 +32,7 @@ module _ (s : Source) (sound : AreNamesSound s) (numbers : LabelNumbers) where
 
   typed : (x : Placed) → IsIn x (leaves (hierarchy_of s)) → Typed x
   typed x i =
-      let h = hierarchy_of s in
-      let c = leaf_component s sound x i in
+      let h = hierarchy_of s in let c = leaf_component s sound x i in
       let b = body_number s x.part.kind c.0 c.1 in
       let is : (body h x.part.kind).component ≡ Some c.0.1 = ap (λ (z : Body). z.component) b in
       record {
@@ -46,22 +44,18 @@ module _ (s : Source) (sound : AreNamesSound s) (numbers : LabelNumbers) where
 
   soft_of : (x : Placed) (d : ℕ) → (leaf_of (hierarchy_of s) x).domain ≡ Some d → (is_hardware (hierarchy_of s) x.part ≡ false)
       × (domain_number (hierarchy_of s) (domain_of (hierarchy_of s) x.path) ≡ d)
-  soft_of x d e = by_test (is_hardware (hierarchy_of s) x.part) e
-    where
-      by_test : (b : Bool) → cond b None (Some (domain_number (hierarchy_of s) (domain_of (hierarchy_of s) x.path))) ≡ Some d
-          → (b ≡ false) × (domain_number (hierarchy_of s) (domain_of (hierarchy_of s) x.path) ≡ d)
-      by_test true e = cc
-      by_test false e = (refl, cc)
+  soft_of x d e = by_test (is_hardware (hierarchy_of s) x.part) e where
+    by_test : (b : Bool) → cond b None (Some (domain_number (hierarchy_of s) (domain_of (hierarchy_of s) x.path))) ≡ Some d
+        → (b ≡ false) × (domain_number (hierarchy_of s) (domain_of (hierarchy_of s) x.path) ≡ d)
+    by_test true e = cc
+    by_test false e = (refl, cc)
 
   pub lock_of : (k : LockAt s (flat_of s)) → (o : LockOf (hierarchy_of s)) × IsNamed t (domain_label t k.domain)
       (domain_of (hierarchy_of s) o.leaf)
   lock_of k =
-      let h = hierarchy_of s in
-      let g = from_get_map (leaf_of h) (leaves h) k.leaf k.found k.here in
-      let x = g.0 in
-      let i = in_get (leaves h) k.leaf x g.1 in
-      let stands = (leaves_stand s sound x).0 i in
-      let c = typed x i in
+      let h = hierarchy_of s in let g = from_get_map (leaf_of h) (leaves h) k.leaf k.found k.here in
+      let x = g.0 in let i = in_get (leaves h) k.leaf x g.1 in
+      let stands = (leaves_stand s sound x).0 i in let c = typed x i in
       let soft = soft_of x k.domain (ap (λ (z : Leaf). z.domain) g.2 ∙ k.inside) in
       let declared : slice_get c.component.1.members k.member ≡ Some (members.Lock k.lock) =
       ap (λ ms. slice_get ms k.member) (sym c.members_are) ∙ ap (λ (z : Leaf). slice_get (members_at s z.component) k.member) g.2
@@ -83,13 +77,10 @@ module _ (s : Source) (sound : AreNamesSound s) (numbers : LabelNumbers) where
   pub lock_at : (o : LockOf (hierarchy_of s)) → (k : LockAt s (flat_of s)) × IsNamed t (domain_label t k.domain)
       (domain_of (hierarchy_of s) o.leaf)
   lock_at o =
-      let h = hierarchy_of s in
-      let m = (paths_are_leaves s sound o.leaf).1 (o.kind, o.there, o.simple) in
+      let h = hierarchy_of s in let m = (paths_are_leaves s sound o.leaf).1 (o.kind, o.there, o.simple) in
       let g = from_map (λ (x : Placed). x.path) o.leaf (leaves h) m in
-      let x = g.0 in
-      let i = g.1 in
-      let stands = (leaves_stand s sound x).0 i in
-      let c = typed x i in
+      let x = g.0 in let i = g.1 in
+      let stands = (leaves_stand s sound x).0 i in let c = typed x i in
       let there : at h (top_number h) o.leaf ≡ Some x.part.kind = ap (at h (top_number h)) (sym g.2)
       ∙ at_part h (top_number h) x.path x.part stands.0 in
       let kinds : Some o.kind ≡ Some x.part.kind = sym o.there ∙ there in
@@ -97,8 +88,7 @@ module _ (s : Source) (sound : AreNamesSound s) (numbers : LabelNumbers) where
       let both : Some o.component ≡ Some c.component.1 = sym o.is ∙ ap (λ z. (body h z).component) kind ∙ c.is in
       let same : o.component ≡ c.component.1 = cc in
       let soft : is_hardware h x.part ≡ false = c.device ∙ ap is_device (sym same) ∙ o.software in
-      let n = place_of x (leaves h) i in
-      let d = domain_number h (domain_of h x.path) in
+      let n = place_of x (leaves h) i in let d = domain_number h (domain_of h x.path) in
       let p = place_of (members.Lock o.lock) c.component.1.members
       (subst (λ (z : Component). IsIn (members.Lock o.lock) z.members) same o.declared) in (
         record {
@@ -128,10 +118,8 @@ module _ (s : Source) (sound : AreNamesSound s) (numbers : LabelNumbers) where
           record { lock = k.0; from = refl; conferred = h.conferred; to = refl },
         ),
     λ r.
-        let e = r.4 in
-        let k = lock_of e.lock in
-        let label = domain_label t e.lock.domain in
-        let domain = domain_of (hierarchy_of s) k.0.leaf in
+        let e = r.4 in let k = lock_of e.lock in
+        let label = domain_label t e.lock.domain in let domain = domain_of (hierarchy_of s) k.0.leaf in
         record {
           lock = k.0;
           from_is = path_is t apart r.0 label p domain e.from r.2 k.1;

@@ -44,49 +44,44 @@ module _ (s : Source) (numbers : LabelNumbers) where
   pub device_is : AreNamesSound s → (x : Placed) (n : ℕ) → slice_get (leaves (hierarchy_of s)) n ≡ Some x
       → device_at (hierarchy_of s) x.path ≡ is_hardware (hierarchy_of s) x.part
   device_is sound x n e =
-      let h = hierarchy_of s in
-      let stands = (leaves_stand s sound x).0 (in_get (leaves h) n x e) in
+      let h = hierarchy_of s in let stands = (leaves_stand s sound x).0 (in_get (leaves h) n x e) in
       ap (λ z. option_map_or (λ k. option_map_or is_device (body h k).component false) z false)
       (at_part h (top_number h) x.path x.part stands.0)
 
   pub leaf_named : AreNamesSound s → (x : Placed) (n : ℕ) → slice_get (leaves (hierarchy_of s)) n ≡ Some x
       → let t = tables_with s numbers in IsNamed t (leaf_label t n) (owner (hierarchy_of s) x.path)
   leaf_named sound x n e =
-      let h = hierarchy_of s in
-      let t = tables_with s numbers in
+      let h = hierarchy_of s in let t = tables_with s numbers in
       let here = leaf_here x n e in
       let label : leaf_label t n ≡ option_label t n (Some (leaf_of h x)) = ap (option_label t n) here in
       let device = device_is sound x n e in
-      by_test (is_hardware h x.part) refl here label device
-    where
-      by_test : (b : Bool) → is_hardware (hierarchy_of s) x.part ≡ b
-          → slice_get (flat_of s).leaves n ≡ Some (leaf_of (hierarchy_of s) x)
-          → leaf_label (tables_with s numbers) n ≡ option_label (tables_with s numbers) n (Some (leaf_of (hierarchy_of s) x))
-          → device_at (hierarchy_of s) x.path ≡ is_hardware (hierarchy_of s) x.part
-          → IsNamed (tables_with s numbers) (leaf_label (tables_with s numbers) n) (owner (hierarchy_of s) x.path)
-      by_test true hard here label device =
-          let h = hierarchy_of s in
-          let t = tables_with s numbers in
-          let none : (leaf_of h x).domain ≡ None = ap (λ b. cond b None (Some (domain_number h (domain_of h x.path)))) hard in
-          let own : owner h x.path ≡ x.path = ap (λ b. cond b x.path (domain_of h x.path)) (device ∙ hard) in
-          record {
-            labelled = OfLeaf n;
-            there = (leaf_of h x, here, none, sym own);
-            is = label ∙ ap (λ b. option_label t n (Some (record (leaf_of h x) { domain = b }))) none;
-          }
-      by_test false soft here label device =
-          let h = hierarchy_of s in
-          let t = tables_with s numbers in
-          let d = domain_of h x.path in
-          let some : (leaf_of h x).domain ≡ Some (domain_number h d) =
-          ap (λ b. cond b None (Some (domain_number h (domain_of h x.path)))) soft in
-          let own : owner h x.path ≡ d = ap (λ b. cond b x.path (domain_of h x.path)) (device ∙ soft) in
-          let at = domain_found h d ((domains_are h d).1 (x, in_get (leaves h) n x e, soft, refl)) in
-          record {
-            labelled = OfDomain (domain_number h d);
-            there = (flat_domain h d, get_map (flat_domain h) (domains h) (domain_number h d) d at, sym own);
-            is = label ∙ ap (λ b. option_label t n (Some (record (leaf_of h x) { domain = b }))) some;
-          }
+      by_test (is_hardware h x.part) refl here label device where
+        by_test : (b : Bool) → is_hardware (hierarchy_of s) x.part ≡ b
+            → slice_get (flat_of s).leaves n ≡ Some (leaf_of (hierarchy_of s) x)
+            → leaf_label (tables_with s numbers) n ≡ option_label (tables_with s numbers) n (Some (leaf_of (hierarchy_of s) x))
+            → device_at (hierarchy_of s) x.path ≡ is_hardware (hierarchy_of s) x.part
+            → IsNamed (tables_with s numbers) (leaf_label (tables_with s numbers) n) (owner (hierarchy_of s) x.path)
+        by_test true hard here label device =
+            let h = hierarchy_of s in let t = tables_with s numbers in
+            let none : (leaf_of h x).domain ≡ None = ap (λ b. cond b None (Some (domain_number h (domain_of h x.path)))) hard in
+            let own : owner h x.path ≡ x.path = ap (λ b. cond b x.path (domain_of h x.path)) (device ∙ hard) in
+            record {
+              labelled = OfLeaf n;
+              there = (leaf_of h x, here, none, sym own);
+              is = label ∙ ap (λ b. option_label t n (Some (record (leaf_of h x) { domain = b }))) none;
+            }
+        by_test false soft here label device =
+            let h = hierarchy_of s in let t = tables_with s numbers in
+            let d = domain_of h x.path in
+            let some : (leaf_of h x).domain ≡ Some (domain_number h d) =
+            ap (λ b. cond b None (Some (domain_number h (domain_of h x.path)))) soft in
+            let own : owner h x.path ≡ d = ap (λ b. cond b x.path (domain_of h x.path)) (device ∙ soft) in
+            let at = domain_found h d ((domains_are h d).1 (x, in_get (leaves h) n x e, soft, refl)) in
+            record {
+              labelled = OfDomain (domain_number h d);
+              there = (flat_domain h d, get_map (flat_domain h) (domains h) (domain_number h d) d at, sym own);
+              is = label ∙ ap (λ b. option_label t n (Some (record (leaf_of h x) { domain = b }))) some;
+            }
 
   pub connection_named : (y : Strung) (k : ℕ) → slice_get (connections (hierarchy_of s)) k ≡ Some y → has_label y.wire.0 ≡ true
       → let t = tables_with s numbers in IsNamed t (connection_label t k) (connection_path y.path y.wire)

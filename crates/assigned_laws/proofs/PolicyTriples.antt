@@ -49,8 +49,7 @@ module _ (s : Source) (names : AreNamesSound s) (spelled : AreSpelled s) (types 
     λ h.
         let r = (assigned_texts s names spelled types from a to).0 h in
         let e : Edge = edge r.0 a r.1 in
-        let f = text_of r.0 from r.2 in
-        let g = text_of r.1 to r.3 in
+        let f = text_of r.0 from r.2 in let g = text_of r.1 to r.3 in
         let same : triple (flat_of s) e ≡ (from, a, to) = rw (f, g) refl in
         subst (λ x. IsIn x (map (triple (flat_of s)) edges)) same
         (in_map (triple (flat_of s)) e edges (has_in e edges ((policy e).1 r.4))),
@@ -59,8 +58,7 @@ module _ (s : Source) (names : AreNamesSound s) (spelled : AreSpelled s) (types 
   -- edges in order are triples in order
   precedes : (d e : Edge) → IsIn d edges → IsIn e edges → Before d e → Precedes (triple (flat_of s) d) (triple (flat_of s) e)
   precedes d e i j before =
-      let flat = flat_of s in
-      let v = lines_of d i in
+      let flat = flat_of s in let v = lines_of d i in
       let w = lines_of e j in
       let from = lines_apart flat d.from e.from (name_at flat d.from) (name_at flat e.from) v.0 w.0 in
       record {
@@ -72,8 +70,7 @@ module _ (s : Source) (names : AreNamesSound s) (spelled : AreSpelled s) (types 
 
   rising : AllPairs Precedes (map (triple (flat_of s)) edges)
   rising i j d l m =
-      let tell = triple (flat_of s) in
-      let all = map tell edges in
+      let tell = triple (flat_of s) in let all = map tell edges in
       let x = from_get_map tell edges i (get_or all i d) (slice_get-get_or all i d (omega (arith, l, m))) in
       let y = from_get_map tell edges j (get_or all j d) (slice_get-get_or all j d m) in
       subst (λ z. Precedes z (get_or all j d)) x.2

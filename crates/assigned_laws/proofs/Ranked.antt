@@ -25,11 +25,10 @@ find_only test (y ∷ ys) zero x at passes only =
     let same : y ≡ x = cc in
     let here : test y ≡ true = ap test same ∙ passes in rw here (ap (λ z. Some z) same)
 find_only {X} test (y ∷ ys) (suc n) x at passes only =
-    go (test y) refl (find_only test ys n x at passes (λ m z f t. let l = only (suc m) z f t in omega (arith, l)))
-  where
-    go : (b : Bool) → test y ≡ b → find test ys ≡ Some x → find test (y ∷ ys) ≡ Some x
-    go true e behind = let l = only 0 y refl e in absurd (omega (arith, l))
-    go false e behind = rw e behind
+    go (test y) refl (find_only test ys n x at passes (λ m z f t. let l = only (suc m) z f t in omega (arith, l))) where
+      go : (b : Bool) → test y ≡ b → find test ys ≡ Some x → find test (y ∷ ys) ≡ Some x
+      go true e behind = let l = only 0 y refl e in absurd (omega (arith, l))
+      go false e behind = rw e behind
 
 -- ---- ranks in texts that rise
 
@@ -113,11 +112,10 @@ listed flat (OfConnection k) p h =
 
 -- a device's leaf has no domain
 none_device : (leaf : Leaf) → is_device leaf.domain ≡ true → leaf.domain ≡ None
-none_device leaf h = by_case leaf.domain h
-  where
-    by_case : (o : _) → is_device o ≡ true → o ≡ None
-    by_case None h = refl
-    by_case (Some d) h = absurd cc
+none_device leaf h = by_case leaf.domain h where
+  by_case : (o : _) → is_device o ≡ true → o ≡ None
+  by_case None h = refl
+  by_case (Some d) h = absurd cc
 
 -- and each text that is listed is a label's
 record Labels (flat : Flat) (text : List ℕ) : Type 0 where
@@ -143,11 +141,10 @@ from_listed flat text i =
             let w = from_where (has_label g.1.connector) (joined g.1.path) text g.3 in
             record { owner = OfConnection g.0; path = g.1.path; has = (g.1, g.2, w.0, refl); text_is = w.1 }
       ]
-    ]
-  where
-    of_domain : (d : ℕ) (x : Domain) → slice_get flat.domains d ≡ Some x → IsIn text (joined x.path ∷ []) → Labels flat text
-    of_domain d x e (inl same) = record { owner = OfDomain d; path = x.path; has = (x, e, refl); text_is = same }
-    of_domain d x e (inr none) = absurd none
+    ] where
+      of_domain : (d : ℕ) (x : Domain) → slice_get flat.domains d ≡ Some x → IsIn text (joined x.path ∷ []) → Labels flat text
+      of_domain d x e (inl same) = record { owner = OfDomain d; path = x.path; has = (x, e, refl); text_is = same }
+      of_domain d x e (inr none) = absurd none
 
 -- ---- numbers of labels
 
@@ -178,8 +175,7 @@ number_place flat x p h =
 -- where texts are apart, numbers are
 pub numbers_apart : (t : Tables) → t.numbers ≡ label_numbers t.flat → AreTextsApart t.flat → AreApart t
 numbers_apart t is apart x y a b e =
-    let p = path_there t.flat x a in
-    let q = path_there t.flat y b in
+    let p = path_there t.flat x a in let q = path_there t.flat y b in
     let same : number_of (label_numbers t.flat) x ≡ number_of (label_numbers t.flat) y = ap (λ z. number_of z x) (sym is) ∙ e
     ∙ ap (λ z. number_of z y) is in
     let both : Some (joined p.0) ≡ Some (joined q.0) = sym (number_place t.flat x p.0 p.1) ∙ ap (slice_get (label_texts t.flat))
@@ -194,13 +190,12 @@ pub line_place : (flat : Flat) (l : ℕ) (text : List ℕ) → IsIn {X = ℕ × 
     → slice_get (label_texts flat) l ≡ Some text
 line_place flat l text i =
     let g = from_gather (λ n t. (n, t) ∷ []) (l, text) (label_texts flat) i in
-    by_case g.0 g.1 g.2 g.3
-  where
-    by_case : (n : ℕ) (t : List ℕ) → slice_get (label_texts flat) n ≡ Some t → IsIn {X = ℕ × List ℕ} (l, text) ((n, t) ∷ [])
-        → slice_get (label_texts flat) l ≡ Some text
-    by_case n t e (inl same) = ap (λ (z : ℕ × List ℕ). slice_get (label_texts flat) z.0) (sym same) ∙ e
-        ∙ ap (λ (z : ℕ × List ℕ). Some z.1) same
-    by_case n t e (inr none) = absurd none
+    by_case g.0 g.1 g.2 g.3 where
+      by_case : (n : ℕ) (t : List ℕ) → slice_get (label_texts flat) n ≡ Some t → IsIn {X = ℕ × List ℕ} (l, text) ((n, t) ∷ [])
+          → slice_get (label_texts flat) l ≡ Some text
+      by_case n t e (inl same) = ap (λ (z : ℕ × List ℕ). slice_get (label_texts flat) z.0) (sym same) ∙ e
+          ∙ ap (λ (z : ℕ × List ℕ). Some z.1) same
+      by_case n t e (inr none) = absurd none
 
 -- a line of the labels has the number that is called by its text
 pub line_called : (t : Tables) → t.numbers ≡ label_numbers t.flat → (l : ℕ) (text : List ℕ)
@@ -228,8 +223,7 @@ called_line t is l text c =
 pub lines_apart : (flat : Flat) (l m : ℕ) (from to : List ℕ) → IsIn {X = ℕ × List ℕ} (l, from) (label_lines flat)
     → IsIn {X = ℕ × List ℕ} (m, to) (label_lines flat) → (l ≡ m) ↔ (from ≡ to)
 lines_apart flat l m from to i j =
-    let ts = label_texts flat in
-    let rises = order_rises (texts flat) in
+    let ts = label_texts flat in let rises = order_rises (texts flat) in
     let e = line_place flat l from i in
     let f = line_place flat m to j in (
       λ same. let both : Some from ≡ Some to = sym e ∙ ap (slice_get ts) same ∙ f in let text : from ≡ to = cc in text,
@@ -256,12 +250,11 @@ lines_rise flat l m from to i j less =
 
 pub lines_fall : (flat : Flat) (l m : ℕ) (from to : List ℕ) → IsIn {X = ℕ × List ℕ} (l, from) (label_lines flat)
     → IsIn {X = ℕ × List ℕ} (m, to) (label_lines flat) → l ≤ m → comes_before to from ≡ false
-lines_fall flat l m from to i j most = by_test (ltb l m) refl
-  where
-    by_test : (b : Bool) → ltb l m ≡ b → comes_before to from ≡ false
-    by_test true e = not_behind to from (rising_places (label_texts flat) l m from to (order_rises (texts flat))
-        (line_place flat l from i) (line_place flat m to j) (ltb-true l m e))
-    by_test false e =
-        let least = ltb-false l m e in
-        let same : l ≡ m = omega (arith, most, least) in
-        ap (λ z. comes_before z from) (sym ((lines_apart flat l m from to i j).0 same)) ∙ not_itself from
+lines_fall flat l m from to i j most = by_test (ltb l m) refl where
+  by_test : (b : Bool) → ltb l m ≡ b → comes_before to from ≡ false
+  by_test true e = not_behind to from (rising_places (label_texts flat) l m from to (order_rises (texts flat))
+      (line_place flat l from i) (line_place flat m to j) (ltb-true l m e))
+  by_test false e =
+      let least = ltb-false l m e in
+      let same : l ≡ m = omega (arith, most, least) in
+      ap (λ z. comes_before z from) (sym ((lines_apart flat l m from to i j).0 same)) ∙ not_itself from

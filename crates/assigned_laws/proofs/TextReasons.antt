@@ -25,8 +25,7 @@ module _ (s : Source) (sound : AreNamesSound s) (spelled : AreSpelled s) where
         let r = (join h.0 h.1).0 h.4 in
         (r.0, r.1, called_line t refl r.0 from (h.0, r.2, h.2), called_line t refl r.1 to (h.1, r.3, h.3), r.4),
     λ r.
-        let p = line_called t refl r.0 from r.2 in
-        let q = line_called t refl r.1 to r.3 in
+        let p = line_called t refl r.0 from r.2 in let q = line_called t refl r.1 to r.3 in
         (p.0, q.0, p.2, q.2, (join p.0 q.0).1 (r.0, r.1, p.1, q.1, r.4)),
   )
 

@@ -1,10 +1,11 @@
 -- What a label may do at boot that isn't Control, Read, Write or a signal of its interrupt, it holds in a CNode.
+use Rattle.std.proofs.Common.{rules}
 use Rattle.reach_laws.proofs.Common.{AsyncSend, Auth, Authority, Bool, Cap, Contains, Control, Entry, Held, Kind, List, None, Object, Option, Read, Rights, Some, Spec, Structural, Write, and_parts, ap, arith, boot, buffer_of, confers, contains_at}
-use Rattle.reach_laws.proofs.Common.{entry_object, false, get_or_from_slice_get, inl, inr, irq_at, is_at, is_kind, is_space_root, kind_at, kind_confers, label_of, list_all, nat_lt, none_saved, nothing_pending, object_at, of_buffer, of_irq, of_mapped}
+use Rattle.reach_laws.proofs.Common.{entry_object, false, get_or_from_slice_get, inl, inr, irq_at, is_kind, is_space_root, kind_confers, label_of, list_all, nat_lt, none_saved, nothing_pending, object_at, of_buffer, of_irq, of_mapped}
 use Rattle.reach_laws.proofs.Common.{of_reply, of_root, of_saved, of_space, of_table, option_confers, refl, same_kind, slice_get_within, subst, sym, table_of, true, true≢false, ℕ, ◌&&◌, ◌∙◌, ◌≡◌, ◌≢◌, ◌⊎◌}
 use Rattle.std.proofs.Common.{slice_get}
 use Rattle.std.proofs.lemmas.List.Sums.{AllPass-from_list_all}
-use Rattle.cap_model.specs.Kept.{IsKept, fits, fits_as, if_any, keeps, keeps_table, rise}
+use Rattle.cap_model.specs.Kept.{IsKept, fits_as, if_any, keeps, keeps_table, rise}
 use Rattle.cap_model.specs.Levels.{child, size}
 use Rattle.cap_model.specs.declared.kind.Kind.TheVariants as kinds
 use Rattle.cap_model.specs.declared.level.Level.{Level}
@@ -59,9 +60,7 @@ module _ (spec : Spec) (labels : List ℕ) (kept : IsKept spec) where
 
   cap_memory : (cap : Cap) (level : Level) (a : Authority) → fits_as spec (child level) cap ≡ true → confers spec cap a ≡ true
       → is_of_memory a ≡ true
-  cap_memory cap level a h c =
-      option_memory (kind_at spec cap.object) cap.rights level a (and_parts (is_at spec (child level) cap.object)
-      (fits spec cap) h).0 c
+  cap_memory cap level a h c = search (rules, option_memory, and_parts)
 
   -- IPC buffers are frames
   buffer_memory : (o : Option Object) (t : ℕ) (cap : Cap) (a : Authority) → object_at spec t ≡ o → buffer_of o ≡ Some cap

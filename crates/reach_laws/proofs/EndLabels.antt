@@ -1,5 +1,6 @@
 -- The labels of ends and locks.
-use Rattle.reach_laws.proofs.Common.{AreApart, Bool, Connector, EndAt, From, Handles, Interrupt, IsEnd, IsFlat, IsThere, Leaf, LockAt, Role, Some, Tables, To, ap, connection_label, domain_label, false, has_label, is_at_device, leaf_label, number_of}
+use Rattle.std.proofs.Common.{rules}
+use Rattle.reach_laws.proofs.Common.{AreApart, Bool, Connector, EndAt, From, Handles, Interrupt, IsEnd, IsFlat, IsThere, Leaf, LockAt, Role, Some, Tables, ap, connection_label, domain_label, false, has_label, is_at_device, leaf_label, number_of}
 use Rattle.reach_laws.proofs.Common.{owner_in, refl, slice_get, sym, true, ℕ, ◌∙◌, ◌≡◌}
 use Rattle.std.specs.Option.{option_map_or}
 use Rattle.arch_policy.specs.declared.owner.Owner.TheVariants.{OfDomain, OfConnection, OfLeaf}
@@ -22,9 +23,7 @@ rule_of_end c r d q b e f h = ap (λ x. (end_rule x r).hardware) e ∙ ap (λ x.
 
 module _ (t : Tables) where
   pub same_connection : (x y : EndAt t.flat) → y.place ≡ x.place → y.connection ≡ x.connection
-  same_connection x y e =
-      let both : Some y.connection ≡ Some x.connection = sym y.here ∙ ap (λ z. slice_get t.flat.connections z) e ∙ x.here in
-      cc
+  same_connection x y e = cc
 
   -- the label of a leaf that is found
   pub label_of_leaf : (l : ℕ) (leaf : Leaf) → slice_get t.flat.leaves l ≡ Some leaf
@@ -35,8 +34,7 @@ module _ (t : Tables) (flat : IsFlat t.source t.flat) where
   -- an end of software is of a leaf of a domain
   pub domain_end : (x : EndAt t.flat) → is_at_device x ≡ false → IsDomains t (leaf_label t x.end.leaf)
   domain_end x soft =
-      let j = flat.joined x in
-      let d = flat.software x j.leaf soft j.here in
+      let j = flat.joined x in let d = flat.software x j.leaf soft j.here in
       let l = flat.listed x.end.leaf d.0 j.leaf j.here d.1 in
       record {
         domain = d.0;
@@ -51,16 +49,12 @@ module _ (t : Tables) (flat : IsFlat t.source t.flat) where
 
   -- an end at a device has the label of its leaf
   pub own_label : (x : EndAt t.flat) → is_at_device x ≡ true → leaf_label t x.end.leaf ≡ number_of t.numbers (OfLeaf x.end.leaf)
-  own_label x hard =
-      let j = flat.joined x in
-      let none = flat.hardware x j.leaf hard j.here in
-      label_of_leaf t x.end.leaf j.leaf j.here ∙ ap (λ z. number_of t.numbers (owner_in x.end.leaf z)) none
+  own_label x hard = search (rules, label_of_leaf)
 
   -- which is the device's
   pub device_end : (x : EndAt t.flat) → is_at_device x ≡ true → IsDevices t (leaf_label t x.end.leaf)
   device_end x hard =
-      let j = flat.joined x in
-      let none = flat.hardware x j.leaf hard j.here in
+      let j = flat.joined x in let none = flat.hardware x j.leaf hard j.here in
       record { device = x.end.leaf; there = (j.leaf, j.here, none); is = own_label x hard }
 
   -- the `from` end of an interrupt is a device's
@@ -71,14 +65,10 @@ module _ (t : Tables) (flat : IsFlat t.source t.flat) where
   lock_domain k = let l = flat.listed k.leaf k.domain k.found k.here k.inside in (l.0, l.1)
 
   pub handler_domain : {l d : ℕ} (h : Handles t l d) → IsDomains t l
-  handler_domain h =
-      let w = end_domain Interrupt To h.handler h.handles refl in
-      record { domain = w.domain; there = w.there; is = h.label_is ∙ w.is }
+  handler_domain h = search (rules, end_domain)
 
   pub source_device : {l d : ℕ} (h : Handles t l d) → IsDevices t d
-  source_device h =
-      let w = end_device h.source h.interrupts in
-      record { device = w.device; there = w.there; is = h.device_is ∙ w.is }
+  source_device h = search (rules, end_device)
 
 module _ (t : Tables) (apart : AreApart t) where
   pub domain_no_device : {l : ℕ} → IsDomains t l → IsDevices t l → ⊥

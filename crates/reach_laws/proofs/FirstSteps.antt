@@ -66,8 +66,7 @@ module _ (spec : Spec) (labels : List ℕ) (laid : IsArranged spec labels) where
   pub call_reached : (s e r : ℕ) → Held spec labels (boot spec) s Call e → Held spec labels (boot spec) r Receive e → s ≢ r
       → Reaches spec labels r Reply s
   call_reached s e r (c, i, to, there, confer, from_is, to_is) (d, j, from, here, hear, by_is, at_is) differ =
-      let t = laid.rooted c i to there in
-      let u = laid.rooted d j from here in
+      let t = laid.rooted c i to there in let u = laid.rooted d j from here in
       let call = calls_by (kind_at spec to.object) to.rights confer in
       let receive = receives_by (kind_at spec from.object) from.rights hear in
       let endpoint : is_at spec Endpoint to.object ≡ true = at_kind to.object Endpoint call.0 refl in
@@ -129,8 +128,7 @@ module _ (spec : Spec) (labels : List ℕ) (laid : IsArranged spec labels) where
       let own : Holds spec c j cap = subst (λ x. Holds spec x j cap) one here in
       let t = laid.rooted c i irq there in
       let handle = handles_by (kind_at spec irq.object) irq.rights confer in
-      let send = signals_by (kind_at spec cap.object) cap.rights signal in
-      let b = boot spec in
+      let send = signals_by (kind_at spec cap.object) cap.rights signal in let b = boot spec in
       let new : State = record b { irqs = slice_set b.irqs irq.object (Some cap.object) } in
       let long : irq.object < length b.irqs = rw (length-map spec.entries (λ (x : Entry). boot_irq x.object))
       (kind_in irq.object Irq handle) in (

@@ -1,4 +1,5 @@
 -- The certificate of a system is the least valid one.
+use Rattle.std.proofs.Common.{rules}
 use Rattle.reach_laws.proofs.Common.{AreApart, AsyncSend, Auth, Authority, Edge, Has, Held, IsCertificateOf, IsFlat, IsLaidOut, IsLockEdge, List, Reason, Receive, Reply, Spec, Tables, Valid, ap, boot, by_bind, by_call, by_direct, by_lock}
 use Rattle.reach_laws.proofs.Common.{connection_label, edge, inl, inr, leaf_label, refl, subst, sym, ℕ, ◌∙◌, ◌≡◌, ◌≢◌}
 use Rattle.reach_laws.proofs.Reached.{calls, handles, receives, signals}
@@ -18,8 +19,7 @@ module _ (t : Tables) (spec : Spec) (labels : List ℕ) (flat : IsFlat t.source 
   has_reason : (l : ℕ) (a : Authority) (m : ℕ) → l ≢ m → Reason t (edge l a m) → Has other l a m
   has_reason l a m differ (by_direct d) = has_boot l a m differ ((laid.direct l a m differ).1 d)
   has_reason l a m differ (by_call c) =
-      let s = leaf_label t c.caller.end.leaf in
-      let r = leaf_label t c.server.end.leaf in
+      let s = leaf_label t c.caller.end.leaf in let r = leaf_label t c.server.end.leaf in
       let e = connection_label t c.caller.place in
       let hear : Has other r Receive e =
       v.boot_held r Receive e (subst (λ z. Held spec labels (boot spec) r Receive z) (ap (connection_label t) c.same)
@@ -43,7 +43,4 @@ pub least : (t : Tables) (spec : Spec) (labels : List ℕ) (cert : List Edge) �
     → IsLaidOut t spec labels → IsCertificateOf t cert
     → (policy other : List Edge) → Valid spec labels policy other → (l : ℕ) (a : Authority) (m : ℕ) → Has cert l a m
     → Has other l a m
-least t spec labels cert flat apart laid is_cert policy other v l a m h = elim ((is_cert (edge l a m)).0 h) [
-  | inl r ↦ has_reason t spec labels flat apart laid policy other v l a m r.differ r.reason
-  | inr k ↦ has_own t spec labels flat apart laid policy other v l a m k
-]
+least t spec labels cert flat apart laid is_cert policy other v l a m h = search (rules, has_reason, has_own)

@@ -1,4 +1,5 @@
 -- Every system has a certificate: the assigned edges, and those of locks.
+use Rattle.std.proofs.Common.{rules}
 use Rattle.reach_laws.proofs.Common.{AsyncSend, Authority, Edge, IsCertificateOf, IsLockEdge, Leaf, List, LockAt, None, Notification, Option, RW, Some, Tables, an_authority, ap, domain_label, edge, inl, inr, kind_confers, list_any, listed, lock_edge}
 use Rattle.reach_laws.proofs.Common.{lock_edges, lock_of_member, refl, slice_get, subst, sym, triples, true, ℕ, ◌++◌, ◌∙◌, ◌≡◌}
 use Rattle.adl_ast.specs.declared.component.Member.TheVariants as members
@@ -21,16 +22,10 @@ abbrev pub certificate : Tables → List Edge
 certificate t = triples t ++ own_edges t
 
 from_own : (l : ℕ) (e : Edge) → IsIn e (own_at l) → (a : Authority) × (kind_confers Notification RW a ≡ true) × (edge l a l ≡ e)
-from_own l e i =
-    let g = from_gather (λ i a. where_true (kind_confers Notification RW a) (edge l a l)) e authorities i in
-    let w = from_where (kind_confers Notification RW g.1) (edge l g.1 l) e g.3 in
-    (g.1, w.0, w.1)
+from_own l e i = search (rules, from_gather, from_where)
 
 in_own : (l : ℕ) (a : Authority) → kind_confers Notification RW a ≡ true → IsIn (edge l a l) (own_at l)
-in_own l a h =
-    let p = place_of a authorities (an_authority a) in
-    in_gather (λ i a. where_true (kind_confers Notification RW a) (edge l a l)) (edge l a l) authorities p.0 a p.1
-    (in_where (kind_confers Notification RW a) (edge l a l) h)
+in_own l a h = search (rules, place_of, an_authority, in_gather, in_where)
 
 module _ (t : Tables) where
   record Locked (l : ℕ) : Type 0 where
@@ -41,30 +36,28 @@ module _ (t : Tables) where
   from_lock s i =
       let g = from_gather (λ l (leaf : Leaf). lock_edge t leaf.domain (list_any is_lock (members_at t.source leaf.component))) s
       t.flat.leaves i in
-      go g.0 g.1 g.2 g.1.domain refl g.3
-    where
-      go : (k : ℕ) (leaf : Leaf) → slice_get t.flat.leaves k ≡ Some leaf → (o : Option ℕ) → leaf.domain ≡ o
-          → IsIn s (lock_edge t o (list_any is_lock (members_at t.source leaf.component))) → Locked s.from
-      go k leaf h None e i = absurd i
-      go k leaf h (Some d) e i =
-          let w = from_where (list_any is_lock (members_at t.source leaf.component))
-          (edge (domain_label t d) AsyncSend (domain_label t d)) s i in
-          let x = from_any is_lock (members_at t.source leaf.component) w.0 in
-          let p = place_of x.0 (members_at t.source leaf.component) x.1 in
-          let y = lock_of_member x.0 x.2 in
-          record {
-            lock = record {
-              leaf = k;
-              found = leaf;
-              here = h;
-              domain = d;
-              inside = e;
-              member = p.0;
-              lock = y.0;
-              declared = p.1 ∙ ap (λ z. Some z) y.1;
-            };
-            is = ap (λ (z : Edge). z.from) (sym w.1);
-          }
+      go g.0 g.1 g.2 g.1.domain refl g.3 where
+        go : (k : ℕ) (leaf : Leaf) → slice_get t.flat.leaves k ≡ Some leaf → (o : Option ℕ) → leaf.domain ≡ o
+            → IsIn s (lock_edge t o (list_any is_lock (members_at t.source leaf.component))) → Locked s.from
+        go k leaf h None e i = absurd i
+        go k leaf h (Some d) e i =
+            let w = from_where (list_any is_lock (members_at t.source leaf.component))
+            (edge (domain_label t d) AsyncSend (domain_label t d)) s i in
+            let x = from_any is_lock (members_at t.source leaf.component) w.0 in
+            let p = place_of x.0 (members_at t.source leaf.component) x.1 in let y = lock_of_member x.0 x.2 in
+            record {
+              lock = record {
+                leaf = k;
+                found = leaf;
+                here = h;
+                domain = d;
+                inside = e;
+                member = p.0;
+                lock = y.0;
+                declared = p.1 ∙ ap (λ z. Some z) y.1;
+              };
+              is = ap (λ (z : Edge). z.from) (sym w.1);
+            }
 
   in_lock : (k : LockAt t.source t.flat) → IsIn (edge (domain_label t k.domain) AsyncSend (domain_label t k.domain))
       (lock_edges t)
@@ -79,8 +72,7 @@ module _ (t : Tables) where
   own_listed : (e : Edge) → IsIn e (own_edges t) → IsLockEdge t e
   own_listed e i =
       let g = from_gather (λ i (s : Edge). own_at s.from) e (lock_edges t) i in
-      let k = from_lock g.1 (in_place g.1 (lock_edges t) g.0 g.2) in
-      let w = from_own g.1.from e g.3 in
+      let k = from_lock g.1 (in_place g.1 (lock_edges t) g.0 g.2) in let w = from_own g.1.from e g.3 in
       let own : IsLockEdge t (edge g.1.from w.0 g.1.from) = record { lock = k.lock; from = k.is; conferred = w.1; to = k.is } in
       subst (λ z. IsLockEdge t z) w.2 own
 

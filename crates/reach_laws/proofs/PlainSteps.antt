@@ -1,6 +1,7 @@
 -- From the boot state of a plain spec only plain steps are ever legal.
+use Rattle.std.proofs.Common.{rules}
 use Rattle.reach_laws.proofs.Common.{All, Bool, Cap, Capability, Contains, Kind, List, Node, None, Object, Option, Own, Pending, Run, SavedReply, Some, Spec, State, StepTo, ThreadState, [], and_parts, ap, arith, boot, content_in, dropped, false}
-use Rattle.reach_laws.proofs.Common.{get_or, grown, grown_at, inl, inr, is_at, is_root_object, is_space_root, kind_at, no_node, no_thread, node_at, none_saved, not, nothing_pending, object_at, refl, set, subst, sym, thread_at, true, true≢false}
+use Rattle.reach_laws.proofs.Common.{get_or, grown, grown_at, is_at, is_root_object, is_space_root, kind_at, no_node, no_thread, node_at, none_saved, not, nothing_pending, object_at, refl, set, subst, sym, thread_at, true, true≢false}
 use Rattle.reach_laws.proofs.Common.{waiting, with_pending, without, ℕ, ◌==◌, ◌∙◌, ◌∷◌, ◌≡◌}
 use Rattle.std.proofs.lemmas.Bool.{not-true}
 use Rattle.std.proofs.lemmas.List.Elements.{All-contains, All-push, All-filter, Contains-get_or}
@@ -16,11 +17,7 @@ use Rattle.reach_laws.specs.Plain.{HoldsPlain, IsPlainStep, is_plain, option_pla
 
 each_after_write : {A : Type 0} (P : A → Type 0) (xs : List A) (i : ℕ) (v d : A) → ((k : ℕ) → P (get_or xs k d)) → P v → (k : ℕ)
     → P (get_or (set xs i v) k d)
-each_after_write {A} P xs i v d before here k =
-    elim (read_written xs i k v d) [
-      | inl e ↦ subst (λ (x : A). P x) (sym e) (before k)
-      | inr e ↦ subst (λ (x : A). P x) (sym e.1) here
-    ]
+each_after_write {A} P xs i v d before here k = search (rules, read_written)
 
 abbrev PlainContent : Spec → Content → Type 0
 PlainContent spec (Capability cap) = is_plain spec cap ≡ true
@@ -148,11 +145,10 @@ module _ (spec : Spec) where
   boot_plain holds = record {
     nodes = λ c k d l. each c (get_or (node_at (boot spec) c).slots k d) (Contains-get_or (node_at (boot spec) c).slots k d l);
     threads = λ t reply e. absurd (let w : ◌≡◌ {A = Option Pending} None (Some reply) = sym (nothing_pending spec t) ∙ e in cc);
-  }
-    where
-      each : (c : ℕ) (slot : ℕ × Content) → Contains (node_at (boot spec) c).slots slot → PlainContent spec slot.1
-      each c (i, Capability x) there = holds c i x there
-      each c (i, SavedReply reply) there = absurd (none_saved spec c i reply there)
+  } where
+    each : (c : ℕ) (slot : ℕ × Content) → Contains (node_at (boot spec) c).slots slot → PlainContent spec slot.1
+    each c (i, Capability x) there = holds c i x there
+    each c (i, SavedReply reply) there = absurd (none_saved spec c i reply there)
 
   run_plain : (s new : State) (steps : List Step) → Plain spec s → Run spec s steps new → Plain spec new
   run_plain s new [] plain is = subst (λ (z : State). Plain spec z) (sym is) plain

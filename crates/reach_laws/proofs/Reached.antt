@@ -99,18 +99,16 @@ module _ (t : Tables) (spec : Spec) (labels : List ℕ) (flat : IsFlat t.source 
       let reason : DirectReason t (edge l AsyncSend (connection_label t x.place)) =
       subst (λ z. DirectReason t (edge z AsyncSend (connection_label t x.place))) (sym e) (signaller_reason t x is) in
       held_signal spec labels laid.arranged.kept l (connection_label t x.place) (no_signal (handles l d h))
-      ((laid.direct l AsyncSend _ differ).1 reason)
-    where
-      no_signal : Held spec labels (boot spec) l Handle d → Signals spec labels laid.arranged.kept l → ⊥
-      no_signal (c, i, cap, there, conf, from, to) s = laid.signals c i s.irq s.notification cap there s.bound (sym from ∙ s.is)
+      ((laid.direct l AsyncSend _ differ).1 reason) where
+        no_signal : Held spec labels (boot spec) l Handle d → Signals spec labels laid.arranged.kept l → ⊥
+        no_signal (c, i, cap, there, conf, from, to) s = laid.signals c i s.irq s.notification cap there s.bound (sym from ∙ s.is)
 
   -- ---- what has a reason is reached
 
   by_reason : (l : ℕ) (a : Authority) (m : ℕ) → l ≢ m → Reason t (edge l a m) → Reaches spec labels l a m
   by_reason l a m differ (by_direct d) = ([], boot spec, refl, (laid.direct l a m differ).1 d)
   by_reason l a m differ (by_call c) =
-      let s = leaf_label t c.caller.end.leaf in
-      let r = leaf_label t c.server.end.leaf in
+      let s = leaf_label t c.caller.end.leaf in let r = leaf_label t c.server.end.leaf in
       let e = connection_label t c.caller.place in
       let hear : Held spec labels (boot spec) r Receive e = subst (λ z. Held spec labels (boot spec) r Receive z)
       (ap (connection_label t) c.same) (receives c.server c.serves) in

@@ -1,4 +1,5 @@
 -- The certificate of a system keeps the rules.
+use Rattle.std.proofs.Common.{rules}
 use Rattle.reach_laws.proofs.Common.{AreApart, AsyncSend, AtOtherEnd, Authority, Call, Connector, Control, DirectReason, Edge, EndAt, From, Grant, GrantBack, Handle, Handles, Has, Held, IsCertificateOf, IsEnd, IsFlat, IsLaidOut, IsLockEdge}
 use Rattle.reach_laws.proofs.Common.{IsPolicyOf, IsReasoned, LeadsTo, List, ObjectKind, OfEndpoint, OfNotification, RW, Reason, Receive, Reply, Role, Rpc, Spec, Structural, Tables, Valid, ap, boot, by_bind, by_call, by_direct, by_lock, cases_eq}
 use Rattle.reach_laws.proofs.Common.{connection_label, edge, gives, has_label, inl, inr, kind_confers, leaf_label, opposite, refl, subst, sym, true, true≢false, ℕ, ◌∙◌, ◌≡◌, ◌≢◌, ◌⊎◌}
@@ -50,16 +51,7 @@ module _ (t : Tables) (spec : Spec) (labels : List ℕ) (policy : List Edge) (ce
   -- an authority that no end is given, and none comes to
   never : (l : ℕ) (a : Authority) (m : ℕ) → ((c : Connector) (r : Role) (o : ObjectKind) → gives c r o a ≡ true → ⊥) → a ≢ Reply
       → a ≢ AsyncSend → kind_confers kinds.Notification RW a ≢ true → Has cert l a m → ⊥
-  never l a m none no_reply no_signal no_lock h = elim (have l a m h) [
-    | inl r ↦ by_reason r.reason
-    | inr k ↦ no_lock k.conferred
-  ]
-    where
-      by_reason : Reason t (edge l a m) → ⊥
-      by_reason (by_direct d) = none d.at.connection.connector d.at.end.role d.object d.given
-      by_reason (by_call c) = no_reply c.authority
-      by_reason (by_bind b) = no_signal b.authority
-      by_reason (by_lock b) = no_signal b.authority
+  never l a m none no_reply no_signal no_lock h = search (rules, have)
 
   no_controls : (l m : ℕ) → Has cert l Control m → ⊥
   no_controls l m h = never l Control m no_control (λ e. cc) (λ e. cc) (λ e. true≢false (sym e)) h
@@ -146,8 +138,7 @@ module _ (t : Tables) (spec : Spec) (labels : List ℕ) (policy : List Edge) (ce
 
   bind : (s d n : ℕ) → Has cert s Handle d → Has cert s AsyncSend n → d ≢ n → Has cert d AsyncSend n
   bind s d n h k differ =
-      let g = handler_of s d h in
-      let mine = handler_domain t flat g in
+      let g = handler_of s d h in let mine = handler_domain t flat g in
       elim (have s AsyncSend n k) [
         | inl r ↦ by_reason g mine r.reason
         | inr lock ↦
@@ -158,40 +149,36 @@ module _ (t : Tables) (spec : Spec) (labels : List ℕ) (policy : List Edge) (ce
               has = lock.to;
               authority = refl;
             }))
-      ]
-    where
-      by_reason : Handles t s d → IsDomains t s → Reason t (edge s AsyncSend n) → Has cert d AsyncSend n
-      by_reason g mine (by_direct f) =
-          let w = who_signals f.at.connection.connector f.at.end.role f.object f.given in
-          elim w.0 [
-            | inl notifies ↦ reasoned d AsyncSend n differ (by_bind (record {
-              label = s;
-              handles = g;
-              signaller = f.at;
-              signals = record { connector = notifies; role = w.1 };
-              same = f.from;
-              authority = refl;
-              to = receiver_leads t f.at f.object n (inr w.2) f.to;
-            }))
-            | inr interrupt ↦
-                let device = end_device t flat f.at (record { connector = interrupt; role = w.1 }) in
-                absurd (domain_no_device t apart mine (record {
-                  device = device.device;
-                  there = device.there;
-                  is = f.from ∙ device.is;
-                }))
-          ]
-      by_reason g mine (by_call c) = absurd (let w = c.authority in cc)
-      by_reason g mine (by_bind b) = absurd (domain_no_device t apart mine (source_device t flat b.handles))
-      by_reason g mine (by_lock b) = absurd (domain_no_device t apart mine (source_device t flat b.handles))
+      ] where
+        by_reason : Handles t s d → IsDomains t s → Reason t (edge s AsyncSend n) → Has cert d AsyncSend n
+        by_reason g mine (by_direct f) =
+            let w = who_signals f.at.connection.connector f.at.end.role f.object f.given in
+            elim w.0 [
+              | inl notifies ↦ reasoned d AsyncSend n differ (by_bind (record {
+                label = s;
+                handles = g;
+                signaller = f.at;
+                signals = record { connector = notifies; role = w.1 };
+                same = f.from;
+                authority = refl;
+                to = receiver_leads t f.at f.object n (inr w.2) f.to;
+              }))
+              | inr interrupt ↦
+                  let device = end_device t flat f.at (record { connector = interrupt; role = w.1 }) in
+                  absurd (domain_no_device t apart mine (record {
+                    device = device.device;
+                    there = device.there;
+                    is = f.from ∙ device.is;
+                  }))
+            ]
+        by_reason g mine (by_call c) = absurd (let w = c.authority in cc)
+        by_reason g mine (by_bind b) = absurd (domain_no_device t apart mine (source_device t flat b.handles))
+        by_reason g mine (by_lock b) = absurd (domain_no_device t apart mine (source_device t flat b.handles))
 
   -- ---- the policy
 
   in_policy : (l : ℕ) (a : Authority) (m : ℕ) → Has cert l a m → l ≢ m → Has policy l a m
-  in_policy l a m h differ = elim (have l a m h) [
-    | inl r ↦ (is_policy (edge l a m)).1 r
-    | inr k ↦ absurd (differ (k.from ∙ sym k.to))
-  ]
+  in_policy l a m h differ = search (rules, have)
 
   pub valid : Valid spec labels policy cert
   valid = record {

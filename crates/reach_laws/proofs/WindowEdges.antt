@@ -1,4 +1,5 @@
 -- The edges of page tables between different labels are what ends at memory are given directly.
+use Rattle.std.proofs.Common.{rules}
 use Rattle.reach_laws.proofs.Common.{Authority, Cap, Connector, DirectReason, EndAt, Frame, LeadsTo, List, ObjectKind, OfTable, Option, Read, Role, Spec, Tables, Write, ap, confers, edge, gives, implied, implies, inl, inr, kind_confers, leaf_label}
 use Rattle.reach_laws.proofs.Common.{leaves, option_confers, over_object, refl, subst, sym, true, true≢false, ℕ, ◌∙◌, ◌≡◌, ◌≢◌, ◌⊎◌}
 use Rattle.adl_meaning.specs.declared.settled.EndSetting.{EndSetting}
@@ -44,31 +45,10 @@ module _ (t : Tables) (spec : Spec) (labels : List ℕ) (w : HasWindows t spec l
   page_edge : (x : EndAt t.flat) (o : ObjectKind) (l : ℕ) (a : Authority) (m : ℕ) → l ≡ leaf_label t x.end.leaf
       → HasPage t spec labels x o m → kind_confers Frame (window_rights (setting_of t.settled x.place x.number)) a ≡ true
       → OfTable spec labels l a m
-  page_edge x o l a m from h k = (
-    h.table,
-    h.slot,
-    h.cap,
-    h.there,
-    confers_as x o h.table h.cap a h.page ∙ k,
-    from
-        ∙ sym h.page.from,
-    sym h.is,
-  )
+  page_edge x o l a m from h k = search (rules, confers_as)
 
   -- Read and Write are given over memory
   pub direct_table : (l m : ℕ) (a : Authority) → (a ≡ Read) ⊎ (a ≡ Write) → DirectReason t (edge l a m)
       → OfTable spec labels l a m
-  direct_table l m a (inl e) d =
-      let given : gives d.at.connection.connector d.at.end.role d.object Read ≡ true =
-      subst (λ z. gives d.at.connection.connector d.at.end.role d.object z ≡ true) e d.given in
-      let left : leaves (setting_of t.settled d.at.place d.at.number) Read ≡ true =
-      subst (λ z. leaves (setting_of t.settled d.at.place d.at.number) z ≡ true) e d.left in
-      subst (λ z. OfTable spec labels l z m) (sym e)
-      (page_edge d.at d.object l Read m d.from (w.every d.at d.object m given d.to) left)
-  direct_table l m a (inr e) d =
-      let given : gives d.at.connection.connector d.at.end.role d.object Write ≡ true =
-      subst (λ z. gives d.at.connection.connector d.at.end.role d.object z ≡ true) e d.given in
-      let left : leaves (setting_of t.settled d.at.place d.at.number) Write ≡ true =
-      subst (λ z. leaves (setting_of t.settled d.at.place d.at.number) z ≡ true) e d.left in
-      subst (λ z. OfTable spec labels l z m) (sym e) (page_edge d.at d.object l Write m d.from
-      (w.every d.at d.object m (writes_reads d.at.connection.connector d.at.end.role d.object given) d.to) left)
+  direct_table l m a (inl e) d = search (rules, page_edge)
+  direct_table l m a (inr e) d = search (rules, page_edge, writes_reads)

@@ -5,10 +5,7 @@ pub behind : {X Y : Type 0} (f : ℕ → X → List Y) (xs : List X) (a b : ℕ)
     → before f xs a + length (f a x) ≤ before f xs b
 behind f [] a b x e l = cc
 behind f (y ∷ xs) a zero x e l = absurd (omega (arith, l))
-behind {X} f (y ∷ xs) zero (suc b) x e l =
-    let same : x ≡ y = cc in
-    let here : length (f 0 x) ≡ length (f 0 y) = ap (λ z. length (f 0 z)) same in
-    omega (arith, here, length_append (f 0 y) (gather (λ n z. f (suc n) z) (take b xs)))
+behind {X} f (y ∷ xs) zero (suc b) x e l = grind (arith, length_append)
 behind {X} f (y ∷ xs) (suc a) (suc b) x e l =
     let g : ℕ → X → List _ = λ n z. f (suc n) z in
     let ih = behind g xs a b x e (omega (arith, l)) in
@@ -17,10 +14,7 @@ behind {X} f (y ∷ xs) (suc a) (suc b) x e l =
 pub inside : {X Y : Type 0} (f : ℕ → X → List Y) (xs : List X) (a : ℕ) (x : X) → slice_get xs a ≡ Some x
     → before f xs a + length (f a x) ≤ length (gather f xs)
 inside f [] a x e = cc
-inside f (y ∷ xs) zero x e =
-    let same : x ≡ y = cc in
-    let here : length (f 0 x) ≡ length (f 0 y) = ap (λ z. length (f 0 z)) same in
-    omega (arith, here, length_append (f 0 y) (gather (λ n z. f (suc n) z) xs))
+inside f (y ∷ xs) zero x e = grind (arith, length_append)
 inside {X} f (y ∷ xs) (suc a) x e =
     let g : ℕ → X → List _ = λ n z. f (suc n) z in
     omega (arith, inside g xs a x e, length_append (f 0 y) (gather g (take a xs)), length_append (f 0 y) (gather g xs))

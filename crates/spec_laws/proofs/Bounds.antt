@@ -2,7 +2,7 @@
 use Rattle.spec_laws.proofs.Common.{AreDotted, AreFilesShort, AreNamesSound, AreNumbered, AreSound, CanLay, Images, IsBuildable, None, Source, arith, ends_typed, first_flat_fault, first_page_limit, first_setting_fault, first_slot_fault}
 use Rattle.spec_laws.proofs.Common.{first_space_fault, first_type_fault, flat_of, flat_small, given, hierarchy_of, one_assembly, refl, sections_stand, settings_sound, settled_of, spelled_dotted, tables_from, ◌≡◌}
 use Rattle.spec_laws.proofs.SlotBounds.{AreFewSlots, few_slots}
-use Rattle.system_spec.specs.Windowed.{IsWindowed}
+use Rattle.system_spec.specs.Buildable.{IsWindowed}
 use Rattle.spec_laws.proofs.MemorySizes.{addresses_fit, memory_some, pages_fit, registers_are}
 use Rattle.spec_laws.proofs.PageCounts.{few_pages}
 use Rattle.spec_laws.proofs.PartBounds.{buildable}

@@ -9,12 +9,11 @@ use Rattle.spec_laws.proofs.Totals.{total, total_append, totals}
 in_front : (s : ℕ) (x : Mapping) (rs : List (List Mapping))
     → total (λ (r : List Mapping). length r) (put_front s x rs) ≡ 1 + total (λ (r : List Mapping). length r) rs
 in_front s x [] = refl
-in_front s x (r ∷ rs) = by_test (under s x r)
-  where
-    by_test : (b : Bool) → total (λ (r : List Mapping). length r) (cond b ((x ∷ r) ∷ rs) ((x ∷ []) ∷ r ∷ rs)) ≡ 1 + total
-        (λ (r : List Mapping). length r) (r ∷ rs)
-    by_test true = omega arith
-    by_test false = omega arith
+in_front s x (r ∷ rs) = by_test (under s x r) where
+  by_test : (b : Bool) → total (λ (r : List Mapping). length r) (cond b ((x ∷ r) ∷ rs) ((x ∷ []) ∷ r ∷ rs)) ≡ 1 + total
+      (λ (r : List Mapping). length r) (r ∷ rs)
+  by_test true = omega arith
+  by_test false = omega arith
 
 in_runs : (s : ℕ) (xs : List Mapping) → total (λ (r : List Mapping). length r) (runs s xs) ≡ length xs
 in_runs s [] = refl

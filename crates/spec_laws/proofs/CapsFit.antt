@@ -1,6 +1,7 @@
 -- Capabilities of slots fit the objects that they lead to.
+use Rattle.std.proofs.Common.{rules}
 use Rattle.spec_laws.proofs.Common.{Bool, CNodeOf, Cap, Connector, Domain, EndpointOf, FlatConnection, FlatEnd, From, Handler, Interrupt, IrqOf, IsFit, IsIn, IsThere, Kind, List, LockOf, NONE, Notification, NotificationOf, OfEnd}
-use Rattle.spec_laws.proofs.Common.{OwnLock, RW, Rights, Role, Rpc, SlotUse, Some, Tables, To, What, [], and_from, ap, arith, badge_at, bits_from, cap, cond_both, end_in, end_of, end_rights, fits_as, fits_kind, from_gather, gather, inl}
+use Rattle.spec_laws.proofs.Common.{OwnLock, RW, Rights, Role, Rpc, SlotUse, Some, Tables, To, What, [], and_from, ap, arith, badge_at, bits_from, cap, cond_both, end_in, end_of, end_rights, fits_as, from_gather, gather, inl}
 use Rattle.spec_laws.proofs.Common.{inr, is_at, is_kind, joint, joint_by, keeps, keeps_slots, kind_of_object, kind_rights, kind_there, le-leb, least, leb, length, list_all, lt-ltb, nat_lt, object, option_and_then, option_map_or, place, refl}
 use Rattle.spec_laws.proofs.Common.{rights_at, rise, slice_get, slice_get_within, slots_at, spec_of, subst, suc, sym, true, use_cap, uses_at, zero, ℕ, ◌&&◌, ◌+◌, ◌<◌, ◌==◌, ◌^◌, ◌||◌, ◌∙◌, ◌∷◌, ◌≡◌, ◌≤◌, true≢false}
 use Rattle.std.specs.Option.{option_map}
@@ -48,17 +49,13 @@ is_at_of t w kind like h k same = ap (λ x. is_kind x like) (kind_there t w h �
 -- by the kind of the object
 pub fits_of : (t : Tables) (w : What) (kind : Kind) (r : Rights) (b : ℕ) → IsThere t w → kind_of_object (object t w) ≡ kind
     → Suits kind r b → fits (spec_of t) (cap (place t w) r b) ≡ true
-fits_of t w kind r b h k s =
-    ap (λ x. fits_kind x (cap (place t w) r b)) (kind_there t w h ∙ ap (λ z. Some z) k) ∙ and_from (within r (kind_rights kind))
-    (has_badge kind || b == 0) s.0 s.1
+fits_of t w kind r b h k s = search (rules, kind_there, and_from)
 
 -- also as a capability to an object of a kind
 pub fits_as_of : (t : Tables) (w : What) (kind like : Kind) (r : Rights) (b : ℕ) → IsThere t w
     → kind_of_object (object t w) ≡ kind → is_kind (Some kind) like ≡ true → Suits kind r b
     → fits_as (spec_of t) like (cap (place t w) r b) ≡ true
-fits_as_of t w kind like r b h k same s =
-    and_from (is_at (spec_of t) like (place t w)) (fits (spec_of t) (cap (place t w) r b)) (is_at_of t w kind like h k same)
-    (fits_of t w kind r b h k s)
+fits_as_of t w kind like r b h k same s = search (rules, and_from, is_at_of, fits_of)
 
 module _ (t : Tables) where
   abbrev Fits : What → Rights → ℕ → Type 0
@@ -79,34 +76,34 @@ module _ (t : Tables) where
   end_fits k n i =
       subst (λ w. Fits w (rights_at t k n) (badge_at t k n)) (sym (joint_is k i.connection i.here))
       (subst (λ r. Fits (joint_by k i.connection.connector) r (badge_at t k n))
-      (sym (rights_are k n i.connection i.end i.here i.stands)) (by_kind i.connection.connector i.end.role refl i.slot))
-    where
-      by_kind : (x : Connector) (r : Role) → i.connection.connector ≡ x → has_slot x r ≡ true
-          → Fits (joint_by k x) (end_rights x r) (badge_at t k n)
-      by_kind Rpc From q s = fits_of t (EndpointOf k) kinds.Endpoint (end_rights Rpc From) (badge_at t k n) (
-        i.connection,
-        i.here,
-        q,
-      ) refl (refl, refl)
-      by_kind Rpc To q s = fits_of t (EndpointOf k) kinds.Endpoint (end_rights Rpc To) (badge_at t k n) (i.connection, i.here, q)
-          refl (refl, refl)
-      by_kind Notification From q s = fits_of t (NotificationOf k) kinds.Notification (end_rights Notification From)
-          (badge_at t k n) (i.connection, i.here, inl q) refl (refl, refl)
-      by_kind Notification To q s = fits_of t (NotificationOf k) kinds.Notification (end_rights Notification To) (badge_at t k n)
-          (i.connection, i.here, inl q) refl (refl, refl)
-      by_kind Interrupt To q s = fits_of t (NotificationOf k) kinds.Notification (end_rights Interrupt To) (badge_at t k n)
-          (i.connection, i.here, inr q) refl (refl, refl)
-      by_kind _ _ q s = absurd (true≢false (sym s))
+      (sym (rights_are k n i.connection i.end i.here i.stands)) (by_kind i.connection.connector i.end.role refl i.slot)) where
+        by_kind : (x : Connector) (r : Role) → i.connection.connector ≡ x → has_slot x r ≡ true
+            → Fits (joint_by k x) (end_rights x r) (badge_at t k n)
+        by_kind Rpc From q s = fits_of t (EndpointOf k) kinds.Endpoint (end_rights Rpc From) (badge_at t k n) (
+          i.connection,
+          i.here,
+          q,
+        ) refl (refl, refl)
+        by_kind Rpc To q s = fits_of t (EndpointOf k) kinds.Endpoint (end_rights Rpc To) (badge_at t k n)
+            (i.connection, i.here, q)
+            refl (refl, refl)
+        by_kind Notification From q s = fits_of t (NotificationOf k) kinds.Notification (end_rights Notification From)
+            (badge_at t k n) (i.connection, i.here, inl q) refl (refl, refl)
+        by_kind Notification To q s = fits_of t (NotificationOf k) kinds.Notification (end_rights Notification To)
+            (badge_at t k n)
+            (i.connection, i.here, inl q) refl (refl, refl)
+        by_kind Interrupt To q s = fits_of t (NotificationOf k) kinds.Notification (end_rights Interrupt To) (badge_at t k n)
+            (i.connection, i.here, inr q) refl (refl, refl)
+        by_kind _ _ q s = absurd (true≢false (sym s))
 
   module _ (fit : IsFit t) (d : ℕ) (x : Domain) (here : slice_get t.flat.domains d ≡ Some x) where
     use_fits : (n : ℕ) (u : SlotUse) → slice_get (uses_at t d) n ≡ Some u → fits (spec_of t) (use_cap t d n u) ≡ true
-    use_fits n u s = by_use u s (is_use t fit.laid d x here n u s)
-      where
-        by_use : (u : SlotUse) → slice_get (uses_at t d) n ≡ Some u → IsUse t.flat.connections u
-            → fits (spec_of t) (use_cap t d n u) ≡ true
-        by_use (OfEnd k m) s i = end_fits k m i
-        by_use (Handler k m) s i = fits_of t (IrqOf k) kinds.Irq NONE 0 i refl (refl, refl)
-        by_use (OwnLock leaf m) s i = fits_of t (LockOf d n) kinds.Notification RW 0 ((x, here), (leaf, m, s)) refl (refl, refl)
+    use_fits n u s = by_use u s (is_use t fit.laid d x here n u s) where
+      by_use : (u : SlotUse) → slice_get (uses_at t d) n ≡ Some u → IsUse t.flat.connections u
+          → fits (spec_of t) (use_cap t d n u) ≡ true
+      by_use (OfEnd k m) s i = end_fits k m i
+      by_use (Handler k m) s i = fits_of t (IrqOf k) kinds.Irq NONE 0 i refl (refl, refl)
+      by_use (OwnLock leaf m) s i = fits_of t (LockOf d n) kinds.Notification RW 0 ((x, here), (leaf, m, s)) refl (refl, refl)
 
     abbrev bits : ℕ
     bits = bits_for (length (uses_at t d))

@@ -128,7 +128,7 @@ pub use Rattle.page_tables.proofs.Running.{from_runs, in_runs, one_table, tables
 pub use Rattle.page_tables.proofs.Walking.{above, arrives, found_before}
 pub use Rattle.page_tables.specs.Counts.{levels_of, table_count}
 pub use Rattle.page_tables.specs.Fits.{AreShapes}
-pub use Rattle.page_tables.specs.Levels.{IsChild, layer, layers, sizes, slot_of, table_of, tables_of, upper, uppers}
+pub use Rattle.page_tables.specs.Levels.{level_of, IsChild, layer, layers, sizes, slot_of, table_of, tables_of, upper, uppers}
 pub use Rattle.page_tables.specs.Runs.{Ascends, Rises, head_of, heads, put_front, runs, under}
 pub use Rattle.page_tables.specs.Shapes.{AreStacked, shape, shapes, span}
 pub use Rattle.page_tables.specs.Walks.{Arrives, Walk, root_span}
@@ -192,14 +192,13 @@ pub use Rattle.system_spec.proofs.Objects.{in_together, objects_stand, parts_are
 pub use Rattle.system_spec.proofs.Standing.{place_is, stands}
 pub use Rattle.system_spec.proofs.There.{IsThere, by_section, has_part, kind_there, object_there, single, there}
 pub use Rattle.system_spec.specs.Bits.{bits_for, bits_from}
-pub use Rattle.system_spec.specs.Buildable.{IsBuildable}
+pub use Rattle.system_spec.specs.Buildable.{IsBuildable, AreNamed, NamesOneOf}
 pub use Rattle.system_spec.specs.Made.{entry, labels_of, part_label, part_name, spec_of}
 pub use Rattle.system_spec.specs.MapLines.{domain_lines, domain_slots, domain_threads, domain_windows, map_lines, slot_line, slot_lines, thread_line, thread_lines, window_line, window_lines}
 pub use Rattle.system_spec.specs.Names.{level_series, name_of, prefix, root_series}
 pub use Rattle.system_spec.specs.Objects.{badge_at, buffer_cap, by_number, cap, end_rights, first_rights, frame_at, frame_object, joint, joint_by, line_by, lines, object, put_line, rights_at, role_badge, settled_badge, slots_at, tcb, use_cap}
-pub use Rattle.system_spec.specs.Parts.{all_tables, cnodes, domain_locks, domain_tables, domain_tcbs, endpoint, endpoint_by, endpoints, first_of, frame_parts, irq, irq_by, irqs, is_of, level_number, level_of, lock, locks, notification}
+pub use Rattle.system_spec.specs.Parts.{all_tables, cnodes, domain_locks, domain_tables, domain_tcbs, endpoint, endpoint_by, endpoints, first_of, frame_parts, irq, irq_by, irqs, is_of, level_number, lock, locks, notification}
 pub use Rattle.system_spec.specs.Parts.{notification_by, notifications, numbered, of_level, owned, page_mapping, page_rights, page_table, page_tables, part, parts, place, sections, table_part, table_parts, tables_at, tcbs}
-pub use Rattle.system_spec.specs.Ready.{AreNamed, NamesOneOf}
 pub use Rattle.system_spec.specs.Tables.{Tables, arch, component_name, device_place, entry_in, frame_owner, irq_number, irq_owner, leaf_entry, leaf_name, name_of_item, pages_at, priority, threads_at, uses_at, windows_at}
 pub use Rattle.system_spec.specs.TablesFrom.{tables_from}
 pub use Rattle.system_spec.specs.declared.map_line.MapLine.{MapLine}

@@ -1,6 +1,7 @@
 -- The names of components are names, in files that tokens spell.
+use Rattle.std.proofs.Common.{rules}
 use Rattle.spec_laws.proofs.Common.{AreFilesShort, AreNamesSound, Body, Component, Ended, IsIn, IsOne, Item, ItemAt, Leaf, List, Option, Some, Source, [], ap, as_component, body_number, component_name, components, flat_of, from_filter_map}
-use Rattle.spec_laws.proofs.Common.{from_get_map, hierarchy_of, in_get, is_name, item_component, item_line, item_spelled, items_of, leaf_component, leaf_of, leaves, name_of_item, named, named_is, option_map_or, slice_get, subst, sym, true, unwrap_or}
+use Rattle.spec_laws.proofs.Common.{from_get_map, hierarchy_of, in_get, is_name, item_component, item_line, item_spelled, items_of, leaf_component, leaf_of, leaves, name_of_item, named_is, option_map_or, slice_get, subst, sym, true, unwrap_or}
 use Rattle.spec_laws.proofs.Common.{ℕ, ◌∙◌, ◌≡◌}
 use Rattle.adl_ast.specs.Forms.{component_line}
 use Rattle.adl_ast.specs.declared.file.Item.TheVariants as items
@@ -17,13 +18,6 @@ component_named c w =
     let P : List ℕ → Type 0 = λ z. is_name z ≡ true in
     subst P (sym (ap (λ (z : Component). z.id.name) p.1 ∙ ap (λ (z : Id). z.name) p.2.4.3.1)) (named_is p.2.4.3.0.text)
 
-pub components_named : (s : Source) → AreFilesShort s → (c : ItemAt × Component) → IsIn c (components s)
-    → is_name c.1.id.name ≡ true
-components_named s short c i =
-    let x = component_item s c i in
-    let P : Item → Type 0 = λ y. IsOne item_line y in
-    component_named c.1 (item_component c.1 (subst P x.2 (item_spelled s (λ f j. let w = short f j in (w.0, w.1)) x.0 x.1)))
-
 -- ---- the names of leaves' components
 
 name_there : (s : Source) (c : ItemAt × Component) → IsIn c (components s) → component_name s c.0 ≡ c.1.id.name
@@ -33,9 +27,7 @@ name_there s c i =
   where
     by_item : (y : ItemAt × Item) → as_component y ≡ Some c → component_name s y.0 ≡ name_of_item y.1
         → component_name s c.0 ≡ c.1.id.name
-    by_item (at, items.Component d) t m =
-        let same : (at, d) ≡ c = cc in
-        subst (λ (z : ItemAt × Component). component_name s z.0 ≡ z.1.id.name) same m
+    by_item (at, items.Component d) t m = search (rules)
     by_item (at, _) t m = cc
 
 pub leaves_named : (s : Source) → AreFilesShort s → AreNamesSound s → (l : ℕ) (leaf : Leaf)
@@ -48,4 +40,6 @@ leaves_named s short sound l leaf at =
     let is : component_name s leaf.component ≡ c.0.1.id.name = ap (λ (z : Leaf). component_name s z.component) (sym x.2)
     ∙ ap (λ (b : Body). component_name s (unwrap_or b.item (record { file = 0; item = 0 }))) (body_number s x.0.part.kind c.0 c.1)
     ∙ name_there s c.0 i in
-    subst P (sym is) (components_named s short c.0 i)
+    subst P (sym is) (let x = component_item s c.0 i in let P : Item → Type 0 = λ y. IsOne item_line y in
+    component_named c.0.1
+    (item_component c.0.1 (subst P x.2 (item_spelled s (λ f j. let w = short f j in (w.0, w.1)) x.0 x.1))))

@@ -1,6 +1,7 @@
 -- The spec of connected tables is laid out.
-use Rattle.spec_laws.proofs.Common.{AreApart, Authority, CNodeOf, Cap, Directory, EndpointOf, FlatConnection, Global, Handler, HasPieces, Held, Holds, HoldsPlain, IrqOf, IsConnected, IsDomains, IsIn, IsKept, IsThere, Kind, Level, LockOf, NONE, None}
-use Rattle.spec_laws.proofs.Common.{NotificationOf, Object, OfEnd, Option, OwnLock, RW, RootOf, Rpc, SlotUse, Some, Table, Tables, ThreadOf, Upper, ap, boot, confers, connection_label, device_end, domain_label, domain_no_connection, domain_no_device}
+use Rattle.std.proofs.Common.{rules}
+use Rattle.spec_laws.proofs.Common.{AreApart, Authority, CNodeOf, Cap, Directory, EndpointOf, Handler, HasPieces, Held, Holds, HoldsPlain, IrqOf, IsConnected, IsDomains, IsIn, IsKept, IsThere, Kind, Level, LockOf, NONE, None}
+use Rattle.spec_laws.proofs.Common.{NotificationOf, Object, OfEnd, Option, OwnLock, RW, RootOf, SlotUse, Some, Tables, ThreadOf, ap, boot, confers, connection_label, device_end, domain_label, domain_no_connection, domain_no_device}
 use Rattle.spec_laws.proofs.Common.{edge, has_label, inl, inr, irq_at, is_at, is_kind, kind_of_object, kind_there, label_of, members_of_leaf, object, object_at, object_there, one_connection, one_domain, option_confers, option_map, option_map_or}
 use Rattle.spec_laws.proofs.Common.{option_plain, place, place_of, plain_kind, policy_tables, refl, rights_at, slice_get, spec_of, subst, sym, tcb, thread, thread_place, threads_of, true, true≢false, use_cap, uses_at, ℕ, ◌+◌, ◌∙◌, ◌≡◌, ◌≢◌, ◌⊎◌}
 use Rattle.arch_policy.specs.declared.owner.Owner.TheVariants as owners
@@ -145,14 +146,9 @@ module _ (t : Tables) (h : IsConnected t) where
             let right = sym (ap (label_of (labels t)) y.3) ∙ label_there t (LockOf y.0 y.1) y.2 in
             absurd (domain_no_connection (policy_tables t) apart x.0 (record { domain = y.0; there = y.2.0; is = right })
             (calls_label x.0 x.1) (sym e ∙ left))
-      ]
-    where
-      no_both : (j k : ℕ) → j ≡ k → IsThere t (EndpointOf j) → IsThere t (NotificationOf k) → ⊥
-      no_both j k same a b =
-          let both : Some a.0 ≡ Some b.0 = sym a.1 ∙ ap (λ z. slice_get t.flat.connections z) same ∙ b.1 in
-          let one : a.0 ≡ b.0 = cc in
-          let rpc : b.0.connector ≡ Rpc = sym (ap (λ (z : FlatConnection). z.connector) one) ∙ a.2 in
-          elim b.2 [ inl i ↦ (let w = sym rpc ∙ i in cc) | inr i ↦ (let w = sym rpc ∙ i in cc) ]
+      ] where
+        no_both : (j k : ℕ) → j ≡ k → IsThere t (EndpointOf j) → IsThere t (NotificationOf k) → ⊥
+        no_both j k same a b = search (rules)
 
   -- ---- what stays within a label
 

@@ -1,6 +1,7 @@
 -- How many parts there are, and what a count of each kind of part comes to.
-use Rattle.spec_laws.proofs.Common.{CNodeOf, Connector, Direct, Domain, EndpointOf, FlatConnection, FrameInfo, FrameOf, Handler, Interrupt, IrqOf, List, LockOf, Mmio, Notification, NotificationOf, Object, OfDomain, OfEnd, OwnLock, Owned, Owner}
-use Rattle.spec_laws.proofs.Common.{PageTable, Part, Rpc, Series, SharedMemory, SlotUse, Some, TableOf, Tables, ThreadOf, ThreadPlace, What, [], all_tables, ap, arith, cnodes, domain_locks, domain_tables, domain_tcbs, endpoint, endpoint_by}
+use Rattle.std.proofs.Common.{rules}
+use Rattle.spec_laws.proofs.Common.{CNodeOf, Connector, Domain, EndpointOf, FlatConnection, FrameInfo, FrameOf, Interrupt, IrqOf, List, LockOf, Notification, NotificationOf, Object, OfDomain, OwnLock, Owned, Owner}
+use Rattle.spec_laws.proofs.Common.{PageTable, Part, Rpc, Series, SlotUse, Some, TableOf, Tables, ThreadOf, ThreadPlace, What, [], all_tables, ap, arith, cnodes, domain_tables, endpoint, endpoint_by}
 use Rattle.spec_laws.proofs.Common.{endpoints, frame_owner, frame_parts, irq_by, irq_owner, irqs, length, level_of, locks, notification, notification_by, notifications, numbered, owned, page_table, part, parts, refl, slice_get, sym, table_part}
 use Rattle.spec_laws.proofs.Common.{table_parts, tables_at, tcbs, thread_count, threads_at, use_count, uses_at, ℕ, ◌*◌, ◌++◌, ◌+◌, ◌∙◌, ◌∷◌, ◌≡◌, ◌≤◌}
 use Rattle.system_spec.specs.declared.series.Series.TheVariants as series
@@ -16,11 +17,10 @@ module _ (t : Tables) (w : What → ℕ) where
 
   -- parts count as what they are numbered from
   of_numbered : (s : Series) (xs : List Owned) → total of_part (numbered s xs) ≡ total of_owned xs
-  of_numbered s xs = total_ones of_part (λ n x. part s n x.owner x.what) xs ∙ places xs
-    where
-      places : (xs : List Owned) → totals (λ (n : ℕ) x. of_owned x) xs ≡ total of_owned xs
-      places [] = refl
-      places (x ∷ xs) = ap (λ n. of_owned x + n) (places xs)
+  of_numbered s xs = total_ones of_part (λ n x. part s n x.owner x.what) xs ∙ places xs where
+    places : (xs : List Owned) → totals (λ (n : ℕ) x. of_owned x) xs ≡ total of_owned xs
+    places [] = refl
+    places (x ∷ xs) = ap (λ n. of_owned x + n) (places xs)
 
   abbrev of_cnodes : ℕ
   of_cnodes = totals (λ d (x : Domain). w (CNodeOf d)) t.flat.domains
@@ -51,11 +51,7 @@ module _ (t : Tables) (w : What → ℕ) where
       (λ d (x : Domain). owned (OfDomain d) (CNodeOf d)) t.flat.domains
 
   threads_are : total of_part (numbered series.Tcb (tcbs t)) ≡ of_threads
-  threads_are =
-      of_numbered series.Tcb (tcbs t) ∙ total_gather of_owned (domain_tcbs t) t.flat.domains
-      ∙ totals_same (λ d (x : Domain). total of_owned (domain_tcbs t d x))
-      (λ d x. totals (λ i (y : ThreadPlace). w (ThreadOf d i)) (threads_at t d)) t.flat.domains
-      (λ d x e. total_ones of_owned (λ i (y : ThreadPlace). owned (OfDomain d) (ThreadOf d i)) (threads_at t d))
+  threads_are = search (rules, of_numbered, total_gather, totals_same, total, totals, total_ones)
 
   endpoints_are : total of_part (endpoints t) ≡ of_endpoints
   endpoints_are = total_gather of_part endpoint t.flat.connections
@@ -64,11 +60,7 @@ module _ (t : Tables) (w : What → ℕ) where
   notifications_are = total_gather of_part notification t.flat.connections
 
   locks_are : total of_part (numbered series.Lock (locks t)) ≡ of_locks
-  locks_are =
-      of_numbered series.Lock (locks t) ∙ total_gather of_owned (domain_locks t) t.flat.domains
-      ∙ totals_same (λ d (x : Domain). total of_owned (domain_locks t d x))
-      (λ d x. totals (λ n (u : SlotUse). total of_owned (lock_of d n u)) (uses_at t d)) t.flat.domains
-      (λ d x e. total_gather of_owned (lock_of d) (uses_at t d))
+  locks_are = search (rules, of_numbered, total_gather, totals_same, total, totals)
 
   irqs_are : total of_part (numbered series.Irq (irqs t)) ≡ of_irqs
   irqs_are = of_numbered series.Irq (irqs t) ∙ total_gather of_owned irq_of t.flat.connections
@@ -80,12 +72,11 @@ module _ (t : Tables) (w : What → ℕ) where
       ∙ total_gather of_table (domain_tables t) t.flat.domains
       ∙ totals_same (λ d (x : Domain). total of_table (domain_tables t d x)) (λ d x. totals (λ j (o : Object). w (TableOf d j))
       (tables_at t 0 0 d)) t.flat.domains
-      (λ d x e. total_ones of_table (λ j (o : Object). page_table d j (level_of o)) (tables_at t 0 0 d))
-    where
-      places : (xs : List PageTable) → totals (λ (n : ℕ) (x : PageTable). w (TableOf x.domain x.place)) xs ≡ total
-          (λ (x : PageTable). w (TableOf x.domain x.place)) xs
-      places [] = refl
-      places (x ∷ xs) = ap (λ n. w (TableOf x.domain x.place) + n) (places xs)
+      (λ d x e. total_ones of_table (λ j (o : Object). page_table d j (level_of o)) (tables_at t 0 0 d)) where
+        places : (xs : List PageTable) → totals (λ (n : ℕ) (x : PageTable). w (TableOf x.domain x.place)) xs ≡ total
+            (λ (x : PageTable). w (TableOf x.domain x.place)) xs
+        places [] = refl
+        places (x ∷ xs) = ap (λ n. w (TableOf x.domain x.place) + n) (places xs)
 
   frames_are : total of_part (numbered series.Frame (frame_parts t.spaces.frames)) ≡ of_frames
   frames_are = of_numbered series.Frame (frame_parts t.spaces.frames) ∙ total_ones of_owned
@@ -151,13 +142,12 @@ module _ (t : Tables) (w : What → ℕ) where
         let f : ℕ → FlatConnection → ℕ = λ k c. total of_part (endpoint_by k c.connector) in
         let g : ℕ → FlatConnection → ℕ = λ k c. total of_part (notification_by k c.connector) in
         let a = totals_each (λ k c. f k c + g k c) joint t.flat.connections (λ k c e. by_kind c.connector k) in
-        omega (arith, a, totals_add f g t.flat.connections)
-      where
-        by_kind : (c : Connector) (k : ℕ) → total of_part (endpoint_by k c) + total of_part (notification_by k c) ≤ joint
-        by_kind Rpc k = let l = most.endpoints k in omega (arith, l)
-        by_kind Notification k = let l = most.notifications k in omega (arith, l)
-        by_kind Interrupt k = let l = most.notifications k in omega (arith, l)
-        by_kind _ k = omega arith
+        omega (arith, a, totals_add f g t.flat.connections) where
+          by_kind : (c : Connector) (k : ℕ) → total of_part (endpoint_by k c) + total of_part (notification_by k c) ≤ joint
+          by_kind Rpc k = let l = most.endpoints k in omega (arith, l)
+          by_kind Notification k = let l = most.notifications k in omega (arith, l)
+          by_kind Interrupt k = let l = most.notifications k in omega (arith, l)
+          by_kind _ k = omega arith
 
     locks_most : of_locks ≤ lock * use_count t
     locks_most =
@@ -167,28 +157,21 @@ module _ (t : Tables) (w : What → ℕ) where
         (λ d x e. totals_each (λ n (u : SlotUse). total of_owned (lock_of d n u)) lock (uses_at t d) (λ n u h. by_use u d n)) in
         let b : totals each t.flat.domains ≡ lock * use_count t = totals_times lock (λ d (x : Domain). length (uses_at t d))
         t.flat.domains ∙ ap (λ n. lock * n) (sym (sum_ones (λ d (x : Domain). length (uses_at t d)) t.flat.domains)) in
-        omega (arith, a, b)
-      where
-        by_use : (u : SlotUse) (d n : ℕ) → total of_owned (lock_of d n u) ≤ lock
-        by_use (OwnLock leaf m) d n = let l = most.locks d n in omega (arith, l)
-        by_use _ d n = omega arith
+        omega (arith, a, b) where
+          by_use : (u : SlotUse) (d n : ℕ) → total of_owned (lock_of d n u) ≤ lock
+          by_use (OwnLock leaf m) d n = let l = most.locks d n in omega (arith, l)
+          by_use _ d n = omega arith
 
     irqs_most : of_irqs ≤ irq * length t.flat.connections
     irqs_most = totals_each (λ k (c : FlatConnection). total of_owned (irq_of k c)) irq t.flat.connections
-        (λ k c e. by_kind c.connector k (irq_owner k c))
-      where
-        by_kind : (c : Connector) (k : ℕ) (o : Owner) → total of_owned (irq_by k o c) ≤ irq
-        by_kind Interrupt k o = let l = most.irqs k in omega (arith, l)
-        by_kind _ k o = omega arith
+        (λ k c e. by_kind c.connector k (irq_owner k c)) where
+          by_kind : (c : Connector) (k : ℕ) (o : Owner) → total of_owned (irq_by k o c) ≤ irq
+          by_kind Interrupt k o = let l = most.irqs k in omega (arith, l)
+          by_kind _ k o = omega arith
 
     pub parts_most : total of_part (parts t)
         ≤ totals (λ d (x : Domain). cnode d)
         t.flat.domains + (thread * thread_count
         t + (joint * length t.flat.connections + (lock * use_count t + (irq * length t.flat.connections
         + (totals (λ d (x : Domain). table d) t.flat.domains + frame * length t.spaces.frames)))))
-    parts_most =
-        let a = totals_most (λ d (x : Domain). w (CNodeOf d)) (λ d x. cnode d) t.flat.domains most.cnodes in
-        let b = totals_most (λ d (x : Domain). totals (λ j (o : Object). w (TableOf d j)) (tables_at t 0 0 d)) (λ d x. table d)
-        t.flat.domains most.tables in
-        let c = totals_each (λ f (x : FrameInfo). w (FrameOf f)) frame t.spaces.frames (λ f x e. most.frames f) in
-        omega (arith, parts_count, a, b, c, threads_most, joints_most, locks_most, irqs_most)
+    parts_most = grind (arith, totals_most, totals, totals_each, parts_count, threads_most, joints_most, locks_most)

@@ -1,7 +1,7 @@
 -- The device that a connection joins.
+use Rattle.std.proofs.Common.{rules}
 use Rattle.spec_laws.proofs.Common.{Bool, FlatConnection, FlatEnd, HasDevice, IsFlat, List, None, OfConnection, OfLeaf, Some, Tables, [], ap, arith, cond, device_place, end_rule, false, irq_owner, is_at_device, leaf_label, length, lt-ltb, not}
 use Rattle.spec_laws.proofs.Common.{number_of, option_and_then, option_map_or, own_label, policy_tables, position, position_or_len, refl, slice_get, slice_get_within, subst, suc, sym, true, zero, ℕ, ◌+◌, ◌∙◌, ◌∷◌, ◌≡◌}
-use Rattle.std.proofs.Common.{nat_lt}
 use Rattle.arch_policy.specs.Ends.{EndAt}
 use Rattle.system_spec.specs.Tables.{device_end as first_device, is_hardware}
 use Rattle.spec_laws.proofs.Whose.{device_at}
@@ -10,18 +10,12 @@ use Rattle.spec_laws.proofs.Whose.{device_at}
 pub first_found : {X : Type 0} (p : X → Bool) (xs : List X) (n : ℕ) (x : X) → slice_get xs n ≡ Some x → p x ≡ true
     → (y : X) × (slice_get xs (position_or_len p xs) ≡ Some y) × (p y ≡ true)
 first_found p [] n x e h = cc
-first_found {X} p (z ∷ zs) zero x e h =
-    let same : x ≡ z = cc in
-    let q : p z ≡ true = ap p (sym same) ∙ h in
-    rw q (z, refl, q)
-first_found {X} p (z ∷ zs) (suc n) x e h = by_test (p z) refl (first_found p zs n x e h)
-  where
-    by_test : (b : Bool) → p z ≡ b → ((y : X) × (slice_get zs (position_or_len p zs) ≡ Some y) × (p y ≡ true))
-        → (y : X) × (slice_get (z ∷ zs) (cond (not b) (1 + position_or_len p zs) 0) ≡ Some y) × (p y ≡ true)
-    by_test true q r = (z, refl, q)
-    by_test false q r =
-        let next : 1 + position_or_len p zs ≡ suc (position_or_len p zs) = omega arith in
-        (r.0, ap (λ k. slice_get (z ∷ zs) k) next ∙ r.1, r.2)
+first_found {X} p (z ∷ zs) zero x e h = search (rules)
+first_found {X} p (z ∷ zs) (suc n) x e h = by_test (p z) refl (first_found p zs n x e h) where
+  by_test : (b : Bool) → p z ≡ b → ((y : X) × (slice_get zs (position_or_len p zs) ≡ Some y) × (p y ≡ true))
+      → (y : X) × (slice_get (z ∷ zs) (cond (not b) (1 + position_or_len p zs) 0) ≡ Some y) × (p y ≡ true)
+  by_test true q r = (z, refl, q)
+  by_test false q r = grind (arith)
 
 pub position_found : {X : Type 0} (p : X → Bool) (xs : List X) (y : X) → slice_get xs (position_or_len p xs) ≡ Some y
     → position p xs ≡ Some (position_or_len p xs)

@@ -1,4 +1,5 @@
 -- What holds of the parts of what there is, of each sort, holds of every part.
+use Rattle.std.proofs.Common.{rules}
 use Rattle.spec_laws.proofs.Common.{CNodeOf, Connector, Domain, EndpointOf, FlatConnection, FrameInfo, FrameOf, Interrupt, IrqOf, IsIn, List, LockOf, Notification, NotificationOf, Object, OfConnection, OfDomain, OwnLock, Owned, PageTable}
 use Rattle.spec_laws.proofs.Common.{Part, Rpc, Series, SlotUse, Some, Tables, ThreadOf, ThreadPlace, [], all_tables, by_section, cnodes, domain_locks, domain_tables, domain_tcbs, endpoint, endpoint_by, endpoints, frame_owner, frame_parts, from_gather}
 use Rattle.spec_laws.proofs.Common.{in_place, irq, irq_by, irq_owner, irqs, lock, locks, notification, notification_by, notifications, numbered, owned, page_table, part, parts, single, slice_get, subst, table_part, table_parts, tables_at, tcbs, threads_at}
@@ -29,9 +30,7 @@ module _ (t : Tables) (P : Part → Type 0) where
 
   in_order : (s : Series) (xs : List Owned) → ((n : ℕ) (x : Owned) → slice_get xs n ≡ Some x → P (part s n x.owner x.what))
       → (p : Part) → IsIn p (numbered s xs) → P p
-  in_order s xs h p i =
-      let g = from_gather (λ n x. part s n x.owner x.what ∷ []) p xs i in
-      subst P (single (part s g.0 g.1.owner g.1.what) p g.3) (h g.0 g.1 g.2)
+  in_order s xs h p i = search (rules, from_gather, single)
 
   module _ (each : OfEach) where
     abbrev Numbered : Series → ℕ → Owned → Type 0
@@ -49,12 +48,11 @@ module _ (t : Tables) (P : Part → Type 0) where
         subst (Numbered series.Tcb n) (single (owned (OfDomain g.0) (ThreadOf g.0 h.0)) x h.3) (each.thread n g.0 h.0 h.1 h.2)
 
     of_endpoint : (p : Part) → IsIn p (endpoints t) → P p
-    of_endpoint p i = let g = from_gather endpoint p t.flat.connections i in by_kind g.1.connector g.0 g.1 g.2 refl g.3
-      where
-        by_kind : (m : Connector) (k : ℕ) (c : FlatConnection) → slice_get t.flat.connections k ≡ Some c → c.connector ≡ m
-            → IsIn p (endpoint_by k m) → P p
-        by_kind Rpc k c h e i = subst P (single (part series.Ep k (OfConnection k) (EndpointOf k)) p i) (each.endpoint k c h e)
-        by_kind _ k c h e i = absurd i
+    of_endpoint p i = let g = from_gather endpoint p t.flat.connections i in by_kind g.1.connector g.0 g.1 g.2 refl g.3 where
+      by_kind : (m : Connector) (k : ℕ) (c : FlatConnection) → slice_get t.flat.connections k ≡ Some c → c.connector ≡ m
+          → IsIn p (endpoint_by k m) → P p
+      by_kind Rpc k c h e i = subst P (single (part series.Ep k (OfConnection k) (EndpointOf k)) p i) (each.endpoint k c h e)
+      by_kind _ k c h e i = absurd i
 
     of_notification : (p : Part) → IsIn p (notifications t) → P p
     of_notification p i = let g = from_gather notification p t.flat.connections i in by_kind g.1.connector g.0 g.1 g.2 refl g.3
@@ -74,28 +72,27 @@ module _ (t : Tables) (P : Part → Type 0) where
     of_lock n x e =
         let g = from_place (domain_locks t) t.flat.domains n x e in
         let w = from_place (lock g.place) (uses_at t g.place) g.number x g.stands in
-        by_use g.place w.place g.item g.here w.item w.here w.number w.stands (omega (arith, g.sum, w.sum))
-      where
-        by_use : (d k : ℕ) (z : Domain) → slice_get t.flat.domains d ≡ Some z → (u : SlotUse) → slice_get (uses_at t d) k ≡ Some u
-            → (i : ℕ) → slice_get (lock d k u) i ≡ Some x
-            → n ≡ before (domain_locks t) t.flat.domains d + before (lock d) (uses_at t d) k + i → Numbered series.Lock n x
-        by_use d k z h (OwnLock leaf m) s i there sum =
-            let o = the_one (owned (OfDomain d) (LockOf d k)) x i there in
-            subst (Numbered series.Lock n) o.1 (each.lock n d k leaf m z h s (omega (arith, sum, o.0)))
-        by_use d k z h _ s i there sum = cc
+        by_use g.place w.place g.item g.here w.item w.here w.number w.stands (omega (arith, g.sum, w.sum)) where
+          by_use : (d k : ℕ) (z : Domain) → slice_get t.flat.domains d ≡ Some z → (u : SlotUse)
+              → slice_get (uses_at t d) k ≡ Some u
+              → (i : ℕ) → slice_get (lock d k u) i ≡ Some x
+              → n ≡ before (domain_locks t) t.flat.domains d + before (lock d) (uses_at t d) k + i → Numbered series.Lock n x
+          by_use d k z h (OwnLock leaf m) s i there sum =
+              let o = the_one (owned (OfDomain d) (LockOf d k)) x i there in
+              subst (Numbered series.Lock n) o.1 (each.lock n d k leaf m z h s (omega (arith, sum, o.0)))
+          by_use d k z h _ s i there sum = cc
 
     of_irq : (n : ℕ) (x : Owned) → slice_get (irqs t) n ≡ Some x → Numbered series.Irq n x
     of_irq n x e =
         let g = from_place irq t.flat.connections n x e in
-        by_kind g.item.connector g.place g.item g.here refl g.number g.stands g.sum
-      where
-        by_kind : (m : Connector) (k : ℕ) (c : FlatConnection) → slice_get t.flat.connections k ≡ Some c → c.connector ≡ m
-            → (i : ℕ) → slice_get (irq_by k (irq_owner k c) m) i ≡ Some x → n ≡ before irq t.flat.connections k + i
-            → Numbered series.Irq n x
-        by_kind Interrupt k c h e i there sum =
-            let o = the_one (owned (irq_owner k c) (IrqOf k)) x i there in
-            subst (Numbered series.Irq n) o.1 (each.irq n k c h e (omega (arith, sum, o.0)))
-        by_kind _ k c h e i there sum = cc
+        by_kind g.item.connector g.place g.item g.here refl g.number g.stands g.sum where
+          by_kind : (m : Connector) (k : ℕ) (c : FlatConnection) → slice_get t.flat.connections k ≡ Some c → c.connector ≡ m
+              → (i : ℕ) → slice_get (irq_by k (irq_owner k c) m) i ≡ Some x → n ≡ before irq t.flat.connections k + i
+              → Numbered series.Irq n x
+          by_kind Interrupt k c h e i there sum =
+              let o = the_one (owned (irq_owner k c) (IrqOf k)) x i there in
+              subst (Numbered series.Irq n) o.1 (each.irq n k c h e (omega (arith, sum, o.0)))
+          by_kind _ k c h e i there sum = cc
 
     of_table : (p : Part) → IsIn p (table_parts (all_tables t)) → P p
     of_table p i =

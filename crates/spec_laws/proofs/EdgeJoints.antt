@@ -287,8 +287,7 @@ module _ (t : Tables) where
     signal_direct : (l : ℕ) (a : Authority) (m : ℕ) → OfSignal (labels t) (boot spec) l a m → DirectReason policy (edge l a m)
     signal_direct l a m (o, n, there, is, from, to) =
         let b = bound o n there in let k = b.connection in
-        let v = device_here k b.found b.here b.interrupt in
-        let r = device_from k b.found v b.interrupt in
+        let v = device_here k b.found b.here b.interrupt in let r = device_from k b.found v b.interrupt in
         let i : v.at.connection.connector ≡ Interrupt = ap (λ (z : FlatConnection). z.connector) v.connection ∙ b.interrupt in
         let given : gives v.at.connection.connector v.at.end.role OfNotification a ≡ true =
         given_as v.at.connection.connector Interrupt v.at.end.role From OfNotification a AsyncSend i r is refl in

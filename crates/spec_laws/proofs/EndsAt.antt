@@ -1,4 +1,5 @@
 -- The ends at a leaf
+use Rattle.std.proofs.Common.{rules}
 use Rattle.spec_laws.proofs.Common.{Bool, EndAt, FlatConnection, FlatEnd, IsIn, Leaf, List, Member, Some, Tables, [], and_parts, ap, at_place, cond, end_here, ends, ends_at, eq-eqb, eqb-true, from_gather, gather, in_gather}
 use Rattle.spec_laws.proofs.Common.{inl, joins, leaf_ends, leaf_members, length, member_ends, refl, slice_get, subst, sym, system, true, ℕ, ◌&&◌, ◌<◌, ◌==◌, ◌∙◌, ◌∷◌, ◌≡◌}
 use Rattle.spec_laws.proofs.Once.{Once, once_gather, once_if}
@@ -55,23 +56,10 @@ module _ (cs : List FlatConnection) (leaf : ℕ) where
       in_gather (of_connection m) (at k n) cs k c h (in_gather f (at k n) c.ends n x g (subst P (sym joined) (inl refl)))
 
   once_member : (m : ℕ) → Once (member_ends cs leaf m)
-  once_member m =
-      let inner : (k : ℕ) (c : FlatConnection) → slice_get cs k ≡ Some c → Once (of_connection m k c) = λ k c h. (
-      once_gather (λ n x. end_here leaf m k n x) c.ends (λ n x g. once_here leaf m k n x)
-      (λ n l x z e i j. ap (λ (w : EndAt). w.end) ((here_is leaf m k n x e i).1 ∙ sym (here_is leaf m k l z e j).1))) in
-      once_gather (of_connection m) cs inner (λ k l c d e i j. (
-      let a = from_gather (λ n x. end_here leaf m k n x) e c.ends i in
-      let b = from_gather (λ n x. end_here leaf m l n x) e d.ends j in
-      ap (λ (w : EndAt). w.connection) ((here_is leaf m k a.0 a.1 e a.3).1 ∙ sym (here_is leaf m l b.0 b.1 e b.3).1)))
+  once_member m = search (rules, once_gather, once_here, here_is, from_gather)
 
   pub once_leaf : (members : List Member) → Once (leaf_ends cs leaf members)
-  once_leaf members =
-      once_gather (λ m x. member_ends cs leaf m) members (λ m x h. once_member m) (λ k l x z e i j. (
-      let a = member_end k e i in let b = member_end l e j in
-      let conn : a.connection ≡ b.connection = some (slice_get cs e.connection) a.connection b.connection a.here b.here in
-      let P : FlatConnection → Type 0 = λ z. slice_get z.ends e.end ≡ Some a.end in
-      let end : a.end ≡ b.end = some (slice_get b.connection.ends e.end) a.end b.end (subst P conn a.stands) b.stands in
-      sym a.member_is ∙ ap (λ (w : FlatEnd). w.member) end ∙ b.member_is))
+  once_leaf members = search (rules, once_gather, once_member, member_end, some)
 
 -- ---- of a leaf of the system
 
@@ -81,9 +69,7 @@ ends_are t leaf x h = ends_at_leaf t.source t.flat leaf
 
 pub end_of_leaf : (t : Tables) (leaf : ℕ) (e : EndAt) (members : List Member) → IsIn e (leaf_ends t.flat.connections leaf members)
     → (m : ℕ) × JoinsLeaf t.flat.connections leaf m e
-end_of_leaf t leaf e members i =
-    let f : ℕ → Member → List EndAt = λ m x. member_ends t.flat.connections leaf m in
-    let a = from_gather f e members i in (a.0, member_end t.flat.connections leaf a.0 e a.3)
+end_of_leaf t leaf e members i = search (rules, from_gather, member_end)
 
 pub in_leaf_ends : (t : Tables) (leaf k n : ℕ) (c : FlatConnection) (x : FlatEnd) (members : List Member)
     → slice_get t.flat.connections k ≡ Some c → slice_get c.ends n ≡ Some x → x.leaf ≡ leaf → x.member < length members

@@ -1,7 +1,7 @@
 -- The ends of leaves, the windows of a domain, and its threads, read both ways.
-use Rattle.spec_laws.proofs.Common.{Bool, Connector, Domain, Flat, FlatConnection, FlatEnd, Given, IsFlat, IsIn, Leaf, List, Member, None, Option, Some, [], ap, cond, end_of, end_window, ends, ends_at, ends_in}
+use Rattle.spec_laws.proofs.Common.{Bool, Connector, Domain, Flat, FlatEnd, Given, IsFlat, IsIn, Leaf, List, Member, None, Option, Some, [], ap, cond, end_of, end_window, ends, ends_at, ends_in}
 use Rattle.spec_laws.proofs.Common.{false, from_flat_map, from_gather, from_ones, get_ones, in_flat_map, in_gather, inl, is_window, joins, leaf_ends, leaf_threads, leaf_windows, leaves_of, member_ends, members_at}
-use Rattle.spec_laws.proofs.Common.{option_and_then, option_map, option_map_or, refl, sees_memory, slice_get, subst, sym, thread, threads_of, true, windows_of, ℕ, ◌∙◌, ◌∷◌, ◌≡◌}
+use Rattle.spec_laws.proofs.Common.{option_map_or, refl, sees_memory, slice_get, subst, sym, thread, threads_of, true, windows_of, ℕ, ◌∙◌, ◌∷◌, ◌≡◌}
 use Rattle.arch_policy.specs.Ends.{EndAt}
 use Rattle.cspace_layout.specs.declared.end_at.EndAt.{EndAt as Joined}
 use Rattle.spec_laws.proofs.EndsAt.{in_member_ends, member_end}
@@ -22,7 +22,14 @@ module _ (g : Given) where
       let m = from_gather (λ m (x : Member). member_ends g.flat.connections leaf m) e ms i in
       let j = member_end g.flat.connections leaf m.0 e m.3 in
       record {
-        at = record { place = e.connection; connection = j.connection; here = j.here; number = e.end; end = j.end; stands = j.stands };
+        at = record {
+          place = e.connection;
+          connection = j.connection;
+          here = j.here;
+          number = e.end;
+          end = j.end;
+          stands = j.stands;
+        };
         is = refl;
         leaf_is = j.leaf_is;
       }
@@ -44,7 +51,8 @@ module _ (g : Given) where
   in_its_ends x leaf m here there =
       let cs = g.flat.connections in
       let among : IsIn (joined x) (of_leaf x.end.leaf leaf) =
-      in_gather (λ m (y : Member). member_ends cs x.end.leaf m) (joined x) (members_at g.source leaf.component) x.end.member m there
+      in_gather (λ m (y : Member). member_ends cs x.end.leaf m) (joined x) (members_at g.source leaf.component)
+      x.end.member m there
       (in_member_ends cs x.end.leaf x.end.member x.place x.number x.connection x.end x.here x.stands refl refl) in
       subst (λ z. IsIn (joined x) (ends_in z)) (sym (get_ones of_leaf g.flat.leaves x.end.leaf leaf here)) among
 
@@ -54,15 +62,10 @@ module _ (g : Given) where
   -- ---- windows
 
   end_is : (x : EndAt g.flat) → end_of g.flat x.place x.number ≡ Some (x.connection.connector, x.end)
-  end_is x =
-      ap (λ z. option_and_then (λ (c : FlatConnection). option_map (λ (e : FlatEnd). (c.connector, e))
-      (slice_get c.ends x.number)) z) x.here ∙ ap (λ z. option_map (λ (e : FlatEnd). (x.connection.connector, e)) z) x.stands
+  end_is x = cc
 
   sees_is : (x : EndAt g.flat) → sees_memory g.flat (joined x) ≡ is_window x.connection.connector x.end.role
   sees_is x = ap (λ z. option_map_or (λ (y : Connector × FlatEnd). is_window y.0 y.1.role) z false) (end_is x)
-
-  in_end_window : (e : Joined) → sees_memory g.flat e ≡ true → IsIn e (end_window g.flat e)
-  in_end_window e q = let P : Bool → Type 0 = λ z. IsIn e (cond z (e ∷ []) []) in subst P (sym q) (inl refl)
 
   pub leaves_are : (d : ℕ) (x : Domain) → slice_get g.flat.domains d ≡ Some x → leaves_of g.flat d ≡ x.leaves
   leaves_are d x e = ap (λ z. option_map_or (λ (y : Domain). y.leaves) z []) e
@@ -91,7 +94,7 @@ module _ (g : Given) where
   in_windows flat d x i w =
       in_flat_map (leaf_windows g.flat (ends g)) x.end.leaf (joined x) (leaves_of g.flat d) i
       (in_flat_map (end_window g.flat) (joined x) (joined x) (ends_at (ends g) x.end.leaf) (in_ends flat x)
-      (in_end_window (joined x) (sees_is x ∙ w)))
+      (let P : Bool → Type 0 = λ z. IsIn (joined x) (cond z ((joined x) ∷ []) []) in subst P (sym (sees_is x ∙ w)) (inl refl)))
 
   -- ---- threads
 

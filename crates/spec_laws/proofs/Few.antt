@@ -17,10 +17,9 @@ module _ (t : Tables) where
   pub all_tables_are : totals (λ d (x : Domain). length (tables_at t 0 0 d)) t.flat.domains ≡ length (all_tables t)
   all_tables_are =
       sym (length_gather (domain_tables t) t.flat.domains ∙ totals_same (λ d (x : Domain). length (domain_tables t d x))
-      (λ d x. length (tables_at t 0 0 d)) t.flat.domains (λ d x e. same d x))
-    where
-      same : (d : ℕ) (x : Domain) → length (domain_tables t d x) ≡ length (tables_at t 0 0 d)
-      same d x = gather_ones (λ j o. page_table d j (level_of o)) (tables_at t 0 0 d)
+      (λ d x. length (tables_at t 0 0 d)) t.flat.domains (λ d x e. same d x)) where
+        same : (d : ℕ) (x : Domain) → length (domain_tables t d x) ≡ length (tables_at t 0 0 d)
+        same d x = gather_ones (λ j o. page_table d j (level_of o)) (tables_at t 0 0 d)
 
   one_most : Most t one (λ d. 1) 1 1 1 1 (λ d. length (tables_at t 0 0 d)) 1
   one_most = record {

@@ -1,5 +1,6 @@
 -- What is found at an address of a space is what is mapped there
-use Rattle.spec_laws.proofs.Common.{Aarch64, Arch, Arm11, Buffer, CanMap, Cap, Content, Domain, IsAt, IsIn, IsRegionPage, List, MappedPage, Mapping, None, Object, Page, PagesRise, Region, SectionPage, SectionsStand, Some, Space, Spaces, Stack}
+use Rattle.std.proofs.Common.{rules}
+use Rattle.spec_laws.proofs.Common.{Aarch64, Arch, Arm11, Buffer, CanMap, Cap, Content, Domain, IsAt, IsIn, IsRegionPage, List, MappedPage, Mapping, None, Object, Page, PagesRise, Region, SectionPage, SectionsStand, Some, Space, Spaces}
 use Rattle.spec_laws.proofs.Common.{Tables, Walk, Window, [], ap, arch, arith, base, begins, below, below_count, drop, each_all, each_in, ends, ends_at, few_at, flat_map, found_before, from_gather, from_map, gather, get_ones, in_append, in_gather}
 use Rattle.spec_laws.proofs.Common.{in_map, in_place, inl, inr, leaf_threads, leaves_of, length, map, mapped_pages, memory_rights, number_shown, objects_from, option_map_or, page, page_mapping, page_of, pages_at, pages_in, pages_of_region, place_of}
 use Rattle.spec_laws.proofs.Common.{range_with_len, refl, region, region_page, region_part, regions, regions_in, rising, root_of, root_span, root_spans, section_page, section_pages, section_part, sections_stand, server, shapes, slice_get, space}
@@ -13,9 +14,7 @@ use Rattle.spec_laws.proofs.Rooted.{frames_from, from_root, tables_of_domain}
 
 pages_before : (rs : List Region) (n : ℕ) (r : Region) → slice_get rs n ≡ Some r → pages_in (take n rs) + r.pages ≤ pages_in rs
 pages_before [] n r e = cc
-pages_before (x ∷ rs) zero r e =
-    let same : x ≡ r = cc in
-    let l : x.pages ≡ r.pages = ap (λ (z : Region). z.pages) same in omega (arith, l)
+pages_before (x ∷ rs) zero r e = grind (arith)
 pages_before (x ∷ rs) (suc n) r e = let l = pages_before rs n r e in omega (arith, l)
 
 at_is : (s : _) (c : Content) (at j : ℕ) → (region_page s c at j).at ≡ at
@@ -58,13 +57,7 @@ module _ (t : Tables) (can : CanMap t) (d : ℕ) (x : Domain) (h : slice_get t.f
     pub is : mapping number shown ≡ m
 
   pub from_maps : (m : Mapping) → IsIn m maps → IsMapping m
-  from_maps m i =
-      let a = from_map (page_mapping (frames_from t)) m (pages_at t d) i in
-      let b = from_gather (λ n p. laid_page n p ∷ []) a.0 (mapped_pages (system t) d) (subst (λ z. IsIn a.0 z) pages_are a.1) in
-      elim b.3 [
-        | inl e ↦ record { number = b.0; shown = b.1; here = b.2; is = ap (page_mapping (frames_from t)) e ∙ a.2 }
-        | inr n ↦ absurd n
-      ]
+  from_maps m i = search (rules, from_map, frames_from, from_gather, pages_are)
 
   -- ---- all pages stand below what the root spans
 
@@ -171,8 +164,7 @@ module _ (t : Tables) (can : CanMap t) (d : ℕ) (x : Domain) (h : slice_get t.f
       → v < root_span (shapes (arch t))
   within v n p e same =
       let i = in_place p (mapped_pages (system t) d) n e in
-      last (arch t) p.at v (rise.aligned p i) same (page_below p i)
-    where
-      last : (a : Arch) (at v : ℕ) → at % 4096 ≡ 0 → at / 4096 ≡ v / 4096 → at < root_span (shapes a) → v < root_span (shapes a)
-      last Arm11 at v a s l = omega (arith, a, s, l)
-      last Aarch64 at v a s l = omega (arith, a, s, l)
+      last (arch t) p.at v (rise.aligned p i) same (page_below p i) where
+        last : (a : Arch) (at v : ℕ) → at % 4096 ≡ 0 → at / 4096 ≡ v / 4096 → at < root_span (shapes a) → v < root_span (shapes a)
+        last Arm11 at v a s l = omega (arith, a, s, l)
+        last Aarch64 at v a s l = omega (arith, a, s, l)

@@ -1,11 +1,10 @@
 -- Each frame has the address of a page or none, and fills a part of it or nothing.
-use Rattle.spec_laws.proofs.Common.{Content, FlatConnection, FlatEnd, FrameInfo, Given, IsIn, List, MappedPage, Memory, None, Option, Own, Region, Section, SectionPage, Settled, Shown, Some, Window, [], and_from}
-use Rattle.spec_laws.proofs.Common.{arith, base, by_address, connection_frames, device_frame, device_frames, eq-eqb, fill_from, fill_of, frame, frames, frames_at, from_flat_map, from_gather, from_map, from_range, in_append, in_place}
-use Rattle.spec_laws.proofs.Common.{inl, inr, is_first, is_shared, keeps_fill, keeps_frame, le-leb, leaves_of, leb, lt-ltb, map, mapped_pages, memory_paddr, memory_pages, memory_part, min, nat_lt, option_map, option_map_or, own_frame, own_frames}
-use Rattle.spec_laws.proofs.Common.{own_part, page_at, page_count, page_of, pages_of, pages_of_region, range_with_len, refl, region_page, region_part, regions, register_frames, register_part, registers, section_page, section_pages, section_part}
-use Rattle.spec_laws.proofs.Common.{sections_of, shared_frames, shared_part, slice_get, subst, true, ℕ, ⊎_elim, ◌%◌, ◌*◌, ◌+◌, ◌-◌, ◌<◌, ◌==◌, ◌≡◌}
+use Rattle.std.proofs.Common.{rules}
+use Rattle.spec_laws.proofs.Common.{Content, FlatConnection, FlatEnd, FrameInfo, Given, IsIn, List, MappedPage, Memory, None, Option, Own, Region, Section, SectionPage, Settled, Shown, Some, Window, [], and_from, arith, base, by_address}
+use Rattle.spec_laws.proofs.Common.{device_frames, eq-eqb, fill_from, fill_of, frames, frames_at, from_flat_map, from_gather, from_map, from_range, in_append, in_place, inl, inr, keeps_fill, keeps_frame, le-leb, leaves_of, leb, lt-ltb, map}
+use Rattle.spec_laws.proofs.Common.{mapped_pages, memory_paddr, memory_part, min, nat_lt, option_map, option_map_or, own_frame, own_frames, own_part, page_at, page_count, page_of, pages_of, pages_of_region, range_with_len, refl, region_page}
+use Rattle.spec_laws.proofs.Common.{region_part, regions, register_frames, register_part, registers, section_page, section_pages, section_part, sections_of, shared_frames, shared_part, slice_get, subst, true, ℕ, ⊎_elim, ◌%◌, ◌*◌, ◌+◌, ◌-◌, ◌<◌, ◌≡◌}
 use Rattle.source_images.specs.ByAddress.{name_of}
-use Rattle.vspace_layout.specs.declared.owner.Owner.TheVariants.{OfConnection}
 use Rattle.spec_laws.proofs.Lists.{from_if}
 
 abbrev Keeps : FrameInfo → Type 0
@@ -19,11 +18,10 @@ fill_kept file s j at l =
     (lt-ltb 0 (min (s.size - 4096 * j) 4096) (omega (arith, l))) (le-leb (0 + min (s.size - 4096 * j) 4096) 4096 (omega arith))
 
 section_kept : (file : List ℕ) (s : Section) (j : ℕ) → j < page_count s → keeps_frame None (fill_of file s j) ≡ true
-section_kept file s j l = by_place s.at
-  where
-    by_place : (o : Option ℕ) → keeps_frame None (option_map (fill_from file s j) o) ≡ true
-    by_place None = refl
-    by_place (Some at) = fill_kept file s j at l
+section_kept file s j l = by_place s.at where
+  by_place : (o : Option ℕ) → keeps_frame None (option_map (fill_from file s j) o) ≡ true
+  by_place None = refl
+  by_place (Some at) = fill_kept file s j at l
 
 -- what a page shows
 abbrev IsFilled : Shown → Type 0
@@ -51,47 +49,36 @@ module _ (g : Given) where
       ⊎_elim (λ j. let s = from_map section_page p (section_pages g.images (leaves_of g.flat d)) j in
       subst PageFilled s.2 (section_filled (leaves_of g.flat d) s.0 s.1)) (λ j. let k = from_gather
       (pages_of_region g.settled (base g) (regions g d)) p (regions g d) j in by_page k.1 _ k.3)
-      (in_append p (section_part g.images (leaves_of g.flat d)) (region_part g.settled (base g) (regions g d)) i)
-    where
-      by_page : (r : Region) (from : ℕ) → IsIn p (map (page_of g.settled from r) (range_with_len 0 r.pages)) → PageFilled p
-      by_page r from i =
-          let m = from_map (page_of g.settled from r) p (range_with_len 0 r.pages) i in
-          subst PageFilled m.2 (region_filled g.settled r.content (from + 4096 * m.0) m.0)
+      (in_append p (section_part g.images (leaves_of g.flat d)) (region_part g.settled (base g) (regions g d)) i) where
+        by_page : (r : Region) (from : ℕ) → IsIn p (map (page_of g.settled from r) (range_with_len 0 r.pages)) → PageFilled p
+        by_page r from i =
+            let m = from_map (page_of g.settled from r) p (range_with_len 0 r.pages) i in
+            subst PageFilled m.2 (region_filled g.settled r.content (from + 4096 * m.0) m.0)
 
   own_kept : (f : FrameInfo) → IsIn f (own_part g) → Keeps f
   own_kept f i =
       let a = from_gather (own_frames g) f g.flat.domains i in
       let b = from_gather (λ n (p : MappedPage). own_frame a.0 p.shown) f (mapped_pages g a.0) a.3 in
-      by_shown a.0 b.1.shown (page_filled a.0 b.1 (in_place b.1 (mapped_pages g a.0) b.0 b.2)) b.3
-    where
-      by_shown : (d : ℕ) (s : Shown) → IsFilled s → IsIn f (own_frame d s) → Keeps f
-      by_shown d (Own fill) k (inl e) = subst Keeps e k
-      by_shown d (Own fill) k (inr j) = absurd j
-      by_shown d (Memory m j) k i = absurd i
+      by_shown a.0 b.1.shown (page_filled a.0 b.1 (in_place b.1 (mapped_pages g a.0) b.0 b.2)) b.3 where
+        by_shown : (d : ℕ) (s : Shown) → IsFilled s → IsIn f (own_frame d s) → Keeps f
+        by_shown d (Own fill) k (inl e) = subst Keeps e k
+        by_shown d (Own fill) k (inr j) = absurd j
+        by_shown d (Memory m j) k i = absurd i
 
 -- ---- memory
 
 shared_kept : (settled : Settled) (k : ℕ) (c : FlatConnection) (f : FrameInfo) → IsIn f (shared_frames settled k c) → Keeps f
-shared_kept settled k c f i =
-    let q = from_if (is_shared c.connector) (connection_frames k (memory_pages settled k c)) f i in
-    subst Keeps (from_map (λ j. frame (OfConnection k) None None) f (range_with_len 0 (memory_pages settled k c)) q.1).2 refl
+shared_kept settled k c f i = search (rules, from_if, from_map)
 
 device_kept : (leaf at count : ℕ) (f : FrameInfo) → at % 4096 ≡ 0 → IsIn f (device_frames leaf at count) → Keeps f
-device_kept leaf at count f aligned i =
-    let m = from_map (device_frame leaf at) f (range_with_len 0 count) i in
-    subst Keeps m.2 (and_from ((at + 4096 * m.0) % 4096 == 0) true (eq-eqb ((at + 4096 * m.0) % 4096) 0 (omega (arith, aligned)))
-    refl)
+device_kept leaf at count f aligned i = search (rules, from_map, and_from, eq-eqb)
 
 registers_kept : (g : Given) (k : ℕ) (c : FlatConnection) (f : FrameInfo) → memory_paddr g.settled k c % 4096 ≡ 0
     → IsIn f (register_frames g.flat g.settled k c) → Keeps f
-registers_kept g k c f aligned i = by_end (registers c) i
-  where
-    by_end : (o : Option FlatEnd) → IsIn f (option_map_or (frames_at g.flat g.settled k c) o []) → Keeps f
-    by_end None i = absurd i
-    by_end (Some e) i =
-        let frames = device_frames e.leaf (memory_paddr g.settled k c) (memory_pages g.settled k c) in
-        let q = from_if (is_first g.flat k e) frames f i in
-        device_kept e.leaf (memory_paddr g.settled k c) (memory_pages g.settled k c) f aligned q.1
+registers_kept g k c f aligned i = by_end (registers c) i where
+  by_end : (o : Option FlatEnd) → IsIn f (option_map_or (frames_at g.flat g.settled k c) o []) → Keeps f
+  by_end None i = absurd i
+  by_end (Some e) i = search (rules, from_if, device_kept)
 
 memory_kept : (g : Given) → ((k : ℕ) (c : FlatConnection) → slice_get g.flat.connections k ≡ Some c
     → memory_paddr g.settled k c % 4096 ≡ 0) → (f : FrameInfo) → IsIn f (memory_part g.flat g.settled) → Keeps f

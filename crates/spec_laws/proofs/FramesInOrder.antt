@@ -1,9 +1,9 @@
 -- Own frames of domains stand by domain and address, behind them shared frames, and then registers of devices
-use Rattle.spec_laws.proofs.Common.{AreFramesInOrder, CanMap, Cap, Domain, Fill, FlatConnection, FlatEnd, FrameInfo, FrameOf, IsBefore, IsNamed, IsOwn, IsOwnAt, IsRegisterAt, IsSharedAt, List, MappedPage, Mmio, Option, Own, Owned}
-use Rattle.spec_laws.proofs.Common.{Part, SharedMemory, Some, Tables, [], ap, arith, at_place, before, below, cases_lt, cond, connection_frames, false, frame_owner, frame_parts, get_ones, get_or_from_slice_get, in_gather, in_together, inl, inr}
-use Rattle.spec_laws.proofs.Common.{is_shared, leads_to, length, mapped_pages, memory_number, memory_pages, name_at, number_shown, numbered, object_at, objects_stand, option_map_or, own_frames, own_number, own_part, own_port, owned, part, place}
-use Rattle.spec_laws.proofs.Common.{position-Some, refl, register_frames, registers, registers_in, root_of, same_port, sections, shared_frames, shared_part, slice_get, spec_of, subst, sym, system, true, true≢false, ℕ, ◌+◌, ◌/◌, ◌<◌, ◌∙◌}
-use Rattle.spec_laws.proofs.Common.{◌∷◌, ◌≡◌, ◌≤◌, ◌⊎◌, IsThere}
+use Rattle.std.proofs.Common.{rules}
+use Rattle.spec_laws.proofs.Common.{AreFramesInOrder, CanMap, Cap, Domain, Fill, FlatConnection, FlatEnd, FrameInfo, FrameOf, IsBefore, IsNamed, IsOwn, IsOwnAt, IsRegisterAt, IsSharedAt, List, MappedPage, Mmio, Option, Own, Owned, Part, SharedMemory}
+use Rattle.spec_laws.proofs.Common.{Some, Tables, [], ap, arith, at_place, before, below, cases_lt, false, frame_owner, frame_parts, get_ones, get_or_from_slice_get, in_gather, in_together, inl, inr, is_shared, leads_to, length, mapped_pages}
+use Rattle.spec_laws.proofs.Common.{memory_number, name_at, number_shown, numbered, object_at, objects_stand, option_map_or, own_frames, own_number, own_part, own_port, owned, part, place, position-Some, refl, register_frames, registers}
+use Rattle.spec_laws.proofs.Common.{registers_in, root_of, same_port, sections, shared_frames, shared_part, slice_get, spec_of, subst, sym, system, true, true≢false, ℕ, ◌+◌, ◌/◌, ◌<◌, ◌∙◌, ◌∷◌, ◌≡◌, ◌≤◌, ◌⊎◌, IsThere}
 use Rattle.cap_model.specs.declared.object.Object.TheVariants as objects
 use Rattle.system_spec.specs.declared.series.Series.TheVariants as series
 use Rattle.spec_laws.proofs.Whose.{object_stands, of_frame}
@@ -75,19 +75,18 @@ module _ (t : Tables) (can : CanMap t) where
   own_order : (d v m e w n : ℕ) → OwnNumber d v m → OwnNumber e w n → IsBefore d (v / 4096) e (w / 4096) → m < n
   own_order d v m e w n a b (inl l) =
       omega (arith, behind (own_frames (system t)) t.flat.domains d e a.leaves a.here l, a.low, a.is, b.is)
-  own_order d v m e w n a b (inr r) = in_domain (subst (λ z. OwnNumber z w n) (sym r.0) b)
-    where
-      in_domain : OwnNumber d w n → m < n
-      in_domain b =
-          elim (cases_lt a.number b.number) [
-            | inl l ↦
-                let next = behind (own_of d) (pages d) a.number b.number a.page a.stands l in
-                omega (arith, next, one_own d a.page a.fill a.shown, a.is, b.is)
-            | inr l ↦
-                let le = not_above (λ (z : MappedPage). z.at) (pages d) b.number a.number b.page a.page
-                (rise t can d a.leaves a.here).rise b.stands a.stands (omega (arith, l)) in
-                absurd (omega (arith, le, a.same, b.same, r.1))
-          ]
+  own_order d v m e w n a b (inr r) = in_domain (subst (λ z. OwnNumber z w n) (sym r.0) b) where
+    in_domain : OwnNumber d w n → m < n
+    in_domain b =
+        elim (cases_lt a.number b.number) [
+          | inl l ↦
+              let next = behind (own_of d) (pages d) a.number b.number a.page a.stands l in
+              omega (arith, next, one_own d a.page a.fill a.shown, a.is, b.is)
+          | inr l ↦
+              let le = not_above (λ (z : MappedPage). z.at) (pages d) b.number a.number b.page a.page
+              (rise t can d a.leaves a.here).rise b.stands a.stands (omega (arith, l)) in
+              absurd (omega (arith, le, a.same, b.same, r.1))
+        ]
 
   own_below : (d v m : ℕ) → OwnNumber d v m → m < frames_from t + own
   own_below d v m a =
@@ -116,17 +115,12 @@ module _ (t : Tables) (can : CanMap t) where
   shared_at : (k j at : ℕ) → IsSharedAt t (spec_of t) (root_of t) k j at → FrameNumber shared own k j at
   shared_at k j at w =
       let s = memory_shown t can w.domain k j at w.connection w.here w.shows in
-      by_place s.is (memory_at t can k j w.connection w.here s.kind s.within)
-    where
-      by_place : at ≡ frames_from t + memory_number (system t) k j → MemoryPlace t k j w.connection → FrameNumber shared own k j at
-      by_place is (MemoryPlace.at_shared n a) = record {
-        connection = w.connection;
-        here = w.here;
-        is = is ∙ ap (λ z. frames_from t + z) n;
-        low = a;
-      }
-      by_place is (MemoryPlace.at_device e r f n a) =
-          let g = sym (ap (λ z. registers_in z w.connection.ends) w.is_shared) ∙ r in absurd cc
+      by_place s.is (memory_at t can k j w.connection w.here s.kind s.within) where
+        by_place : at ≡ frames_from t + memory_number (system t) k j → MemoryPlace t k j w.connection
+            → FrameNumber shared own k j at
+        by_place is (MemoryPlace.at_shared n a) = search (rules, frames_from)
+        by_place is (MemoryPlace.at_device e r f n a) =
+            let g = sym (ap (λ z. registers_in z w.connection.ends) w.is_shared) ∙ r in absurd cc
 
   register_at : (k j at : ℕ) → IsRegisterAt t (spec_of t) (root_of t) k j at → FrameNumber laid behind_shared k j at
   register_at k j at w =
@@ -134,20 +128,16 @@ module _ (t : Tables) (can : CanMap t) where
       by_place s.is (elim s.kind [
         | inl m ↦ (let g : SharedMemory ≡ Mmio = sym m ∙ w.is_device in absurd cc)
         | inr m ↦ memory_at t can k j w.connection w.here (inr m) s.within
-      ])
-    where
-      by_place : at ≡ frames_from t + memory_number (system t) k j → MemoryPlace t k j w.connection
-          → FrameNumber laid behind_shared k j at
-      by_place is (MemoryPlace.at_shared n a) =
-          let none : length (shared_frames t.settled k w.connection) ≡ 0 =
-          ap (λ z. length (cond (is_shared z) (connection_frames k (memory_pages t.settled k w.connection)) [])) w.is_device in
-          absurd (omega (arith, none, a))
-      by_place is (MemoryPlace.at_device e r f n a) =
-          let le = w.first f.number f.connection f.here (one_device t w.connection e r f) in
-          let same : f.number ≡ k = omega (arith, le, first_least t k w.connection e w.here r f) in
-          let number : FrameNumber laid behind_shared f.number j at =
-          record { connection = f.connection; here = f.here; is = omega (arith, is, n); low = a } in
-          subst (λ z. FrameNumber laid behind_shared z j at) same number
+      ]) where
+        by_place : at ≡ frames_from t + memory_number (system t) k j → MemoryPlace t k j w.connection
+            → FrameNumber laid behind_shared k j at
+        by_place is (MemoryPlace.at_shared n a) = search (rules)
+        by_place is (MemoryPlace.at_device e r f n a) =
+            let le = w.first f.number f.connection f.here (one_device t w.connection e r f) in
+            let same : f.number ≡ k = omega (arith, le, first_least t k w.connection e w.here r f) in
+            let number : FrameNumber laid behind_shared f.number j at =
+            record { connection = f.connection; here = f.here; is = omega (arith, is, n); low = a } in
+            subst (λ z. FrameNumber laid behind_shared z j at) same number
 
   in_part : (f : ℕ → FlatConnection → List FrameInfo) (front k i m l j n : ℕ) → FrameNumber f front k i m
       → FrameNumber f front l j n → IsBefore k i l j → m < n

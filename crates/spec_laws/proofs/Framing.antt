@@ -1,10 +1,10 @@
 -- The frame of each page that is mapped
-use Rattle.spec_laws.proofs.Common.{Bool, CanMap, Connector, Content, Domain, EndAt, EndSetting, Endpoint, FlatConnection, FlatEnd, FrameInfo, FrameOf, IsIn, IsRegionPage, List, MappedPage, Memory, Mmio, None}
-use Rattle.spec_laws.proofs.Common.{OneDevice, Option, Own, Owned, Part, Region, Role, SharedMemory, Shown, Some, Spaces, Tables, Window, [], and_parts, ap, arith, base, begins, below, below_count, eqb-true, false, first_to, frame}
-use Rattle.spec_laws.proofs.Common.{frame_object, frame_owner, frame_parts, frames, frames_stand, from_gather, from_map, get_ones, get_or, in_append, in_gather, in_place, in_together, inl, inr, is_shared, is_to, is_window, leads_to, leaves_of}
-use Rattle.spec_laws.proofs.Common.{mapped_pages, memory_number, memory_paddr, memory_pages, memory_place, number_shown, numbered, object_at, objects_stand, option_and_then, option_map_or, own_port, owned, page_of, pages_of_region, part, place}
-use Rattle.spec_laws.proofs.Common.{position, position-Some, position_found, range_with_len, refl, region_page, region_part, regions, registers, registers_in, same_port, section_page, section_pages, section_part, sections, setting_of, slice_get}
-use Rattle.spec_laws.proofs.Common.{slice_get-get_or, spec_of, subst, sym, system, to_place, true, ℕ, ◌*◌, ◌+◌, ◌/◌, ◌<◌, ◌==◌, ◌∙◌, ◌∷◌, ◌≡◌, ◌⊎◌}
+use Rattle.std.proofs.Common.{rules}
+use Rattle.spec_laws.proofs.Common.{Bool, CanMap, Connector, Content, Domain, EndAt, EndSetting, Endpoint, FlatConnection, FlatEnd, FrameInfo, FrameOf, IsIn, IsRegionPage, List, MappedPage, Memory, Mmio, None, OneDevice, Option, Own, Region, Role}
+use Rattle.spec_laws.proofs.Common.{SharedMemory, Shown, Some, Spaces, Tables, Window, [], and_parts, ap, arith, base, begins, below, below_count, eqb-true, false, first_to, frame, frame_object, frames, frames_stand, from_gather, from_map, get_or}
+use Rattle.spec_laws.proofs.Common.{in_append, in_place, inl, inr, is_shared, is_window, leads_to, leaves_of, mapped_pages, memory_number, memory_paddr, memory_pages, number_shown, object_at, option_map_or, own_port, page_of, pages_of_region, place}
+use Rattle.spec_laws.proofs.Common.{position, position-Some, position_found, range_with_len, refl, region_page, region_part, regions, registers, same_port, section_page, section_pages, section_part, slice_get, slice_get-get_or, spec_of, subst, sym}
+use Rattle.spec_laws.proofs.Common.{system, to_place, true, ℕ, ◌*◌, ◌+◌, ◌/◌, ◌<◌, ◌==◌, ◌∙◌, ◌∷◌, ◌≡◌, ◌⊎◌, object_there}
 use Rattle.system_spec.specs.declared.series.Series.TheVariants as series
 use Rattle.vspace_layout.specs.declared.owner.Owner.TheVariants.{OfConnection, OfDomain, OfLeaf}
 use Rattle.spec_laws.proofs.Paging.{window_of}
@@ -14,14 +14,7 @@ use Rattle.spec_laws.proofs.Windows.{seen, seen_pages}
 
 pub frame_there : (t : Tables) (f : ℕ) (info : FrameInfo) → slice_get t.spaces.frames f ≡ Some info
     → object_at (spec_of t) (place t (FrameOf f)) ≡ Some (frame_object info)
-frame_there t f info e =
-    let y = owned (frame_owner info.owner) (FrameOf f) in
-    let g : ℕ → FrameInfo → Owned = λ n z. owned (frame_owner z.owner) (FrameOf n) in
-    let p = part series.Frame f (frame_owner info.owner) (FrameOf f) in
-    let k : ℕ → Owned → List Part = λ n z. part series.Frame n z.owner z.what ∷ [] in
-    let there = in_together (sections t) 7 (numbered series.Frame (frame_parts t.spaces.frames)) p refl
-    (in_gather k p (frame_parts t.spaces.frames) f y (get_ones g t.spaces.frames f info e) (inl refl)) in
-    (objects_stand t).object p there ∙ ap (λ o. Some (option_map_or frame_object o Endpoint)) e
+frame_there t f info e = object_there t (FrameOf f) (info, e) ∙ ap (λ o. Some (option_map_or frame_object o Endpoint)) e
 
 -- ---- the first connection to registers
 
@@ -82,17 +75,10 @@ pages_by o = option_map_or (λ (s : EndSetting). s.bytes / 4096) o 0
 -- where registers have a page, there is their end
 pub registers_there : (t : Tables) (k j : ℕ) (c : FlatConnection) → c.connector ≡ Mmio → j < memory_pages t.settled k c
     → (e : FlatEnd) × (registers c ≡ Some e)
-registers_there t k j c m l = by_place (to_place c.ends) refl
-  where
-    by_place : (o : Option ℕ) → to_place c.ends ≡ o → (e : FlatEnd) × (registers c ≡ Some e)
-    by_place None g =
-        let none : memory_pages t.settled k c ≡ 0 =
-        ap (λ z. pages_by (option_and_then (setting_of t.settled k) (memory_place z c.ends))) m
-        ∙ ap (λ o. pages_by (option_and_then (setting_of t.settled k) o)) g in
-        absurd (omega (arith, l, none))
-    by_place (Some n) g =
-        let x = place_get (λ (z : FlatEnd). is_to z.role) c.ends n g in
-        (x.0, ap (λ z. registers_in z c.ends) m ∙ ap (λ o. option_and_then (λ i. slice_get c.ends i) o) g ∙ x.1)
+registers_there t k j c m l = by_place (to_place c.ends) refl where
+  by_place : (o : Option ℕ) → to_place c.ends ≡ o → (e : FlatEnd) × (registers c ≡ Some e)
+  by_place None g = grind (arith)
+  by_place (Some n) g = search (rules, place_get)
 
 -- the frame of page j of the memory of connection k
 pub data IsMemoryFrame (t : Tables) (k j : ℕ) (c : FlatConnection) (info : FrameInfo) : Type 0 where
@@ -163,27 +149,26 @@ shows_at t d k j p e i =
           let a = from_gather (pages_of_region t.settled (base s) (regions s d)) p (regions s d) q in
           let b = from_map (page_of t.settled (begins t d a.0) a.1) p (range_with_len 0 a.1.pages) a.3 in
           by_content a.0 a.1 b.0 a.1.content refl a.2 (below_count a.1.pages b.0 b.1) b.2
-    ]
-  where
-    by_content : (n : ℕ) (r : Region) (i : ℕ) (c : Content) → r.content ≡ c → slice_get (regions (system t) d) n ≡ Some r
-        → i < r.pages → region_page t.settled c (begins t d n + 4096 * i) i ≡ p → ShowsAt t d p.at k j
-    by_content n r i (Window w) c h l q =
-        let f : Memory w.connection i ≡ Memory k j = ap (λ (z : MappedPage). z.shown) q ∙ e in
-        let number : w.connection ≡ k = cc in
-        let page : i ≡ j = cc in
-        record {
-          number = n;
-          region = r;
-          e = w;
-          content = c;
-          of_connection = number;
-          page = record {
-            here = h;
-            within = subst (λ z. z < r.pages) page l;
-            at = ap (λ (z : MappedPage). z.at) (sym q) ∙ ap (λ z. begins t d n + 4096 * z) page;
-          };
-        }
-    by_content n r i _ c h l q = let f : Own None ≡ Memory k j = ap (λ (z : MappedPage). z.shown) q ∙ e in cc
+    ] where
+      by_content : (n : ℕ) (r : Region) (i : ℕ) (c : Content) → r.content ≡ c → slice_get (regions (system t) d) n ≡ Some r
+          → i < r.pages → region_page t.settled c (begins t d n + 4096 * i) i ≡ p → ShowsAt t d p.at k j
+      by_content n r i (Window w) c h l q =
+          let f : Memory w.connection i ≡ Memory k j = ap (λ (z : MappedPage). z.shown) q ∙ e in
+          let number : w.connection ≡ k = cc in
+          let page : i ≡ j = cc in
+          record {
+            number = n;
+            region = r;
+            e = w;
+            content = c;
+            of_connection = number;
+            page = record {
+              here = h;
+              within = subst (λ z. z < r.pages) page l;
+              at = ap (λ (z : MappedPage). z.at) (sym q) ∙ ap (λ z. begins t d n + 4096 * z) page;
+            };
+          }
+      by_content n r i _ c h l q = let f : Own None ≡ Memory k j = ap (λ (z : MappedPage). z.shown) q ∙ e in cc
 
 -- ---- the frame of a page
 

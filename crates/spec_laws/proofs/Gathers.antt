@@ -1,5 +1,5 @@
 -- How long gathered lists are, and what stands in them.
-use Rattle.spec_laws.proofs.Common.{List, Some, [], arith, gather, length, length_append, option_map, refl, slice_get, suc, sum, sum_by-cons, zero, ℕ, ◌*◌, ◌++◌, ◌+◌, ◌<◌, ◌∷◌, ◌≡◌, ◌≤◌}
+use Rattle.spec_laws.proofs.Common.{List, Some, [], arith, gather, length, length_append, option_map, refl, slice_get, suc, sum, sum_by-cons, zero, ℕ, ◌*◌, ◌∷◌, ◌≡◌, ◌≤◌}
 
 -- what is gathered, where each element gives at most so many
 pub gather_most : {X Y : Type 0} (f : ℕ → X → List Y) (xs : List X) → ((k : ℕ) (x : X) → slice_get xs k ≡ Some x
@@ -18,12 +18,11 @@ ones_at f _ _ = refl
 pub part_of_sum : {X : Type 0} (f : ℕ → X → ℕ) (xs : List X) (k : ℕ) (x : X) → slice_get xs k ≡ Some x
     → f k x ≤ sum (gather (λ n z. f n z ∷ []) xs)
 part_of_sum f [] k x e = cc
-part_of_sum {X} f (y ∷ xs) zero x e = by_same y e
-  where
-    by_same : (y : X) → Some y ≡ Some x → f 0 x ≤ sum (f 0 y ∷ gather (λ n z. f (suc n) z ∷ []) xs)
-    by_same y e =
-        let same : f 0 x ≡ f 0 y = cc in
-        omega (arith, same, sum_by-cons (λ (n : ℕ). n) (f 0 y) (gather (λ n z. f (suc n) z ∷ []) xs))
+part_of_sum {X} f (y ∷ xs) zero x e = by_same y e where
+  by_same : (y : X) → Some y ≡ Some x → f 0 x ≤ sum (f 0 y ∷ gather (λ n z. f (suc n) z ∷ []) xs)
+  by_same y e =
+      let same : f 0 x ≡ f 0 y = cc in
+      omega (arith, same, sum_by-cons (λ (n : ℕ). n) (f 0 y) (gather (λ n z. f (suc n) z ∷ []) xs))
 part_of_sum f (y ∷ xs) (suc k) x e =
     let ih = part_of_sum (λ n z. f (suc n) z) xs k x e in
     omega (arith, ih, sum_by-cons (λ (n : ℕ). n) (f 0 y) (gather (λ n z. f (suc n) z ∷ []) xs))

@@ -1,4 +1,5 @@
 -- Each leaf of software has an image: its component stands in the source, and types list the component's name.
+use Rattle.std.proofs.Common.{rules}
 use Rattle.spec_laws.proofs.Common.{AreImagesOf, AreNamesSound, Body, Bool, Component, Contents, Ended, HaveImages, Images, IsIn, Item, ItemAt, Leaf, List, Name, None, Option, Some, Source, SourceFile, ap, arith, as_component, body_number, bytes_eq}
 use Rattle.spec_laws.proofs.Common.{bytes_eq-Decides, component_of, components, cond, enumerate_from, filter_map, flat_of, from_enumerate, from_filter_map, from_flat_map, from_get_map, from_map, get_map, hierarchy_of, image_number, in_filter_map}
 use Rattle.spec_laws.proofs.Common.{in_get, items_in, items_of, leaf_component, leaf_of, leaves, option_and_then, position, position_found, refl, slice_get, subst, sym, type_number, type_of, types, unwrap_or, ℕ, ◌∙◌, ◌≡◌}
@@ -29,14 +30,11 @@ item_there s x i =
 name_there : (s : Source) (c : ItemAt × Component) → IsIn c (components s) → component_name s c.0 ≡ Some c.1.id.name
 name_there s c i =
     let x = from_filter_map as_component c (items_of s) i in
-    by_item x.0 x.2 (item_there s x.0 x.1)
-  where
-    by_item : (y : ItemAt × Item) → as_component y ≡ Some c → component_name s y.0 ≡ component_of y.1
-        → component_name s c.0 ≡ Some c.1.id.name
-    by_item (at, items.Component d) t m =
-        let same : (at, d) ≡ c = cc in
-        subst (λ (z : ItemAt × Component). component_name s z.0 ≡ Some z.1.id.name) same m
-    by_item (at, _) t m = cc
+    by_item x.0 x.2 (item_there s x.0 x.1) where
+      by_item : (y : ItemAt × Item) → as_component y ≡ Some c → component_name s y.0 ≡ component_of y.1
+          → component_name s c.0 ≡ Some c.1.id.name
+      by_item (at, items.Component d) t m = search (rules)
+      by_item (at, _) t m = cc
 
 leaf_named : (s : Source) → AreNamesSound s → (l : ℕ) (leaf : Leaf) → slice_get (flat_of s).leaves l ≡ Some leaf
     → (n : Name) × (component_name s leaf.component ≡ Some n)

@@ -1,15 +1,14 @@
 -- An interrupt has an end at a device, and no two interrupts have one number.
+use Rattle.std.proofs.Common.{rules}
 use Rattle.spec_laws.proofs.Common.{AreDotted, AreNamesSound, AreSettingsSound, FlatConnection, FlatEnd, Found, From, Interrupt, IsIn, List, None, Option, Role, Some, Source, To, [], alone, and_from, ap, arith, bad_at_end, bad_unless, bad_value}
 use Rattle.spec_laws.proofs.Common.{cond, cond_both, count_by, counted, device_place, end_rule, ends_typed, eq-eqb, first_type_fault, flat_of, found_on, founds_in, get_map, hierarchy_of, in_filter_map, in_flat_map, in_map, in_place, irq_in}
-use Rattle.spec_laws.proofs.Common.{irq_number, irq_of, is_device_event, is_device_memory, is_kind_of, is_none, is_some, is_there, lacks_value, le-leb, leb-true, leb_tells, map, map-append, meaning, missing_at, nat_le, none_in, none_right}
-use Rattle.spec_laws.proofs.Common.{option_and_then, option_map_or, or_right, place_of, position_found, refl, setting_of, settled_of, slice_get, so, some_end, subst, sum_by-append, sum_by-cons, sym, true, true≢false, unwrap_or, ℕ, ◌&&◌, ◌+◌, ◌==◌}
-use Rattle.spec_laws.proofs.Common.{◌∙◌, ◌∷◌, ◌≡◌, ◌≤◌}
+use Rattle.spec_laws.proofs.Common.{irq_number, irq_of, is_device_event, is_kind_of, is_some, is_there, le-leb, leb-true, leb_tells, map, map-append, meaning, missing_at, nat_le, none_in, none_right, option_and_then, option_map_or, or_right}
+use Rattle.spec_laws.proofs.Common.{place_of, position_found, refl, setting_of, settled_of, slice_get, so, some_end, subst, sum_by-append, sum_by-cons, sym, true, unwrap_or, ℕ, ◌+◌, ◌==◌, ◌∙◌, ◌∷◌, ◌≡◌, ◌≤◌}
 use Rattle.std.specs.Prelude.{option_map}
 use Rattle.adl_hierarchy.proofs.Exports.{not_so}
 use Rattle.adl_meaning.specs.Values.{Given}
-use Rattle.adl_settings.specs.IrqTwice.{irq_from, irq_twice_at, irqs_in, irq_at, irqs}
+use Rattle.adl_settings.specs.IrqTwice.{irq_from, irqs_in, irq_at, irqs}
 use Rattle.adl_settings.specs.declared.twice.Irq.{Irq}
-use Rattle.adl_settings.specs.Repeated.{is_repeated}
 use Rattle.spec_laws.proofs.SettledEnds.{end_found}
 use Rattle.spec_laws.proofs.SpaceBounds.{at_position}
 use Rattle.system_spec.specs.Tables.{is_hardware}
@@ -49,10 +48,9 @@ holders_le n (f ∷ fs) =
     ap (count_of n) (map-append (λ (a : Irq). a.number) (irqs_in f) (irqs fs)) ∙ sum_by-append one (numbers (irqs_in f))
     (numbers (irqs fs)) in
     let step = sum_by-cons (λ f. cond (nat_le 1 (count_of n (numbers (irqs_in f)))) 1 0) f fs in
-    omega (arith, split, step, at_most here, holders_le n fs)
-  where
-    at_most : (c : ℕ) → cond (nat_le 1 c) 1 0 ≤ c
-    at_most c = cond_both (nat_le 1 c) 1 0 (λ z. z ≤ c) (leb-true 1 c) (λ e. omega arith)
+    omega (arith, split, step, at_most here, holders_le n fs) where
+      at_most : (c : ℕ) → cond (nat_le 1 c) 1 0 ≤ c
+      at_most c = cond_both (nat_le 1 c) 1 0 (λ z. z ≤ c) (leb-true 1 c) (λ e. omega arith)
 
 -- ---- the settled number
 
@@ -63,26 +61,22 @@ record IsSettledIrq (f : Found) : Type 0 where
   meant : irq_of f ≡ Some irq.number
 
 settled_irq : (f : Found) → is_device_event f.joint ≡ true → bad_at_end f ≡ [] → missing_at f ≡ [] → IsSettledIrq f
-settled_irq f event good there = by_given f.irq refl
-  where
-    bad : bad_value irq_in f.irq ≡ []
-    bad = none_right _ (bad_value irq_in f.irq) good
+settled_irq f event good there = by_given f.irq refl where
+  bad : bad_value irq_in f.irq ≡ []
+  bad = none_right _ (bad_value irq_in f.irq) good
 
-    by_given : (o : Option Given) → f.irq ≡ o → IsSettledIrq f
-    by_given None e =
-        let lacks : lacks_value f ≡ true = or_right (is_device_memory f.joint && is_none f.paddr) (is_device_event f.joint
-        && is_none f.irq) (and_from (is_device_event f.joint) (is_none f.irq) event (ap (λ o. is_none o) e)) in
-        absurd (true≢false (sym lacks ∙ not_so (lacks_value f) _ there))
-    by_given (Some g) e =
-        let some =
-        so (is_some (meaning irq_in f.irq)) _ (sym (ap (λ o. bad_unless (is_some (meaning irq_in f.irq)) o) e) ∙ bad) in
-        let n = is_there (irq_of f) some in
-        record {
-          irq = irq_from n.0 g;
-          is = ap (λ o. option_and_then (λ number. option_map (irq_from number) f.irq) o) n.1
-              ∙ ap (λ o. option_map (irq_from n.0) o) e;
-          meant = n.1;
-        }
+  by_given : (o : Option Given) → f.irq ≡ o → IsSettledIrq f
+  by_given None e = search (rules, or_right, and_from, not_so)
+  by_given (Some g) e =
+      let some =
+      so (is_some (meaning irq_in f.irq)) _ (sym (ap (λ o. bad_unless (is_some (meaning irq_in f.irq)) o) e) ∙ bad) in
+      let n = is_there (irq_of f) some in
+      record {
+        irq = irq_from n.0 g;
+        is = ap (λ o. option_and_then (λ number. option_map (irq_from number) f.irq) o) n.1
+            ∙ ap (λ o. option_map (irq_from n.0) o) e;
+        meant = n.1;
+      }
 
 from_role : (r : Role) → (end_rule Interrupt r).hardware ≡ true → r ≡ From
 from_role From e = refl
@@ -128,10 +122,7 @@ module _ (s : Source) (sound : AreNamesSound s) (dotted : AreDotted (hierarchy_o
       }
 
   once : (i : Irq) → IsIn i (irqs founds) → count_of i.number (numbers (irqs founds)) ≤ 1
-  once i in_all =
-      let more = not_so (is_repeated (numbers (irqs founds)) i.number) _
-      (none_in (irq_twice_at (is_repeated (numbers (irqs founds)))) (irqs founds) i settings.apart in_all) in
-      grind (arith, more, leb_tells 2 (count_of i.number (numbers (irqs founds))))
+  once i in_all = grind (arith, not_so, none_in, leb_tells)
 
   pub one_line : (j k : ℕ) (a b : FlatConnection) → slice_get (flat_of s).connections j ≡ Some a
       → slice_get (flat_of s).connections k ≡ Some b → a.connector ≡ Interrupt → b.connector ≡ Interrupt

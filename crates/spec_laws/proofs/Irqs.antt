@@ -1,9 +1,6 @@
 -- The labels of interrupts
-use Rattle.spec_laws.proofs.Common.{CanMap, Connector, FlatConnection, IrqOf, IsIn, IsIrqOf, IsOf, NotificationOf, OfConnection}
-use Rattle.spec_laws.proofs.Common.{Some, Tables, ap, arith, below}
-use Rattle.spec_laws.proofs.Common.{in_place, inl, irq_owner, labels_of, name_at}
-use Rattle.spec_laws.proofs.Common.{notification_by, object, objects_stand, option_map_or, part, parts, parts_are_there, place, place_is, refl, slice_get, spec_of, subst, sym}
-use Rattle.spec_laws.proofs.Common.{ℕ, ◌∙◌, ◌≡◌, there, IsThere}
+use Rattle.spec_laws.proofs.Common.{CanMap, Connector, FlatConnection, IrqOf, IsIn, IsIrqOf, IsOf, NotificationOf, OfConnection, Some, Tables, ap, arith, below, in_place, inl, irq_owner, labels_of, name_at, notification_by, object, objects_stand}
+use Rattle.spec_laws.proofs.Common.{option_map_or, part, parts, parts_are_there, place, place_is, refl, slice_get, spec_of, subst, sym, ℕ, ◌∙◌, ◌≡◌, there, IsThere}
 use Rattle.cap_model.specs.declared.object.Object.TheVariants as objects
 use Rattle.system_spec.specs.declared.series.Series.TheVariants as series
 use Rattle.spec_laws.proofs.Names.{same_number}
@@ -26,7 +23,8 @@ module _ (t : Tables) where
       let n = part series.Ntfn j (OfConnection j) (NotificationOf j) in
       let stands = (parts_are_there t).notification j u.0 u.1 n (subst P (sym u.2) (inl refl)) in
       let few = can.lay.connections in let low = below t.flat.connections j u.0 u.1 in
-      let number : j ≡ k = same_number series.Ntfn series.Ntfn j k (omega (arith, few, low)) (omega (arith, few, below t.flat.connections k c h))
+      let number : j ≡ k = same_number series.Ntfn series.Ntfn j k (omega (arith, few, low))
+      (omega (arith, few, below t.flat.connections k c h))
       (sym ((objects_stand t).name n stands) ∙ ap (λ z. name_at (spec_of t) z) (sym holds) ∙ w.holds) in
       let R : ℕ → Type 0 = λ z. IsOf t (labels_of t) z p.0.owner in
       subst (IsOf t (labels_of t) at) (whose t p.0 i ∙ ap (owner_of t) q.1 ∙ ap (device_at t) number

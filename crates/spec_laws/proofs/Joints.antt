@@ -1,8 +1,6 @@
 -- The labels of endpoints and notifications
-use Rattle.spec_laws.proofs.Common.{CanMap, Directory, Entry, FlatConnection, Interrupt, IsIn, IsNamed, IsOf, Level, List, None, Notification, OfConnection, Option}
-use Rattle.spec_laws.proofs.Common.{Part, Rpc, Series, Some, Tables, [], ap, arith, below, endpoint, entry, entry_name}
-use Rattle.spec_laws.proofs.Common.{from_get_map, in_place, labels_of, length, level_series, map, name_of, notification, part_name, parts, place_is, refl, slice_get, spec_of}
-use Rattle.spec_laws.proofs.Common.{subst, sym, ℕ, ◌<◌, ◌∙◌, ◌∷◌, ◌≡◌, ◌⊎◌, true, false, true≢false, Bool}
+use Rattle.spec_laws.proofs.Common.{CanMap, Directory, Entry, FlatConnection, Interrupt, IsIn, IsNamed, IsOf, Level, List, None, Notification, OfConnection, Option, Part, Rpc, Series, Some, Tables, [], ap, arith, below, endpoint, entry, entry_name}
+use Rattle.spec_laws.proofs.Common.{from_get_map, in_place, labels_of, length, level_series, map, name_of, notification, part_name, parts, place_is, refl, slice_get, spec_of, subst, sym, ℕ, ◌<◌, ◌∙◌, ◌∷◌, ◌≡◌, ◌⊎◌, true, false, true≢false, Bool}
 use Rattle.system_spec.specs.declared.series.Series.TheVariants as series
 use Rattle.spec_laws.proofs.Labels.{label_is}
 use Rattle.spec_laws.proofs.EachPart.{of_every}
@@ -48,12 +46,11 @@ module _ (t : Tables) where
   -- the part of a name
   named_part : (at n : ℕ) (s : Series) → (0 < first (name_of s n)) → IsNamed (spec_of t) at s n
       → (p : Part) × (slice_get (parts t) at ≡ Some p) × (part_name p ≡ name_of s n)
-  named_part at n s l h = by_entry (slice_get (map (entry t) (parts t)) at) refl h
-    where
-      by_entry : (o : Option Entry) → slice_get (map (entry t) (parts t)) at ≡ o → entry_name o ≡ name_of s n
-          → (p : Part) × (slice_get (parts t) at ≡ Some p) × (part_name p ≡ name_of s n)
-      by_entry None g k = let z : 0 ≡ first (name_of s n) = ap first k in absurd (omega (arith, l, z))
-      by_entry (Some e) g k = let p = from_get_map (entry t) (parts t) at e g in (p.0, p.1, ap (λ (z : Entry). z.name) p.2 ∙ k)
+  named_part at n s l h = by_entry (slice_get (map (entry t) (parts t)) at) refl h where
+    by_entry : (o : Option Entry) → slice_get (map (entry t) (parts t)) at ≡ o → entry_name o ≡ name_of s n
+        → (p : Part) × (slice_get (parts t) at ≡ Some p) × (part_name p ≡ name_of s n)
+    by_entry None g k = let z : 0 ≡ first (name_of s n) = ap first k in absurd (omega (arith, l, z))
+    by_entry (Some e) g k = let p = from_get_map (entry t) (parts t) at e g in (p.0, p.1, ap (λ (z : Entry). z.name) p.2 ∙ k)
 
   labelled : (at : ℕ) (p : Part) → slice_get (parts t) at ≡ Some p → IsOf t (labels_of t) at p.owner
   labelled at p e = let P : ℕ → Type 0 = λ z. IsOf t (labels_of t) z p.owner in

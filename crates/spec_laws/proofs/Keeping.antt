@@ -1,6 +1,7 @@
 -- The spec of laid-out tables keeps what every spec keeps.
+use Rattle.std.proofs.Common.{rules}
 use Rattle.spec_laws.proofs.Common.{Bool, CNodeOf, Domain, EndpointOf, Entry, FrameOf, IrqOf, IsFit, IsIn, IsKept, IsThere, List, LockOf, None, NotificationOf, Option, Page, Part, RW, Some, TableOf, Tables, ThreadOf, ThreadPlace, What, [], and_from}
-use Rattle.spec_laws.proofs.Common.{ap, arith, buffer_cap, cap, cond, entry, false, find, fits_as, frame_object, if_any, in_place, inl, inr, is_at, is_space_root, keeps, keeps_tcb, le-leb, leb, length-map, list_all, list_all-map, object}
+use Rattle.spec_laws.proofs.Common.{ap, arith, buffer_cap, cap, entry, find, fits_as, frame_object, if_any, in_place, inr, is_at, is_space_root, keeps, keeps_tcb, le-leb, leb, length-map, list_all, list_all-map, object}
 use Rattle.spec_laws.proofs.Common.{option_map_or, pages_at, parts, place, priority, refl, slice_get, spec_of, tcb, there, threads_at, true, ℕ, ◌&&◌, ◌==◌, ◌∙◌, ◌∷◌, ◌≡◌}
 use Rattle.std.specs.Option.{option_map}
 use Rattle.cap_model.specs.declared.kind.Kind.TheVariants as kinds
@@ -13,11 +14,7 @@ use Rattle.spec_laws.proofs.Telling.{names_kept}
 -- what is found stands in the list
 found_in : {X : Type 0} (test : X → Bool) (xs : List X) (x : X) → find test xs ≡ Some x → IsIn x xs
 found_in test [] x e = cc
-found_in test (y ∷ xs) x e = by_test (test y) (found_in test xs x) e
-  where
-    by_test : (b : Bool) → (find test xs ≡ Some x → IsIn x xs) → cond b (Some y) (find test xs) ≡ Some x → IsIn x (y ∷ xs)
-    by_test true more e = inl cc
-    by_test false more e = inr (more e)
+found_in test (y ∷ xs) x e = grind (arith, found_in test xs x)
 
 module _ (t : Tables) (fit : IsFit t) where
   abbrev Kept : What → Type 0
@@ -46,16 +43,7 @@ module _ (t : Tables) (fit : IsFit t) where
         (buffer_cap t d y.buffer)) prio space
 
     thread_kept : (i : ℕ) (y : ThreadPlace) → slice_get (threads_at t d) i ≡ Some y → Kept (ThreadOf d i)
-    thread_kept i y s =
-        ap (λ z. keeps (spec_of t) (option_map_or (λ (z : ThreadPlace). objects.Thread (tcb t d z)) z objects.Endpoint)) s
-        ∙ tcb_kept y (in_place y (threads_at t d) i s)
-
-  irq_kept : (k : ℕ) → IsThere t (IrqOf k) → Kept (IrqOf k)
-  irq_kept k h = is_at_of t (NotificationOf k) kinds.Notification kinds.Notification (h.0, h.1, inr h.2) refl refl
-
-  frame_kept : (f : ℕ) → IsThere t (FrameOf f) → Kept (FrameOf f)
-  frame_kept f h = ap (λ z. keeps (spec_of t) (option_map_or frame_object z objects.Endpoint)) h.1
-      ∙ fit.frames h.0 (in_place h.0 t.spaces.frames f h.1)
+    thread_kept i y s = search (rules, tcb_kept, in_place)
 
   pub kept : (w : What) → IsThere t w → keeps (spec_of t) (object t w) ≡ true
   kept (CNodeOf d) h = cnode_kept t fit d h.0 h.1
@@ -63,19 +51,16 @@ module _ (t : Tables) (fit : IsFit t) where
   kept (EndpointOf k) h = refl
   kept (NotificationOf k) h = refl
   kept (LockOf d n) h = refl
-  kept (IrqOf k) h = irq_kept k h
+  kept (IrqOf k) h = is_at_of t (NotificationOf k) kinds.Notification kinds.Notification (h.0, h.1, inr h.2) refl refl
   kept (TableOf d j) h = tables_kept t fit d h.0.0 h.0.1 j h
-  kept (FrameOf f) h = frame_kept f h
-
-  objects_kept : list_all (λ (e : Entry). keeps (spec_of t) e.object) (spec_of t).entries ≡ true
-  objects_kept =
-      list_all-map (λ (e : Entry). keeps (spec_of t) e.object) (entry t) (parts t)
-      ∙ all_pass (λ (p : Part). keeps (spec_of t) (object t p.what)) (parts t) (λ p i. kept p.what (there t p i))
+  kept (FrameOf f) h = ap (λ z. keeps (spec_of t) (option_map_or frame_object z objects.Endpoint)) h.1
+      ∙ fit.frames h.0 (in_place h.0 t.spaces.frames f h.1)
 
   pub spec_kept : IsKept (spec_of t)
   spec_kept = record {
     few = (let m = length-map (parts t) (entry t) in let l = fit.objects in omega (arith, m, l));
     names = names_kept t fit.connections fit.objects;
-    objects = objects_kept;
+    objects = list_all-map (λ (e : Entry). keeps (spec_of t) e.object) (entry t) (parts t)
+        ∙ all_pass (λ (p : Part). keeps (spec_of t) (object t p.what)) (parts t) (λ p i. kept p.what (there t p i));
     lines = lines_kept t fit;
   }

@@ -1,9 +1,7 @@
 -- Each object is of the kind that its name says
-use Rattle.spec_laws.proofs.Common.{Directory, Each, FrameOf, IsIn, Layer, Level, List, Mapping, Object}
-use Rattle.spec_laws.proofs.Common.{Part, Some, TableOf, Tables, [], addresses_same, ap, arch}
-use Rattle.spec_laws.proofs.Common.{each_append, endpoint, entry, entry_name, frame_object, get_map, in_place, irq}
-use Rattle.spec_laws.proofs.Common.{kind_of_object, layers, level_series, levels_of, levels_of_addresses, lock, map, notification, object, option_map_or, page_mapping, pages_at}
-use Rattle.spec_laws.proofs.Common.{parts, place, refl, same_Some, shapes, sizes, slice_get, spec_of, subst, suc, sym, table_of, tables_at, tcb, zero, ℕ, ◌+◌, ◌∙◌, ◌∷◌, ◌≡◌}
+use Rattle.spec_laws.proofs.Common.{Directory, Each, FrameOf, IsIn, Layer, Level, List, Mapping, Object, Part, Some, TableOf, Tables, [], addresses_same, ap, arch, each_append, endpoint, entry, entry_name, frame_object, get_map, in_place, irq}
+use Rattle.spec_laws.proofs.Common.{kind_of_object, layers, level_series, levels_of, levels_of_addresses, lock, map, notification, object, option_map_or, page_mapping, pages_at, parts, place, refl, same_Some, shapes, sizes, slice_get, spec_of, subst}
+use Rattle.spec_laws.proofs.Common.{suc, sym, table_of, tables_at, tcb, zero, ℕ, ◌+◌, ◌∙◌, ◌∷◌, ◌≡◌}
 use Rattle.cap_model.specs.declared.kind.Kind.TheVariants as kinds
 use Rattle.cap_model.specs.declared.object.Object.TheVariants as objects
 use Rattle.page_tables.specs.Levels.{level_of, numbered as in_levels}
@@ -74,7 +72,6 @@ module _ (t : Tables) where
 
   pub kinds_are : SayKinds (spec_of t)
   kinds_are at n s o name is =
-      let p = part_there t at o is in
-      let named = ap entry_name (get_map (entry t) (parts t) at p.0 p.1) in
+      let p = part_there t at o is in let named = ap entry_name (get_map (entry t) (parts t) at p.0 p.1) in
       let same : p.0.series ≡ s = same_series p.0.series s p.0.number n (sym named ∙ name) in
       ap kind_of_object (sym p.2) ∙ kinded p.0 (in_place p.0 (parts t) at p.1) ∙ ap kind_of same

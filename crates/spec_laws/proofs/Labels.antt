@@ -1,8 +1,8 @@
 -- The labels of objects
-use Rattle.spec_laws.proofs.Common.{AreDomainLabels, AreFrameLabels, CNodeOf, CanMap, CanSlot, Cap, Domain, EndAt, FlatConnection, FlatEnd, FrameInfo, FrameOf, IsAt, IsIn, IsNamed, IsOf, IsOwn, Leaf, List, LockOf, Mmio, None, Option, Owned, Owner}
-use Rattle.spec_laws.proofs.Common.{Part, SharedMemory, ShowsMemory, Some, Spaces, Tables, ThreadLine, [], ap, arch, arith, below, frame, frame_owner, frame_parts, frames_stand, get_map, get_ones, in_gather, in_together, inl, labels_of, map_lines}
-use Rattle.spec_laws.proofs.Common.{memory_number, number_shown, numbered, object_at, owned, part, part_label, parts, parts_are_there, place, refl, registers, registers_in, root_of, root_span, sections, shapes, slice_get, spec_of, stands, subst, sym}
-use Rattle.spec_laws.proofs.Common.{system, ℕ, ◌+◌, ◌<◌, ◌∙◌, ◌∷◌, ◌≡◌}
+use Rattle.std.proofs.Common.{rules}
+use Rattle.spec_laws.proofs.Common.{AreDomainLabels, AreFrameLabels, CNodeOf, CanMap, CanSlot, Cap, Domain, EndAt, FlatConnection, FlatEnd, FrameInfo, FrameOf, IsAt, IsIn, IsNamed, IsOf, IsOwn, Leaf, List, LockOf, Mmio, None, Option, Owner, Part}
+use Rattle.spec_laws.proofs.Common.{SharedMemory, ShowsMemory, Some, Spaces, Tables, ThreadLine, ap, arch, arith, below, frame, frame_owner, frames_stand, get_map, labels_of, map_lines, memory_number, number_shown, object_at, part, part_label, parts}
+use Rattle.spec_laws.proofs.Common.{place, registers, registers_in, root_of, root_span, shapes, slice_get, spec_of, stands, subst, sym, system, ℕ, ◌+◌, ◌<◌, ◌∙◌, ◌≡◌, IsThere, What, has_part, number_of, option_map_or, thread_place}
 use Rattle.arch_policy.specs.declared.owner.Owner.TheVariants as owners
 use Rattle.cap_model.specs.declared.object.Object.TheVariants as objects
 use Rattle.system_spec.specs.declared.part.What.TheVariants.{ThreadOf as OfThread}
@@ -16,7 +16,8 @@ use Rattle.spec_laws.proofs.Rooted.{frames_from}
 use Rattle.spec_laws.proofs.Showing.{memory_shown}
 use Rattle.spec_laws.proofs.SlotLists.{some}
 use Rattle.spec_laws.proofs.Threading.{domain_is, the_line}
-use Rattle.spec_laws.proofs.Threads.{thread_part, threads_before}
+use Rattle.spec_laws.proofs.Threads.{thread_at}
+use Rattle.spec_laws.proofs.Whose.{owner_of, whose}
 
 -- a part has its owner's label
 pub label_is : (t : Tables) (p : Part) → IsIn p (parts t) → IsOf t (labels_of t) (place t p.what) p.owner
@@ -25,25 +26,23 @@ label_is t p i = get_map (part_label t) (parts t) (place t p.what) p (stands t p
 pub moved : (t : Tables) (m n : ℕ) (o : Owner) → m ≡ n → IsOf t (labels_of t) m o → IsOf t (labels_of t) n o
 moved t m n o e h = subst (λ z. IsOf t (labels_of t) z o) e h
 
--- the part of a frame
+-- what there is has its owner's label
+pub label_at : (t : Tables) (w : What) → IsThere t w → IsOf t (labels_of t) (place t w) (owner_of t w)
+label_at t w h =
+    let p = has_part t w h in
+    subst (λ z. IsOf t (labels_of t) (place t z) (owner_of t z)) p.2
+    (subst (λ o. IsOf t (labels_of t) (place t p.0.what) o) (whose t p.0 p.1) (label_is t p.0 p.1))
+
 frame_label : (t : Tables) (f : ℕ) (info : FrameInfo) → slice_get t.spaces.frames f ≡ Some info
     → IsOf t (labels_of t) (place t (FrameOf f)) (frame_owner info.owner)
-frame_label t f info e =
-    let y = owned (frame_owner info.owner) (FrameOf f) in
-    let g : ℕ → FrameInfo → Owned = λ n z. owned (frame_owner z.owner) (FrameOf n) in
-    let p = part series.Frame f (frame_owner info.owner) (FrameOf f) in
-    let k : ℕ → Owned → List Part = λ n z. part series.Frame n z.owner z.what ∷ [] in
-    label_is t p (in_together (sections t) 7 (numbered series.Frame (frame_parts t.spaces.frames)) p refl
-    (in_gather k p (frame_parts t.spaces.frames) f y (get_ones g t.spaces.frames f info e) (inl refl)))
+frame_label t f info e = label_at t (FrameOf f) (info, e)
+    ∙ ap (λ o. Some (number_of t.numbers (option_map_or (λ (x : FrameInfo). frame_owner x.owner) o (owners.OfLeaf 0)))) e
 
 module _ (t : Tables) (can : CanMap t) where
   -- ---- of domains
 
   cnodes : (d : ℕ) (x : Domain) → slice_get t.flat.domains d ≡ Some x → IsOf t (labels_of t) d (owners.OfDomain d)
-  cnodes d x h =
-      let at : place t (CNodeOf d) ≡ d = omega arith in
-      moved t (place t (CNodeOf d)) d (owners.OfDomain d) at (label_is t (part series.CNode d (owners.OfDomain d) (CNodeOf d))
-      ((parts_are_there t).cnode d x h))
+  cnodes d x h = moved t (place t (CNodeOf d)) d (owners.OfDomain d) (omega arith) (label_at t (CNodeOf d) (x, h))
 
   threads : (at leaf d : ℕ) (end : Option EndAt) (x : Leaf) → IsIn (ThreadLine at leaf end) (map_lines t)
       → slice_get t.flat.leaves leaf ≡ Some x → x.domain ≡ Some d → IsOf t (labels_of t) at (owners.OfDomain d)
@@ -52,10 +51,10 @@ module _ (t : Tables) (can : CanMap t) where
       let found : g.0 ≡ x = some (slice_get t.flat.leaves leaf) g.0 x g.1 h in
       let mine : Some l.domain ≡ Some d = sym g.2 ∙ ap (λ (z : Leaf). z.domain) found ∙ e in
       let same : l.domain ≡ d = cc in
-      let P : ℕ → Type 0 = λ z. IsOf t (labels_of t) at (owners.OfDomain z) in
-      subst P same (moved t (place t (OfThread l.domain l.number)) at (owners.OfDomain l.domain) l.at_is
-      (label_is t (part series.Tcb (threads_before t can l.domain l.number) (owners.OfDomain l.domain)
-      (OfThread l.domain l.number)) (thread_part t can l.domain l.number l.leaves l.y l.here l.stands)))
+      let w = OfThread l.domain l.number in let y = thread_place (system t) l.domain l.number l.y in
+      let there : IsThere t w = ((l.leaves, l.here), (y, thread_at t can l.domain l.number l.leaves l.y l.here l.stands)) in
+      subst (λ z. IsOf t (labels_of t) at (owners.OfDomain z)) same
+      (moved t (place t w) at (owners.OfDomain l.domain) l.at_is (label_at t w there))
 
   locks : CanSlot t → (d bits m number : ℕ) (slots : List (ℕ × Cap)) (cap : Cap)
       → object_at (spec_of t) d ≡ Some (objects.CNode bits slots) → IsIn (m, cap) slots
@@ -97,23 +96,19 @@ module _ (t : Tables) (can : CanMap t) where
 
   shared : (d k j at : ℕ) (c : FlatConnection) → slice_get t.flat.connections k ≡ Some c → c.connector ≡ SharedMemory
       → ShowsMemory t (spec_of t) (root_of t) d k j at → IsOf t (labels_of t) at (owners.OfConnection k)
-  shared d k j at c h m w = let g = memory_label d k j at c h w in by_frame g.0 g.1 g.2
-    where
-      by_frame : (info : FrameInfo) → IsMemoryFrame t k j c info → IsOf t (labels_of t) at (frame_owner info.owner)
-          → IsOf t (labels_of t) at (owners.OfConnection k)
-      by_frame info (IsMemoryFrame.of_shared e f) l = subst (λ (z : FrameInfo). IsOf t (labels_of t) at (frame_owner z.owner)) f l
-      by_frame info (IsMemoryFrame.of_device e n r f) l = let g : Mmio ≡ SharedMemory = sym n ∙ m in cc
+  shared d k j at c h m w = let g = memory_label d k j at c h w in by_frame g.0 g.1 g.2 where
+    by_frame : (info : FrameInfo) → IsMemoryFrame t k j c info → IsOf t (labels_of t) at (frame_owner info.owner)
+        → IsOf t (labels_of t) at (owners.OfConnection k)
+    by_frame info (IsMemoryFrame.of_shared e f) l = subst (λ (z : FrameInfo). IsOf t (labels_of t) at (frame_owner z.owner)) f l
+    by_frame info (IsMemoryFrame.of_device e n r f) l = let g : Mmio ≡ SharedMemory = sym n ∙ m in cc
 
   device : (d k j at : ℕ) (c : FlatConnection) (e : FlatEnd) → slice_get t.flat.connections k ≡ Some c → registers c ≡ Some e
       → ShowsMemory t (spec_of t) (root_of t) d k j at → IsOf t (labels_of t) at (owners.OfLeaf e.leaf)
-  device d k j at c e h r w = let g = memory_label d k j at c h w in by_frame g.0 g.1 g.2
-    where
-      by_frame : (info : FrameInfo) → IsMemoryFrame t k j c info → IsOf t (labels_of t) at (frame_owner info.owner)
-          → IsOf t (labels_of t) at (owners.OfLeaf e.leaf)
-      by_frame info (IsMemoryFrame.of_shared n f) l = let g = sym (ap (λ z. registers_in z c.ends) n) ∙ r in cc
-      by_frame info (IsMemoryFrame.of_device x n q f) l =
-          subst (λ (z : FlatEnd). IsOf t (labels_of t) at (owners.OfLeaf z.leaf)) (some (registers c) x e q r)
-          (subst (λ (z : FrameInfo). IsOf t (labels_of t) at (frame_owner z.owner)) f l)
+  device d k j at c e h r w = let g = memory_label d k j at c h w in by_frame g.0 g.1 g.2 where
+    by_frame : (info : FrameInfo) → IsMemoryFrame t k j c info → IsOf t (labels_of t) at (frame_owner info.owner)
+        → IsOf t (labels_of t) at (owners.OfLeaf e.leaf)
+    by_frame info (IsMemoryFrame.of_shared n f) l = let g = sym (ap (λ z. registers_in z c.ends) n) ∙ r in cc
+    by_frame info (IsMemoryFrame.of_device x n q f) l = search (rules, some)
 
   pub frame_labels : AreFrameLabels t (spec_of t) (root_of t) (labels_of t)
   frame_labels = record { own = own; shared = shared; device = device }

@@ -1,10 +1,10 @@
 -- What is laid out is written in numbers of 64 bits and in plain texts.
-use Rattle.spec_laws.proofs.Common.{Aarch64, Arch, Arm11, CNodeOf, Cap, Connector, Domain, EndpointOf, Fill, FlatEnd, FrameInfo, FrameOf, From, Handler, IrqOf, IsFillWritten, IsFit, IsFrameWritten, IsIn, IsThere, IsThreadWritten, IsWritten, Layer}
-use Rattle.spec_laws.proofs.Common.{List, LockOf, Mapping, None, NotificationOf, Object, OfEnd, Option, OwnLock, Part, RW, Role, Series, Shape, SlotUse, Some, TableOf, Tables, ThreadOf, ThreadPlace, To, What, [], and_from, and_parts, ap, arch}
-use Rattle.spec_laws.proofs.Common.{are_slots, arith, buffer_cap, cap, decimal, end_of, eqb-true, false, false_from_ne_true, frame_at, frame_object, from_gather, from_map, if_any, in_place, inl, inr, is_fill, is_laid, is_letter, is_name}
-use Rattle.spec_laws.proofs.Common.{is_name-numbered, is_number, is_plain, is_tcb, is_word, is_word_byte, layers, leaf_entry, leaf_name, leb, length, length-append, length-decimal-le, list_all, lt-ltb, map, name_short, not, not_from_false, object}
-use Rattle.spec_laws.proofs.Common.{option_map_or, page_mapping, pages_at, part_name, place, prefix, refl, role_badge, same_Some, settled_badge, shape_of_layer, shapes, slice_get, slice_get_within, slot_of, slots_at, slots_below, slots_lead, subst}
-use Rattle.spec_laws.proofs.Common.{sym, table_of, tcb, threads_at, true, true≢false, use_cap, uses_at, ℕ, ◌&&◌, ◌++◌, ◌+◌, ◌<◌, ◌==◌, ◌^◌, ◌∙◌, ◌∷◌, ◌≡◌, ◌≤◌}
+use Rattle.std.proofs.Common.{rules}
+use Rattle.spec_laws.proofs.Common.{Aarch64, Arch, Arm11, CNodeOf, Cap, Connector, Domain, Fill, FlatEnd, FrameInfo, FrameOf, From, IsFillWritten, IsFit, IsFrameWritten, IsIn, IsThere, IsThreadWritten, IsWritten, Layer, List, Mapping, None, Object}
+use Rattle.spec_laws.proofs.Common.{OfEnd, Option, Part, RW, Role, Series, Shape, SlotUse, Some, TableOf, Tables, ThreadOf, ThreadPlace, To, What, [], and_from, and_parts, ap, arch, are_slots, arith, cap, decimal, end_of, eqb-true, false}
+use Rattle.spec_laws.proofs.Common.{false_from_ne_true, frame_object, from_gather, from_map, if_any, in_place, inl, inr, is_fill, is_laid, is_name, is_name-numbered, is_number, is_plain, is_tcb, is_word, is_word_byte, layers, leaf_name, length}
+use Rattle.spec_laws.proofs.Common.{length-append, length-decimal-le, list_all, lt-ltb, map, name_short, not, not_from_false, object, option_map_or, part_name, place, prefix, refl, role_badge, same_Some, settled_badge, shape_of_layer, shapes}
+use Rattle.spec_laws.proofs.Common.{slice_get, slice_get_within, slot_of, slots_at, slots_below, slots_lead, subst, sym, table_of, tcb, threads_at, true, true≢false, use_cap, uses_at, ℕ, ◌&&◌, ◌++◌, ◌+◌, ◌<◌, ◌==◌, ◌^◌, ◌∙◌, ◌∷◌, ◌≡◌, ◌≤◌}
 use Rattle.std.specs.Option.{option_map}
 use Rattle.cap_model.specs.declared.object.Object.TheVariants as objects
 use Rattle.capdl_text.specs.TokenFaults.{is_left_out_word}
@@ -31,10 +31,7 @@ left_in series.CNode rest = refl
 left_in _ rest = refl
 
 pub part_word : (p : Part) → p.number < 2 ^ 32 → is_word (part_name p) ≡ true
-part_word p l =
-    and_from (is_name (part_name p)) (not (is_left_out_word (part_name p))) (is_name-numbered (prefix p.series) p.number
-    (prefix_name p.series) (prefix_short p.series) (omega (arith, l)))
-    (not_from_false (is_left_out_word (part_name p)) (left_in p.series (decimal p.number)))
+part_word p l = grind (arith, and_from, is_name-numbered, prefix_name, prefix_short, not_from_false, left_in)
 
 pub part_short : (p : Part) → p.number < 2 ^ 32 → length (part_name p) ≤ 16
 part_short p l =
@@ -58,10 +55,7 @@ bytes_plain (b ∷ bs) h =
 
 pub name_plain : (text : List ℕ) → is_name text ≡ true → is_plain text ≡ true
 name_plain [] h = refl
-name_plain (b ∷ bs) h =
-    let p = and_parts (leb (length bs) 126) (is_letter b && list_all is_word_byte bs) h in
-    let q = and_parts (is_letter b) (list_all is_word_byte bs) p.1 in
-    and_from (not (b == 34) && not (b == 10)) (is_plain bs) (byte_plain b (word_or b q.0)) (bytes_plain bs q.1)
+name_plain (b ∷ bs) h = search (rules, and_parts, and_from, byte_plain, word_or, bytes_plain)
 
 -- ---- numbers
 
@@ -87,30 +81,28 @@ module _ (t : Tables) (fit : IsFit t) (written : IsWritten t) where
   badge_few : (k m : ℕ) (o : Option (Connector × FlatEnd))
       → option_map_or (λ (e : Connector × FlatEnd). role_badge e.1.role (settled_badge t.settled k m)) o 0 < 2 ^ 64
   badge_few k m None = omega arith
-  badge_few k m (Some e) = by_role e.1.role
-    where
-      by_role : (r : Role) → role_badge r (settled_badge t.settled k m) < 2 ^ 64
-      by_role From = written.badges k m
-      by_role To = omega arith
+  badge_few k m (Some e) = by_role e.1.role where
+    by_role : (r : Role) → role_badge r (settled_badge t.settled k m) < 2 ^ 64
+    by_role From = written.badges k m
+    by_role To = omega arith
 
   use_badge : (d n : ℕ) (u : SlotUse) → (use_cap t d n u).badge < 2 ^ 64
   use_badge d n (OfEnd k m) = badge_few k m (end_of t.flat k m)
   use_badge d n _ = omega arith
 
   cnode_laid : (d : ℕ) (x : Domain) → slice_get t.flat.domains d ≡ Some x → are_slots (slots_at t d) ≡ true
-  cnode_laid d x here = all_pass (λ (s : ℕ × Cap). is_number s.0 && is_number s.1.badge) (slots_at t d) each
-    where
-      each : (s : ℕ × Cap) → IsIn s (slots_at t d) → is_number s.0 && is_number s.1.badge ≡ true
-      each s i =
-          let g = from_gather (λ n u. (n + 1, use_cap t d n u) ∷ []) s (uses_at t d) i in
-          elim g.3 [
-            | inl same ↦
-                let below = slice_get_within (uses_at t d) g.0 g.1 g.2 in
-                let at : ℕ × Cap = (g.0 + 1, use_cap t d g.0 g.1) in
-                subst (λ (z : ℕ × Cap). is_number z.0 && is_number z.1.badge ≡ true) {x = at} same
-                (slot_is at (omega (arith, below, (fit.domains d x here).slots)) (use_badge d g.0 g.1))
-            | inr none ↦ absurd none
-          ]
+  cnode_laid d x here = all_pass (λ (s : ℕ × Cap). is_number s.0 && is_number s.1.badge) (slots_at t d) each where
+    each : (s : ℕ × Cap) → IsIn s (slots_at t d) → is_number s.0 && is_number s.1.badge ≡ true
+    each s i =
+        let g = from_gather (λ n u. (n + 1, use_cap t d n u) ∷ []) s (uses_at t d) i in
+        elim g.3 [
+          | inl same ↦
+              let below = slice_get_within (uses_at t d) g.0 g.1 g.2 in
+              let at : ℕ × Cap = (g.0 + 1, use_cap t d g.0 g.1) in
+              subst (λ (z : ℕ × Cap). is_number z.0 && is_number z.1.badge ≡ true) {x = at} same
+              (slot_is at (omega (arith, below, (fit.domains d x here).slots)) (use_badge d g.0 g.1))
+          | inr none ↦ absurd none
+        ]
 
   buffer_laid : (o : Option ℕ)
       → if_any (λ (c : Cap). is_number c.badge) (option_map (λ f. cap (place t (FrameOf f)) RW 0) o) ≡ true
@@ -118,13 +110,7 @@ module _ (t : Tables) (fit : IsFit t) (written : IsWritten t) where
   buffer_laid (Some f) = refl
 
   tcb_laid : (d : ℕ) (y : ThreadPlace) → IsThreadWritten t y → is_tcb (tcb t d y) ≡ true
-  tcb_laid d y w =
-      let b = if_any (λ (c : Cap). is_number c.badge) (buffer_cap t d y.buffer) in
-      and_from (is_number y.buffer && is_number (leaf_entry t y.leaf)) (is_number y.sp && (is_plain (leaf_name t y.leaf) && b))
-      (and_from (is_number y.buffer) (is_number (leaf_entry t y.leaf)) (number_is y.buffer w.buffer)
-      (number_is (leaf_entry t y.leaf) w.entry)) (and_from (is_number y.sp) (is_plain (leaf_name t y.leaf) && b)
-      (number_is y.sp w.stack) (and_from (is_plain (leaf_name t y.leaf)) b (name_plain (leaf_name t y.leaf) w.name)
-      (buffer_laid (frame_at (pages_at t d) y.buffer))))
+  tcb_laid d y w = search (rules, and_from, number_is, name_plain, buffer_laid)
 
   paddr_laid : (o : Option ℕ) → ((at : ℕ) → o ≡ Some at → at < 2 ^ 64) → if_any is_number o ≡ true
   paddr_laid None h = refl
@@ -146,14 +132,7 @@ module _ (t : Tables) (fit : IsFit t) (written : IsWritten t) where
     -- the badges of page tables' capabilities are none
     no_badge : (o : Object) → IsIn o (standing t d) → (y : Layer) (r : List Mapping) (link : ℕ) → table_of y.shape link r ≡ o
         → (s : ℕ × Cap) → IsIn s (map (slot_of y.shape link) r) → s.1.badge ≡ 0
-    no_badge o i y r link e s j =
-        elim (slots_lead (arch t) (mappings t fit d x here) first y.shape.level (map (slot_of y.shape link) r) s
-        (subst (λ z. IsIn z (standing t d)) (sym e) i) j) [
-          | inl h ↦
-              let m = from_map (page_mapping (place t (FrameOf 0))) h.1.0 (pages_at t d) h.1.1 in
-              ap (λ (z : Cap). z.badge) h.1.2 ∙ ap (λ (z : Mapping). z.cap.badge) (sym m.2)
-          | inr c ↦ ap (λ (z : Cap). z.badge) c.is
-        ]
+    no_badge o i y r link e s j = search (rules, slots_lead, mappings, standing, from_map)
 
     table_laid : (o : Object) → IsIn o (standing t d) → (y : Layer) → IsIn y (layers (shapes (arch t)) (mappings t fit d x here))
         → (r : List Mapping) (link : ℕ) → table_of y.shape link r ≡ o → is_laid (table_of y.shape link r) ≡ true
@@ -164,9 +143,7 @@ module _ (t : Tables) (fit : IsFit t) (written : IsWritten t) where
         slot_is s (omega (arith, below, small)) (omega (arith, no_badge o i y r link e s k)))
 
     pub standing_laid : (o : Object) → IsIn o (standing t d) → (is_laid o ≡ true) × AreShort o
-    standing_laid o i =
-        let r = from_tables first 0 (layers (shapes (arch t)) (mappings t fit d x here)) o i in
-        subst (λ z. (is_laid z ≡ true) × AreShort z) r.is (table_laid o i r.layer r.among r.run r.link r.is, tt)
+    standing_laid o i = search (rules, from_tables, mappings, table_laid)
 
     table_there : (j : ℕ) → IsThere t (TableOf d j) → (is_laid (object t (TableOf d j)) ≡ true)
         × AreShort (object t (TableOf d j))

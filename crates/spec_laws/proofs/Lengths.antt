@@ -1,14 +1,14 @@
 -- How long the lines of a canonical text are, where names are short.
-use Rattle.spec_laws.proofs.Common.{Aarch64, Arch, Arm11, Bool, CNode, Cap, Directory, Endpoint, Fill, Frame, IsIn, Level, List, None, Object, Option, Pages, Rights, Some, Spec, Tcb, Thread, [], and_parts, ap, arch_word}
+use Rattle.spec_laws.proofs.Common.{Aarch64, Arch, Arm11, Bool, CNode, Cap, Directory, Endpoint, Fill, Frame, IsIn, Level, List, None, Object, Option, Pages, Rights, Some, Spec, Tcb, Thread, [], and_parts, arch_word}
 use Rattle.spec_laws.proofs.Common.{are_slots, arith, buffer_line, cap_end, caps_of, cond_both, decimal, elf_field, entry_line, entry_text, false, fill_field, flat_map, frame_line, has_slot, holder_text, if_any, inl, inr, irq_line, irq_text, is_laid}
-use Rattle.spec_laws.proofs.Common.{is_number, is_tcb, keeps, keeps_fill, leb, leb-true, length, length_append, level_word, ltb-true, name_at, named_line, nat_lt, not, object_line, paddr_field, params, refl, slots_text, some, suc, sym, tcb_line}
-use Rattle.spec_laws.proofs.Common.{tcb_text, true, zero, ℕ, ◌&&◌, ◌*◌, ◌++◌, ◌+◌, ◌<◌, ◌==◌, ◌^◌, ◌∷◌, ◌≡◌, ◌≤◌}
+use Rattle.spec_laws.proofs.Common.{is_number, is_tcb, keeps, keeps_fill, leb, leb-true, length, length_append, level_word, ltb-true, name_at, named_line, nat_lt, object_line, paddr_field, params, refl, slots_text, some, suc, tcb_line}
+use Rattle.spec_laws.proofs.Common.{tcb_text, true, zero, ℕ, ◌&&◌, ◌*◌, ◌++◌, ◌+◌, ◌<◌, ◌^◌, ◌∷◌, ◌≡◌, ◌≤◌}
 use Rattle.std.specs.Prelude.{◌/◌, ◌%◌, codes}
 use Rattle.cam_base.specs.Hex.{glyph, hex_digits, hex_text}
 use Rattle.cam_base.specs.Texts.{◌⊹◌, together}
 use Rattle.cap_model.specs.Canonical.{canonical, slot_line}
 use Rattle.cap_model.specs.declared.object.Object.TheVariants.{Notification, Irq}
-use Rattle.cap_model.specs.RightsWord.{grant_letter, has_rights, letter, read_letter, reply_letter, rights_word, write_letter}
+use Rattle.cap_model.specs.RightsWord.{letter, rights_word}
 use Rattle.spec_laws.proofs.Totals.{length_flat_map, total_each}
 use Rattle.cam_base.proofs.ShortTexts.{all_short, decimal_short}
 
@@ -45,11 +45,7 @@ letter_short true l xs n h = omega (arith, h)
 letter_short false l xs n h = omega (arith, h)
 
 rights_short : (r : Rights) → length (rights_word r) ≤ 4
-rights_short r =
-    let a = letter_short r.reply reply_letter [] 0 (omega arith) in
-    let b = letter_short r.grant grant_letter (letter r.reply reply_letter []) 1 a in
-    letter_short r.read read_letter (letter r.write write_letter (letter r.grant grant_letter (letter r.reply reply_letter []))) 3
-    (letter_short r.write write_letter (letter r.grant grant_letter (letter r.reply reply_letter [])) 2 b)
+rights_short r = grind (arith, letter_short)
 
 params_short : (a b : Bool) (r : Rights) (badge : ℕ) → badge < 2 ^ 64 → length (params a b r badge) ≤ 36
 params_short false false r badge l = omega arith
@@ -158,10 +154,7 @@ line_short spec name (Irq notification) n k h =
 
 module _ (spec : Spec) (names : (o : ℕ) → length (name_at spec o) ≤ 16) where
   cap_short : (c : Cap) → c.badge < 2 ^ 64 → length (cap_end spec c) ≤ 53
-  cap_short c l =
-      let p = params (has_rights c.rights) (not (c.badge == 0)) c.rights c.badge in
-      joined (name_at spec c.object ⊹ p) (codes "\n") 52 1 (joined (name_at spec c.object) p 16 36 (names c.object)
-      (params_short (has_rights c.rights) (not (c.badge == 0)) c.rights c.badge l)) (omega arith)
+  cap_short c l = grind (arith, joined, params_short)
 
   slot_short : (s : ℕ × Cap) → s.1.badge < 2 ^ 64 → length (slot_line spec s) ≤ 73
   slot_short s l =
@@ -171,10 +164,7 @@ module _ (spec : Spec) (names : (o : ℕ) → length (name_at spec o) ≤ 16) wh
 
   badge_of : (slots : List (ℕ × Cap)) (s : ℕ × Cap) → are_slots slots ≡ true → IsIn s slots → s.1.badge < 2 ^ 64
   badge_of [] s h i = absurd i
-  badge_of (x ∷ xs) s h (inl e) =
-      let a = and_parts (is_number x.0 && is_number x.1.badge) (are_slots xs) h in
-      let n : s.1.badge ≡ x.1.badge = ap (λ (z : ℕ × Cap). z.1.badge) (sym e) in
-      omega (arith, n, number x.1.badge (and_parts (is_number x.0) (is_number x.1.badge) a.0).1)
+  badge_of (x ∷ xs) s h (inl e) = grind (arith, and_parts, number)
   badge_of (x ∷ xs) s h (inr i) = badge_of xs s (and_parts (is_number x.0 && is_number x.1.badge) (are_slots xs) h).1 i
 
   slots_short : (name : List ℕ) (slots : List (ℕ × Cap)) → length name ≤ 16 → are_slots slots ≡ true
@@ -197,9 +187,7 @@ module _ (spec : Spec) (names : (o : ℕ) → length (name_at spec o) ≤ 16) wh
 
   buffer_short : (o : Option Cap) → if_any (λ c. is_number c.badge) o ≡ true → length (buffer_line spec o) ≤ 73 * some o
   buffer_short None h = omega arith
-  buffer_short (Some c) h =
-      let s = joined (codes "ipc_buffer_slot: ") (cap_end spec c) 17 53 (omega arith) (cap_short c (number c.badge h)) in
-      more (buffer_line spec (Some c)) 70 73 s (omega arith)
+  buffer_short (Some c) h = grind (arith, joined, cap_short, number, more)
 
   tcb_text_short : (name : List ℕ) (tcb : Tcb) (b : Bool) → length name ≤ 16 → is_tcb tcb ≡ true
       → length (tcb_text spec name tcb b) ≤ 21 + 73 * caps_of (Thread tcb)

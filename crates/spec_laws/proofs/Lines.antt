@@ -1,7 +1,8 @@
 -- Interrupt lines rise by number, and each leads to an interrupt of its own.
+use Rattle.std.proofs.Common.{rules}
 use Rattle.spec_laws.proofs.Common.{Bool, Connector, FlatConnection, Interrupt, IrqOf, IsFit, IsIn, IsThere, List, Notification, Part, Some, Tables, What, [], and_from, and_parts, ap, arith, by_number, cases_order}
-use Rattle.spec_laws.proofs.Common.{cond, differ, eqb-true, false, false_from_ne_true, from_gather, gather, has_part, inl, inr, irq_number, is_at, keeps_lines, leb, leb-false, leb-true, length, line_by, lines, list_all, list_any, lt-ltb, ltb-true}
-use Rattle.spec_laws.proofs.Common.{map, nat_lt, parts, place, put_line, refl, rise, same_Some, slice_get, spec_of, stands, subst, suc, sym, true, ℕ, ◌&&◌, ◌++◌, ◌<◌, ◌==◌, ◌∙◌, ◌∷◌, ◌≡◌, ◌≤◌}
+use Rattle.spec_laws.proofs.Common.{cond, differ, eqb-true, false, false_from_ne_true, from_gather, gather, has_part, inl, inr, irq_number, is_at, keeps_lines, leb, leb-false, leb-true, length, line_by, lines, list_any, lt-ltb, ltb-true}
+use Rattle.spec_laws.proofs.Common.{map, nat_lt, parts, place, put_line, refl, rise, same_Some, slice_get, spec_of, stands, subst, suc, sym, true, ℕ, ◌++◌, ◌<◌, ◌==◌, ◌∙◌, ◌∷◌, ◌≡◌, ◌≤◌}
 use Rattle.cap_model.specs.declared.kind.Kind.TheVariants as kinds
 use Rattle.spec_laws.proofs.CapsFit.{all_pass, is_at_of}
 use Rattle.spec_laws.proofs.SlotLists.{from_order, from_put}
@@ -33,22 +34,16 @@ rise_from x (y ∷ xs) r h = and_from (nat_lt x.0 y.0) (rise (y ∷ xs)) (lt-ltb
 
 put_rises : (x : Line) (ls : List Line) → rise ls ≡ true → ((l : Line) → IsIn l ls → x.0 ≡ l.0 → ⊥) → rise (put_line x ls) ≡ true
 put_rises x [] r h = refl
-put_rises x (y ∷ ys) r h = by_test (leb x.0 y.0) refl (put_rises x ys (rises_behind y ys r) (λ l i. h l (inr i)))
-  where
-    by_test : (b : Bool) → leb x.0 y.0 ≡ b → rise (put_line x ys) ≡ true → rise (cond b (x ∷ y ∷ ys) (y ∷ put_line x ys)) ≡ true
-    by_test true e more =
-        let below : x.0 < y.0 = elim (cases_order x.0 y.0) [
-          | inl same ↦ absurd (h y (inl refl) same)
-          | inr (inl less) ↦ less
-          | inr (inr above) ↦ absurd (omega (arith, leb-true x.0 y.0 e, above))
-        ] in
-        and_from (nat_lt x.0 y.0) (rise (y ∷ ys)) (lt-ltb x.0 y.0 below) r
-    by_test false e more =
-        rise_from y (put_line x ys) more
-        (λ l i. elim (from_put x l ys i) [
-          | inl same ↦ let m : y.0 < x.0 = omega (arith, leb-false x.0 y.0 e) in subst (λ (z : Line). y.0 < z.0) same m
-          | inr j ↦ rises_over y ys l r j
-        ])
+put_rises x (y ∷ ys) r h = by_test (leb x.0 y.0) refl (put_rises x ys (rises_behind y ys r) (λ l i. h l (inr i))) where
+  by_test : (b : Bool) → leb x.0 y.0 ≡ b → rise (put_line x ys) ≡ true → rise (cond b (x ∷ y ∷ ys) (y ∷ put_line x ys)) ≡ true
+  by_test true e more =
+      let below : x.0 < y.0 = elim (cases_order x.0 y.0) [
+        | inl same ↦ absurd (h y (inl refl) same)
+        | inr (inl less) ↦ less
+        | inr (inr above) ↦ absurd (omega (arith, leb-true x.0 y.0 e, above))
+      ] in
+      and_from (nat_lt x.0 y.0) (rise (y ∷ ys)) (lt-ltb x.0 y.0 below) r
+  by_test false e more = grind (arith, rise_from, from_put, leb-false, rises_over)
 
 -- lines of elements, each of which gives one at most, and no two of one number
 sorted_rise : {X : Type 0} (f : ℕ → X → List Line) (xs : List X) → ((k : ℕ) (x : X) → length (f k x) ≤ 1)
@@ -59,33 +54,31 @@ sorted_rise {X} f (x ∷ xs) few one =
     let g : ℕ → X → List Line = λ k y. f (suc k) y in
     let behind : rise (by_number (gather g xs)) ≡ true = sorted_rise g xs (λ k y. few (suc k) y)
     (λ j k a b l m p q i o s. let e : suc j ≡ suc k = one (suc j) (suc k) a b l m p q i o s in omega (arith, e)) in
-    by_list (f 0 x) refl behind
-  where
-    by_list : (ls : List Line) → f 0 x ≡ ls → rise (by_number (gather (λ k y. f (suc k) y) xs)) ≡ true
-        → rise (by_number (ls ++ gather (λ k y. f (suc k) y) xs)) ≡ true
-    by_list [] e behind = behind
-    by_list (l ∷ []) e behind =
-        put_rises l (by_number (gather (λ k y. f (suc k) y) xs)) behind (λ m i s. let c = from_gather (λ k y. f (suc k) y) m xs
-        (from_order m (gather (λ k y. f (suc k) y) xs) i) in let n : 0 ≡ suc c.0 = one 0 (suc c.0) x c.1 l m refl c.2
-        (subst (λ z. IsIn l z) (sym e) (inl refl)) c.3 s in absurd (omega (arith, n)))
-    by_list (l ∷ m ∷ ls) e behind = let long = few 0 x in let s : length (f 0 x) ≡ length (l ∷ m ∷ ls) = ap (λ z. length z) e in
-        absurd (omega (arith, long, s))
+    by_list (f 0 x) refl behind where
+      by_list : (ls : List Line) → f 0 x ≡ ls → rise (by_number (gather (λ k y. f (suc k) y) xs)) ≡ true
+          → rise (by_number (ls ++ gather (λ k y. f (suc k) y) xs)) ≡ true
+      by_list [] e behind = behind
+      by_list (l ∷ []) e behind =
+          put_rises l (by_number (gather (λ k y. f (suc k) y) xs)) behind (λ m i s. let c = from_gather (λ k y. f (suc k) y) m xs
+          (from_order m (gather (λ k y. f (suc k) y) xs) i) in let n : 0 ≡ suc c.0 = one 0 (suc c.0) x c.1 l m refl c.2
+          (subst (λ z. IsIn l z) (sym e) (inl refl)) c.3 s in absurd (omega (arith, n)))
+      by_list (l ∷ m ∷ ls) e behind = let long = few 0 x in let s : length (f 0 x) ≡ length (l ∷ m ∷ ls) = ap (λ z. length z) e in
+          absurd (omega (arith, long, s))
 
 -- where things that lead to one place have one number, no two of what rises lead to one place
 places_differ : (ls : List Line) → rise ls ≡ true → ((x y : Line) → IsIn x ls → IsIn y ls → x.1 ≡ y.1 → x.0 ≡ y.0)
     → differ (λ a b. a == b) (map (λ (l : Line). l.1) ls) ≡ true
 places_differ [] r h = refl
 places_differ (x ∷ ls) r h =
-    rw (none_at ls (λ y i. other y i)) (places_differ ls (rises_behind x ls r) (λ y z i j. h y z (inr i) (inr j)))
-  where
-    other : (y : Line) → IsIn y ls → y.1 == x.1 ≡ false
-    other y i = false_from_ne_true (y.1 == x.1) (λ e. let l : x.0 < y.0 = rises_over x ls y r i in
-        let s : y.0 ≡ x.0 = h y x (inr i) (inl refl) (eqb-true y.1 x.1 e) in omega (arith, l, s))
+    rw (none_at ls (λ y i. other y i)) (places_differ ls (rises_behind x ls r) (λ y z i j. h y z (inr i) (inr j))) where
+      other : (y : Line) → IsIn y ls → y.1 == x.1 ≡ false
+      other y i = false_from_ne_true (y.1 == x.1) (λ e. let l : x.0 < y.0 = rises_over x ls y r i in
+          let s : y.0 ≡ x.0 = h y x (inr i) (inl refl) (eqb-true y.1 x.1 e) in omega (arith, l, s))
 
-    none_at : (ms : List Line) → ((y : Line) → IsIn y ms → y.1 == x.1 ≡ false)
-        → list_any (λ z. z == x.1) (map (λ (l : Line). l.1) ms) ≡ false
-    none_at [] g = refl
-    none_at (y ∷ ms) g = rw (g y (inl refl)) (none_at ms (λ z i. g z (inr i)))
+      none_at : (ms : List Line) → ((y : Line) → IsIn y ms → y.1 == x.1 ≡ false)
+          → list_any (λ z. z == x.1) (map (λ (l : Line). l.1) ms) ≡ false
+      none_at [] g = refl
+      none_at (y ∷ ms) g = rw (g y (inl refl)) (none_at ms (λ z i. g z (inr i)))
 
 -- ---- the lines of connections
 
@@ -134,13 +127,7 @@ module _ (t : Tables) (fit : IsFit t) where
       of_irq _ = 0
 
   one_target : (x y : Line) → IsIn x (lines t) → IsIn y (lines t) → x.1 ≡ y.1 → x.0 ≡ y.0
-  one_target x y i j e =
-      let a = lined x i in let b = lined y j in
-      let k : a.number ≡ b.number = one_place a.number b.number a.there b.there (ap (λ (z : Line). z.1) a.is ∙ e
-      ∙ sym (ap (λ (z : Line). z.1) b.is)) in
-      let c : a.there.0 ≡ b.there.0 = same_Some _ _ (sym a.there.1 ∙ ap (λ n. slice_get t.flat.connections n) k ∙ b.there.1) in
-      sym (ap (λ (z : Line). z.0) a.is) ∙ ap (λ n. irq_number t.settled n a.there.0) k ∙ ap (λ z. irq_number t.settled b.number z)
-      c ∙ ap (λ (z : Line). z.0) b.is
+  one_target x y i j e = search (rules, lined, one_place, same_Some)
 
   to_interrupt : (l : Line) → IsIn l (lines t) → is_at (spec_of t) kinds.Irq l.1 ≡ true
   to_interrupt l i =
@@ -149,9 +136,4 @@ module _ (t : Tables) (fit : IsFit t) where
       a.there refl refl)
 
   pub lines_kept : keeps_lines (spec_of t) (lines t) ≡ true
-  lines_kept =
-      let ls = lines t in
-      let test : Line → Bool = λ l. is_at (spec_of t) kinds.Irq l.1 in
-      and_from (rise ls && differ (λ a b. a == b) (map (λ (l : Line). l.1) ls)) (list_all test ls)
-      (and_from (rise ls) (differ (λ a b. a == b) (map (λ (l : Line). l.1) ls)) lines_rise
-      (places_differ ls lines_rise one_target)) (all_pass test ls to_interrupt)
+  lines_kept = search (rules, and_from, lines_rise, places_differ, one_target, all_pass, to_interrupt)

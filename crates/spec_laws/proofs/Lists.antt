@@ -1,5 +1,5 @@
 -- Lists: what stands in them, and numbers that rise.
-use Rattle.spec_laws.proofs.Common.{IsIn, List, Rises, Some, [], ap, arith, inl, map, range_with_len, refl, slice_get, suc, sym, zero, ℕ, ◌<◌, ◌∙◌, ◌∷◌, ◌≡◌, ◌≤◌, Bool, true, false, cond, inr}
+use Rattle.spec_laws.proofs.Common.{IsIn, List, Rises, Some, [], arith, inl, map, range_with_len, refl, slice_get, suc, zero, ℕ, ◌<◌, ◌∷◌, ◌≡◌, ◌≤◌, Bool, true, false, cond, inr}
 
 -- what stands in a list that is empty unless a test passes
 pub from_if : {X : Type 0} (b : Bool) (xs : List X) (y : X) → IsIn y (cond b xs []) → (b ≡ true) × IsIn y xs
@@ -20,45 +20,15 @@ in_range a (suc n) l = inl refl
 above : {X : Type 0} (f : X → ℕ) (x : X) (xs : List X) (k : ℕ) (y : X) → Rises (map f (x ∷ xs))
     → slice_get xs k ≡ Some y → f x < f y
 above f x [] k y r e = cc
-above f x (z ∷ zs) zero y r e =
-    let same : z ≡ y = cc in
-    let number : f z ≡ f y = ap f same in
-    let less : f x < f z = r.0 in
-    omega (arith, less, number)
-above f x (z ∷ zs) (suc k) y r e =
-    let less : f x < f z = r.0 in
-    let more : f z < f y = above f z zs k y r.1 e in
-    omega (arith, less, more)
+above f x (z ∷ zs) k y r e = grind (arith, above f z zs)
 
 pub rises_tell : {X : Type 0} (f : X → ℕ) (xs : List X) (i j : ℕ) (x y : X) → Rises (map f xs) → slice_get xs i ≡ Some x
     → slice_get xs j ≡ Some y → f x ≡ f y → x ≡ y
 rises_tell f [] i j x y r e g same = cc
-rises_tell f (z ∷ zs) zero zero x y r e g same = cc
-rises_tell {X} f (z ∷ zs) zero (suc j) x y r e g same =
-    let is : z ≡ x = cc in
-    let number : f z ≡ f x = ap f is in
-    let less : f z < f y = above f z zs j y r g in
-    absurd (omega (arith, less, number, same))
-rises_tell {X} f (z ∷ zs) (suc i) zero x y r e g same =
-    let is : z ≡ y = cc in
-    let number : f z ≡ f y = ap f is in
-    let less : f z < f x = above f z zs i x r e in
-    absurd (omega (arith, less, number, same))
-rises_tell f (z ∷ zs) (suc i) (suc j) x y r e g same = rises_tell f zs i j x y r.1 e g same
+rises_tell f (z ∷ zs) i j x y r e g same = grind (arith, above f z zs, rises_tell f zs)
 
 -- what stands no later is no more
 pub not_above : {X : Type 0} (f : X → ℕ) (xs : List X) (i j : ℕ) (x y : X) → Rises (map f xs) → slice_get xs i ≡ Some x
     → slice_get xs j ≡ Some y → i ≤ j → f x ≤ f y
 not_above f [] i j x y r e g l = cc
-not_above {X} f (z ∷ zs) zero zero x y r e g l =
-    let a : z ≡ x = cc in
-    let b : z ≡ y = cc in
-    let same : f x ≡ f y = ap f (sym a ∙ b) in
-    omega (arith, same)
-not_above {X} f (z ∷ zs) zero (suc j) x y r e g l =
-    let is : z ≡ x = cc in
-    let number : f z ≡ f x = ap f is in
-    let less : f z < f y = above f z zs j y r g in
-    omega (arith, less, number)
-not_above f (z ∷ zs) (suc i) zero x y r e g l = absurd (omega (arith, l))
-not_above f (z ∷ zs) (suc i) (suc j) x y r e g l = not_above f zs i j x y r.1 e g (omega (arith, l))
+not_above f (z ∷ zs) i j x y r e g l = grind (arith, above f z zs, not_above f zs)

@@ -1,9 +1,9 @@
 -- No two uses have one lock
-use Rattle.spec_laws.proofs.Common.{CNodeOf, CanSlot, Cap, Connector, Domain, Each, Entry, FlatConnection, Handler, Interrupt, IrqOf, IsIn, IsJoint, IsNamed, List, LockOf, None, Object}
-use Rattle.spec_laws.proofs.Common.{OfDomain, OfEnd, Option, OwnLock, OwnLocks, Owned, Part, Rpc, SlotPlan, SlotUse, Slots, Some, Spec, Tables, [], ap, arith, before, domain_locks, domain_uses}
-use Rattle.spec_laws.proofs.Common.{entry, entry_object, from_gather, from_get_map, gather, in_gather, in_together, inl, interrupt, irq_owner, lock, locks, map, name_at, name_of, numbered, object}
-use Rattle.spec_laws.proofs.Common.{object_at, objects_stand, option_map_or, owned, part, parts, place, place_of, plan_of, refl, sections, single, slice_get, slots_at, spec_of, stands}
-use Rattle.spec_laws.proofs.Common.{subst, suc, sym, use_cap, uses_at, zero, ℕ, ◌+◌, ◌∙◌, ◌∷◌, ◌≡◌}
+use Rattle.std.proofs.Common.{rules}
+use Rattle.spec_laws.proofs.Common.{CNodeOf, CanSlot, Cap, Connector, Domain, Each, Entry, FlatConnection, Handler, Interrupt, IrqOf, IsIn, IsJoint, IsNamed, List, LockOf, None, Object, OfDomain, OfEnd, Option, OwnLock, OwnLocks, Owned, Part, Rpc}
+use Rattle.spec_laws.proofs.Common.{SlotPlan, SlotUse, Slots, Some, Spec, Tables, [], ap, arith, before, domain_locks, domain_uses, entry, entry_object, from_gather, from_get_map, in_gather, in_together, inl, interrupt, irq_owner, lock, locks, map}
+use Rattle.spec_laws.proofs.Common.{name_at, name_of, numbered, object, object_at, objects_stand, option_map_or, owned, part, parts, place, place_of, plan_of, refl, sections, single, slice_get, slots_at, spec_of, stands, subst, suc, sym, use_cap}
+use Rattle.spec_laws.proofs.Common.{uses_at, zero, ℕ, ◌+◌, ◌∙◌, ◌∷◌, ◌≡◌}
 use Rattle.adl_meaning.specs.declared.connector.Connector.TheVariants.{Notification as Notifies}
 use Rattle.cap_model.specs.declared.object.Object.TheVariants as objects
 use Rattle.system_spec.specs.declared.series.Series.TheVariants as series
@@ -19,15 +19,11 @@ each_map P f (x ∷ xs) h = (h x, each_map P f xs h)
 
 pub part_there : (t : Tables) (m : ℕ) (o : Object) → object_at (spec_of t) m ≡ Some o
     → (p : Part) × (slice_get (parts t) m ≡ Some p) × (object t p.what ≡ o)
-part_there t m o h = by_entry (slice_get (map (entry t) (parts t)) m) refl h
-  where
-    by_entry : (e : Option Entry) → slice_get (map (entry t) (parts t)) m ≡ e → entry_object e ≡ Some o
-        → (p : Part) × (slice_get (parts t) m ≡ Some p) × (object t p.what ≡ o)
-    by_entry None f k = cc
-    by_entry (Some e) f k =
-        let p = from_get_map (entry t) (parts t) m e f in
-        let same : e.object ≡ o = cc in
-        (p.0, p.1, ap (λ (z : Entry). z.object) p.2 ∙ same)
+part_there t m o h = by_entry (slice_get (map (entry t) (parts t)) m) refl h where
+  by_entry : (e : Option Entry) → slice_get (map (entry t) (parts t)) m ≡ e → entry_object e ≡ Some o
+      → (p : Part) × (slice_get (parts t) m ≡ Some p) × (object t p.what ≡ o)
+  by_entry None f k = cc
+  by_entry (Some e) f k = search (rules, from_get_map)
 
 none_map : {X Y : Type 0} (f : X → Y) (xs : List X) (i : ℕ) → slice_get xs i ≡ None → slice_get (map f xs) i ≡ None
 none_map f [] i e = refl
@@ -123,10 +119,7 @@ module _ (t : Tables) (can : CanSlot t) where
 
   in_domain : (d m r : ℕ) (a : Cap) (q : Option Domain) → slice_get t.flat.domains d ≡ q → IsIn (m, a) (slots_at t d)
       → IsNamed spec a.object series.Lock r → IsLockSlot d m a
-  in_domain d m r a None h j name =
-      let slot : ℕ × Cap = (m, a) in
-      let f : ℕ → SlotUse → List (ℕ × Cap) = λ n u. (n + 1, use_cap t d n u) ∷ [] in
-      absurd (subst (λ (us : List SlotUse). IsIn slot (gather f us)) (no_uses d h) j)
+  in_domain d m r a None h j name = search (rules, no_uses)
   in_domain d m r a (Some x) h j name =
       let f : ℕ → SlotUse → List (ℕ × Cap) = λ n u. (n + 1, use_cap t d n u) ∷ [] in
       let b = from_gather f (m, a) (uses_at t d) j in

@@ -1,4 +1,5 @@
 -- What holds of the lines of domains, of threads, of slots and of windows holds of each line of the map.
+use Rattle.std.proofs.Common.{rules}
 use Rattle.spec_laws.proofs.Common.{Domain, DomainLine, IsIn, List, MapLine, Some, Tables, [], domain_lines, from_gather, gather, in_append, map_lines, single, slice_get, slot_line, slot_lines, subst, thread_line, thread_lines}
 use Rattle.spec_laws.proofs.Common.{threads_at, use_cap, uses_at, window_line, window_lines, windows_at, ℕ, ◌++◌, ◌∷◌, ◌≡◌, inl, inr}
 
@@ -10,10 +11,7 @@ module _ (t : Tables) (P : MapLine → Type 0) where
 
   of_each : {X : Type 0} (items : ℕ → List X) (f : ℕ → ℕ → X → MapLine) → OfItems items f → (line : MapLine)
       → IsIn line (gather (λ d (x : Domain). gather (λ n (y : X). f d n y ∷ []) (items d)) t.flat.domains) → P line
-  of_each {X} items f holds line i =
-      let a = from_gather (λ d (x : Domain). gather (λ n (y : X). f d n y ∷ []) (items d)) line t.flat.domains i in
-      let b = from_gather (λ n (y : X). f a.0 n y ∷ []) line (items a.0) a.3 in
-      subst P (single (f a.0 b.0 b.1) line b.3) (holds a.0 a.1 a.2 b.0 b.1 b.2)
+  of_each {X} items f holds line i = search (rules, from_gather, single)
 
   pub by_line : ((d : ℕ) (x : Domain) → slice_get t.flat.domains d ≡ Some x → P (DomainLine d))
       → OfItems (threads_at t) (thread_line t) → OfItems (uses_at t) (λ d n u. slot_line (use_cap t d n u).object n u)

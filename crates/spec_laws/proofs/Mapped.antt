@@ -1,11 +1,11 @@
 -- What the pages of a domain show, and whose frames they are.
-use Rattle.spec_laws.proofs.Common.{AtOtherEnd, Bool, Buffer, Connector, Domain, Fill, FlatConnection, FlatEnd, FrameInfo, FrameOf, From, Given, IsConnected, IsIn, IsThere, LeadsTo, MappedPage, Memory, Mmio, None, ObjectKind, OfDevice, OfFrames}
-use Rattle.spec_laws.proofs.Common.{Option, Own, Page, Read, Region, Role, SectionPage, SharedMemory, Some, Space, Stack, Tables, ThreadPlace, To, [], ap, arith, base, end_rule, first_to_end, flat_map, frame}
-use Rattle.spec_laws.proofs.Common.{frame_owner, frames, frames_stand, from_flat_map, from_gather, from_map, from_ones, from_range, gather, get_ones, given_tables, gives, in_append, in_gather, in_map, in_place, in_right, inl, inr, is_at_device}
-use Rattle.spec_laws.proofs.Common.{is_shared, is_to, leaf_label, leaves_of, map, mapped_pages, may_read, may_write, memory_number, memory_pages, number_of, number_shown, opposite, option_and_then, option_map_or, own_label, page}
-use Rattle.spec_laws.proofs.Common.{page_of, pages_at, pages_of_region, place_of, policy_tables, position_or_len, range_with_len, refl, region, region_part, region_start, regions, register_frame, registers, registers_in, same_port, section_page}
-use Rattle.spec_laws.proofs.Common.{section_pages, section_part, setting_of, slice_get, slice_get_within, space, subst, sym, thread_place, thread_regions, threads_at, threads_of, true, window_pages, window_region, windows_of, ℕ, ◌+◌, ◌<◌, ◌∙◌, ◌∷◌}
-use Rattle.spec_laws.proofs.Common.{◌≡◌, ◌⊎◌, and_from, eq-eqb}
+use Rattle.std.proofs.Common.{rules}
+use Rattle.spec_laws.proofs.Common.{AtOtherEnd, Bool, Buffer, Domain, Fill, FlatConnection, FlatEnd, FrameInfo, FrameOf, From, Given, IsConnected, IsIn, IsThere, LeadsTo, MappedPage, Memory, Mmio, None, ObjectKind, OfDevice, OfFrames, Option, Own}
+use Rattle.spec_laws.proofs.Common.{Page, Read, Region, Role, SectionPage, SharedMemory, Some, Space, Stack, Tables, ThreadPlace, To, [], ap, arith, base, end_rule, first_to_end, flat_map, frame, frame_owner, frames, frames_stand, from_flat_map}
+use Rattle.spec_laws.proofs.Common.{from_gather, from_map, from_ones, from_range, gather, get_ones, given_tables, gives, in_append, in_gather, in_map, in_place, in_right, inl, inr, is_at_device, is_shared, is_to, leaf_label, leaves_of, map}
+use Rattle.spec_laws.proofs.Common.{mapped_pages, may_read, may_write, memory_number, memory_pages, number_of, number_shown, opposite, option_and_then, option_map_or, own_label, page, page_of, pages_at, pages_of_region, place_of, policy_tables}
+use Rattle.spec_laws.proofs.Common.{position_or_len, range_with_len, refl, region, region_part, region_start, regions, register_frame, registers, registers_in, same_port, section_page, section_pages, section_part, setting_of, slice_get}
+use Rattle.spec_laws.proofs.Common.{slice_get_within, space, subst, sym, thread_place, thread_regions, threads_at, threads_of, true, window_pages, window_region, windows_of, ℕ, ◌+◌, ◌<◌, ◌∙◌, ◌∷◌, ◌≡◌, ◌⊎◌, and_from, eq-eqb}
 use lib.Dec.{eqb}
 use Rattle.arch_policy.specs.declared.owner.Owner.TheVariants as owners
 use Rattle.arch_policy.specs.Ends.{EndAt}
@@ -105,14 +105,9 @@ module _ (g : Given) (d : ℕ) where
       (in_gather (pages_of_region g.settled (base g) (regions g d)) p (regions g d) n r e inner)
 
   pub window_there : (e : Joined) → IsIn e (windows_of g d) → IsIn (window_region g.flat g.settled e) (regions g d)
-  window_there e i =
-      in_right (window_region g.flat g.settled e) (flat_map (thread_regions g.settled) (threads_of g d))
-      (map (window_region g.flat g.settled) (windows_of g d)) (in_map (window_region g.flat g.settled) e (windows_of g d) i)
+  window_there e i = search (rules, in_right, in_map)
 
 -- ---- pages and threads as they are laid
-
-pub hard_to : (c : Connector) (r : Role) → c ≡ Mmio → r ≡ To → (end_rule c r).hardware ≡ true
-hard_to c r e f = ap (λ z. (end_rule z r).hardware) e ∙ ap (λ z. (end_rule Mmio z).hardware) f
 
 module _ (t : Tables) (h : IsConnected t) where
   abbrev pub laid : Given
@@ -191,11 +186,10 @@ module _ (t : Tables) (h : IsConnected t) where
         there = (y, frame_there f y at);
         memory = ap (λ c. gives c x.end.role OfFrames Read) e ∙ both x.end.role;
         leads = ap (number_of t.numbers) (frame_is f y at);
-      }
-    where
-      both : (r : Role) → gives SharedMemory r OfFrames Read ≡ true
-      both From = refl
-      both To = refl
+      } where
+        both : (r : Role) → gives SharedMemory r OfFrames Read ≡ true
+        both From = refl
+        both To = refl
 
   -- ---- registers
 
@@ -232,7 +226,7 @@ module _ (t : Tables) (h : IsConnected t) where
         at = record { place = k; connection = c; here = e; number = position_or_len test c.ends; end = f.0; stands = f.1 };
         place = refl;
         connection = refl;
-        device = hard_to c.connector f.0.role m to;
+        device = ap (λ z. (end_rule z f.0.role).hardware) m ∙ ap (λ z. (end_rule Mmio z).hardware) to;
         role = to;
         has = ap (λ z. registers_in z c.ends) m ∙ first;
       }

@@ -1,5 +1,5 @@
 -- Members of lists that are made by ranges and by flat maps
-use Rattle.spec_laws.proofs.Common.{IsIn, List, Some, [], arith, range_with_len, slice_get, slice_index_or, subst, suc, zero, ℕ, ◌*◌, ◌++◌, ◌+◌, ◌/◌, ◌<◌, ◌∙◌, ◌∷◌, ◌≡◌}
+use Rattle.spec_laws.proofs.Common.{IsIn, List, Some, arith, range_with_len, slice_get, slice_index_or, subst, suc, ℕ, ◌*◌, ◌+◌, ◌/◌, ◌<◌, ◌∷◌, ◌≡◌}
 use Rattle.cam_base.proofs.NumberedLists as lists
 
 pub in_range : (n i : ℕ) → i < n → IsIn i (range_with_len 0 n)

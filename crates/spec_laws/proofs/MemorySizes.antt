@@ -1,5 +1,6 @@
 -- The memory of connections: its pages, its address, and the registers of devices, in a source without faults.
-use Rattle.spec_laws.proofs.Common.{AreDotted, AreNamesSound, AreSettingsSound, AreTyped, Connector, Direct, EndSetting, FlatConnection, FlatEnd, From, Hierarchy, Interface, Interrupt, Leaf, List, Mmio, None, Notification, Option, Role, Rpc, Settled}
+use Rattle.std.proofs.Common.{rules}
+use Rattle.spec_laws.proofs.Common.{AreDotted, AreNamesSound, AreSettingsSound, AreTyped, Connector, EndSetting, FlatConnection, FlatEnd, From, Hierarchy, Interface, Leaf, List, Mmio, None, Option, Role, Settled}
 use Rattle.spec_laws.proofs.Common.{SharedMemory, Some, Source, To, [], and_parts, ap, arith, codes, cond, default_bytes, end_rule, end_setting, eqb-true, first_type_fault, flat_of, hierarchy_of, is_device_memory, is_kind_of, is_to, is_window, meant}
 use Rattle.spec_laws.proofs.Common.{members_at, memory_paddr, memory_pages, memory_place, option_and_then, option_map_or, or_right, position_found, refl, registers, registers_in, same_Some, same_kind, same_port, setting_of, settled_of, size_in}
 use Rattle.spec_laws.proofs.Common.{slice_get, some_end, subst, sym, to_place, true, unwrap_or, value_at, where_set, ℕ, ◌%◌, ◌&&◌, ◌*◌, ◌++◌, ◌+◌, ◌/◌, ◌<◌, ◌==◌, ◌^◌, ◌||◌, ◌∙◌, ◌∷◌, ◌≡◌, ◌≤◌}
@@ -26,17 +27,16 @@ of_setting e m = record { most = omega (arith, m.most); fits = omega (arith, m.f
 
 memory_is : (s : Source) (k : ℕ) (c : FlatConnection)
     → IsMemory (memory_pages (settled_of s) k c) (memory_paddr (settled_of s) k c)
-memory_is s k c = by_place (memory_place c.connector c.ends)
-  where
-    by_setting : (n : ℕ) (o : Option EndSetting) → setting_of (settled_of s) k n ≡ o
-        → IsMemory (option_map_or (λ x. x.bytes / 4096) o 0) (option_map_or (λ x. x.paddr) o 0)
-    by_setting n None e = no_memory
-    by_setting n (Some x) e = let f = setting_from s k n x e in of_setting x (subst IsMeasured f.1 (measured f.0))
+memory_is s k c = by_place (memory_place c.connector c.ends) where
+  by_setting : (n : ℕ) (o : Option EndSetting) → setting_of (settled_of s) k n ≡ o
+      → IsMemory (option_map_or (λ x. x.bytes / 4096) o 0) (option_map_or (λ x. x.paddr) o 0)
+  by_setting n None e = no_memory
+  by_setting n (Some x) e = let f = setting_from s k n x e in of_setting x (subst IsMeasured f.1 (measured f.0))
 
-    by_place : (o : Option ℕ) → IsMemory (option_map_or (λ x. x.bytes / 4096) (option_and_then (setting_of (settled_of s) k) o) 0)
-        (option_map_or (λ x. x.paddr) (option_and_then (setting_of (settled_of s) k) o) 0)
-    by_place None = no_memory
-    by_place (Some n) = by_setting n (setting_of (settled_of s) k n) refl
+  by_place : (o : Option ℕ) → IsMemory (option_map_or (λ x. x.bytes / 4096) (option_and_then (setting_of (settled_of s) k) o) 0)
+      (option_map_or (λ x. x.paddr) (option_and_then (setting_of (settled_of s) k) o) 0)
+  by_place None = no_memory
+  by_place (Some n) = by_setting n (setting_of (settled_of s) k n) refl
 
 pub pages_fit : (s : Source) (k : ℕ) (c : FlatConnection) → memory_pages (settled_of s) k c ≤ 65536
 pages_fit s k c = (memory_is s k c).most
@@ -74,25 +74,22 @@ registers_of c t l = ap (λ z. registers_in z c.ends) t ∙ ap (λ o. option_and
 -- and only such a connection has one
 pub from_registers : (c : FlatConnection) (e : FlatEnd) → registers c ≡ Some e → (c.connector ≡ Mmio) × (n : ℕ)
     × (to_place c.ends ≡ Some n) × (slice_get c.ends n ≡ Some e)
-from_registers c e r = by_connector c.connector refl r
-  where
-    by_place : (o : Option ℕ) → to_place c.ends ≡ o → option_and_then (slice_get c.ends) o ≡ Some e
-        → (n : ℕ) × (to_place c.ends ≡ Some n) × (slice_get c.ends n ≡ Some e)
-    by_place None is r = cc
-    by_place (Some n) is r = (n, is, r)
+from_registers c e r = by_connector c.connector refl r where
+  by_place : (o : Option ℕ) → to_place c.ends ≡ o → option_and_then (slice_get c.ends) o ≡ Some e
+      → (n : ℕ) × (to_place c.ends ≡ Some n) × (slice_get c.ends n ≡ Some e)
+  by_place None is r = cc
+  by_place (Some n) is r = (n, is, r)
 
-    by_connector : (z : Connector) → c.connector ≡ z → registers_in z c.ends ≡ Some e → (c.connector ≡ Mmio) × (n : ℕ)
-        × (to_place c.ends ≡ Some n) × (slice_get c.ends n ≡ Some e)
-    by_connector Mmio is r = let p = by_place (to_place c.ends) refl r in (is, p.0, p.1, p.2)
-    by_connector _ is r = cc
+  by_connector : (z : Connector) → c.connector ≡ z → registers_in z c.ends ≡ Some e → (c.connector ≡ Mmio) × (n : ℕ)
+      × (to_place c.ends ≡ Some n) × (slice_get c.ends n ≡ Some e)
+  by_connector Mmio is r = let p = by_place (to_place c.ends) refl r in (is, p.0, p.1, p.2)
+  by_connector _ is r = cc
 
 -- ---- pages by the settings of an end
 
 pages_by : (settled : Settled) (k n : ℕ) (c : FlatConnection) (e : EndSetting) → memory_place c.connector c.ends ≡ Some n
     → setting_of settled k n ≡ Some e → memory_pages settled k c ≡ e.bytes / 4096
-pages_by settled k n c e at is =
-    ap (λ o. option_map_or (λ (x : EndSetting). x.bytes / 4096) (option_and_then (setting_of settled k) o) 0) at
-    ∙ ap (λ o. option_map_or (λ (x : EndSetting). x.bytes / 4096) o 0) is
+pages_by settled k n c e at is = cc
 
 place_of_mmio : (c : FlatConnection) (n : ℕ) → c.connector ≡ Mmio → to_place c.ends ≡ Some n
     → memory_place c.connector c.ends ≡ Some n
@@ -120,8 +117,7 @@ module _ (s : Source) (sound : AreNamesSound s) (dotted : AreDotted (hierarchy_o
   shared_some : (k n : ℕ) (c : FlatConnection) (e : FlatEnd) → slice_get (flat_of s).connections k ≡ Some c
       → slice_get c.ends n ≡ Some e → c.connector ≡ SharedMemory → 0 < memory_pages (settled_of s) k c
   shared_some k n c e at there is =
-      let first = first_of c.ends n e there in
-      let f = end_found s typed settings k 0 c first.0 at first.1 in
+      let first = first_of c.ends n e there in let f = end_found s typed settings k 0 c first.0 at first.1 in
       let size = size_of_end f.found f.good (ap (λ (z : FlatConnection). is_shared z.connector || is_device_memory f.found.joint)
       f.connection ∙ ap (λ z. is_shared z || is_device_memory f.found.joint) is) in
       omega (arith, pages_by (settled_of s) k 0 c (end_setting f.found) (ap (λ z. memory_place z c.ends) is) f.setting, size.some)
@@ -152,22 +148,17 @@ module _ (s : Source) (sound : AreNamesSound s) (dotted : AreDotted (hierarchy_o
 
   pub memory_some : (k n : ℕ) (c : FlatConnection) (e : FlatEnd) → slice_get (flat_of s).connections k ≡ Some c
       → slice_get c.ends n ≡ Some e → is_window c.connector e.role ≡ true → 0 < memory_pages (settled_of s) k c
-  memory_some k n c e at there w = by_connector c.connector refl w
-    where
-      by_connector : (z : Connector) → c.connector ≡ z → is_window z e.role ≡ true → 0 < memory_pages (settled_of s) k c
-      by_connector SharedMemory is w = shared_some k n c e at there is
-      by_connector Mmio is w = registers_some k c at is
-      by_connector _ is w = cc
+  memory_some k n c e at there w = by_connector c.connector refl w where
+    by_connector : (z : Connector) → c.connector ≡ z → is_window z e.role ≡ true → 0 < memory_pages (settled_of s) k c
+    by_connector SharedMemory is w = shared_some k n c e at there is
+    by_connector Mmio is w = registers_some k c at is
+    by_connector _ is w = cc
 
   -- the bytes at the registers are those of the device
   bytes_here : (k n : ℕ) (c : FlatConnection) (e : FlatEnd) (f : IsEndFound s k n c e) → c.connector ≡ Mmio
       → (end_setting f.found).bytes ≡ device_bytes (hierarchy_of s) Mmio None f.found.joint.leaf f.found.joint.interface
   unfolding device_bytes
-  bytes_here k n c e f is =
-      let h = hierarchy_of s in let j = f.found.joint in
-      ap (λ z. (end_setting z).bytes) f.values
-      ∙ ap (λ (z : FlatConnection). device_bytes h z.connector (value_at h j.connection.path (codes "size")) j.leaf
-      j.interface) f.connection ∙ ap (λ z. device_bytes h z (value_at h j.connection.path (codes "size")) j.leaf j.interface) is
+  bytes_here k n c e f is = search (rules, device_bytes)
 
   same_pages : (k n : ℕ) (c d : FlatConnection) (e f : FlatEnd) → slice_get (flat_of s).connections k ≡ Some c
       → slice_get (flat_of s).connections n ≡ Some d → registers c ≡ Some e → registers d ≡ Some f → same_port e f ≡ true

@@ -1,7 +1,7 @@
 -- The uses of slots name connections that there are.
-use Rattle.spec_laws.proofs.Common.{AreNamed, Connector, Domain, Flat, Interrupt, IsIn, List, NamesOneOf, Notification, Role, Rpc, SlotPlan, SlotUse, Some, Source, To}
-use Rattle.spec_laws.proofs.Common.{below, domain_uses, end_uses, from_get_map, in_place, inl, inr, length, plan_of}
-use Rattle.spec_laws.proofs.Common.{slice_get, slots_of, subst, sym, ℕ, ◌<◌, ◌≡◌}
+use Rattle.std.proofs.Common.{rules}
+use Rattle.spec_laws.proofs.Common.{AreNamed, Connector, Flat, Interrupt, IsIn, List, NamesOneOf, Notification, Role, Rpc, SlotPlan, SlotUse, Some, Source, To, below, domain_uses, end_uses, from_get_map, in_place, inl, inr, length, slice_get}
+use Rattle.spec_laws.proofs.Common.{slots_of, subst, ℕ, ◌<◌, ◌≡◌}
 use Rattle.spec_laws.proofs.Used.{from_domain}
 
 of_end : (connector : Connector) (role : Role) (k n count : ℕ) (u : SlotUse) → k < count → IsIn u (end_uses connector role k n)
@@ -17,15 +17,8 @@ of_end _ _ k n count u l i = absurd i
 
 of_domain : (s : Source) (flat : Flat) (leaves : List ℕ) (u : SlotUse) → IsIn u (domain_uses s flat leaves)
     → NamesOneOf (length flat.connections) u
-of_domain s flat leaves u i = elim (from_domain s flat leaves u i).2 [
-  | inl o ↦
-      of_end o.connection.connector o.end.role o.place o.number (length flat.connections) u
-      (below flat.connections o.place o.connection o.here) o.use_is
-  | inr lock ↦ subst (NamesOneOf (length flat.connections)) (sym lock.1) tt
-]
+of_domain s flat leaves u i = search (rules, from_domain, of_end, below)
 
 pub uses_named : (s : Source) (flat : Flat) (d : ℕ) (plan : SlotPlan) → slice_get (slots_of s flat).domains d ≡ Some plan
     → AreNamed (length flat.connections) plan.uses
-uses_named s flat d plan e n u at =
-    let x = from_get_map (λ (x : Domain). plan_of (domain_uses s flat x.leaves)) flat.domains d plan e in
-    of_domain s flat x.0.leaves u (subst (λ (z : SlotPlan). IsIn u z.uses) (sym x.2) (in_place u plan.uses n at))
+uses_named s flat d plan e n u at = search (rules, from_get_map, of_domain, in_place)

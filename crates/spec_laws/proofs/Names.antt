@@ -1,4 +1,5 @@
 -- A name tells its series and its number.
+use Rattle.std.proofs.Common.{rules}
 use Rattle.spec_laws.proofs.Common.{List, Series, [], ap, append_cancel_left, cond, decimal, decimal_injective, name_of, prefix, refl, sym, ℕ, ◌++◌, ◌<◌, ◌==◌, ◌^◌, ◌∙◌, ◌∷◌, ◌≡◌}
 use Rattle.system_spec.specs.declared.series.Series.TheVariants.{CNode, Tcb, Ep, Ntfn, Lock, Irq, Pgd, Pud, Pd, Pt, Frame}
 
@@ -25,6 +26,4 @@ pub same_series : (s r : Series) (m n : ℕ) → name_of s m ≡ name_of r n →
 same_series s r m n e = sym (series_found s (decimal m)) ∙ ap series_of e ∙ series_found r (decimal n)
 
 pub same_number : (s r : Series) (m n : ℕ) → m < 2 ^ 64 → n < 2 ^ 64 → name_of s m ≡ name_of r n → m ≡ n
-same_number s r m n l k e =
-    let q = same_series s r m n e in
-    decimal_injective m n l k (append_cancel_left (prefix r) (decimal m) (decimal n) (sym (ap (λ z. name_of z m) q) ∙ e))
+same_number s r m n l k e = search (rules, same_series, decimal_injective, append_cancel_left)

@@ -1,12 +1,12 @@
 -- Numbers are sums: which lock, which interrupt and which thread has which
-use Rattle.spec_laws.proofs.Common.{Bool, Connector, Domain, FlatConnection, FlatEnd, Handler, Interrupt, IrqOf, IsIn, IsLockNumber, List, LockOf, Member, OfDomain, OfEnd, OwnLock, Owned, Owner, Part, Role, SharedMemory}
-use Rattle.spec_laws.proofs.Common.{SlotUse, Some, Tables, To, [], ap, arith, before, cond, domain_uses, end_uses, false, flat_map, flat_map-gather, gather, gather_same, gathered, in_gather, in_together, inl, interrupt, irq, irq_by, irq_owner, irqs}
-use Rattle.spec_laws.proofs.Common.{is_lock, joined_uses, joins, leaf_locks, leaf_members, leaf_uses, length, length_append, lock, lock_uses, locks, member_uses, numbered, owned, part, parts, refl, sections, slice_get, subst, suc, sym, take, true}
-use Rattle.spec_laws.proofs.Common.{uses_at, zero, ℕ, ◌++◌, ◌+◌, ◌∙◌, ◌∷◌, ◌≡◌}
+use Rattle.std.proofs.Common.{rules}
+use Rattle.spec_laws.proofs.Common.{Bool, Connector, Domain, FlatConnection, Handler, Interrupt, IrqOf, IsIn, IsLockNumber, List, LockOf, Member, OfDomain, OfEnd, OwnLock, Owned, Owner, Part, Role, SharedMemory, SlotUse, Some, Tables, To, [], ap}
+use Rattle.spec_laws.proofs.Common.{arith, before, cond, domain_uses, end_uses, false, flat_map, flat_map-gather, gather, gather_same, gathered, in_gather, in_together, inl, interrupt, irq, irq_by, irq_owner, irqs, is_lock, leaf_locks, leaf_members}
+use Rattle.spec_laws.proofs.Common.{leaf_uses, length, length_append, lock, lock_uses, locks, member_uses, numbered, owned, part, parts, refl, sections, slice_get, subst, suc, sym, take, true, uses_at, zero, ℕ, ◌++◌, ◌+◌, ◌∙◌, ◌∷◌, ◌≡◌}
 use Rattle.std.proofs.lemmas.List.Concat.{flat_map-append}
 use Rattle.system_spec.specs.declared.series.Series.TheVariants as series
 use Rattle.system_spec.specs.Parts.{domain_locks as parted_locks}
-use Rattle.system_spec.specs.Places.{has_irq}
+use Rattle.system_spec.specs.Landmarks.{has_irq}
 use Rattle.system_spec.proofs.Placing.{as_long}
 use Rattle.spec_laws.specs.Slotted.{domain_locks}
 
@@ -55,13 +55,7 @@ none_if true us e = e
 none_if false us e = refl
 
 member_none : (cs : List FlatConnection) (leaf m : ℕ) → flat_map lock_of (member_uses cs leaf m) ≡ []
-member_none cs leaf m =
-    let f : ℕ → FlatConnection → List SlotUse = λ k c. gather (λ n e. joined_uses leaf m k c.connector n e) c.ends in
-    let none : (k : ℕ) (c : FlatConnection) → flat_map lock_of (f k c) ≡ [] =
-    λ k c. flat_map-gather lock_of (λ n e. joined_uses leaf m k c.connector n e) c.ends
-    ∙ none_gathered (λ n (e : FlatEnd). flat_map lock_of (joined_uses leaf m k c.connector n e)) c.ends
-    (λ n e. none_if (joins leaf m e) (end_uses c.connector e.role k n) (end_none c.connector e.role k n)) in
-    flat_map-gather lock_of f cs ∙ none_gathered (λ k c. flat_map lock_of (f k c)) cs none
+member_none cs leaf m = search (rules, flat_map-gather, none_gathered, none_if, end_none)
 
 lock_if : (b : Bool) (leaf m : ℕ) → flat_map lock_of (cond b (OwnLock leaf m ∷ []) []) ≡ cond b ((leaf, m) ∷ []) []
 lock_if true leaf m = refl
@@ -81,10 +75,7 @@ leaf_has t leaf =
     ∙ gather_same (λ m x. flat_map lock_of (q m x)) l members (λ m x e. lock_if (is_lock x) leaf m)
 
 domain_has : (t : Tables) (x : Domain) → flat_map lock_of (domain_uses t.source t.flat x.leaves) ≡ domain_locks t x
-domain_has t x =
-    let f : ℕ → ℕ → List SlotUse = λ i leaf. leaf_uses t.flat.connections leaf (leaf_members t.source t.flat leaf) in
-    flat_map-gather lock_of f x.leaves ∙ gather_same (λ i leaf. flat_map lock_of (f i leaf)) (λ i leaf. leaf_locks t leaf)
-    x.leaves (λ i leaf e. leaf_has t leaf)
+domain_has t x = search (rules, flat_map-gather, gather_same, leaf_has)
 
 as_many : (d n : ℕ) (u : SlotUse) → length (lock d n u) ≡ length (lock_of u)
 as_many d n (OwnLock leaf m) = refl

@@ -13,10 +13,6 @@ use Rattle.spec_laws.proofs.Showing.{in_domain}
 use Rattle.spec_laws.proofs.SlotLists.{some}
 use Rattle.spec_laws.proofs.Spaces.{cap_is, is_at}
 
--- a leaf of a domain is one of a domain that there is
-leaf_domain : (t : Tables) (d leaf : ℕ) → IsIn leaf (leaves_of t.flat d) → (x : Domain) × (slice_get t.flat.domains d ≡ Some x)
-leaf_domain t d leaf i = has_domain t d (λ none. let P : List ℕ → Type 0 = λ z. IsIn leaf z in subst P none i)
-
 -- the own frame that a page has
 abbrev pub own_of : ℕ → ℕ → MappedPage → List FrameInfo
 own_of d n p = own_frame d p.shown
@@ -51,49 +47,46 @@ module _ (t : Tables) (can : CanMap t) where
   fills : (d v : ℕ) (cap : Cap) (write : Bool) (fill : Option Fill) → IsSectionPage t d (4096 * (v / 4096)) write fill
       → IsAt (spec_of t) (root_of t d) v cap → object_at (spec_of t) cap.object ≡ Some (Frame None fill)
   fills d v cap write fill s at =
-      let x = leaf_domain t d s.leaf s.inside in
-      let q = section_there t can.settled d (4096 * (v / 4096)) write fill s in
-      let p = section_page q.0 in
+      let x = has_domain t d (λ none. let P : List ℕ → Type 0 = λ z. IsIn s.leaf z in subst P none s.inside) in
+      let q = section_there t can.settled d (4096 * (v / 4096)) write fill s in let p = section_page q.0 in
       of_page d v cap p fill x.0 x.1 (in_left p (section_part t.images (leaves_of t.flat d)) _
       (in_map section_page q.0 (section_pages t.images (leaves_of t.flat d)) q.1)) q.2 (ap (λ z. Own z) q.4) at
 
   zeros : (d n v j : ℕ) (r : Region) (cap : Cap) → IsRegionPage t d n (4096 * (v / 4096)) j r
       → ((e : EndAt) → r.content ≡ Window e → ⊥) → IsAt (spec_of t) (root_of t d) v cap
       → object_at (spec_of t) cap.object ≡ Some (Frame None None)
-  zeros d n v j r cap p other at = by_content r.content refl
-    where
-      by_content : (c : Content) → r.content ≡ c → object_at (spec_of t) cap.object ≡ Some (Frame None None)
-      by_content (Window e) c = absurd (other e c)
-      by_content Stack c = let x = in_domain t d n r p.here in
-          of_page d v cap (region_page t.settled Stack (begins t d n + 4096 * j) j) None x.0 x.1
-          (region_in t can.settled d n (4096 * (v / 4096)) j r Stack p c) (sym p.at) refl at
-      by_content Buffer c = let x = in_domain t d n r p.here in
-          of_page d v cap (region_page t.settled Buffer (begins t d n + 4096 * j) j) None x.0 x.1
-          (region_in t can.settled d n (4096 * (v / 4096)) j r Buffer p c) (sym p.at) refl at
+  zeros d n v j r cap p other at = by_content r.content refl where
+    by_content : (c : Content) → r.content ≡ c → object_at (spec_of t) cap.object ≡ Some (Frame None None)
+    by_content (Window e) c = absurd (other e c)
+    by_content Stack c = let x = in_domain t d n r p.here in
+        of_page d v cap (region_page t.settled Stack (begins t d n + 4096 * j) j) None x.0 x.1
+        (region_in t can.settled d n (4096 * (v / 4096)) j r Stack p c) (sym p.at) refl at
+    by_content Buffer c = let x = in_domain t d n r p.here in
+        of_page d v cap (region_page t.settled Buffer (begins t d n + 4096 * j) j) None x.0 x.1
+        (region_in t can.settled d n (4096 * (v / 4096)) j r Buffer p c) (sym p.at) refl at
 
   -- ---- an own frame is mapped once
 
   pub no_memory : (d : ℕ) (x : Domain) (h : slice_get t.flat.domains d ≡ Some x) (v : ℕ) (a : Cap) (f : Found t can d x h v a)
       → IsOwn t (spec_of t) (root_of t) a.object → (fill : Option Fill) × (f.shown.shown ≡ Own fill)
-  no_memory d x h v a f own = by_shown f.shown.shown refl
-    where
-      by_shown : (w : Shown) → f.shown.shown ≡ w → (fill : Option Fill) × (f.shown.shown ≡ Own fill)
-      by_shown (Own fill) e = (fill, e)
-      by_shown (Memory k j) e =
-          let s = shows_at t d k j f.shown e (in_place f.shown (pages d) f.number f.here) in
-          let P : Cap → Type 0 = λ z. IsAt (spec_of t) (root_of t d) f.shown.at z in
-          absurd (own d k j (record {
-            number = s.number;
-            region = s.region;
-            e = s.e;
-            content = s.content;
-            of_connection = s.of_connection;
-            v = f.shown.at;
-            page = s.page;
-            cap = a;
-            mapped = subst P (sym f.is) (is_at t can d x h f.shown.at f.number f.shown f.here refl);
-            names = refl;
-          }))
+  no_memory d x h v a f own = by_shown f.shown.shown refl where
+    by_shown : (w : Shown) → f.shown.shown ≡ w → (fill : Option Fill) × (f.shown.shown ≡ Own fill)
+    by_shown (Own fill) e = (fill, e)
+    by_shown (Memory k j) e =
+        let s = shows_at t d k j f.shown e (in_place f.shown (pages d) f.number f.here) in
+        let P : Cap → Type 0 = λ z. IsAt (spec_of t) (root_of t d) f.shown.at z in
+        absurd (own d k j (record {
+          number = s.number;
+          region = s.region;
+          e = s.e;
+          content = s.content;
+          of_connection = s.of_connection;
+          v = f.shown.at;
+          page = s.page;
+          cap = a;
+          mapped = subst P (sym f.is) (is_at t can d x h f.shown.at f.number f.shown f.here refl);
+          names = refl;
+        }))
 
   pub inside_own : (d n : ℕ) (x : Domain) (p : MappedPage) (fill : Option Fill) → slice_get (pages d) n ≡ Some p
       → p.shown ≡ Own fill → before (own_of d) (pages d) n < length (own_frames (system t) d x)

@@ -1,6 +1,5 @@
 -- How many pages and page tables there are, where no limit on them is passed.
-use Rattle.spec_laws.proofs.Common.{Assembly, Given, ItemAt, None, [], ap, assemblies, first_page_limit, flat_map, least-empty, limit_passed, none_left, none_right, not_passed, page_counts, page_faults, sum, sym, table_counts, ◌++◌, ◌∙◌, ◌∷◌, ◌≡◌}
-use Rattle.spec_laws.proofs.Common.{◌≤◌}
+use Rattle.spec_laws.proofs.Common.{Assembly, Given, ItemAt, None, [], ap, assemblies, first_page_limit, flat_map, least-empty, limit_passed, none_left, none_right, not_passed, page_counts, page_faults, sum, sym, table_counts, ◌∙◌, ◌∷◌, ◌≡◌, ◌≤◌}
 use Rattle.std.specs.Prelude.{codes}
 use Rattle.vspace_layout.specs.PageLimits.{limits_passed}
 

@@ -1,7 +1,7 @@
 -- Pages lie below what the root spans, and where there is a thread there is a page.
-use Rattle.spec_laws.proofs.Common.{CanLay, Given, IsIn, List, Page, SectionsStand, Some, Space, ThreadPlace, [], arith, at_place, base, below, few_at, few_regions, flat_map, from_ones, gather, get_ones, in_place, leaves_of, length}
+use Rattle.spec_laws.proofs.Common.{CanLay, Given, IsIn, Page, SectionsStand, Some, Space, ThreadPlace, [], arith, at_place, base, below, few_at, few_regions, flat_map, from_ones, gather, get_ones, in_place, leaves_of, length}
 use Rattle.spec_laws.proofs.Common.{length-region_part, length_append, length_threads, map, mapped_pages, option_map_or, page, page_counts, place_of, region_part, regions, rising, root_span, root_spans, section_part, shapes, slice_get, spaces_of}
-use Rattle.spec_laws.proofs.Common.{subst, sum, thread_place, thread_regions, threads_of, window_region, windows_of, ℕ, ◌%◌, ◌*◌, ◌<◌, ◌∷◌, ◌≡◌, ◌≤◌}
+use Rattle.spec_laws.proofs.Common.{subst, sum, thread_place, thread_regions, threads_of, window_region, windows_of, ℕ, ◌%◌, ◌<◌, ◌∷◌, ◌≡◌, ◌≤◌}
 use Rattle.vspace_layout.specs.declared.thread.ThreadOf.{ThreadOf}
 use Rattle.vspace_layout.specs.Given.{arch}
 use Rattle.vspace_layout.proofs.Low.{page_low}

@@ -1,9 +1,8 @@
 -- What is mapped in the space of a domain is what the source and its images say
-use Rattle.spec_laws.proofs.Common.{AreSettled, Bool, Buffer, Content, Domain, EndAt, EndSetting, Fill, IsIn, IsRegionPage, IsSectionPage, List, MappedPage, MapsPage, None, Option, Placed, Region, Section}
-use Rattle.spec_laws.proofs.Common.{SectionPage, Some, Stack, Tables, Window, [], ap, base, begins, below_count, by_address, eq-eqb, false, fill_of, from_flat_map, from_gather, from_map, image_number, in_any}
-use Rattle.spec_laws.proofs.Common.{in_append, in_flat_map, in_gather, in_left, in_map, in_place, in_right, inl, inr, is_run, leaves_of, map, mapped_pages, may_read, may_write, nat_eq, option_map_or, page_at}
-use Rattle.spec_laws.proofs.Common.{page_count, page_of, pages_of, pages_of_region, place_of, placed, range_with_len, refl, region_page, region_part, regions, section_page, section_pages, section_part, sections_if, sections_of}
-use Rattle.spec_laws.proofs.Common.{setting_of, slice_get, subst, sym, system, thread_regions, threads_of, true, window_region, windows_of, ℕ, ◌*◌, ◌+◌, ◌∙◌, ◌∷◌, ◌≡◌}
+use Rattle.spec_laws.proofs.Common.{AreSettled, Bool, Buffer, Content, Domain, EndAt, EndSetting, Fill, IsIn, IsRegionPage, IsSectionPage, List, MappedPage, MapsPage, Option, Placed, Region, Section, SectionPage, Some, Stack, Tables, Window, [], ap}
+use Rattle.spec_laws.proofs.Common.{base, begins, below_count, by_address, eq-eqb, false, fill_of, from_flat_map, from_gather, from_map, image_number, in_any, in_append, in_flat_map, in_gather, in_left, in_map, in_place, in_right, inl, inr, is_run}
+use Rattle.spec_laws.proofs.Common.{leaves_of, map, mapped_pages, may_read, may_write, nat_eq, option_map_or, page_at, page_count, page_of, pages_of, pages_of_region, place_of, placed, range_with_len, refl, region_page, region_part, regions}
+use Rattle.spec_laws.proofs.Common.{section_page, section_pages, section_part, sections_if, sections_of, setting_of, slice_get, subst, sym, system, thread_regions, threads_of, true, window_region, windows_of, ℕ, ◌*◌, ◌+◌, ◌∙◌, ◌∷◌, ◌≡◌, arith}
 use Rattle.std.proofs.lemmas.List.Sorted.{IsPermutation-sym}
 use Rattle.source_images.specs.ByAddress.{name_of}
 use Rattle.source_images.specs.Images.{runs}
@@ -17,11 +16,7 @@ use Rattle.spec_laws.proofs.Windows.{seen}
 -- ---- a domain that has leaves is there
 
 pub has_domain : (t : Tables) (d : ℕ) → (leaves_of t.flat d ≡ [] → ⊥) → (x : Domain) × (slice_get t.flat.domains d ≡ Some x)
-has_domain t d some = by_domain (slice_get t.flat.domains d) refl
-  where
-    by_domain : (o : Option Domain) → slice_get t.flat.domains d ≡ o → (x : Domain) × (slice_get t.flat.domains d ≡ Some x)
-    by_domain (Some x) h = (x, h)
-    by_domain None h = absurd (some (ap (λ o. option_map_or (λ (z : Domain). z.leaves) o []) h))
+has_domain t d some = grind (arith)
 
 -- the region of a window
 pub window_of : (t : Tables) (d : ℕ) (r : Region) (e : EndAt) → IsIn r (regions (system t) d) → r.content ≡ Window e

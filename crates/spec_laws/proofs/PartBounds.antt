@@ -1,13 +1,13 @@
 -- Where slots and spaces are within their limits, what is made of them can be built.
-use Rattle.spec_laws.proofs.Common.{AreNamed, CNodeOf, CanLay, Connector, Direct, Domain, FlatConnection, FrameInfo, FrameOf, Given, Handler, Interrupt, IsBuildable, IsIn, List, Mmio, None, Notification, Object, OfDomain, OfEnd, Option, OwnLock}
-use Rattle.spec_laws.proofs.Common.{Page, PageTable, Rises, Rpc, SectionsStand, SharedMemory, SlotPlan, SlotUse, Some, Tables, ThreadOf, ThreadPlace, [], all_tables, arch, arith, as_many, cnodes, domain_locks, domain_tables, domain_tcbs, endpoint}
-use Rattle.spec_laws.proofs.Common.{endpoint_by, endpoints, few_tables, frame_owner, frame_parts, gather, gather_ones, irq, irq_by, irq_owner, irqs, layers, length, length-gather, length-map, level_of, lock, locks, map, notification, notification_by}
-use Rattle.spec_laws.proofs.Common.{notifications, numbered, option_map_or, owned, page_counts, page_mapping, page_table, pages_at, parts, refl, shapes, slice_get, slots_of, spaces_of, subst, sum, sym, table_part, table_parts, tables_at, tcbs}
-use Rattle.spec_laws.proofs.Common.{threads_at, uses_at, ℕ, ◌*◌, ◌+◌, ◌<◌, ◌≡◌, ◌≤◌}
+use Rattle.std.proofs.Common.{rules}
+use Rattle.spec_laws.proofs.Common.{AreNamed, CNodeOf, CanLay, Connector, Domain, FlatConnection, FrameInfo, FrameOf, Given, IsBuildable, IsIn, List, None, Notification, Object, OfDomain, Option, OwnLock, Page, PageTable, Rises, SectionsStand}
+use Rattle.spec_laws.proofs.Common.{SlotPlan, SlotUse, Some, Tables, ThreadOf, ThreadPlace, [], all_tables, arch, arith, as_many, cnodes, domain_locks, domain_tables, domain_tcbs, endpoint, endpoint_by, endpoints, few_tables, frame_owner}
+use Rattle.spec_laws.proofs.Common.{frame_parts, gather, gather_ones, irq, irq_by, irq_owner, irqs, layers, length, length-gather, length-map, level_of, lock, locks, map, notification, notification_by, notifications, numbered, option_map_or, owned}
+use Rattle.spec_laws.proofs.Common.{page_counts, page_mapping, page_table, pages_at, parts, refl, shapes, slice_get, slots_of, spaces_of, subst, sum, sym, table_part, table_parts, tables_at, tcbs, threads_at, uses_at, ℕ, ◌*◌, ◌+◌, ◌<◌, ◌≡◌, ◌≤◌}
 use Rattle.spec_laws.proofs.SlotBounds.{AreFewSlots, few_uses}
 use Rattle.flat_laws.specs.Small.{IsSmall}
 use Rattle.system_spec.specs.declared.series.Series.TheVariants as series
-use Rattle.system_spec.specs.Few.{AreFew, table_count}
+use Rattle.system_spec.specs.Buildable.{table_count}
 use Rattle.system_spec.proofs.Bounds.{length-eight, length-numbered}
 use Rattle.spec_laws.proofs.Gathers.{gather_most}
 use Rattle.spec_laws.proofs.NamedUses.{uses_named}
@@ -20,33 +20,29 @@ from t = record { source = t.source; flat = t.flat; settled = t.settled; images 
 -- ---- connections have one part of a kind at most
 
 few_endpoints : (cs : List FlatConnection) → length (gather endpoint cs) ≤ length cs
-few_endpoints cs = length-gather endpoint cs (λ k c. one k c.connector)
-  where
-    one : (k : ℕ) (c : Connector) → length (endpoint_by k c) ≤ 1
-    one k Notification = omega arith
-    one k _ = omega arith
+few_endpoints cs = length-gather endpoint cs (λ k c. one k c.connector) where
+  one : (k : ℕ) (c : Connector) → length (endpoint_by k c) ≤ 1
+  one k Notification = omega arith
+  one k _ = omega arith
 
 few_notifications : (cs : List FlatConnection) → length (gather notification cs) ≤ length cs
-few_notifications cs = length-gather notification cs (λ k c. one k c.connector)
-  where
-    one : (k : ℕ) (c : Connector) → length (notification_by k c) ≤ 1
-    one k Notification = omega arith
-    one k _ = omega arith
+few_notifications cs = length-gather notification cs (λ k c. one k c.connector) where
+  one : (k : ℕ) (c : Connector) → length (notification_by k c) ≤ 1
+  one k Notification = omega arith
+  one k _ = omega arith
 
 few_irqs : (cs : List FlatConnection) → length (gather irq cs) ≤ length cs
-few_irqs cs = length-gather irq cs (λ k c. one k (irq_owner k c) c.connector)
-  where
-    one : (k : ℕ) (o : _) (c : Connector) → length (irq_by k o c) ≤ 1
-    one k o Notification = omega arith
-    one k o _ = omega arith
+few_irqs cs = length-gather irq cs (λ k c. one k (irq_owner k c) c.connector) where
+  one : (k : ℕ) (o : _) (c : Connector) → length (irq_by k o c) ≤ 1
+  one k o Notification = omega arith
+  one k o _ = omega arith
 
 -- a use has one lock at most
 few_locks : (d : ℕ) (uses : List SlotUse) → length (gather (lock d) uses) ≤ length uses
-few_locks d uses = length-gather (lock d) uses (λ n u. one n u)
-  where
-    one : (n : ℕ) (u : SlotUse) → length (lock d n u) ≤ 1
-    one n (OwnLock leaf m) = omega arith
-    one n _ = omega arith
+few_locks d uses = length-gather (lock d) uses (λ n u. one n u) where
+  one : (n : ℕ) (u : SlotUse) → length (lock d n u) ≤ 1
+  one n (OwnLock leaf m) = omega arith
+  one n _ = omega arith
 
 module _ (t : Tables) (slots_are : t.slots ≡ slots_of t.source t.flat) (spaces_are : t.spaces ≡ spaces_of (from t))
     (small : IsSmall t.flat) (slots : AreFewSlots t.source t.flat)
@@ -66,12 +62,11 @@ module _ (t : Tables) (slots_are : t.slots ≡ slots_of t.source t.flat) (spaces
 
   pub uses_few : (d : ℕ) → length (uses_at t d) ≤ 4095
   uses_few d = subst (λ z. length (option_map_or (λ (p : SlotPlan). p.uses) (slice_get z.domains d) []) ≤ 4095) (sym slots_are)
-      (by_plan (slice_get (slots_of t.source t.flat).domains d) refl)
-    where
-      by_plan : (o : Option SlotPlan) → slice_get (slots_of t.source t.flat).domains d ≡ o
-          → length (option_map_or (λ (p : SlotPlan). p.uses) o []) ≤ 4095
-      by_plan None e = omega arith
-      by_plan (Some plan) e = few_uses t.source t.flat slots d plan e
+      (by_plan (slice_get (slots_of t.source t.flat).domains d) refl) where
+        by_plan : (o : Option SlotPlan) → slice_get (slots_of t.source t.flat).domains d ≡ o
+            → length (option_map_or (λ (p : SlotPlan). p.uses) o []) ≤ 4095
+        by_plan None e = omega arith
+        by_plan (Some plan) e = few_uses t.source t.flat slots d plan e
 
   tables_few : (d frames : ℕ) → table_count t frames d ≤ 262144
   tables_few d frames =
@@ -104,8 +99,7 @@ module _ (t : Tables) (slots_are : t.slots ≡ slots_of t.source t.flat) (spaces
       let a = numbered series.CNode (cnodes t.flat.domains) in let b = numbered series.Tcb (tcbs t) in
       let c = endpoints t in let d = notifications t in
       let e = numbered series.Lock (locks t) in let f = numbered series.Irq (irqs t) in
-      let g = table_parts (all_tables t) in
-      let h = numbered series.Frame (frame_parts t.spaces.frames) in
+      let g = table_parts (all_tables t) in let h = numbered series.Frame (frame_parts t.spaces.frames) in
       let whole : length (parts t) ≡ length
       a + (length b + (length c + (length d + (length e + (length f + (length g + (length h + 0))))))) =
       length-eight a b c d e f g h in
@@ -125,31 +119,14 @@ module _ (t : Tables) (slots_are : t.slots ≡ slots_of t.source t.flat) (spaces
       gather_ones (λ n (x : FrameInfo). owned (frame_owner x.owner) (FrameOf n)) t.spaces.frames in
       omega (arith, whole, a1, a2, b1, b2, c1, d1, e1, e2, f1, f2, g1, g2, h1, h2, frames_few, small.domains, small.connections)
 
-  are_few : AreFew t
-  are_few = record {
-    domains = let l = small.domains in omega (arith, l);
-    connections = let l = small.connections in omega (arith, l);
-    threads = λ d. let l = threads_few d in omega (arith, l);
-    uses = λ d. let l = uses_few d in omega (arith, l);
-    tables = λ d. let l = tables_few d 0 in omega (arith, l);
-    objects = let l = parts_few in omega (arith, l);
-  }
-
   -- ---- what the making of a spec asks
 
   uses_there : (d : ℕ) → AreNamed (length t.flat.connections) (uses_at t d)
-  uses_there d =
-      subst (λ z. AreNamed (length t.flat.connections) (option_map_or (λ (p : SlotPlan). p.uses) (slice_get z.domains d) []))
-      (sym slots_are) (by_plan (slice_get (slots_of t.source t.flat).domains d) refl)
-    where
-      by_plan : (o : Option SlotPlan) → slice_get (slots_of t.source t.flat).domains d ≡ o
-          → AreNamed (length t.flat.connections) (option_map_or (λ (p : SlotPlan). p.uses) o [])
-      by_plan None e = λ n u at. cc
-      by_plan (Some plan) e = uses_named t.source t.flat d plan e
+  uses_there d = search (rules, uses_named)
 
   pub buildable : HaveRegisters t.flat t.settled → ((d : ℕ) → SectionsStand (from t) d) → IsBuildable t
   buildable have stand = record {
-    few = are_few;
+    few = search (rules, threads_few, uses_few, tables_few, parts_few);
     named = uses_there;
     shown = λ d p i.
         subst (λ z. p.frame < length z.frames) (sym spaces_are)

@@ -1,15 +1,15 @@
 -- What is laid out plainly can be written.
+use Rattle.std.proofs.Common.{rules}
 use Rattle.spec_laws.proofs.Common.{Bool, CanLay, Content, Domain, Fill, Flat, FlatConnection, FlatEnd, FrameInfo, Given, Image, Images, IsFillWritten, IsFrameWritten, IsIn, IsPlain, IsThreadWritten, IsTrue, IsWritten, Leaf, List, MappedPage}
 use Rattle.spec_laws.proofs.Common.{Memory, None, Option, Own, Placed, Section, SectionPage, Settled, Shown, Some, Source, Space, Tables, ThreadPlace, Window, [], and_parts, ap, arch_of, arith, base, below_count, by_address, component_name}
 use Rattle.spec_laws.proofs.Common.{connection_frames, device_frame, device_frames, div-mul-le_self, entry_in, false, few_at, fill_from, fill_of, frame, frames, frames_at, from_flat_map, from_gather, from_map, from_ones, gather, given}
-use Rattle.spec_laws.proofs.Common.{image_number, in_append, in_place, inl, inr, is_first, is_name, is_run, is_shared, leaf_name, leaves_of, length_regions, ltb-true, mapped_pages, memory_paddr, memory_pages, memory_part, option_map_or}
+use Rattle.spec_laws.proofs.Common.{image_number, in_append, in_place, inl, inr, is_first, is_name, is_run, is_shared, leaf_name, leaves_of, length_regions, ltb-true, mapped_pages, memory_paddr, memory_pages, option_map_or}
 use Rattle.spec_laws.proofs.Common.{own_frame, own_frames, own_part, page_at, page_count, page_counts, page_of, pages_of, pages_of_region, pages_upto, placed, range_with_len, refl, region_page, region_part, region_start, regions}
 use Rattle.spec_laws.proofs.Common.{register_frames, register_part, registers, same_Some, section_page, section_pages, section_part, sections_if, sections_of, shared_frames, shared_part, slice_get, slice_get_within, space, start_same, subst, sum}
-use Rattle.spec_laws.proofs.Common.{sym, tables_from, thread_place, threads_at, threads_of, true, windows_of, ℕ, ◌*◌, ◌+◌, ◌<◌, ◌==◌, ◌^◌, ◌∙◌, ◌∷◌, ◌≡◌, ◌≤◌}
-use Rattle.std.specs.Prelude.{◌%◌, ◌&&◌, not}
+use Rattle.spec_laws.proofs.Common.{sym, tables_from, thread_place, threads_at, threads_of, true, windows_of, ℕ, ◌*◌, ◌+◌, ◌<◌, ◌^◌, ◌∙◌, ◌∷◌, ◌≡◌, ◌≤◌}
 use Rattle.std.specs.Option.{option_map}
 use Rattle.source_images.specs.ByAddress.{name_of}
-use Rattle.sect_table.specs.Sections.{ends_within, is_placed, is_sound}
+use Rattle.sect_table.specs.Sections.{is_placed, is_sound}
 use Rattle.vspace_layout.proofs.Starting.{low_base, stacks_fit}
 use Rattle.vspace_layout.specs.declared.owner.Owner.TheVariants.{OfConnection, OfDomain}
 use Rattle.vspace_layout.specs.declared.thread.ThreadOf.{ThreadOf}
@@ -32,19 +32,13 @@ byte_there s j l = let a = div-mul-le_self (s.size + 4095) 4096 in omega (arith,
 
 section_fine : (file : List ℕ) (s : Section) (j : ℕ) → is_name file ≡ true → IsTrue (is_sound s) → j < page_count s
     → FillFine (fill_of file s j)
-section_fine file s j named sound l f e = by_at s.at (sound_at s sound) e
-  where
-    sound_at : (s : Section) → is_sound s ≡ true → is_placed s.at s.size ≡ true
-    sound_at s h =
-        let a = and_parts (s.vaddr % 4096 == 0) (not (s.size == 0) && (ends_within s.vaddr s.size && is_placed s.at s.size)) h in
-        let b = and_parts (not (s.size == 0)) (ends_within s.vaddr s.size && is_placed s.at s.size) a.1 in
-        (and_parts (ends_within s.vaddr s.size) (is_placed s.at s.size) b.1).1
+section_fine file s j named sound l f e = by_at s.at (sound_at s sound) e where
+  sound_at : (s : Section) → is_sound s ≡ true → is_placed s.at s.size ≡ true
+  sound_at s h = search (rules, and_parts)
 
-    by_at : (o : Option ℕ) → is_placed o s.size ≡ true → option_map (fill_from file s j) o ≡ Some f → IsFillWritten f
-    by_at None h e = absurd cc
-    by_at (Some at) h e =
-        let within = ltb-true (at + s.size) (2 ^ 64) h in let there = byte_there s j l in
-        subst IsFillWritten (same_Some (fill_from file s j at) f e) (record { file = named; at = omega (arith, within, there) })
+  by_at : (o : Option ℕ) → is_placed o s.size ≡ true → option_map (fill_from file s j) o ≡ Some f → IsFillWritten f
+  by_at None h e = absurd cc
+  by_at (Some at) h e = search (rules, ltb-true, byte_there, same_Some)
 
 module _ (g : Given) (plain : IsPlain g) where
   placed_fine : (leaves : List ℕ) (x : Placed) → IsIn x (sections_of g.images leaves)
@@ -52,22 +46,21 @@ module _ (g : Given) (plain : IsPlain g) where
   placed_fine leaves x i =
       let f : ℕ → Image → List Placed = λ m image. sections_if (is_run g.images leaves m) m image in
       let m = from_gather f x g.images.images i in
-      by_test (is_run g.images leaves m.0) m.0 m.1 m.2 m.3
-    where
-      by_test : (b : Bool) (m : ℕ) (image : Image) → slice_get g.images.images m ≡ Some image → IsIn x (sections_if b m image)
-          → (is_name (name_of g.images x.image) ≡ true) × IsTrue (is_sound x.section)
-      by_test false m image h i = absurd i
-      by_test true m image h i =
-          let p = plain.images m image h in
-          let f : ℕ → Section → List Placed = λ n section. placed m n section ∷ [] in
-          let n = from_gather f x image.sections i in
-          let named : is_name (name_of g.images m) ≡ true = ap (λ o. is_name (option_map_or (λ (z : Image). z.name) o []))
-          h ∙ p.name in
-          elim n.3 [
-            | inl e ↦ subst (λ (z : Placed). (is_name (name_of g.images z.image) ≡ true) × IsTrue (is_sound z.section))
-                {x = placed m n.0 n.1} e (named, p.sections n.1 (in_place n.1 image.sections n.0 n.2))
-            | inr none ↦ absurd none
-          ]
+      by_test (is_run g.images leaves m.0) m.0 m.1 m.2 m.3 where
+        by_test : (b : Bool) (m : ℕ) (image : Image) → slice_get g.images.images m ≡ Some image → IsIn x (sections_if b m image)
+            → (is_name (name_of g.images x.image) ≡ true) × IsTrue (is_sound x.section)
+        by_test false m image h i = absurd i
+        by_test true m image h i =
+            let p = plain.images m image h in
+            let f : ℕ → Section → List Placed = λ n section. placed m n section ∷ [] in
+            let n = from_gather f x image.sections i in
+            let named : is_name (name_of g.images m) ≡ true = ap (λ o. is_name (option_map_or (λ (z : Image). z.name) o []))
+            h ∙ p.name in
+            elim n.3 [
+              | inl e ↦ subst (λ (z : Placed). (is_name (name_of g.images z.image) ≡ true) × IsTrue (is_sound z.section))
+                  {x = placed m n.0 n.1} e (named, p.sections n.1 (in_place n.1 image.sections n.0 n.2))
+              | inr none ↦ absurd none
+            ]
 
   section_pages_fine : (leaves : List ℕ) (q : SectionPage) → IsIn q (section_pages g.images leaves) → FillFine q.fill
   section_pages_fine leaves q i =
@@ -123,38 +116,31 @@ module _ (g : Given) (plain : IsPlain g) where
     register_written : (f : FrameInfo) → IsIn f (register_part g.flat g.settled) → IsFrameWritten f
     register_written f i =
         let k = from_gather (register_frames g.flat g.settled) f g.flat.connections i in
-        by_end k.0 k.1 k.2 (registers k.1) k.3
-      where
-        by_end : (k : ℕ) (c : FlatConnection) → slice_get g.flat.connections k ≡ Some c → (o : Option FlatEnd)
-            → IsIn f (option_map_or (frames_at g.flat g.settled k c) o []) → IsFrameWritten f
-        by_end k c h None i = absurd i
-        by_end k c h (Some e) i =
-            let frames = device_frames e.leaf (memory_paddr g.settled k c) (memory_pages g.settled k c) in
-            let j = from_map (device_frame e.leaf (memory_paddr g.settled k c)) f (range_with_len 0 (memory_pages g.settled k c))
-            (from_if (is_first g.flat k e) frames f i).1 in
-            let at : ℕ = memory_paddr g.settled k c + 4096 * j.0 in
-            let few : at < 2 ^ 64 = omega (arith, below_count (memory_pages g.settled k c) j.0 j.1, can.addresses k c h) in
-            subst IsFrameWritten {x = device_frame e.leaf (memory_paddr g.settled k c) j.0} j.2
-            (record { paddr = λ n s. subst (λ z. z < 2 ^ 64) (same_Some at n s) few; fill = λ z n. absurd cc })
+        by_end k.0 k.1 k.2 (registers k.1) k.3 where
+          by_end : (k : ℕ) (c : FlatConnection) → slice_get g.flat.connections k ≡ Some c → (o : Option FlatEnd)
+              → IsIn f (option_map_or (frames_at g.flat g.settled k c) o []) → IsFrameWritten f
+          by_end k c h None i = absurd i
+          by_end k c h (Some e) i =
+              let frames = device_frames e.leaf (memory_paddr g.settled k c) (memory_pages g.settled k c) in
+              let j = from_map (device_frame e.leaf (memory_paddr g.settled k c)) f
+              (range_with_len 0 (memory_pages g.settled k c))
+              (from_if (is_first g.flat k e) frames f i).1 in
+              let at : ℕ = memory_paddr g.settled k c + 4096 * j.0 in
+              let few : at < 2 ^ 64 = omega (arith, below_count (memory_pages g.settled k c) j.0 j.1, can.addresses k c h) in
+              subst IsFrameWritten {x = device_frame e.leaf (memory_paddr g.settled k c) j.0} j.2
+              (record { paddr = λ n s. subst (λ z. z < 2 ^ 64) (same_Some at n s) few; fill = λ z n. absurd cc })
 
     pub frame_written : (f : FrameInfo) → IsIn f (frames g) → IsFrameWritten f
-    frame_written f i = elim (in_append f (own_part g) (memory_part g.flat g.settled) i) [
-      | inl j ↦ own_part_written f j
-      | inr j ↦ elim (in_append f (shared_part g.flat g.settled) (register_part g.flat g.settled) j) [
-        | inl k ↦ shared_written f k
-        | inr k ↦ register_written f k
-      ]
-    ]
+    frame_written f i = search (rules, in_append, own_part_written, shared_written, register_written)
 
     -- ---- threads
 
     entry_few : (m : Option ℕ) → entry_in g.images m < 2 ^ 64
     entry_few None = omega arith
-    entry_few (Some m) = by_image (slice_get g.images.images m) refl
-      where
-        by_image : (o : Option Image) → slice_get g.images.images m ≡ o → option_map_or (λ (z : Image). z.entry) o 0 < 2 ^ 64
-        by_image None e = omega arith
-        by_image (Some image) e = (plain.images m image e).entry
+    entry_few (Some m) = by_image (slice_get g.images.images m) refl where
+      by_image : (o : Option Image) → slice_get g.images.images m ≡ o → option_map_or (λ (z : Image). z.entry) o 0 < 2 ^ 64
+      by_image None e = omega arith
+      by_image (Some image) e = (plain.images m image e).entry
 
     module _ (pages : sum (page_counts g) ≤ 65536) (d : ℕ) (x : Domain) (here : slice_get g.flat.domains d ≡ Some x) where
       stack_few : (i : ℕ) (y : ThreadOf) → slice_get (threads_of g d) i ≡ Some y → (thread_place g d i y).sp < 2 ^ 64
@@ -168,10 +154,7 @@ module _ (g : Given) (plain : IsPlain g) where
           )
 
       buffer_few : (i : ℕ) (y : ThreadOf) → slice_get (threads_of g d) i ≡ Some y → (thread_place g d i y).buffer < 2 ^ 64
-      buffer_few i y e =
-          let few = few_at g can pages d x here in let l = slice_get_within (threads_of g d) i y e in
-          let many = length_regions g.flat g.settled (threads_of g d) (windows_of g d) in
-          omega (arith, few, l, many, pages_upto (regions g d) (2 * i + 1), low_base (arch_of g.images.images))
+      buffer_few i y e = grind (arith, few_at, slice_get_within, length_regions, pages_upto, low_base)
 
 module _ (source : Source) (flat : Flat) (settled : Settled) (images : Images) where
   abbrev g : Given
@@ -182,30 +165,29 @@ module _ (source : Source) (flat : Flat) (settled : Settled) (images : Images) w
 
   module _ (plain : IsPlain g) (can : CanLay g) (pages : sum (page_counts g) ≤ 65536) where
     thread_written : (d : ℕ) (y : ThreadPlace) → IsIn y (threads_at t d) → IsThreadWritten t y
-    thread_written d y i = by_space (slice_get t.spaces.spaces d) refl i
-      where
-        of_thread : (x : Domain) → slice_get flat.domains d ≡ Some x
-            → IsIn y (gather (λ n z. thread_place g d n z ∷ []) (threads_of g d)) → IsThreadWritten t y
-        of_thread x here i =
-            let f : ℕ → ThreadOf → List ThreadPlace = λ n z. thread_place g d n z ∷ [] in
-            let n = from_gather f y (threads_of g d) i in
-            let p = plain.programs d n.1 (in_place n.1 (threads_of g d) n.0 n.2) in
-            let named : is_name (leaf_name t n.1.leaf) ≡ true =
-            ap (λ o. is_name (option_map_or (λ (z : Leaf). component_name source z.component) o [])) p.here ∙ p.named in
-            let made : IsThreadWritten t (thread_place g d n.0 n.1) = record {
-              buffer = buffer_few g plain can pages d x here n.0 n.1 n.2;
-              stack = stack_few g plain can pages d x here n.0 n.1 n.2;
-              entry = entry_few g plain can (image_number images n.1.leaf);
-              name = named;
-            } in
-            elim n.3 [ inl e ↦ subst (IsThreadWritten t) e made | inr none ↦ absurd none ]
+    thread_written d y i = by_space (slice_get t.spaces.spaces d) refl i where
+      of_thread : (x : Domain) → slice_get flat.domains d ≡ Some x
+          → IsIn y (gather (λ n z. thread_place g d n z ∷ []) (threads_of g d)) → IsThreadWritten t y
+      of_thread x here i =
+          let f : ℕ → ThreadOf → List ThreadPlace = λ n z. thread_place g d n z ∷ [] in
+          let n = from_gather f y (threads_of g d) i in
+          let p = plain.programs d n.1 (in_place n.1 (threads_of g d) n.0 n.2) in
+          let named : is_name (leaf_name t n.1.leaf) ≡ true =
+          ap (λ o. is_name (option_map_or (λ (z : Leaf). component_name source z.component) o [])) p.here ∙ p.named in
+          let made : IsThreadWritten t (thread_place g d n.0 n.1) = record {
+            buffer = buffer_few g plain can pages d x here n.0 n.1 n.2;
+            stack = stack_few g plain can pages d x here n.0 n.1 n.2;
+            entry = entry_few g plain can (image_number images n.1.leaf);
+            name = named;
+          } in
+          elim n.3 [ inl e ↦ subst (IsThreadWritten t) e made | inr none ↦ absurd none ]
 
-        by_space : (o : Option Space) → slice_get t.spaces.spaces d ≡ o → IsIn y (option_map_or (λ (s : Space). s.threads) o [])
-            → IsThreadWritten t y
-        by_space None e i = absurd i
-        by_space (Some s) e i =
-            let o = from_ones (space g) flat.domains d s e in
-            of_thread o.0 o.1 (subst (λ (z : Space). IsIn y z.threads) (sym o.2) i)
+      by_space : (o : Option Space) → slice_get t.spaces.spaces d ≡ o → IsIn y (option_map_or (λ (s : Space). s.threads) o [])
+          → IsThreadWritten t y
+      by_space None e i = absurd i
+      by_space (Some s) e i =
+          let o = from_ones (space g) flat.domains d s e in
+          of_thread o.0 o.1 (subst (λ (z : Space). IsIn y z.threads) (sym o.2) i)
 
     pub tables_written : IsWritten t
     tables_written = record {

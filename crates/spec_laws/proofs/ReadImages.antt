@@ -1,7 +1,7 @@
 -- The images that are read for a source are plain.
 use Rattle.spec_laws.proofs.Common.{Aarch64, AreFilesShort, AreImagesOf, Arm11, Bool, Contents, Ended, Image, Images, IsImagePlain, IsIn, IsOne, Item, ItemAt, Leaf, List, Name, None, Option, Some, Source, SourceFile, [], and_parts, ap, bytes_eq}
 use Rattle.spec_laws.proofs.Common.{codes, component_of, cond, digits_value, false, file_item, filter_map, flat_of, from_filter_map, in_get, inl, inr, is_name, item_component, item_line, ltb-true, map_some, nat_lt, option_and_then, option_map, refl}
-use Rattle.spec_laws.proofs.Common.{slice_get, subst, sym, true, type_of, types, zip, ℕ, ◌&&◌, ◌<◌, ◌==◌, ◌^◌, ◌||◌, ◌∙◌, ◌∷◌, ◌≡◌}
+use Rattle.spec_laws.proofs.Common.{slice_get, subst, sym, true, type_of, types, zip, ℕ, ◌&&◌, ◌<◌, ◌==◌, ◌^◌, ◌||◌, ◌∙◌, ◌∷◌, ◌≡◌, arith}
 use Rattle.adl_ast.specs.declared.file.Item.TheVariants as items
 use Rattle.adl_meaning.specs.Lists.{firsts_after}
 use Rattle.cam_base.specs.Numbers.{fits, is_decimal, is_hexadecimal, number_value}
@@ -9,8 +9,8 @@ use Rattle.sect_table.specs.Headers.{header, header_of}
 use Rattle.sect_table.specs.Tables.{image, image_in}
 use Rattle.sect_table.specs.declared.image.Header.{Header}
 use Rattle.source_images.specs.Found.{Found, absent, found_of, table, too_long}
-use Rattle.source_images.specs.TableImages as tables
-use Rattle.source_images.specs.TableImages.{images_in}
+use Rattle.source_images.specs.ImagesRead as tables
+use Rattle.source_images.specs.ImagesRead.{images_in}
 use Rattle.source_images.specs.Types.{component_name}
 use Rattle.source_images.proofs.Soundness.{images_sound}
 use Rattle.cam_base.specs.Fields.{spaced_fields}
@@ -26,78 +26,65 @@ component_spelled (items.Component c) n w e =
 component_spelled _ n w e = cc
 
 type_named : (s : Source) → AreFilesShort s → (at : ItemAt) (n : Name) → component_name s at ≡ Some n → is_name n ≡ true
-type_named s short at n e = by_file (slice_get s.files at.file) refl e
-  where
-    by_item : (f : SourceFile) → IsIn f s.files → (o : Option Ended) → slice_get f.tree.items at.item ≡ o
-        → option_and_then (λ (z : Ended). component_of z.item) o ≡ Some n → is_name n ≡ true
-    by_item f i None is e = cc
-    by_item f i (Some x) is e = let w = short f i in
-        component_spelled x.item n (file_item f.tree (w.0, w.1) x (in_get f.tree.items at.item x is)) e
+type_named s short at n e = by_file (slice_get s.files at.file) refl e where
+  by_item : (f : SourceFile) → IsIn f s.files → (o : Option Ended) → slice_get f.tree.items at.item ≡ o
+      → option_and_then (λ (z : Ended). component_of z.item) o ≡ Some n → is_name n ≡ true
+  by_item f i None is e = cc
+  by_item f i (Some x) is e = let w = short f i in
+      component_spelled x.item n (file_item f.tree (w.0, w.1) x (in_get f.tree.items at.item x is)) e
 
-    by_file : (o : Option SourceFile) → slice_get s.files at.file ≡ o
-        → option_and_then (λ (f : SourceFile). option_and_then (λ (z : Ended). component_of z.item)
-        (slice_get f.tree.items at.item)) o ≡ Some n → is_name n ≡ true
-    by_file None is e = cc
-    by_file (Some f) is e = by_item f (in_get s.files at.file f is) (slice_get f.tree.items at.item) refl e
+  by_file : (o : Option SourceFile) → slice_get s.files at.file ≡ o
+      → option_and_then (λ (f : SourceFile). option_and_then (λ (z : Ended). component_of z.item)
+      (slice_get f.tree.items at.item)) o ≡ Some n → is_name n ≡ true
+  by_file None is e = cc
+  by_file (Some f) is e = by_item f (in_get s.files at.file f is) (slice_get f.tree.items at.item) refl e
 
 from_firsts : {X : Type 0} (same : X → X → Bool) (met : X → Bool) (xs : List X) (x : X)
     → IsIn x (firsts_after same met xs) → IsIn x xs
 from_firsts same met [] x i = absurd i
-from_firsts {X} same met (y ∷ xs) x i = by_test (met y) i (λ j. from_firsts same met xs x j)
-    (λ j. from_firsts same (λ z. met z || same z y) xs x j)
-  where
-    by_test : (b : Bool) → IsIn x (cond b (firsts_after same met xs) (y ∷ firsts_after same (λ z. met z || same z y) xs))
-        → (IsIn x (firsts_after same met xs) → IsIn x xs) → (IsIn x (firsts_after same (λ z. met z || same z y) xs) → IsIn x xs)
-        → IsIn x (y ∷ xs)
-    by_test true i a b = inr (a i)
-    by_test false (inl e) a b = inl e
-    by_test false (inr i) a b = inr (b i)
+from_firsts {X} same met (y ∷ xs) x i =
+    grind (arith, from_firsts same met xs x, from_firsts same (λ z. met z || same z y) xs x)
 
 types_named : (s : Source) → AreFilesShort s → (n : Name) → IsIn n (types s (flat_of s)) → is_name n ≡ true
 types_named s short n i =
     let f = from_firsts bytes_eq _ (filter_map (type_of s) (flat_of s).leaves) n i in
     let l = from_filter_map (type_of s) n (flat_of s).leaves f in
-    by_test l.0 l.0.hardware l.2
-  where
-    by_test : (leaf : Leaf) (b : Bool) → cond b None (component_name s leaf.component) ≡ Some n → is_name n ≡ true
-    by_test leaf true e = cc
-    by_test leaf false e = type_named s short leaf.component n e
+    by_test l.0 l.0.hardware l.2 where
+      by_test : (leaf : Leaf) (b : Bool) → cond b None (component_name s leaf.component) ≡ Some n → is_name n ≡ true
+      by_test leaf true e = cc
+      by_test leaf false e = type_named s short leaf.component n e
 
 -- ---- programs begin at numbers of 64 bits
 
 fits_small : (b : Bool) (m n : ℕ) → fits b m ≡ Some n → n < 2 ^ 64
-fits_small b m n e = by_test (b && nat_lt m (2 ^ 64)) refl e
-  where
-    by_test : (t : Bool) → (b && nat_lt m (2 ^ 64)) ≡ t → cond t (Some m) None ≡ Some n → n < 2 ^ 64
-    by_test true t e = let same : m ≡ n = cc in
-        subst (λ z. z < 2 ^ 64) same (ltb-true m (2 ^ 64) (and_parts b (nat_lt m (2 ^ 64)) t).1)
-    by_test false t e = cc
+fits_small b m n e = by_test (b && nat_lt m (2 ^ 64)) refl e where
+  by_test : (t : Bool) → (b && nat_lt m (2 ^ 64)) ≡ t → cond t (Some m) None ≡ Some n → n < 2 ^ 64
+  by_test true t e = let same : m ≡ n = cc in
+      subst (λ z. z < 2 ^ 64) same (ltb-true m (2 ^ 64) (and_parts b (nat_lt m (2 ^ 64)) t).1)
+  by_test false t e = cc
 
 number_small : (bs : List ℕ) (n : ℕ) → number_value bs ≡ Some n → n < 2 ^ 64
 number_small [] n e = fits_small (is_decimal []) (digits_value 10 []) n e
 number_small (z ∷ []) n e = fits_small (is_decimal (z ∷ [])) (digits_value 10 (z ∷ [])) n e
-number_small (z ∷ x ∷ ds) n e = by_test (z == 48 && (x == 120 || x == 88)) e
-  where
-    by_test : (b : Bool) → cond b (fits (is_hexadecimal ds) (digits_value 16 ds))
-        (fits (is_decimal (z ∷ x ∷ ds)) (digits_value 10 (z ∷ x ∷ ds))) ≡ Some n → n < 2 ^ 64
-    by_test true e = fits_small (is_hexadecimal ds) (digits_value 16 ds) n e
-    by_test false e = fits_small (is_decimal (z ∷ x ∷ ds)) (digits_value 10 (z ∷ x ∷ ds)) n e
+number_small (z ∷ x ∷ ds) n e = by_test (z == 48 && (x == 120 || x == 88)) e where
+  by_test : (b : Bool) → cond b (fits (is_hexadecimal ds) (digits_value 16 ds))
+      (fits (is_decimal (z ∷ x ∷ ds)) (digits_value 10 (z ∷ x ∷ ds))) ≡ Some n → n < 2 ^ 64
+  by_test true e = fits_small (is_hexadecimal ds) (digits_value 16 ds) n e
+  by_test false e = fits_small (is_decimal (z ∷ x ∷ ds)) (digits_value 10 (z ∷ x ∷ ds)) n e
 
 header_small : (fields : List (List ℕ)) (h : Header) → header_of fields ≡ Some h → h.entry < 2 ^ 64
-header_small (word ∷ entry ∷ []) h e = by_test (bytes_eq word (codes "entry")) e
-  where
-    by_test : (b : Bool) → cond b (option_map (header Arm11) (number_value entry)) None ≡ Some h → h.entry < 2 ^ 64
-    by_test true e =
-        let n = map_some (header Arm11) (number_value entry) h e in
-        subst (λ (z : Header). z.entry < 2 ^ 64) n.2 (number_small entry n.0 n.1)
-    by_test false e = cc
-header_small (word ∷ entry ∷ arch ∷ []) h e = by_test (bytes_eq word (codes "entry") && bytes_eq arch (codes "aarch64")) e
-  where
-    by_test : (b : Bool) → cond b (option_map (header Aarch64) (number_value entry)) None ≡ Some h → h.entry < 2 ^ 64
-    by_test true e =
-        let n = map_some (header Aarch64) (number_value entry) h e in
-        subst (λ (z : Header). z.entry < 2 ^ 64) n.2 (number_small entry n.0 n.1)
-    by_test false e = cc
+header_small (word ∷ entry ∷ []) h e = by_test (bytes_eq word (codes "entry")) e where
+  by_test : (b : Bool) → cond b (option_map (header Arm11) (number_value entry)) None ≡ Some h → h.entry < 2 ^ 64
+  by_test true e =
+      let n = map_some (header Arm11) (number_value entry) h e in
+      subst (λ (z : Header). z.entry < 2 ^ 64) n.2 (number_small entry n.0 n.1)
+  by_test false e = cc
+header_small (word ∷ entry ∷ arch ∷ []) h e = by_test (bytes_eq word (codes "entry") && bytes_eq arch (codes "aarch64")) e where
+  by_test : (b : Bool) → cond b (option_map (header Aarch64) (number_value entry)) None ≡ Some h → h.entry < 2 ^ 64
+  by_test true e =
+      let n = map_some (header Aarch64) (number_value entry) h e in
+      subst (λ (z : Header). z.entry < 2 ^ 64) n.2 (number_small entry n.0 n.1)
+  by_test false e = cc
 header_small _ h e = cc
 
 -- ---- images

@@ -1,6 +1,7 @@
 -- The regions of spaces, and the lines of windows
+use Rattle.std.proofs.Common.{rules}
 use Rattle.spec_laws.proofs.Common.{Bool, Buffer, CanMap, Cap, Domain, EndAt, FlatConnection, FrameOf, IsAt, IsIn, IsRegionPage, LeafSetting, List, MapLine, MappedPage, Option, OwnLock, Page, RW, Region, Settled, SlotUse}
-use Rattle.spec_laws.proofs.Common.{Some, Space, Spaces, Tables, Tcb, ThreadLine, WindowLine, [], ap, arith, begins, cap, cond, domain_lines, domain_windows, ends, eq-eqb, eqb-true, false, find, flat_map}
+use Rattle.spec_laws.proofs.Common.{Some, Space, Spaces, Tables, Tcb, ThreadLine, WindowLine, [], ap, arith, begins, cap, domain_lines, domain_windows, ends, eq-eqb, eqb-true, find, flat_map}
 use Rattle.spec_laws.proofs.Common.{frame_at, from_ones, gather, get_map, get_ones, in_gather, in_place, in_right, inl, leaves_of, length, map, map_lines, mapped_pages, memory_pages, number_shown, object_at}
 use Rattle.spec_laws.proofs.Common.{option_map_or, page, pages_at, place, place_of, refl, region, region_page, root_of, slice_get, slot_line, slot_lines, space, spec_of, subst, suc, sym, system, tcb, thread_lines, thread_place}
 use Rattle.spec_laws.proofs.Common.{thread_regions, threads_of, true, use_cap, window_at, window_line, window_lines, window_region, windows_at, windows_of, zero, ℕ, ◌%◌, ◌*◌, ◌++◌, ◌+◌, ◌/◌, ◌==◌, ◌∙◌, ◌∷◌, ◌≡◌}
@@ -26,20 +27,9 @@ use Rattle.spec_laws.proofs.Threads.{has_thread, line_to, thread_object}
 find_is : {X : Type 0} (p : X → Bool) (xs : List X) (n : ℕ) (x : X) → slice_get xs n ≡ Some x → p x ≡ true
     → ((m : ℕ) (y : X) → slice_get xs m ≡ Some y → p y ≡ true → y ≡ x) → find p xs ≡ Some x
 find_is p [] n x e h u = cc
-find_is {X} p (z ∷ zs) n x e h u = by_test (p z) refl (λ k f. find_is p zs k x f h (λ m y g k. u (suc m) y g k))
-  where
-    rest : (n : ℕ) → slice_get (z ∷ zs) n ≡ Some x → p z ≡ false → ((k : ℕ) → slice_get zs k ≡ Some x → find p zs ≡ Some x)
-        → find p zs ≡ Some x
-    rest zero e f more =
-        let same : z ≡ x = cc in
-        let g : p z ≡ true = ap p same ∙ h in
-        cc
-    rest (suc n) e f more = more n e
-
-    by_test : (b : Bool) → p z ≡ b → ((k : ℕ) → slice_get zs k ≡ Some x → find p zs ≡ Some x)
-        → cond b (Some z) (find p zs) ≡ Some x
-    by_test true f more = ap (λ w. Some w) (u 0 z refl f)
-    by_test false f more = rest n e f more
+find_is {X} p (z ∷ zs) zero x e h u = grind (arith)
+find_is {X} p (z ∷ zs) (suc n) x e h u =
+    grind (arith, u 0 z refl, find_is p zs n x e h (λ m y g k. u (suc m) y g k))
 
 -- thread i has the regions 2 i and 2 i + 1
 buffer_at : (settled : Settled) (ts : List ThreadOf) (more : List Region) (i : ℕ) (x : ThreadOf) → slice_get ts i ≡ Some x
@@ -60,11 +50,10 @@ same_thread a b o e f = cc
 module _ (t : Tables) (can : CanMap t) where
   window_domain : (d i : ℕ) (y : EndAt) → slice_get (windows_of (system t) d) i ≡ Some y
       → (x : Domain) × (slice_get t.flat.domains d ≡ Some x)
-  window_domain d i y e = has_domain t d not_none
-    where
-      not_none : leaves_of t.flat d ≡ [] → ⊥
-      not_none leaves =
-          let f = subst (λ z. slice_get z i ≡ Some y) (ap (λ ls. windows_in t.flat (ends (system t)) ls) leaves) e in cc
+  window_domain d i y e = has_domain t d not_none where
+    not_none : leaves_of t.flat d ≡ [] → ⊥
+    not_none leaves =
+        let f = subst (λ z. slice_get z i ≡ Some y) (ap (λ ls. windows_in t.flat (ends (system t)) ls) leaves) e in cc
 
   -- ---- the buffer of a thread
 
@@ -197,8 +186,4 @@ module _ (t : Tables) (can : CanMap t) where
       (in_gather f line t.flat.domains d x.0 x.1 (in_gather g line (windows_at t d) w.number made at (inl said_is)))))
 
   pub regions_are : AreRegions t (spec_of t) (root_of t) (map_lines t)
-  regions_are = record {
-    threads = λ d i at y c e line o. of_threads d i at y c e line o;
-    windows_only = only;
-    windows_every = every;
-  }
+  regions_are = search (rules, of_threads, only, every)

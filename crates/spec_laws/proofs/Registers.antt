@@ -1,7 +1,7 @@
 -- Connections to one dataport of a device find its registers at one address.
+use Rattle.std.proofs.Common.{rules}
 use Rattle.spec_laws.proofs.Common.{AreSettingsSound, AreTyped, Connector, EndSetting, FlatConnection, FlatEnd, Hierarchy, Interface, Leaf, Mmio, None, Option, Settled, Some, Source, ap, codes, cond, default_bytes, end_setting, flat_of, hierarchy_of}
-use Rattle.spec_laws.proofs.Common.{meaning, meant, members_at, memory_paddr, memory_place, option_and_then, option_map_or, paddr_in, registers, same_Some, same_kind, setting_of, settled_of, size_in, slice_get, sym, to_place, unwrap_or, value_at}
-use Rattle.spec_laws.proofs.Common.{where_set, ℕ, ◌&&◌, ◌++◌, ◌∙◌, ◌≡◌}
+use Rattle.spec_laws.proofs.Common.{meaning, meant, members_at, memory_paddr, paddr_in, registers, same_Some, same_kind, setting_of, settled_of, size_in, slice_get, sym, to_place, unwrap_or, value_at, where_set, ℕ, ◌&&◌, ◌++◌, ◌∙◌, ◌≡◌}
 use Rattle.adl_ast.specs.declared.component.InterfaceKind.TheVariants as interfaces
 use Rattle.adl_ast.specs.declared.component.Member.TheVariants as members
 use Rattle.adl_meaning.specs.Values.{Given}
@@ -11,10 +11,7 @@ use Rattle.spec_laws.proofs.MemorySizes.{from_registers, interface_same}
 
 paddr_by : (settled : Settled) (k n : ℕ) (c : FlatConnection) (e : EndSetting) → c.connector ≡ Mmio → to_place c.ends ≡ Some n
     → setting_of settled k n ≡ Some e → memory_paddr settled k c ≡ e.paddr
-paddr_by settled k n c e t at is =
-    ap (λ z. option_map_or (λ (x : EndSetting). x.paddr) (option_and_then (setting_of settled k) (memory_place z c.ends)) 0) t
-    ∙ ap (λ o. option_map_or (λ (x : EndSetting). x.paddr) (option_and_then (setting_of settled k) o) 0) at
-    ∙ ap (λ o. option_map_or (λ (x : EndSetting). x.paddr) o 0) is
+paddr_by settled k n c e t at is = cc
 
 -- the address of a device's registers, whatever joins them
 device_paddr : Hierarchy → Connector → Option Given → Leaf → Interface → ℕ
@@ -32,11 +29,7 @@ module _ (s : Source) (typed : AreTyped s (flat_of s)) (settings : AreSettingsSo
   paddr_here : (k n : ℕ) (c : FlatConnection) (e : FlatEnd) (f : IsEndFound s k n c e) → c.connector ≡ Mmio
       → (end_setting f.found).paddr ≡ device_paddr (hierarchy_of s) Mmio None f.found.joint.leaf f.found.joint.interface
   unfolding device_paddr
-  paddr_here k n c e f is =
-      let h = hierarchy_of s in let j = f.found.joint in
-      ap (λ z. (end_setting z).paddr) f.values
-      ∙ ap (λ (z : FlatConnection). device_paddr h z.connector (value_at h j.connection.path (codes "size")) j.leaf
-      j.interface) f.connection ∙ ap (λ z. device_paddr h z (value_at h j.connection.path (codes "size")) j.leaf j.interface) is
+  paddr_here k n c e f is = search (rules, device_paddr)
 
   pub same_paddr : (k n : ℕ) (c d : FlatConnection) (e f : FlatEnd) → slice_get (flat_of s).connections k ≡ Some c
       → slice_get (flat_of s).connections n ≡ Some d → registers c ≡ Some e → registers d ≡ Some f

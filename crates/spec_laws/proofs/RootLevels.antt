@@ -1,8 +1,9 @@
 -- The root of a space stands first among its tables, and is the only one of its level
 use Rattle.spec_laws.proofs.Common.{Aarch64, Arch, Arm11, Bool, Cap, Directory, Global, IsIn, Layer, Level, List, Mapping, Object, Pages, Shape, Some, Table, Upper, [], ap, arith, before, cond, count_by, false, gather, is_of, is_root_level, layer}
 use Rattle.spec_laws.proofs.Common.{length, length_append, level_number, level_of, level_series, map, one_root, page_table, page_tables, put_front, refl, root_first, root_series, root_span, runs, shape, shapes, sizes, slice_get, span, subst, suc}
-use Rattle.spec_laws.proofs.Common.{sum_by-append, sum_by-cons, sym, table_of, tables_of, take, true, under, upper, upper_below, uppers, zero, ℕ, ◌++◌, ◌+◌, ◌<◌, ◌==◌, ◌^◌, ◌∙◌, ◌∷◌, ◌≡◌, ◌≤◌}
+use Rattle.spec_laws.proofs.Common.{sum_by-append, sum_by-cons, sym, table_of, tables_of, take, true, under, upper, upper_below, uppers, zero, ℕ, ◌++◌, ◌+◌, ◌<◌, ◌==◌, ◌^◌, ◌∙◌, ◌∷◌, ◌≡◌, ◌≤◌, inl, inr}
 use Rattle.page_tables.specs.Levels.{numbered}
+use Rattle.std.proofs.lemmas.Bool.{cases_Bool}
 
 abbrev pub root_level : Arch → Level
 root_level Arm11 = Directory
@@ -65,12 +66,8 @@ up l xs = uppers l (runs (span l) xs)
 some_run : (sp : ℕ) (x : Mapping) (rs : List (List Mapping)) → (r : List Mapping) × (more : List (List Mapping))
     × (put_front sp x rs ≡ r ∷ more)
 some_run sp x [] = (x ∷ [], [], refl)
-some_run sp x (r ∷ rs) = by_test (under sp x r)
-  where
-    by_test : (b : Bool) → (q : List Mapping) × (more : List (List Mapping))
-        × (cond b ((x ∷ r) ∷ rs) ((x ∷ []) ∷ r ∷ rs) ≡ q ∷ more)
-    by_test true = (x ∷ r, rs, refl)
-    by_test false = (x ∷ [], r ∷ rs, refl)
+some_run sp x (r ∷ rs) =
+    elim (cases_Bool (under sp x r)) [ inl g ↦ rw g (x ∷ r, rs, refl) | inr g ↦ rw g (x ∷ [], r ∷ rs, refl) ]
 
 fine_up : (l : Shape) (bound : ℕ) (xs : List Mapping) → 0 < bound → Fine bound xs → Fine bound (up l xs)
 fine_up l bound xs some f =
@@ -106,9 +103,7 @@ first_table Aarch64 first xs f =
 -- a lower level adds none
 lower : (l : Level) (first link : ℕ) (y : Layer) (ys : List Layer) → (level_number y.shape.level == level_number l) ≡ false
     → count_by (at_level l) (numbered first link (y ∷ ys)) ≡ count_by (at_level l) (numbered first (first + sizes ys) ys)
-lower l first link y ys h =
-    let c = count_append (at_level l) (numbered first (first + sizes ys) ys) (map (table_of y.shape link) y.tables) in
-    omega (arith, c, count_none l y.shape link y.tables h)
+lower l first link y ys h = grind (arith, count_append, count_none)
 
 last : (l : Level) (first link : ℕ) (y : Layer) → (level_number y.shape.level == level_number l) ≡ true
     → count_by (at_level l) (numbered first link (y ∷ [])) ≡ length y.tables

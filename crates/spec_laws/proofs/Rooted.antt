@@ -1,4 +1,5 @@
 -- The objects from a domain's root on begin with the page tables of its space
+use Rattle.std.proofs.Common.{rules}
 use Rattle.spec_laws.proofs.Common.{Domain, Endpoint, Entry, FrameOf, IsIn, List, Object, PageTable, Part, Some, TableOf, Tables, [], all_tables, ap, arith, at_place, before, begins_with, below, domain_tables, drop, entry, gathered, get_drop}
 use Rattle.spec_laws.proofs.Common.{get_map, get_ones, in_gather, in_together, inl, length, level_of, map, objects_from, page_table, parts, place, refl, root_of, sections, slice_get, spec_of, stands, sym, table_part, table_parts, tables_at}
 use Rattle.spec_laws.proofs.Common.{tables_counted, ℕ, ◌++◌, ◌+◌, ◌∙◌, ◌∷◌, ◌≡◌}
@@ -40,6 +41,4 @@ module _ (t : Tables) (d : ℕ) (x : Domain) (h : slice_get t.flat.domains d ≡
 
   pub from_root : objects_from (spec_of t) (root_of t d) ≡ tables_of_domain t d ++ drop (length (tables_of_domain t d))
       (objects_from (spec_of t) (root_of t d))
-  from_root =
-      begins_with (objects_from (spec_of t) (root_of t d)) (tables_of_domain t d)
-      (λ j o e. get_drop (map (λ (z : Entry). z.object) (spec_of t).entries) (root_of t d) j ∙ object_there j o e)
+  from_root = search (rules, begins_with, get_drop, object_there)

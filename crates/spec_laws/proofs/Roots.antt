@@ -1,4 +1,5 @@
 -- Each domain has a root of its own
+use Rattle.std.proofs.Common.{rules}
 use Rattle.spec_laws.proofs.Common.{AreRoots, CanMap, Domain, Endpoint, IsIn, IsRootOf, List, Mapping, Object, OfDomain, Pages, Part, Some, TableOf, Tables, [], all_tables, ap, arch, arith, before, below, count_by, domain_tables, from_map, in_map}
 use Rattle.spec_laws.proofs.Common.{is_of, level_of, level_series, map, name_at, name_of, object, object_at, objects_stand, of_level, page_mapping, page_table, pages_at, parts, place, refl, root_of, root_series, root_span, shapes, slice_get, spec_of}
 use Rattle.spec_laws.proofs.Common.{stands, subst, sym, table_part, ℕ, ◌+◌, ◌<◌, ◌∙◌, ◌∷◌, ◌≡◌}
@@ -37,8 +38,7 @@ module _ (t : Tables) (can : CanMap t) where
 
   pub root_part : (d : ℕ) (x : Domain) → slice_get t.flat.domains d ≡ Some x → RootPart d
   root_part d x h =
-      let a = arch t in
-      let first = first_table a 0 (map (page_mapping 0) (pages_at t d)) (fine 0 d x h) in
+      let a = arch t in let first = first_table a 0 (map (page_mapping 0) (pages_at t d)) (fine 0 d x h) in
       let o : Object = Pages (root_level a) first.0 in
       let m = before (domain_tables t) t.flat.domains d + 0 in
       let at : m ≡ before (domain_tables t) t.flat.domains d = omega arith in
@@ -74,12 +74,7 @@ module _ (t : Tables) (can : CanMap t) where
 
   apart : (d e : ℕ) (x y : Domain) → slice_get t.flat.domains d ≡ Some x → slice_get t.flat.domains e ≡ Some y
       → root_of t d ≡ root_of t e → d ≡ e
-  apart d e x y h g same =
-      let r = root_part d x h in let s = root_part e y g in
-      let at : place t r.part.what ≡ place t s.part.what = ap (λ z. place t z) r.what ∙ same ∙ ap (λ z. place t z) (sym s.what) in
-      let parts_same : r.part ≡ s.part = some (slice_get (parts t) (place t s.part.what)) r.part s.part
-      (subst (λ z. slice_get (parts t) z ≡ Some r.part) at (stands t r.part r.there)) (stands t s.part s.there) in
-      sym r.number ∙ ap (λ (z : Part). z.number) parts_same ∙ s.number
+  apart d e x y h g same = search (rules, root_part, some, stands)
 
   pub roots_are : AreRoots t (spec_of t) (root_of t)
   roots_are = record { each = root_is; apart = apart }

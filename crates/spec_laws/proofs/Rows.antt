@@ -1,4 +1,5 @@
 -- What ends are given over the objects of their connections, by the table and by the rights of their capabilities.
+use Rattle.std.proofs.Common.{rules}
 use Rattle.spec_laws.proofs.Common.{AsyncSend, Authority, Bool, Connector, EndSetting, From, Handle, Interrupt, Kind, Mmio, NONE, Notification, ObjectKind, OfDevice, OfEndpoint, OfFrames, OfIrq, OfNotification, Option, Read, Role, Rpc}
 use Rattle.spec_laws.proofs.Common.{SharedMemory, To, Write, and_parts, end_rights, end_rule, false, gives, has_label, inl, inr, is_object, is_window, kind_confers, not, or_cases, plain_kind, refl, same_object, sym, true, true≢false, ◌&&◌, ◌==◌}
 use Rattle.spec_laws.proofs.Common.{◌||◌, ◌∙◌, ◌≡◌, ◌⊎◌}
@@ -30,11 +31,7 @@ truth_is _ _ h = refl
 -- the rights of an end's capability confer just what the table gives the end over its connection's object
 pub row_law : (c : Connector) (r : Role) (a : Authority) → has_slot c r ≡ true
     → kind_confers (joint_kind c) (end_rights c r) a ≡ gives c r (joint_object c) a
-row_law c r a s =
-    truth_is (kind_confers (joint_kind c) (end_rights c r) a) (gives c r (joint_object c) a)
-    (implied (has_slot c r) _
-    (at_authority (λ c r a. implies (has_slot c r) (same_truth (kind_confers (joint_kind c) (end_rights c r) a)
-    (gives c r (joint_object c) a))) refl c r a) s)
+row_law c r a s = search (rules, truth_is, implied, has_slot, at_authority, implies)
 
 -- and none of them is G on an endpoint
 pub row_plain : (c : Connector) (r : Role) → has_slot c r ≡ true → plain_kind (joint_kind c) (end_rights c r) ≡ true
@@ -43,9 +40,7 @@ row_plain c r s =
 
 -- an end with a slot is of software, and its connection has a label
 pub slot_soft : (c : Connector) (r : Role) → has_slot c r ≡ true → (end_rule c r).hardware ≡ false
-slot_soft c r s =
-    truth_is (end_rule c r).hardware false
-    (implied (has_slot c r) _ (at_end (λ c r. implies (has_slot c r) (same_truth (end_rule c r).hardware false)) refl c r) s)
+slot_soft c r s = search (rules, truth_is, implied, has_slot, at_end, implies)
 
 pub slot_labelled : (c : Connector) (r : Role) → has_slot c r ≡ true → has_label c ≡ true
 slot_labelled c r s = implied (has_slot c r) _ (at_end (λ c r. implies (has_slot c r) (has_label c)) refl c r) s
@@ -185,9 +180,7 @@ seen_window c r o h =
 
 -- an end with a window is of software
 pub window_soft : (c : Connector) (r : Role) → is_window c r ≡ true → (end_rule c r).hardware ≡ false
-window_soft c r s =
-    truth_is (end_rule c r).hardware false
-    (implied (is_window c r) _ (at_end (λ c r. implies (is_window c r) (same_truth (end_rule c r).hardware false)) refl c r) s)
+window_soft c r s = search (rules, truth_is, implied, at_end, implies)
 
 -- the ends at devices
 pub device_role : (c : Connector) (r : Role) → (end_rule c r).hardware ≡ true → ((c ≡ Interrupt) × (r ≡ From))

@@ -1,7 +1,8 @@
 -- In each section the series and the number of a part tell its place.
-use Rattle.spec_laws.proofs.Common.{Bool, Connector, Directory, EndpointOf, FlatConnection, Interrupt, Level, List, Notification, NotificationOf, OfConnection, Owned, PageTable, Part, Rpc, Series, Some}
+use Rattle.std.proofs.Common.{rules}
+use Rattle.spec_laws.proofs.Common.{Bool, Connector, Directory, EndpointOf, FlatConnection, Interrupt, Level, List, Notification, OfConnection, Owned, PageTable, Part, Rpc, Series, Some}
 use Rattle.spec_laws.proofs.Common.{Tables, [], all_tables, ap, arith, before, cases_order, cnodes, cond, count_by, count_by-le-length, endpoint, endpoint_by, endpoints, eq-eqb, flat_map, frame_parts, from_ones, from_place, gather_ones, inl}
-use Rattle.spec_laws.proofs.Common.{inr, irqs, is_of, length, length-take-le, length_append, level_number, level_series, locks, notification, notification_by, notifications, numbered, of_level, part, parts, rank, refl, same_Some, sections, slice_get}
+use Rattle.spec_laws.proofs.Common.{inr, irqs, length, length-take-le, length_append, level_number, level_series, locks, notification, notification_by, notifications, numbered, of_level, part, parts, rank, refl, same_Some, sections, slice_get}
 use Rattle.spec_laws.proofs.Common.{slice_get_within, split_get, subst, suc, sum_by-cons, sym, table_part, table_parts, take, tcbs, true, zero, ℕ, ◌+◌, ◌<◌, ◌==◌, ◌∙◌, ◌∷◌, ◌≡◌, ◌≤◌}
 use Rattle.cam_base.proofs.NumberedLists.{single}
 use Rattle.system_spec.specs.declared.series.Series.TheVariants as series
@@ -19,11 +20,7 @@ pub record Told (s : List Part) (rank : Series → ℕ) (n : ℕ) (bound : ℕ) 
 -- so one series and number stand at one place
 pub told_place : (s : List Part) (rank : Series → ℕ) (n bound : ℕ) → Told s rank n bound → (i j : ℕ) (p q : Part)
     → slice_get s i ≡ Some p → slice_get s j ≡ Some q → p.series ≡ q.series → p.number ≡ q.number → i ≡ j
-told_place s rank n bound told i j p q e f same number = elim (cases_order i j) [
-  | inl is ↦ is
-  | inr (inl less) ↦ let l = told.rising i j p q e f less same in absurd (omega (arith, l, number))
-  | inr (inr more) ↦ let l = told.rising j i q p f e more (sym same) in absurd (omega (arith, l, number))
-]
+told_place s rank n bound told i j p q e f same number = grind (arith, cases_order)
 
 told_numbered : (s : Series) (xs : List Owned) (bound : ℕ) → length xs ≤ bound → Told (numbered s xs) rank (rank s) bound
 told_numbered s xs bound few = record {
@@ -31,14 +28,13 @@ told_numbered s xs bound few = record {
   number = λ j p e. let o = at j p e in let l = slice_get_within xs j o.0 o.1 in let same = number_is j p e in
       omega (arith, l, same, few);
   rising = λ i j p q e f less same. let m = number_is i p e in let n = number_is j q f in omega (arith, m, n, less);
-}
-  where
-    at : (j : ℕ) (p : Part) → slice_get (numbered s xs) j ≡ Some p → (x : Owned) × (slice_get xs j ≡ Some x)
-        × (part s j x.owner x.what ≡ p)
-    at j p e = from_ones (λ n (x : Owned). part s n x.owner x.what) xs j p e
+} where
+  at : (j : ℕ) (p : Part) → slice_get (numbered s xs) j ≡ Some p → (x : Owned) × (slice_get xs j ≡ Some x)
+      × (part s j x.owner x.what ≡ p)
+  at j p e = from_ones (λ n (x : Owned). part s n x.owner x.what) xs j p e
 
-    number_is : (j : ℕ) (p : Part) → slice_get (numbered s xs) j ≡ Some p → p.number ≡ j
-    number_is j p e = ap (λ (z : Part). z.number) (sym (at j p e).2)
+  number_is : (j : ℕ) (p : Part) → slice_get (numbered s xs) j ≡ Some p → p.number ≡ j
+  number_is j p e = ap (λ (z : Part). z.number) (sym (at j p e).2)
 
 -- where the parts of connections stand, each of which has its connection's number and is its only one of the kind
 pub record OfConnections (t : Tables) (f : ℕ → FlatConnection → List Part) (name : Series) (j : ℕ) (p : Part) : Type 0 where
@@ -68,31 +64,25 @@ one_part t f name k i j c x p here is h at series number =
 endpoint_at : (t : Tables) (j : ℕ) (p : Part) → slice_get (endpoints t) j ≡ Some p → OfConnections t endpoint series.Ep j p
 endpoint_at t j p e =
     let g = from_place endpoint t.flat.connections j p e in
-    by_kind g.item.connector g.place g.number g.item g.here refl g.stands g.sum
-  where
-    by_kind : (m : Connector) (k i : ℕ) (c : FlatConnection) → slice_get t.flat.connections k ≡ Some c
-        → endpoint k c ≡ endpoint_by k m → slice_get (endpoint_by k m) i ≡ Some p
-        → j ≡ before endpoint t.flat.connections k + i → OfConnections t endpoint series.Ep j p
-    by_kind Rpc k i c here is h a =
-        one_part t endpoint series.Ep k i j c (part series.Ep k (OfConnection k) (EndpointOf k)) p here is h a refl refl
-    by_kind _ k i c here is h a = cc
+    by_kind g.item.connector g.place g.number g.item g.here refl g.stands g.sum where
+      by_kind : (m : Connector) (k i : ℕ) (c : FlatConnection) → slice_get t.flat.connections k ≡ Some c
+          → endpoint k c ≡ endpoint_by k m → slice_get (endpoint_by k m) i ≡ Some p
+          → j ≡ before endpoint t.flat.connections k + i → OfConnections t endpoint series.Ep j p
+      by_kind Rpc k i c here is h a =
+          one_part t endpoint series.Ep k i j c (part series.Ep k (OfConnection k) (EndpointOf k)) p here is h a refl refl
+      by_kind _ k i c here is h a = cc
 
 notification_at : (t : Tables) (j : ℕ) (p : Part) → slice_get (notifications t) j ≡ Some p
     → OfConnections t notification series.Ntfn j p
 notification_at t j p e =
     let g = from_place notification t.flat.connections j p e in
-    by_kind g.item.connector g.place g.number g.item g.here refl g.stands g.sum
-  where
-    by_kind : (m : Connector) (k i : ℕ) (c : FlatConnection) → slice_get t.flat.connections k ≡ Some c
-        → notification k c ≡ notification_by k m → slice_get (notification_by k m) i ≡ Some p
-        → j ≡ before notification t.flat.connections k + i → OfConnections t notification series.Ntfn j p
-    by_kind Notification k i c here is h a =
-        one_part t notification series.Ntfn k i j c (part series.Ntfn k (OfConnection k) (NotificationOf k)) p here is h a
-        refl refl
-    by_kind Interrupt k i c here is h a =
-        one_part t notification series.Ntfn k i j c (part series.Ntfn k (OfConnection k) (NotificationOf k)) p here is h a
-        refl refl
-    by_kind _ k i c here is h a = cc
+    by_kind g.item.connector g.place g.number g.item g.here refl g.stands g.sum where
+      by_kind : (m : Connector) (k i : ℕ) (c : FlatConnection) → slice_get t.flat.connections k ≡ Some c
+          → notification k c ≡ notification_by k m → slice_get (notification_by k m) i ≡ Some p
+          → j ≡ before notification t.flat.connections k + i → OfConnections t notification series.Ntfn j p
+      by_kind Notification k i c here is h a = search (rules, one_part)
+      by_kind Interrupt k i c here is h a = search (rules, one_part)
+      by_kind _ k i c here is h a = cc
 
 told_connections : (t : Tables) (s : List Part) (f : ℕ → FlatConnection → List Part) (name : Series) (bound : ℕ)
     → length t.flat.connections ≤ bound → ((j : ℕ) (p : Part) → slice_get s j ≡ Some p → OfConnections t f name j p)
@@ -102,17 +92,16 @@ told_connections t s f name bound few at = record {
   number = λ j p e. let o = at j p e in let l = slice_get_within t.flat.connections p.number o.connection o.here in
       omega (arith, l, few);
   rising = λ i j p q e g less same. rise p q i j (at i p e) (at j q g) less;
-}
-  where
-    rise : (p q : Part) (i j : ℕ) → OfConnections t f name i p → OfConnections t f name j q → i < j → p.number < q.number
-    rise p q i j a b less = elim (cases_order p.number q.number) [
-      | inl is ↦
-          let same : i ≡ j = a.place ∙ ap (before f t.flat.connections) is ∙ sym b.place in absurd (omega (arith, same, less))
-      | inr (inl l) ↦ l
-      | inr (inr more) ↦
-          let over = behind f t.flat.connections q.number p.number b.connection b.here more in
-          absurd (omega (arith, over, b.one, a.place, b.place, less))
-    ]
+} where
+  rise : (p q : Part) (i j : ℕ) → OfConnections t f name i p → OfConnections t f name j q → i < j → p.number < q.number
+  rise p q i j a b less = elim (cases_order p.number q.number) [
+    | inl is ↦
+        let same : i ≡ j = a.place ∙ ap (before f t.flat.connections) is ∙ sym b.place in absurd (omega (arith, same, less))
+    | inr (inl l) ↦ l
+    | inr (inr more) ↦
+        let over = behind f t.flat.connections q.number p.number b.connection b.here more in
+        absurd (omega (arith, over, b.one, a.place, b.place, less))
+  ]
 
 -- ---- page tables
 
@@ -156,27 +145,24 @@ told_tables all bound few = record {
       (sym (unfold_back o.0.level) ∙ ap level_back (ap (λ (z : Part). z.series) o.2 ∙ s ∙ sym (ap (λ (z : Part). z.series) w.2))
       ∙ unfold_back w.0.level)
       (ap (λ (z : Part). z.number) o.2) (ap (λ (z : Part). z.number) w.2) less;
-}
-  where
-    at : (j : ℕ) (p : Part) → slice_get (table_parts all) j ≡ Some p → (x : PageTable) × (slice_get all j ≡ Some x)
-        × (table_part all j x ≡ p)
-    at j p e = from_ones (λ n (x : PageTable). table_part all n x) all j p e
+} where
+  at : (j : ℕ) (p : Part) → slice_get (table_parts all) j ≡ Some p → (x : PageTable) × (slice_get all j ≡ Some x)
+      × (table_part all j x ≡ p)
+  at j p e = from_ones (λ n (x : PageTable). table_part all n x) all j p e
 
-    number : (x : PageTable) (j : ℕ) (p : Part) → slice_get all j ≡ Some x → of_level x.level all j ≡ p.number → p.number < bound
-    number x j p e n =
-        let l = slice_get_within all j x e in
-        omega (arith, l, count_by-le-length (is_of x.level) (take j all), length-take-le j all (omega (arith, l)), n, few)
+  number : (x : PageTable) (j : ℕ) (p : Part) → slice_get all j ≡ Some x → of_level x.level all j ≡ p.number → p.number < bound
+  number x j p e n = grind (arith, slice_get_within, count_by-le-length, length-take-le)
 
-    rise : (p q : Part) (x y : PageTable) (i j : ℕ) → slice_get all i ≡ Some x → slice_get all j ≡ Some y
-        → level_number x.level ≡ level_number y.level → of_level x.level all i ≡ p.number → of_level y.level all j ≡ q.number
-        → i < j → p.number < q.number
-    rise p q x y i j e f level m n less =
-        let test : ℕ → PageTable → Bool = λ k z. level_number z.level == k in
-        let k = level_number x.level in
-        let here : test k x ≡ true = eq-eqb (level_number x.level) k refl in
-        let more : count_by (test k) (take i all) < count_by (test k) (take j all) = count_rises (test k) all i j x e here less in
-        let same : count_by (test k) (take j all) ≡ q.number = ap (λ z. count_by (test z) (take j all)) level ∙ n in
-        omega (arith, more, same, m)
+  rise : (p q : Part) (x y : PageTable) (i j : ℕ) → slice_get all i ≡ Some x → slice_get all j ≡ Some y
+      → level_number x.level ≡ level_number y.level → of_level x.level all i ≡ p.number → of_level y.level all j ≡ q.number
+      → i < j → p.number < q.number
+  rise p q x y i j e f level m n less =
+      let test : ℕ → PageTable → Bool = λ k z. level_number z.level == k in
+      let k = level_number x.level in
+      let here : test k x ≡ true = eq-eqb (level_number x.level) k refl in
+      let more : count_by (test k) (take i all) < count_by (test k) (take j all) = count_rises (test k) all i j x e here less in
+      let same : count_by (test k) (take j all) ≡ q.number = ap (λ z. count_by (test z) (take j all)) level ∙ n in
+      omega (arith, more, same, m)
 
 -- ---- all sections
 
@@ -184,12 +170,7 @@ told_tables all bound few = record {
 section_within : {X : Type 0} (ss : List (List X)) (n : ℕ) (s : List X) → slice_get ss n ≡ Some s
     → length s ≤ length (flat_map (λ z. z) ss)
 section_within [] n s e = cc
-section_within {X} (r ∷ ss) zero s e =
-    let same : r ≡ s = cc in
-    let long = length_append r (flat_map (λ z. z) ss) in
-    let here : length r ≡ length s = ap (λ (z : List X). length z) same in
-    omega (arith, long, here)
-section_within (r ∷ ss) (suc n) s e = omega (arith, section_within ss n s e, length_append r (flat_map (λ z. z) ss))
+section_within (r ∷ ss) n s e = grind (arith, length_append r (flat_map (λ z. z) ss), section_within ss)
 
 module _ (t : Tables) (bound : ℕ) (few : length t.flat.connections ≤ bound) (all : length (parts t) ≤ bound) where
   few_owned : (n : ℕ) (s : Series) (xs : List Owned) → slice_get (sections t) n ≡ Some (numbered s xs) → length xs ≤ bound

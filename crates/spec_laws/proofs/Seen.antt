@@ -1,11 +1,11 @@
 -- Frames are no more than pages: own frames are pages of their own, and memory is seen through a window.
+use Rattle.std.proofs.Common.{rules}
 use Rattle.spec_laws.proofs.Common.{Bool, Connector, Content, Domain, EndAt, FlatConnection, FlatEnd, Given, HasMemory, IsIn, IsSeen, List, MappedPage, Memory, Mmio, None, Option, Own, Region, Settled}
-use Rattle.spec_laws.proofs.Common.{SharedMemory, Shown, Some, Window, [], ap, arith, base, cond, connection_frames, device_frame, eq-eqb, eqb-true, false, false_from_ne_true, first_to_end, flat_map, frame, frames, frames_at, from_map, gather}
-use Rattle.spec_laws.proofs.Common.{in_gather, inl, inr, is_first, is_shared, leaves_of, length, length_append, map, mapped_pages, memory_paddr, memory_pages, memory_part, option_map_or, own_frame, own_frames, own_part, page_counts, page_of}
-use Rattle.spec_laws.proofs.Common.{pages_from, pages_of_region, range_with_len, refl, region_page, region_part, region_start, regions, register_frames, register_part, registers_in, section_part, shared_frames, shared_part, slice_get, suc, sum, sym}
-use Rattle.spec_laws.proofs.Common.{thread_regions, threads_of, true, window_pages, window_region, windows_of, ℕ, ◌*◌, ◌+◌, ◌==◌, ◌∙◌, ◌∷◌, ◌≡◌, ◌≤◌}
+use Rattle.spec_laws.proofs.Common.{SharedMemory, Shown, Some, Window, [], ap, arith, base, cond, connection_frames, device_frame, eq-eqb, eqb-true, false, false_from_ne_true, first_to_end, flat_map, frames, frames_at, from_map, gather}
+use Rattle.spec_laws.proofs.Common.{in_gather, inr, is_first, is_shared, leaves_of, length, length_append, map, mapped_pages, memory_paddr, memory_pages, memory_part, option_map_or, own_frame, own_frames, own_part, page_counts, page_of}
+use Rattle.spec_laws.proofs.Common.{pages_from, pages_of_region, range_with_len, refl, region_part, region_start, regions, register_frames, register_part, registers_in, section_part, shared_frames, shared_part, slice_get, suc, sum, sym}
+use Rattle.spec_laws.proofs.Common.{thread_regions, threads_of, true, window_pages, window_region, windows_of, ℕ, ◌+◌, ◌==◌, ◌∙◌, ◌∷◌, ◌≡◌, ◌≤◌}
 use Rattle.std.proofs.lemmas.List.FromFn.{length-map-range_with_len}
-use Rattle.vspace_layout.specs.declared.owner.Owner.TheVariants.{OfConnection}
 use Rattle.spec_laws.proofs.Totals.{length_gather, length_is, sum_ones, total, total_append, total_gather, total_map, total_most, total_one, totals, totals_add, totals_each, totals_flat, totals_most, totals_same, totals_swap}
 
 -- ---- pages
@@ -43,15 +43,9 @@ region_seen : (settled : Settled) (start : ℕ) (r : Region) (c : Content) → r
 region_seen settled start r (Window w) e =
     let ps = pages_from settled start r in
     let n = length-map-range_with_len (page_of settled start r) 0 r.pages in
-    omega (arith, n, length_is ps, total_most (λ (p : MappedPage). 1) (λ p. is_seen p.shown) ps (λ p i. one p i))
-  where
-    one : (p : MappedPage) → IsIn p (pages_from settled start r) → 1 ≤ is_seen p.shown
-    one p i =
-        let m = from_map (page_of settled start r) p (range_with_len 0 r.pages) i in
-        let s : is_seen (region_page settled (Window w) (start + 4096 * m.0) m.0).shown ≡ is_seen p.shown =
-        ap (λ c. is_seen (region_page settled c (start + 4096 * m.0) m.0).shown) (sym e)
-        ∙ ap (λ (z : MappedPage). is_seen z.shown) m.2 in
-        omega (arith, s)
+    omega (arith, n, length_is ps, total_most (λ (p : MappedPage). 1) (λ p. is_seen p.shown) ps (λ p i. one p i)) where
+      one : (p : MappedPage) → IsIn p (pages_from settled start r) → 1 ≤ is_seen p.shown
+      one p i = grind (arith, from_map)
 region_seen settled start r _ e = omega arith
 
 -- ---- one hit at most
@@ -68,14 +62,13 @@ once_hit : {X : Type 0} (w n : ℕ) (f : ℕ → ℕ) (xs : List X) → ((j k : 
 once_hit w n f [] h = omega arith
 once_hit {X} w n f (x ∷ xs) h =
     by_test (n == f 0) refl (once_hit w n (λ k. f (suc k)) xs (λ j k e. let s : suc j ≡ suc k = h (suc j) (suc k) e in
-    omega (arith, s)))
-  where
-    by_test : (b : Bool) → (n == f 0) ≡ b → totals (λ k (y : X). cond (n == f (suc k)) w 0) xs ≤ w
-        → cond b w 0 + totals (λ k (y : X). cond (n == f (suc k)) w 0) xs ≤ w
-    by_test true e more =
-        let none = none_hit w n (λ k. f (suc k)) xs (λ k s. let z : 0 ≡ suc k = h 0 (suc k) (sym (eqb-true n (f 0) e) ∙ s) in
-        absurd (omega (arith, z))) in omega (arith, none)
-    by_test false e more = omega (arith, more)
+    omega (arith, s))) where
+      by_test : (b : Bool) → (n == f 0) ≡ b → totals (λ k (y : X). cond (n == f (suc k)) w 0) xs ≤ w
+          → cond b w 0 + totals (λ k (y : X). cond (n == f (suc k)) w 0) xs ≤ w
+      by_test true e more =
+          let none = none_hit w n (λ k. f (suc k)) xs (λ k s. let z : 0 ≡ suc k = h 0 (suc k) (sym (eqb-true n (f 0) e) ∙ s) in
+          absurd (omega (arith, z))) in omega (arith, none)
+      by_test false e more = omega (arith, more)
 
 module _ (g : Given) where
   abbrev wide : EndAt → ℕ
@@ -113,13 +106,9 @@ module _ (g : Given) where
       let e = totals_add own seen g.flat.domains in
       let f = totals_same (λ d (x : Domain). own d x + seen d x) (λ d x. length (mapped_pages g d)) g.flat.domains
       (λ d x e. all_pages (mapped_pages g d)) in
-      omega (arith, a, b, c, d, e, f, sum_ones (λ d (x : Domain). length (mapped_pages g d)) g.flat.domains)
-    where
-      own_is : (d : ℕ) (x : Domain) → length (own_frames g d x) ≡ total (λ (p : MappedPage). is_own p.shown) (mapped_pages g d)
-      own_is d x =
-          length_gather (λ n (p : MappedPage). own_frame d p.shown) (mapped_pages g d)
-          ∙ totals_same (λ n (p : MappedPage). length (own_frame d p.shown)) (λ n p. is_own p.shown) (mapped_pages g d)
-          (λ n p e. own_length d p.shown) ∙ totals_flat (λ (p : MappedPage). is_own p.shown) (mapped_pages g d)
+      omega (arith, a, b, c, d, e, f, sum_ones (λ d (x : Domain). length (mapped_pages g d)) g.flat.domains) where
+        own_is : (d : ℕ) (x : Domain) → length (own_frames g d x) ≡ total (λ (p : MappedPage). is_own p.shown) (mapped_pages g d)
+        own_is d x = search (rules, length_gather, totals_same, own_length, totals_flat)
 
   -- ---- memory
 
@@ -133,14 +122,13 @@ module _ (g : Given) where
   register_most : (k : ℕ) (c : FlatConnection) (o : Option FlatEnd)
       → length (option_map_or (frames_at g.flat g.settled k c) o []) ≤ memory_pages g.settled k c
   register_most k c None = omega arith
-  register_most k c (Some f) = by_test (is_first g.flat k f)
-    where
-      by_test : (b : Bool) → length
-          (cond b (map (device_frame f.leaf (memory_paddr g.settled k c)) (range_with_len 0 (memory_pages g.settled k c))) [])
-          ≤ memory_pages g.settled k c
-      by_test true = let n = length-map-range_with_len (device_frame f.leaf (memory_paddr g.settled k c)) 0
-          (memory_pages g.settled k c) in omega (arith, n)
-      by_test false = omega arith
+  register_most k c (Some f) = by_test (is_first g.flat k f) where
+    by_test : (b : Bool) → length
+        (cond b (map (device_frame f.leaf (memory_paddr g.settled k c)) (range_with_len 0 (memory_pages g.settled k c))) [])
+        ≤ memory_pages g.settled k c
+    by_test true = let n = length-map-range_with_len (device_frame f.leaf (memory_paddr g.settled k c)) 0
+        (memory_pages g.settled k c) in omega (arith, n)
+    by_test false = omega arith
 
   -- by connector
   abbrev by_connector : ℕ → FlatConnection → Connector → ℕ
@@ -150,9 +138,7 @@ module _ (g : Given) where
   -- a connection has frames only where it has memory
   frames_most : (k : ℕ) (c : FlatConnection) (n : ℕ) (x : Connector) → (HasMemory x → memory_pages g.settled k c ≤ n)
       → by_connector k c x ≤ n
-  frames_most k c n SharedMemory h =
-      let l = length-map-range_with_len (λ j. frame (OfConnection k) None None) 0 (memory_pages g.settled k c) in
-      omega (arith, l, h (inl refl))
+  frames_most k c n SharedMemory h = grind (arith, length-map-range_with_len)
   frames_most k c n Mmio h = let l = register_most k c (first_to_end c.ends) in let m = h (inr refl) in omega (arith, l, m)
   frames_most k c n _ h = omega arith
 
@@ -161,17 +147,16 @@ module _ (g : Given) where
 
   frames_through : (k : ℕ) (c : FlatConnection) → slice_get g.flat.connections k ≡ Some c → (HasMemory c.connector → IsSeen g k)
       → frames_of k c ≤ through k
-  frames_through k c h seen = frames_most k c (through k) c.connector (λ m. by_window (seen m))
-    where
-      by_window : IsSeen g k → memory_pages g.settled k c ≤ through k
-      by_window s =
-          let e = s.end in
-          let i = in_gather (λ d (x : Domain). windows_of g d) e g.flat.domains s.place s.domain s.here s.window in
-          let here : hit k e ≡ wide e = ap (λ b. cond b (wide e) 0) (eq-eqb e.connection k s.joins) in
-          let size : wide e ≡ memory_pages g.settled k c =
-          ap (λ j. option_map_or (memory_pages g.settled j) (slice_get g.flat.connections j) 0) s.joins
-          ∙ ap (λ o. option_map_or (memory_pages g.settled k) o 0) h in
-          omega (arith, total_one (hit k) all_windows e i, here, size)
+  frames_through k c h seen = frames_most k c (through k) c.connector (λ m. by_window (seen m)) where
+    by_window : IsSeen g k → memory_pages g.settled k c ≤ through k
+    by_window s =
+        let e = s.end in
+        let i = in_gather (λ d (x : Domain). windows_of g d) e g.flat.domains s.place s.domain s.here s.window in
+        let here : hit k e ≡ wide e = ap (λ b. cond b (wide e) 0) (eq-eqb e.connection k s.joins) in
+        let size : wide e ≡ memory_pages g.settled k c =
+        ap (λ j. option_map_or (memory_pages g.settled j) (slice_get g.flat.connections j) 0) s.joins
+        ∙ ap (λ o. option_map_or (memory_pages g.settled k) o 0) h in
+        omega (arith, total_one (hit k) all_windows e i, here, size)
 
   memory_few : ((k : ℕ) (c : FlatConnection) → slice_get g.flat.connections k ≡ Some c → HasMemory c.connector → IsSeen g k)
       → length (memory_part g.flat g.settled) ≤ total wide all_windows

@@ -1,7 +1,7 @@
 -- Settled priorities, badges and interrupts are small numbers.
 use Rattle.spec_laws.proofs.Common.{EndSetting, EndSettings, FlatConnection, FlatEnd, Found, From, Interface, IsIn, Joint, Leaf, LeafFound, LeafSetting, List, None, Option, Role, Some, Source, To, [], and_parts, ap, arith, badge_in, badge_kind}
-use Rattle.spec_laws.proofs.Common.{badge_of, behind, cond_both, device_place, digits_value, end_setting, end_settings, flat_of, found_at, found_of, found_on, founds_in, from_filter_map, from_get_map, has_badge, hierarchy_of, in_get, inl, inr}
-use Rattle.spec_laws.proofs.Common.{interface_at, irq_in, irq_number, irq_of, is_badge_text, joint_at, joint_of, leaf_setting, leaves_found, leb-true, length, map_some, meaning, meant, nat_le, number_in, option_and_then, option_map_or, positioned}
+use Rattle.spec_laws.proofs.Common.{badge_of, behind, cond_both, device_place, digits_value, end_setting, end_settings, flat_of, found_at, found_of, found_on, from_filter_map, from_get_map, has_badge, hierarchy_of, in_get, inl, inr}
+use Rattle.spec_laws.proofs.Common.{interface_at, irq_in, irq_number, irq_of, is_badge_text, joint_at, joint_of, leaf_setting, leb-true, length, map_some, meaning, meant, nat_le, number_in, option_and_then, option_map_or, positioned}
 use Rattle.spec_laws.proofs.Common.{positioned_after, priority_in, refl, setting_of, settled_badge, settled_of, slice_get, subst, suc, sym, unwrap_or, within, ℕ, ◌&&◌, ◌+◌, ◌<◌, ◌^◌, ◌∙◌, ◌∷◌, ◌≡◌, ◌≤◌}
 use Rattle.adl_ast.specs.declared.value.ValueKind.{ValueKind, Number, Text}
 use Rattle.adl_meaning.specs.Values.{Given}
@@ -16,48 +16,42 @@ within_most greatest n = cond_both (nat_le 0 n && nat_le n greatest) (Some n) No
 
 priority_most : (o : Option Given) → unwrap_or (meant priority_in 254 o) 0 ≤ 255
 priority_most None = omega arith
-priority_most (Some g) = by_number (number_in g.value.kind)
-  where
-    by_number : (o : Option ℕ) → unwrap_or (option_and_then (within 0 255) o) 0 ≤ 255
-    by_number None = omega arith
-    by_number (Some n) = within_most 255 n
+priority_most (Some g) = by_number (number_in g.value.kind) where
+  by_number : (o : Option ℕ) → unwrap_or (option_and_then (within 0 255) o) 0 ≤ 255
+  by_number None = omega arith
+  by_number (Some n) = within_most 255 n
 
 priority_fits : (f : LeafFound) → (leaf_setting f).priority ≤ 255
 priority_fits f = cond_both f.leaf.hardware 0 (unwrap_or (meant priority_in 254 f.priority) 0) (λ z. z ≤ 255) (λ e. omega arith)
     (λ e. priority_most f.priority)
 
 pub priorities_fit : (s : Source) (leaf : ℕ) → option_map_or (λ z. z.priority) (slice_get (settled_of s).leaves leaf) 0 ≤ 255
-priorities_fit s leaf = by_setting (slice_get (settled_of s).leaves leaf) refl
-  where
-    by_setting : (o : Option LeafSetting) → slice_get (settled_of s).leaves leaf ≡ o → option_map_or (λ z. z.priority) o 0 ≤ 255
-    by_setting None e = omega arith
-    by_setting (Some x) e =
-        let f = from_get_map leaf_setting (leaves_found (hierarchy_of s) (flat_of s)) leaf x e in
-        subst (λ (z : LeafSetting). z.priority ≤ 255) f.2 (priority_fits f.0)
+priorities_fit s leaf = by_setting (slice_get (settled_of s).leaves leaf) refl where
+  by_setting : (o : Option LeafSetting) → slice_get (settled_of s).leaves leaf ≡ o → option_map_or (λ z. z.priority) o 0 ≤ 255
+  by_setting None e = omega arith
+  by_setting (Some x) e = grind (arith, from_get_map, priority_fits)
 
 -- ---- interrupts
 
 irq_most : (o : Option Given) → unwrap_or (meaning irq_in o) 0 ≤ 1023
 irq_most None = omega arith
-irq_most (Some g) = by_number (number_in g.value.kind)
-  where
-    by_number : (o : Option ℕ) → unwrap_or (option_and_then (within 0 1023) o) 0 ≤ 1023
-    by_number None = omega arith
-    by_number (Some n) = within_most 1023 n
+irq_most (Some g) = by_number (number_in g.value.kind) where
+  by_number : (o : Option ℕ) → unwrap_or (option_and_then (within 0 1023) o) 0 ≤ 1023
+  by_number None = omega arith
+  by_number (Some n) = within_most 1023 n
 
 pub numbers_small : (s : Source) (k : ℕ) (c : FlatConnection) → irq_number (settled_of s) k c < 2 ^ 64
-numbers_small s k c = by_place (device_place c.connector c.ends)
-  where
-    by_setting : (n : ℕ) (o : Option EndSetting) → setting_of (settled_of s) k n ≡ o → option_map_or (λ z. z.irq) o 0 < 2 ^ 64
-    by_setting n None e = omega arith
-    by_setting n (Some x) e =
-        let f = setting_from s k n x e in
-        let is : x.irq ≡ unwrap_or (irq_of f.0) 0 = ap (λ (z : EndSetting). z.irq) (sym f.1) in
-        omega (arith, irq_most f.0.irq, is)
+numbers_small s k c = by_place (device_place c.connector c.ends) where
+  by_setting : (n : ℕ) (o : Option EndSetting) → setting_of (settled_of s) k n ≡ o → option_map_or (λ z. z.irq) o 0 < 2 ^ 64
+  by_setting n None e = omega arith
+  by_setting n (Some x) e =
+      let f = setting_from s k n x e in
+      let is : x.irq ≡ unwrap_or (irq_of f.0) 0 = ap (λ (z : EndSetting). z.irq) (sym f.1) in
+      omega (arith, irq_most f.0.irq, is)
 
-    by_place : (o : Option ℕ) → option_map_or (λ z. z.irq) (option_and_then (setting_of (settled_of s) k) o) 0 < 2 ^ 64
-    by_place None = omega arith
-    by_place (Some n) = by_setting n (setting_of (settled_of s) k n) refl
+  by_place : (o : Option ℕ) → option_map_or (λ z. z.irq) (option_and_then (setting_of (settled_of s) k) o) 0 < 2 ^ 64
+  by_place None = omega arith
+  by_place (Some n) = by_setting n (setting_of (settled_of s) k n) refl
 
 -- ---- badges
 
@@ -69,59 +63,51 @@ kind_most _ = omega arith
 
 badge_most : (f : Found) → badge_at f ≤ f.joint.position + 268435455
 badge_most f = cond_both (has_badge f.joint) (unwrap_or (badge_of f) 0) 0 (λ z. z ≤ f.joint.position + 268435455)
-    (λ e. by_given f.badge) (λ e. omega arith)
-  where
-    by_given : (o : Option Given) → unwrap_or (meant badge_in f.joint.position o) 0 ≤ f.joint.position + 268435455
-    by_given None = omega arith
-    by_given (Some g) = let l = kind_most g.value.kind in omega (arith, l)
+    (λ e. by_given f.badge) (λ e. omega arith) where
+      by_given : (o : Option Given) → unwrap_or (meant badge_in f.joint.position o) 0 ≤ f.joint.position + 268435455
+      by_given None = omega arith
+      by_given (Some g) = let l = kind_most g.value.kind in omega (arith, l)
 
 position_most : (p : ℕ) (es : List FlatEnd) (x : ℕ × FlatEnd) → IsIn x (positioned_after p es) → x.0 ≤ p + length es
 position_most p [] x i = absurd i
 position_most p (e ∷ es) x (inl same) = let is : p + 1 ≡ x.0 = ap (λ (z : ℕ × FlatEnd). z.0) same in omega (arith, is)
-position_most p (e ∷ es) x (inr i) = by_role e.role (position_most (behind p e.role) es x i)
-  where
-    by_role : (r : Role) → x.0 ≤ behind p r + length es → x.0 ≤ p + suc (length es)
-    by_role From l = omega (arith, l)
-    by_role To l = omega (arith, l)
+position_most p (e ∷ es) x (inr i) = by_role e.role (position_most (behind p e.role) es x i) where
+  by_role : (r : Role) → x.0 ≤ behind p r + length es → x.0 ≤ p + suc (length es)
+  by_role From l = omega (arith, l)
+  by_role To l = omega (arith, l)
 
 position_is : (s : Source) (c : FlatConnection) (x : ℕ × FlatEnd) (f : Found)
     → found_of (hierarchy_of s) s (flat_of s) c x ≡ Some f → f.joint.position ≡ x.0
 position_is s c x f e =
     let j = map_some (found_at (hierarchy_of s)) (joint_of s (flat_of s) c x) f e in
-    ap (λ (z : Found). z.joint.position) (sym j.2) ∙ by_leaf j.0 (slice_get (flat_of s).leaves x.1.leaf) j.1
-  where
-    by_leaf : (j : Joint) (o : Option Leaf) → option_and_then (joint_at s c x) o ≡ Some j → j.position ≡ x.0
-    by_leaf j None e = cc
-    by_leaf j (Some leaf) e =
-        let i = map_some (λ (i : Interface). let z : Joint = record {
-          connection = c;
-          position = x.0;
-          end = x.1;
-          leaf = leaf;
-          interface = i;
-        } in z) (interface_at s leaf x.1.member) j e in
-        ap (λ (z : Joint). z.position) (sym i.2)
+    ap (λ (z : Found). z.joint.position) (sym j.2) ∙ by_leaf j.0 (slice_get (flat_of s).leaves x.1.leaf) j.1 where
+      by_leaf : (j : Joint) (o : Option Leaf) → option_and_then (joint_at s c x) o ≡ Some j → j.position ≡ x.0
+      by_leaf j None e = cc
+      by_leaf j (Some leaf) e =
+          let i = map_some (λ (i : Interface). let z : Joint = record {
+            connection = c;
+            position = x.0;
+            end = x.1;
+            leaf = leaf;
+            interface = i;
+          } in z) (interface_at s leaf x.1.member) j e in
+          ap (λ (z : Joint). z.position) (sym i.2)
 
 pub badges_small : (s : Source) → ((k : ℕ) (c : FlatConnection) → slice_get (flat_of s).connections k ≡ Some c
     → length c.ends < 2 ^ 32) → (k n : ℕ) → settled_badge (settled_of s) k n < 2 ^ 64
-badges_small s short k n = by_connection (slice_get (settled_of s).connections k) refl
-  where
-    by_found : (fs : List Found) (c : FlatConnection) → slice_get (flat_of s).connections k ≡ Some c
-        → found_on (hierarchy_of s) s (flat_of s) c ≡ fs → (o : Option EndSetting) → slice_get (end_settings fs).ends n ≡ o
-        → option_map_or (λ z. z.badge) o 0 < 2 ^ 64
-    by_found fs c at are None e = omega arith
-    by_found fs c at are (Some x) e =
-        let f = from_get_map end_setting fs n x e in
-        let y = from_filter_map (found_of (hierarchy_of s) s (flat_of s) c) f.0 (positioned c.ends)
-        (subst (λ z. IsIn f.0 z) (sym are) (in_get fs n f.0 f.1)) in
-        let is : x.badge ≡ badge_at f.0 = ap (λ (z : EndSetting). z.badge) (sym f.2) in
-        omega (arith, position_is s c y.0 f.0 y.2, position_most 0 c.ends y.0 y.1, badge_most f.0, is, short k c at)
+badges_small s short k n = by_connection (slice_get (settled_of s).connections k) refl where
+  by_found : (fs : List Found) (c : FlatConnection) → slice_get (flat_of s).connections k ≡ Some c
+      → found_on (hierarchy_of s) s (flat_of s) c ≡ fs → (o : Option EndSetting) → slice_get (end_settings fs).ends n ≡ o
+      → option_map_or (λ z. z.badge) o 0 < 2 ^ 64
+  by_found fs c at are None e = omega arith
+  by_found fs c at are (Some x) e =
+      let f = from_get_map end_setting fs n x e in
+      let y = from_filter_map (found_of (hierarchy_of s) s (flat_of s) c) f.0 (positioned c.ends)
+      (subst (λ z. IsIn f.0 z) (sym are) (in_get fs n f.0 f.1)) in
+      let is : x.badge ≡ badge_at f.0 = ap (λ (z : EndSetting). z.badge) (sym f.2) in
+      omega (arith, position_is s c y.0 f.0 y.2, position_most 0 c.ends y.0 y.1, badge_most f.0, is, short k c at)
 
-    by_connection : (o : Option EndSettings) → slice_get (settled_of s).connections k ≡ o
-        → option_map_or (λ z. z.badge) (option_and_then (λ z. slice_get z.ends n) o) 0 < 2 ^ 64
-    by_connection None e = omega arith
-    by_connection (Some z) e =
-        let h = hierarchy_of s in let x = from_get_map end_settings (founds_in h s (flat_of s)) k z e in
-        let c = from_get_map (found_on h s (flat_of s)) (flat_of s).connections k x.0 x.1 in
-        let P : EndSettings → Type 0 = λ w. option_map_or (λ y. y.badge) (slice_get w.ends n) 0 < 2 ^ 64 in
-        subst P x.2 (by_found x.0 c.0 c.1 c.2 (slice_get (end_settings x.0).ends n) refl)
+  by_connection : (o : Option EndSettings) → slice_get (settled_of s).connections k ≡ o
+      → option_map_or (λ z. z.badge) (option_and_then (λ z. slice_get z.ends n) o) 0 < 2 ^ 64
+  by_connection None e = omega arith
+  by_connection (Some z) e = grind (arith, from_get_map, by_found)

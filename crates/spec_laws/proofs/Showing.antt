@@ -1,11 +1,10 @@
 -- The frames that windows show, and all others
-use Rattle.spec_laws.proofs.Common.{AreMemoryFrames, CanMap, Cap, Domain, Flat, FlatConnection, FlatEnd, Frame, FrameInfo, FrameOf, List, Mmio, None, OneDevice, OneMemory, Option, Region, SharedMemory, ShowsMemory, Some, Spaces, Tables, Window, []}
-use Rattle.spec_laws.proofs.Common.{ap, arith, before, begins, cond, connection_frames, ends, eq-eqb, false, first_to, frame, frame_object, frames_at, in_place, inl, inr, is_shared, leaves_of, length, map, mapped_pages, memory_before, memory_number}
-use Rattle.spec_laws.proofs.Common.{memory_paddr, memory_pages, object_at, option_map_or, own_part, place, place_of, position, range_with_len, refl, region_page, regions, regions_in, register_frame, register_frames, registers, registers_before}
-use Rattle.spec_laws.proofs.Common.{registers_in, root_of, shared_frames, shared_part, slice_get, spec_of, subst, sym, system, ℕ, ◌&&◌, ◌*◌, ◌+◌, ◌/◌, ◌<◌, ◌==◌, ◌∙◌, ◌≡◌, ◌⊎◌}
+use Rattle.std.proofs.Common.{rules}
+use Rattle.spec_laws.proofs.Common.{AreMemoryFrames, CanMap, Cap, Domain, Flat, FlatConnection, FlatEnd, Frame, FrameInfo, FrameOf, List, Mmio, None, OneMemory, Option, Region, SharedMemory, ShowsMemory, Some, Spaces, Tables, Window, []}
+use Rattle.spec_laws.proofs.Common.{ap, arith, before, begins, cond, connection_frames, eq-eqb, false, first_to, frame, frame_object, in_place, inl, inr, is_shared, leaves_of, length, mapped_pages, memory_before, memory_number}
+use Rattle.spec_laws.proofs.Common.{memory_paddr, memory_pages, object_at, option_map_or, own_part, place, place_of, position, region_page, regions, register_frames, registers, registers_before}
+use Rattle.spec_laws.proofs.Common.{root_of, shared_frames, shared_part, slice_get, spec_of, subst, sym, system, ℕ, ◌&&◌, ◌*◌, ◌+◌, ◌/◌, ◌<◌, ◌==◌, ◌∙◌, ◌≡◌, ◌⊎◌}
 use Rattle.vspace_layout.specs.declared.owner.Owner.TheVariants.{OfConnection}
-use Rattle.vspace_layout.specs.Regions.{domain_windows}
-use Rattle.vspace_layout.specs.Threads.{domain_threads}
 use Rattle.spec_laws.proofs.Blocks.{apart, as_long, inside}
 use Rattle.spec_laws.proofs.Framing.{FirstTo, IsMemoryFrame, first_is, frame_there, memory_frame, memory_of, one_device, registers_there}
 use Rattle.spec_laws.proofs.Paging.{has_domain, region_in}
@@ -16,15 +15,9 @@ use Rattle.spec_laws.proofs.Spaces.{cap_is}
 -- a region is one of a domain that there is
 pub in_domain : (t : Tables) (d n : ℕ) (r : Region) → slice_get (regions (system t) d) n ≡ Some r
     → (x : Domain) × (slice_get t.flat.domains d ≡ Some x)
-in_domain t d n r e = has_domain t d not_none
-  where
-    not_none : leaves_of t.flat d ≡ [] → ⊥
-    not_none leaves =
-        let all = ends (system t) in
-        let none : regions (system t) d ≡ [] =
-        ap (λ ls. regions_in t.flat t.settled (domain_threads t.flat all ls) (domain_windows t.flat all ls)) leaves in
-        let f = subst (λ z. slice_get z n ≡ Some r) none e in
-        cc
+in_domain t d n r e = has_domain t d not_none where
+  not_none : leaves_of t.flat d ≡ [] → ⊥
+  not_none leaves = search (rules)
 
 -- ---- where the frames of memory stand
 
@@ -64,21 +57,11 @@ module _ (t : Tables) where
 
   registers_long : (e : FlatEnd) (f : FirstTo t e) → length (registers_by f.number f.connection) ≡ memory_pages t.settled
       f.number f.connection
-  registers_long e f =
-      let list = map (register_frame t.settled f.number f.connection f.end)
-      (range_with_len 0 (memory_pages t.settled f.number f.connection)) in
-      let first : first_to t.flat f.end ≡ Some f.number = first_same t.flat e f.end f.leaf f.member ∙ f.first in
-      ap (λ r. length (option_map_or (frames_at t.flat t.settled f.number f.connection) r [])) f.leads
-      ∙ ap (λ o. length (cond (option_map_or (λ m. m == f.number) o false) list [])) first
-      ∙ ap (λ b. length (cond b list [])) (eq-eqb f.number f.number refl)
-      ∙ as_long (register_frame t.settled f.number f.connection f.end) 0 (memory_pages t.settled f.number f.connection)
+  registers_long e f = search (rules, first_same, eq-eqb, as_long)
 
   pub memory_at : CanMap t → (k j : ℕ) (c : FlatConnection) → slice_get cs k ≡ Some c → (c.connector ≡ SharedMemory)
       ⊎ (c.connector ≡ Mmio) → j < memory_pages t.settled k c → MemoryPlace k j c
-  memory_at can k j c h (inl m) l =
-      let front : memory_before t.flat t.settled k c ≡ before shared_by cs k =
-      ap (λ r. option_map_or (registers_before t.flat t.settled) r (before shared_by cs k)) (ap (λ z. registers_in z c.ends) m) in
-      at_shared (number_at k j c h ∙ ap (λ z. own + z + j) front) (omega (arith, shared_long k c m, l))
+  memory_at can k j c h (inl m) l = search (rules, number_at, shared_long)
   memory_at can k j c h (inr m) l =
       let r = registers_there t k j c m l in let f = first_is t k c r.0 h r.1 in
       let pages = can.memory.pages k f.number c f.connection h f.here (one_device t c r.0 r.1 f) in
@@ -112,12 +95,7 @@ module _ (t : Tables) where
   same_number : (k l i j : ℕ) (c e : FlatConnection) → slice_get cs k ≡ Some c → slice_get cs l ≡ Some e → OneMemory k c l e
       → i ≡ j → memory_number (system t) k i ≡ memory_number (system t) l j
   same_number k l i j c e h g (inl p) q = ap (λ z. memory_number (system t) z i) p ∙ ap (λ z. memory_number (system t) l z) q
-  same_number k l i j c e h g (inr o) q =
-      let same : memory_before t.flat t.settled k c ≡ memory_before t.flat t.settled l e =
-      before_device k c o.port o.first ∙ ap (λ z. length (shared_part t.flat t.settled) + option_map_or (before registers_by cs) z
-      0) (first_same t.flat o.other o.port o.leaf o.member) ∙ sym (before_device l e o.other o.second) in
-      number_at k i c h ∙ ap (λ z. own + z + i) same ∙ ap (λ z. own + memory_before t.flat t.settled l e + z) q
-      ∙ sym (number_at l j e g)
+  same_number k l i j c e h g (inr o) q = search (rules, before_device, first_same, number_at)
 
 -- ---- what a window shows
 
@@ -166,21 +144,19 @@ module _ (t : Tables) (can : CanMap t) where
   registers_are : (d k j at : ℕ) (c : FlatConnection) → slice_get t.flat.connections k ≡ Some c → c.connector ≡ Mmio
       → ShowsMemory t (spec_of t) (root_of t) d k j at
       → object_at (spec_of t) at ≡ Some (Frame (Some (memory_paddr t.settled k c + 4096 * j)) None)
-  registers_are d k j at c h m w = let g = memory_object d k j at c h (memory_shown d k j at c h w) in by_frame g.0 g.1 g.2
-    where
-      by_frame : (info : FrameInfo) → object_at (spec_of t) at ≡ Some (frame_object info) → IsMemoryFrame t k j c info
-          → object_at (spec_of t) at ≡ Some (Frame (Some (memory_paddr t.settled k c + 4096 * j)) None)
-      by_frame info o (IsMemoryFrame.of_shared e f) = let g : SharedMemory ≡ Mmio = sym e ∙ m in cc
-      by_frame info o (IsMemoryFrame.of_device e n r f) = o ∙ ap (λ z. Some (frame_object z)) f
+  registers_are d k j at c h m w = let g = memory_object d k j at c h (memory_shown d k j at c h w) in by_frame g.0 g.1 g.2 where
+    by_frame : (info : FrameInfo) → object_at (spec_of t) at ≡ Some (frame_object info) → IsMemoryFrame t k j c info
+        → object_at (spec_of t) at ≡ Some (Frame (Some (memory_paddr t.settled k c + 4096 * j)) None)
+    by_frame info o (IsMemoryFrame.of_shared e f) = let g : SharedMemory ≡ Mmio = sym e ∙ m in cc
+    by_frame info o (IsMemoryFrame.of_device e n r f) = o ∙ ap (λ z. Some (frame_object z)) f
 
   plain_are : (d k j at : ℕ) (c : FlatConnection) → slice_get t.flat.connections k ≡ Some c → c.connector ≡ SharedMemory
       → ShowsMemory t (spec_of t) (root_of t) d k j at → object_at (spec_of t) at ≡ Some (Frame None None)
-  plain_are d k j at c h m w = let g = memory_object d k j at c h (memory_shown d k j at c h w) in by_frame g.0 g.1 g.2
-    where
-      by_frame : (info : FrameInfo) → object_at (spec_of t) at ≡ Some (frame_object info) → IsMemoryFrame t k j c info
-          → object_at (spec_of t) at ≡ Some (Frame None None)
-      by_frame info o (IsMemoryFrame.of_shared e f) = o ∙ ap (λ z. Some (frame_object z)) f
-      by_frame info o (IsMemoryFrame.of_device e n r f) = let g : Mmio ≡ SharedMemory = sym n ∙ m in cc
+  plain_are d k j at c h m w = let g = memory_object d k j at c h (memory_shown d k j at c h w) in by_frame g.0 g.1 g.2 where
+    by_frame : (info : FrameInfo) → object_at (spec_of t) at ≡ Some (frame_object info) → IsMemoryFrame t k j c info
+        → object_at (spec_of t) at ≡ Some (Frame None None)
+    by_frame info o (IsMemoryFrame.of_shared e f) = o ∙ ap (λ z. Some (frame_object z)) f
+    by_frame info o (IsMemoryFrame.of_device e n r f) = let g : Mmio ≡ SharedMemory = sym n ∙ m in cc
 
   pub memory_frames : AreMemoryFrames t (spec_of t) (root_of t)
   memory_frames = record {

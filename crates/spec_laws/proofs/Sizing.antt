@@ -2,7 +2,7 @@
 use Rattle.spec_laws.proofs.Common.{Domain, Flat, Given, Images, IsIn, IsLimited, IsSized, List, MappedPage, Page, Settled, SlotPlan, Some, Source, Space, Tables, [], all_tables, ap, arch, arith, base, counts, domain_uses, flat_map, gather}
 use Rattle.spec_laws.proofs.Common.{gather_ones, get_ones, given, inl, inr, leaves_of, length, length-region_part, length_append, map, map_ones, mapped_pages, option_map_or, page, page_counts, pages_append, pages_at, pages_in, plan_of, refl}
 use Rattle.spec_laws.proofs.Common.{region_part, regions, section_part, shapes, slice_get, slots_of, space, stack_pages, sum, sym, table_count, table_counts, tables_at, tables_counted, tables_from, tables_needed, thread_count, thread_place}
-use Rattle.spec_laws.proofs.Common.{thread_regions, threads_at, threads_of, use_count, uses_at, window_region, windows_of, ℕ, ◌*◌, ◌++◌, ◌+◌, ◌∙◌, ◌∷◌, ◌≡◌, ◌≤◌}
+use Rattle.spec_laws.proofs.Common.{thread_regions, threads_at, threads_of, use_count, uses_at, window_region, windows_of, ℕ, ◌*◌, ◌∙◌, ◌∷◌, ◌≡◌, ◌≤◌}
 use Rattle.vspace_layout.specs.declared.thread.ThreadOf.{ThreadOf}
 use Rattle.spec_laws.specs.Sized.{page_count}
 use Rattle.spec_laws.proofs.Few.{all_tables_are}
@@ -50,12 +50,11 @@ module _ (source : Source) (flat : Flat) (settled : Settled) (images : Images) w
   table_sum =
       sym (all_tables_are t) ∙ totals_same (λ d (x : Domain). length (tables_at t 0 0 d)) (λ d x. tables_needed g d) flat.domains
       (λ d x e. tables_counted t 0 0 d ∙ ap (λ z. table_count (shapes (arch t)) z) (addresses d x e))
-      ∙ sym (sum_ones (λ d (x : Domain). tables_needed g d) flat.domains)
-    where
-      addresses : (d : ℕ) (x : Domain) → slice_get flat.domains d ≡ Some x → map (λ (p : Page). p.vaddr) (pages_at t d) ≡ map
-          (λ (p : MappedPage). p.at) (mapped_pages g d)
-      addresses d x e = ap (λ z. map (λ (p : Page). p.vaddr) z) (pages_are d x e) ∙ map_ones (λ (p : Page). p.vaddr) (page g d)
-          (λ (p : MappedPage). p.at) (λ j p. refl) (mapped_pages g d)
+      ∙ sym (sum_ones (λ d (x : Domain). tables_needed g d) flat.domains) where
+        addresses : (d : ℕ) (x : Domain) → slice_get flat.domains d ≡ Some x → map (λ (p : Page). p.vaddr) (pages_at t d) ≡ map
+            (λ (p : MappedPage). p.at) (mapped_pages g d)
+        addresses d x e = ap (λ z. map (λ (p : Page). p.vaddr) z) (pages_are d x e) ∙ map_ones (λ (p : Page). p.vaddr) (page g d)
+            (λ (p : MappedPage). p.at) (λ j p. refl) (mapped_pages g d)
 
   use_sum : use_count t ≡ sum (counts (slots_of source flat))
   use_sum =
@@ -77,19 +76,19 @@ module _ (source : Source) (flat : Flat) (settled : Settled) (images : Images) w
         totals_most (λ d (x : Domain). 2 * length (threads_at t d)) (λ d x. length (mapped_pages g d))
             flat.domains domain,
         sum_ones (λ d (x : Domain). length (mapped_pages g d)) flat.domains,
-      )
-    where
-      domain : (d : ℕ) (x : Domain) → slice_get flat.domains d ≡ Some x → 2 * length (threads_at t d) ≤ length (mapped_pages g d)
-      domain d x e =
-          omega (
-            arith,
-            threads_same d x e,
-            (two_each settled (threads_of g d) (stacks d)),
-            pages_append (flat_map (thread_regions settled) (threads_of g d))
-                (map (window_region flat settled) (windows_of g d)),
-            (length_append (section_part images (leaves_of flat d)) (region_part settled (base g) (regions g d))),
-            length-region_part settled (base g) (regions g d),
-          )
+      ) where
+        domain : (d : ℕ) (x : Domain) → slice_get flat.domains d ≡ Some x
+            → 2 * length (threads_at t d) ≤ length (mapped_pages g d)
+        domain d x e =
+            omega (
+              arith,
+              threads_same d x e,
+              (two_each settled (threads_of g d) (stacks d)),
+              pages_append (flat_map (thread_regions settled) (threads_of g d))
+                  (map (window_region flat settled) (windows_of g d)),
+              (length_append (section_part images (leaves_of flat d)) (region_part settled (base g) (regions g d))),
+              length-region_part settled (base g) (regions g d),
+            )
 
   pub tables_sized : IsLimited g → IsSized t
   tables_sized limited =

@@ -1,8 +1,8 @@
 -- The slots of a system are those of its source
-use Rattle.spec_laws.proofs.Common.{CanSlot, Cap, Connector, Domain, EndSetting, FlatConnection, HasSlots, Interrupt, IrqOf, IsIn, IsIrqLine, IsIrqOf, IsLineOf, IsSlotLine, IsUsed, List, MapLine, Object}
-use Rattle.spec_laws.proofs.Common.{Option, OwnLock, SlotUse, Some, Spec, Tables, [], ap, arith, bits_for, domain_lines, domain_slots, from_gather, gather, in_gather, in_left}
-use Rattle.spec_laws.proofs.Common.{in_right, inl, irq_number, length, line_by, lines, map_lines, option_and_then, option_map_or, place, refl, setting_of, single, slice_get, slot_line, slot_lines, slots_at, spec_of, subst, sym}
-use Rattle.spec_laws.proofs.Common.{thread_lines, use_cap, uses_at, window_lines, ℕ, ◌++◌, ◌+◌, ◌∙◌, ◌∷◌, ◌≡◌}
+use Rattle.std.proofs.Common.{rules}
+use Rattle.spec_laws.proofs.Common.{CanSlot, Cap, Connector, Domain, FlatConnection, HasSlots, Interrupt, IrqOf, IsIn, IsIrqLine, IsIrqOf, IsLineOf, IsSlotLine, IsUsed, List, MapLine, Object, Option, OwnLock, SlotUse, Some, Spec, Tables, [], ap}
+use Rattle.spec_laws.proofs.Common.{arith, bits_for, domain_lines, domain_slots, from_gather, gather, in_gather, in_left, in_right, inl, irq_number, length, line_by, lines, map_lines, place, refl, single, slice_get, slot_line, slot_lines, slots_at}
+use Rattle.spec_laws.proofs.Common.{spec_of, subst, sym, thread_lines, use_cap, uses_at, window_lines, ℕ, ◌++◌, ◌+◌, ◌∙◌, ◌∷◌, ◌≡◌}
 use Rattle.cap_model.specs.declared.object.Object.TheVariants as objects
 use Rattle.spec_laws.proofs.MapLines.{by_line}
 use Rattle.spec_laws.proofs.SlotLists.{from_order, some}
@@ -18,30 +18,26 @@ module _ (t : Tables) (can : CanSlot t) where
   -- an interrupt's number is the settled one
   set_number : (k at : ℕ) (c : FlatConnection) → slice_get t.flat.connections k ≡ Some c → (w : IsIrqOf t spec k at)
       → irq_number t.settled k c ≡ w.setting.irq
-  set_number k at c h w =
-      ap (irq_number t.settled k) (sym (some (slice_get t.flat.connections k) w.connection c w.here h))
-      ∙ ap (λ o. option_map_or (λ (z : EndSetting). z.irq) (option_and_then (setting_of t.settled k) o) 0) w.device
-      ∙ ap (λ o. option_map_or (λ (z : EndSetting). z.irq) o 0) w.settled
+  set_number k at c h w = cc
 
   lines_are : (n at : ℕ) → IsIn (n, at) (lines t) → IsIrqLine t spec n at
   lines_are n at i =
       let F : ℕ → FlatConnection → List (ℕ × ℕ) = λ k c. line_by t k c c.connector in
       let a = from_gather F (n, at) t.flat.connections (from_order (n, at) (gather F t.flat.connections) i) in
-      by_kind a.0 a.1 a.2 a.1.connector refl a.3
-    where
-      by_kind : (k : ℕ) (c : FlatConnection) → slice_get t.flat.connections k ≡ Some c → (m : Connector) → c.connector ≡ m
-          → IsIn (n, at) (line_by t k c m) → IsIrqLine t spec n at
-      by_kind k c h Interrupt e j =
-          let line : ℕ × ℕ = (irq_number t.settled k c, place t (IrqOf k)) in
-          subst (λ (z : ℕ × ℕ). IsIrqLine t spec z.0 z.1) (single line (n, at) j) (record {
-            k = k;
-            connection = c;
-            here = h;
-            is_interrupt = e;
-            irq = irq_is t can k c h e;
-            number = set_number k (place t (IrqOf k)) c h (irq_is t can k c h e);
-          })
-      by_kind k c h _ e j = absurd j
+      by_kind a.0 a.1 a.2 a.1.connector refl a.3 where
+        by_kind : (k : ℕ) (c : FlatConnection) → slice_get t.flat.connections k ≡ Some c → (m : Connector) → c.connector ≡ m
+            → IsIn (n, at) (line_by t k c m) → IsIrqLine t spec n at
+        by_kind k c h Interrupt e j =
+            let line : ℕ × ℕ = (irq_number t.settled k c, place t (IrqOf k)) in
+            subst (λ (z : ℕ × ℕ). IsIrqLine t spec z.0 z.1) (single line (n, at) j) (record {
+              k = k;
+              connection = c;
+              here = h;
+              is_interrupt = e;
+              irq = irq_is t can k c h e;
+              number = set_number k (place t (IrqOf k)) c h (irq_is t can k c h e);
+            })
+        by_kind k c h _ e j = absurd j
 
   -- ---- the map
 
@@ -103,13 +99,7 @@ module _ (t : Tables) (can : CanSlot t) where
       (in_gather F line t.flat.domains d w.leaves w.here (in_gather h line (uses_at t d) w.before w.used mine (inl is)))))
 
   has_slots : HasSlots t spec (map_lines t)
-  has_slots = record {
-    cnodes = slotted t can;
-    irqs = λ k c h e. (place t (IrqOf k), irq_is t can k c h e);
-    lines = lines_are;
-    map_only = map_only;
-    map_every = map_every;
-  }
+  has_slots = search (rules, slotted, irq_is, lines_are, map_only, map_every)
 
 pub are_slots : (t : Tables) → CanSlot t → HasSlots t (spec_of t) (map_lines t)
 are_slots t can = has_slots t can

@@ -1,9 +1,9 @@
 -- CNodes have the capabilities of their uses
-use Rattle.spec_laws.proofs.Common.{CNode, CNodeOf, CanSlot, Cap, Connector, Domain, EndSetting, EndpointOf, FlatConnection, FlatEnd, From, Handler, Interrupt, IrqOf, IsBadge, IsCNodeOf, IsCapOf, IsEndCap, IsIn, IsIrqOf}
-use Rattle.spec_laws.proofs.Common.{IsJoint, IsLockCap, IsNamed, List, LockOf, NONE, NotificationOf, OfConnection, OfDomain, OfEnd, OwnLock, Role, Rpc, SlotUse, Some, Spec, Tables, To, [], ap, arith}
-use Rattle.spec_laws.proofs.Common.{badge_at, before, bits_for, domain_uses, end_rights, first_rights, from_gather, gather, gather_ones, in_gather, inl, inr, interrupt, irq_number, irq_owner}
-use Rattle.spec_laws.proofs.Common.{joint_by, least, length, line_by, lines, name_at, notification_by, object_at, objects_stand, option_and_then, option_map_or, part}
-use Rattle.spec_laws.proofs.Common.{parts_are_there, place, refl, rights_at, role_badge, rows_of, setting_of, settled_badge, slice_get, slots_at, spec_of, subst, sym, true, use_cap, uses_at, ℕ, ◌+◌, ◌<◌, ◌^◌, ◌∙◌, ◌∷◌, ◌≡◌}
+use Rattle.std.proofs.Common.{rules}
+use Rattle.spec_laws.proofs.Common.{CNode, CNodeOf, CanSlot, Cap, Connector, Domain, EndSetting, EndpointOf, FlatConnection, FlatEnd, From, Handler, Interrupt, IrqOf, IsBadge, IsCNodeOf, IsCapOf, IsEndCap, IsIn, IsIrqOf, IsJoint, IsLockCap, IsNamed}
+use Rattle.spec_laws.proofs.Common.{List, LockOf, NONE, NotificationOf, OfConnection, OfDomain, OfEnd, OwnLock, Role, Rpc, SlotUse, Some, Spec, Tables, To, [], ap, arith, badge_at, before, bits_for, domain_uses, end_rights, first_rights, from_gather}
+use Rattle.spec_laws.proofs.Common.{gather, gather_ones, in_gather, inl, inr, interrupt, irq_number, irq_owner, joint_by, least, length, line_by, lines, name_at, notification_by, object_at, objects_stand, option_and_then, option_map_or, part}
+use Rattle.spec_laws.proofs.Common.{parts_are_there, place, refl, rights_at, rows_of, setting_of, slice_get, slots_at, spec_of, subst, sym, true, use_cap, uses_at, ℕ, ◌+◌, ◌<◌, ◌^◌, ◌∙◌, ◌∷◌, ◌≡◌}
 use Rattle.adl_meaning.specs.declared.connector.Connector.TheVariants.{Notification as Notifies}
 use Rattle.conn_rules.specs.declared.rule.RuleRow.{RuleRow}
 use Rattle.system_spec.specs.declared.series.Series.TheVariants as series
@@ -36,38 +36,27 @@ module _ (t : Tables) (can : CanSlot t) where
 
   joint : (k : ℕ) (c : FlatConnection) (r : Role) → slice_get t.flat.connections k ≡ Some c → has_slot c.connector r ≡ true
       → IsJoint spec (place t (joint_by k c.connector)) c.connector k
-  joint k c r h j = by_kind c.connector refl j
-    where
-      by_kind : (n : Connector) → c.connector ≡ n → has_slot n r ≡ true → IsJoint spec (place t (joint_by k n)) n k
-      by_kind Rpc e f = (objects_stand t).name (part series.Ep k (OfConnection k) (EndpointOf k))
-          ((parts_are_there t).endpoint k c h e)
-      by_kind Notifies e f = let P : Connector → Type 0 = λ n. IsIn (part series.Ntfn k (OfConnection k) (NotificationOf k))
-          (notification_by k n) in notification_named k c h (subst P (sym e) (inl refl))
-      by_kind Interrupt e f = let P : Connector → Type 0 = λ n. IsIn (part series.Ntfn k (OfConnection k) (NotificationOf k))
-          (notification_by k n) in notification_named k c h (subst P (sym e) (inl refl))
-      by_kind _ e f = cc
+  joint k c r h j = by_kind c.connector refl j where
+    by_kind : (n : Connector) → c.connector ≡ n → has_slot n r ≡ true → IsJoint spec (place t (joint_by k n)) n k
+    by_kind Rpc e f = (objects_stand t).name (part series.Ep k (OfConnection k) (EndpointOf k))
+        ((parts_are_there t).endpoint k c h e)
+    by_kind Notifies e f = let P : Connector → Type 0 = λ n. IsIn (part series.Ntfn k (OfConnection k) (NotificationOf k))
+        (notification_by k n) in notification_named k c h (subst P (sym e) (inl refl))
+    by_kind Interrupt e f = let P : Connector → Type 0 = λ n. IsIn (part series.Ntfn k (OfConnection k) (NotificationOf k))
+        (notification_by k n) in notification_named k c h (subst P (sym e) (inl refl))
+    by_kind _ e f = cc
 
   badge : (k n : ℕ) (c : FlatConnection) (e : FlatEnd) → slice_get t.flat.connections k ≡ Some c → slice_get c.ends n ≡ Some e
       → IsBadge t k n e.role (badge_at t k n)
-  badge k n c e h s =
-      let found : badge_at t k n ≡ role_badge e.role (settled_badge t.settled k n) =
-      ap (λ o. option_map_or (λ (z : Connector × FlatEnd). role_badge z.1.role (settled_badge t.settled k n)) o 0)
-      (end_there t k n c e h s) in
-      subst (IsBadge t k n e.role) (sym found) (by_role e.role (can.settled k n c e h s))
-    where
-      by_role : (r : Role) → (x : EndSetting) × (setting_of t.settled k n ≡ Some x)
-          → IsBadge t k n r (role_badge r (settled_badge t.settled k n))
-      by_role From x = (x.0, x.1, ap (λ o. option_map_or (λ (z : EndSetting). z.badge) o 0) x.1)
-      by_role To x = refl
+  badge k n c e h s = search (rules, end_there)
 
   rights : (k n : ℕ) (c : FlatConnection) (e : FlatEnd) (row : RuleRow) → slice_get t.flat.connections k ≡ Some c
       → slice_get c.ends n ≡ Some e → slice_get (rows_of c.connector e.role) 0 ≡ Some row → rights_at t k n ≡ row.rights
   rights k n c e row h s f = ap (λ o. option_map_or (λ (z : Connector × FlatEnd). end_rights z.0 z.1.role) o NONE)
-      (end_there t k n c e h s) ∙ first_of (rows_of c.connector e.role) row f
-    where
-      first_of : (rows : List RuleRow) (row : RuleRow) → slice_get rows 0 ≡ Some row → first_rights rows ≡ row.rights
-      first_of [] row e = cc
-      first_of (r ∷ rs) row e = let same : r ≡ row = cc in ap (λ (z : RuleRow). z.rights) same
+      (end_there t k n c e h s) ∙ first_of (rows_of c.connector e.role) row f where
+        first_of : (rows : List RuleRow) (row : RuleRow) → slice_get rows 0 ≡ Some row → first_rights rows ≡ row.rights
+        first_of [] row e = cc
+        first_of (r ∷ rs) row e = let same : r ≡ row = cc in ap (λ (z : RuleRow). z.rights) same
 
   end_is : (d n k m : ℕ) → IsEnd t.flat.connections k m → IsEndCap t spec k m (use_cap t d n (OfEnd k m))
   end_is d n k m o =
@@ -133,13 +122,12 @@ module _ (t : Tables) (can : CanSlot t) where
 
   pub cap_is : (d n : ℕ) (x : Domain) (u : SlotUse) → slice_get t.flat.domains d ≡ Some x → slice_get (uses_at t d) n ≡ Some u
       → IsCapOf t spec u (use_cap t d n u)
-  cap_is d n x u h e = by_use u e (is_use t can.slots d x h n u e)
-    where
-      by_use : (u : SlotUse) → slice_get (uses_at t d) n ≡ Some u → IsUse t.flat.connections u
-          → IsCapOf t spec u (use_cap t d n u)
-      by_use (OfEnd k m) e o = end_is d n k m o
-      by_use (Handler k m) e o = record { irq = irq_is k o.0 o.1 o.2; rights = refl; badge = refl }
-      by_use (OwnLock leaf m) e o = lock_is d n leaf m x h e
+  cap_is d n x u h e = by_use u e (is_use t can.slots d x h n u e) where
+    by_use : (u : SlotUse) → slice_get (uses_at t d) n ≡ Some u → IsUse t.flat.connections u
+        → IsCapOf t spec u (use_cap t d n u)
+    by_use (OfEnd k m) e o = end_is d n k m o
+    by_use (Handler k m) e o = record { irq = irq_is k o.0 o.1 o.2; rights = refl; badge = refl }
+    by_use (OwnLock leaf m) e o = lock_is d n leaf m x h e
 
   -- the CNode of a domain
   pub cnode_object : (d : ℕ) (x : Domain) → slice_get t.flat.domains d ≡ Some x
@@ -180,4 +168,5 @@ module _ (t : Tables) (can : CanSlot t) where
 
 pub slotted : (t : Tables) → CanSlot t → (d : ℕ) (x : Domain) → slice_get t.flat.domains d ≡ Some x
     → IsCNodeOf t (spec_of t) d (domain_uses t.source t.flat x.leaves)
-slotted t can d x h = subst (λ (us : List SlotUse). IsCNodeOf t (spec_of t) d us) (uses_are t can.slots d x h) (cnode_is t can d x h)
+slotted t can d x h = subst (λ (us : List SlotUse). IsCNodeOf t (spec_of t) d us) (uses_are t can.slots d x h)
+    (cnode_is t can d x h)

@@ -1,4 +1,5 @@
 -- The flat system of a source in which no fault of names or types stands has its devices where the connector table has them.
+use Rattle.std.proofs.Common.{rules}
 use Rattle.spec_laws.proofs.Common.{AreDotted, Connector, FlatConnection, FlatEnd, HasDevice, Interrupt, IsFlat, IsIn, Leaf, Mmio, None, Some, allowed, allows, alone, and_parts, ap, arith, at_place, cond}
 use Rattle.spec_laws.proofs.Common.{count_of, end_rule, ends_typed, false, first_type_fault, from_get_map, hardware_fits, in_get, is_at_device, leaf_listed, leaf_owned, leb_tells, nat_le, refl, same_role, same_role_self, slice_get_within}
 use Rattle.spec_laws.proofs.Common.{some_end, strung_of, subst, sym, true, true≢false, ℕ, ◌<◌, ◌∙◌, ◌≡◌}
@@ -41,10 +42,7 @@ module _ (s : Source) (sound : AreNamesSound s) (dotted : AreDotted (hierarchy_o
 
   domain_of_hardware : (n : ℕ) (leaf : Leaf) → slice_get (flat_of s).leaves n ≡ Some leaf → leaf.hardware ≡ true
       → leaf.domain ≡ None
-  domain_of_hardware n leaf e hard =
-      let h = hierarchy_of s in let x = from_get_map (leaf_of h) (leaves h) n leaf e in
-      let is : is_hardware h x.0.part ≡ true = ap (λ (z : Leaf). z.hardware) x.2 ∙ hard in
-      ap (λ (z : Leaf). z.domain) (sym x.2) ∙ ap (λ b. cond b None (Some (domain_number h (domain_of h x.0.path)))) is
+  domain_of_hardware n leaf e hard = search (rules, from_get_map)
 
   -- the leaf of an end is a device just where the table has it
   leaf_hardware : (x : EndAt (flat_of s)) (leaf : Leaf) → slice_get (flat_of s).leaves x.end.leaf ≡ Some leaf

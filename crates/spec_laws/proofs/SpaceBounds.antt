@@ -1,9 +1,8 @@
 -- Where no limit on pages is passed, each space has few threads and pages, and each page shows one of the frames.
-use Rattle.spec_laws.proofs.Common.{Bool, CanLay, Connector, Direct, Domain, EndAt, Flat, FlatConnection, FlatEnd, Given, Interrupt, IsIn, List, MappedPage, Memory, MemoryFits, Mmio, None, Notification, Option, Own, Page, Rises, Rpc, SectionsStand}
-use Rattle.spec_laws.proofs.Common.{Settled, SharedMemory, Shown, Some, Space, [], ap, arith, at_place, below, false, few_at, flat_map, frames, frames_stand, from_ones, gather, gather_ones, get_or_from_slice_get, in_place, is_shared, is_window}
-use Rattle.spec_laws.proofs.Common.{leads_to, length, length_append, length_threads, map, map_ones, mapped_pages, memory_number, memory_pages, memory_part, number_shown, option_map, option_map_or, own_few, own_part, own_port, page, page_counts}
-use Rattle.spec_laws.proofs.Common.{place_of, position, position-Some, position_found, refl, register_part, registers, registers_few, rising, same_port, shared_few, shared_part, slice_get, space, spaces_of, subst, sum, sym, thread_place}
-use Rattle.spec_laws.proofs.Common.{thread_regions, threads_of, true, window_at, window_pages, window_region, windows_of, ℕ, ◌*◌, ◌+◌, ◌<◌, ◌∙◌, ◌∷◌, ◌≡◌, ◌≤◌}
+use Rattle.spec_laws.proofs.Common.{Bool, CanLay, Connector, Domain, EndAt, Flat, FlatConnection, FlatEnd, Given, IsIn, List, MappedPage, Memory, MemoryFits, Mmio, None, Option, Own, Page, Rises, SectionsStand, Settled, SharedMemory, Shown, Some}
+use Rattle.spec_laws.proofs.Common.{Space, [], ap, arith, at_place, below, false, few_at, frames, frames_stand, from_ones, gather, gather_ones, get_or_from_slice_get, in_place, is_shared, is_window, leads_to, length, length_append, length_threads}
+use Rattle.spec_laws.proofs.Common.{map, map_ones, mapped_pages, memory_number, memory_pages, number_shown, option_map, option_map_or, own_few, own_port, page, page_counts, place_of, position, position-Some, position_found, refl, registers}
+use Rattle.spec_laws.proofs.Common.{registers_few, rising, same_port, shared_few, slice_get, space, spaces_of, subst, sum, sym, thread_place, threads_of, true, window_at, window_pages, windows_of, ℕ, ◌*◌, ◌+◌, ◌<◌, ◌∙◌, ◌∷◌, ◌≡◌, ◌≤◌}
 use Rattle.vspace_layout.specs.declared.spaces.Window.{Window}
 use Rattle.spec_laws.proofs.Gathers.{ones_at, part_of_sum}
 use Rattle.spec_laws.proofs.Windows.{IsSeen, ShowsHere, pages_show, seen, seen_pages}
@@ -27,19 +26,15 @@ at_position is xs n d e =
 
 pub led_to : (e : FlatEnd) (c : FlatConnection) → leads_to e c ≡ true → (f : FlatEnd) × (registers c ≡ Some f)
     × (same_port e f ≡ true)
-led_to e c l = by_end (registers c) refl l
-  where
-    by_end : (o : Option FlatEnd) → registers c ≡ o → option_map_or (same_port e) o false ≡ true
-        → (f : FlatEnd) × (registers c ≡ Some f) × (same_port e f ≡ true)
-    by_end None is l = cc
-    by_end (Some f) is l = (f, is, l)
+led_to e c l = by_end (registers c) refl l where
+  by_end : (o : Option FlatEnd) → registers c ≡ o → option_map_or (same_port e) o false ≡ true
+      → (f : FlatEnd) × (registers c ≡ Some f) × (same_port e f ≡ true)
+  by_end None is l = cc
+  by_end (Some f) is l = (f, is, l)
 
 module _ (g : Given) (can : CanLay g) (few : sum (page_counts g) ≤ 65536) where
   pub frames_most : length (frames g) ≤ 65536 + 2 * 268435456
-  frames_most =
-      let b = shared_few g can in let d = registers_few g can in
-      let e = can.connections in let f = length_append (own_part g) (memory_part g.flat g.settled) in
-      omega (arith, few, own_few g, b, d, e, f, length_append (shared_part g.flat g.settled) (register_part g.flat g.settled))
+  frames_most = grind (arith, shared_few, registers_few, length_append, own_few)
 
   -- ---- each domain
 
@@ -48,10 +43,7 @@ module _ (g : Given) (can : CanLay g) (few : sum (page_counts g) ≤ 65536) wher
       omega (arith, part, few)
 
   pub threads_most : (d : ℕ) (x : Domain) → slice_get g.flat.domains d ≡ Some x → length (threads_of g d) ≤ 262144
-  threads_most d x e =
-      let c = length_append (flat_map (thread_regions g.settled) (threads_of g d))
-      (map (window_region g.flat g.settled) (windows_of g d)) in
-      omega (arith, few_at g can few d x e, length_threads g.settled (threads_of g d), c)
+  threads_most d x e = grind (arith, length_append, few_at, length_threads)
 
 -- ---- spaces
 
@@ -91,12 +83,11 @@ module _ (g : Given) where
       space_cases (λ o. IsIn w (option_map_or (λ (s : Space). s.windows) o []) → w.pages ≤ 65536) d (λ j. absurd j)
       (λ x e j. let n = place_of w (gather (λ n q. window_at g d n q ∷ []) (windows_of g d)) j in
       let q = from_ones (window_at g d) (windows_of g d) n.0 w n.1 in
-      subst (λ (z : Window). z.pages ≤ 65536) q.2 (by_connection q.0 (slice_get g.flat.connections q.0.connection) refl)) i
-    where
-      by_connection : (e : EndAt) (o : Option FlatConnection) → slice_get g.flat.connections e.connection ≡ o
-          → option_map_or (memory_pages g.settled e.connection) o 0 ≤ 65536
-      by_connection e None at = omega arith
-      by_connection e (Some c) at = fits e.connection c at
+      subst (λ (z : Window). z.pages ≤ 65536) q.2 (by_connection q.0 (slice_get g.flat.connections q.0.connection) refl)) i where
+        by_connection : (e : EndAt) (o : Option FlatConnection) → slice_get g.flat.connections e.connection ≡ o
+            → option_map_or (memory_pages g.settled e.connection) o 0 ≤ 65536
+        by_connection e None at = omega arith
+        by_connection e (Some c) at = fits e.connection c at
 
   -- ---- frames of pages
 
@@ -107,33 +98,30 @@ module _ (g : Given) where
     register_below k j c r at has l =
         let led : leads_to r c ≡ true = ap (λ o. option_map_or (same_port r) o false) has ∙ own_port r in
         let first = position_found (leads_to r) g.flat.connections k c at led in
-        let d = at_position (leads_to r) g.flat.connections first.0 c first.1 in
-        let f = led_to r d.0 d.2 in
+        let d = at_position (leads_to r) g.flat.connections first.0 c first.1 in let f = led_to r d.0 d.2 in
         below (frames g) (memory_number g k j) _ ((frames_stand g).registers k j first.0 c d.0 r f.0 at has first.1 d.1 f.1
         (omega (arith, l, have.same k first.0 c d.0 r f.0 at d.1 has f.1 f.2)))
 
     memory_below : (e : EndAt) → IsSeen g e → (j : ℕ) → j < window_pages g.flat g.settled e
         → memory_number g e.connection j < length (frames g)
-    memory_below e s j l = by_connector s.connection.connector refl s.window (subst (λ n. j < n) (seen_pages g e s) l)
-      where
-        by_connector : (c : Connector) → s.connection.connector ≡ c → is_window c s.end.role ≡ true
-            → j < memory_pages g.settled e.connection s.connection → memory_number g e.connection j < length (frames g)
-        by_connector SharedMemory is w l = below (frames g) (memory_number g e.connection j) _
-            ((frames_stand g).shared e.connection j s.connection s.there (ap is_shared is) l)
-        by_connector Mmio is w l = let r = have.found e.connection e.end s.connection s.end s.there s.joined is in
-            register_below e.connection j s.connection r.0 s.there r.1 l
-        by_connector _ is w l = cc
+    memory_below e s j l = by_connector s.connection.connector refl s.window (subst (λ n. j < n) (seen_pages g e s) l) where
+      by_connector : (c : Connector) → s.connection.connector ≡ c → is_window c s.end.role ≡ true
+          → j < memory_pages g.settled e.connection s.connection → memory_number g e.connection j < length (frames g)
+      by_connector SharedMemory is w l = below (frames g) (memory_number g e.connection j) _
+          ((frames_stand g).shared e.connection j s.connection s.there (ap is_shared is) l)
+      by_connector Mmio is w l = let r = have.found e.connection e.end s.connection s.end s.there s.joined is in
+          register_below e.connection j s.connection r.0 s.there r.1 l
+      by_connector _ is w l = cc
 
     number_below : (d n : ℕ) (x : Domain) (p : MappedPage) → slice_get g.flat.domains d ≡ Some x
         → slice_get (mapped_pages g d) n ≡ Some p → number_shown g d n p.shown < length (frames g)
-    number_below d n x p e at = by_shown p.shown refl (pages_show g d p (in_place p (mapped_pages g d) n at))
-      where
-        by_shown : (s : Shown) → p.shown ≡ s → ShowsHere g d s → number_shown g d n p.shown < length (frames g)
-        by_shown (Own fill) is w = below (frames g) (number_shown g d n p.shown) _
-            ((frames_stand g).own d n p fill at is (below g.flat.domains d x e))
-        by_shown (Memory k j) is w =
-            subst (λ z. number_shown g d n z < length (frames g)) (sym is)
-            (subst (λ z. memory_number g z j < length (frames g)) w.2 (memory_below w.0 (seen g d w.0 w.1) j w.3))
+    number_below d n x p e at = by_shown p.shown refl (pages_show g d p (in_place p (mapped_pages g d) n at)) where
+      by_shown : (s : Shown) → p.shown ≡ s → ShowsHere g d s → number_shown g d n p.shown < length (frames g)
+      by_shown (Own fill) is w = below (frames g) (number_shown g d n p.shown) _
+          ((frames_stand g).own d n p fill at is (below g.flat.domains d x e))
+      by_shown (Memory k j) is w =
+          subst (λ z. number_shown g d n z < length (frames g)) (sym is)
+          (subst (λ z. memory_number g z j < length (frames g)) w.2 (memory_below w.0 (seen g d w.0 w.1) j w.3))
 
     pub frames_there : (d : ℕ) (p : Page) → IsIn p (pages_in d) → p.frame < length (frames g)
     frames_there d p i =

@@ -17,10 +17,7 @@ above_all a (y ∷ xs) (suc n) x r e = let k = r.0 in omega (arith, k, above_all
 
 pub rises_tell : (xs : List ℕ) (n m x : ℕ) → Rises xs → slice_get xs n ≡ Some x → slice_get xs m ≡ Some x → n ≡ m
 rises_tell [] n m x r e f = cc
-rises_tell (a ∷ xs) zero zero x r e f = refl
-rises_tell (a ∷ xs) zero (suc m) x r e f = let same : a ≡ x = cc in absurd (omega (arith, above_all a xs m x r f, same))
-rises_tell (a ∷ xs) (suc n) zero x r e f = let same : a ≡ x = cc in absurd (omega (arith, above_all a xs n x r e, same))
-rises_tell (a ∷ xs) (suc n) (suc m) x r e f = ap suc (rises_tell xs n m x r.1 e f)
+rises_tell (a ∷ xs) n m x r e f = grind (arith, above_all a xs, rises_tell xs)
 
 module _ (t : Tables) (can : CanMap t) (d : ℕ) (x : Domain) (h : slice_get t.flat.domains d ≡ Some x) where
   -- the page that is found is the one that begins the address's page
@@ -84,8 +81,7 @@ module _ (t : Tables) (can : CanMap t) (d : ℕ) (x : Domain) (h : slice_get t.f
         ));
     one = λ v cap more l i j. one_is v cap more (found t can d x h v cap l i) (found t can d x h v more l j);
     frames = λ v cap l i. (
-        let f = found t can d x h v cap l i in
-        let o = frame_of_page t can d x h f.number f.shown f.here in
+        let f = found t can d x h v cap l i in let o = frame_of_page t can d x h f.number f.shown f.here in
         let at : place t (FrameOf (number_shown (system t) d f.number f.shown.shown)) ≡ frames_from t + number_shown (system t) d
         f.number f.shown.shown = omega arith in (
           o.0.paddr,
@@ -93,7 +89,6 @@ module _ (t : Tables) (can : CanMap t) (d : ℕ) (x : Domain) (h : slice_get t.f
           ap (λ (z : Cap). object_at (spec_of t) z.object) f.is ∙ ap (λ z. object_at (spec_of t) z)
               (sym at) ∙ o.1,
         ));
-  }
-    where
-      rights : {a b c e : Bool} → a ≡ b → c ≡ e → memory_rights a c ≡ memory_rights b e
-      rights {a} {b} {c} {e} p q = ap (λ z. memory_rights z c) p ∙ ap (λ z. memory_rights b z) q
+  } where
+    rights : {a b c e : Bool} → a ≡ b → c ≡ e → memory_rights a c ≡ memory_rights b e
+    rights {a} {b} {c} {e} p q = ap (λ z. memory_rights z c) p ∙ ap (λ z. memory_rights b z) q

@@ -1,76 +1,52 @@
 -- Each thread's stack has a page, where no fault of settings stands.
-use Rattle.spec_laws.proofs.Common.{Bool, Domain, EndAt, Given, Images, IsIn, Leaf, LeafFound, None, Option, Some, Source, Value, [], and_parts, ap, arith, bad_in_leaf, bad_value, cond, domain_number, domain_of, ends, ends_at, false}
-use Rattle.spec_laws.proofs.Common.{first_setting_fault, flat_of, from_flat_map, from_get_map, get_map, given, hierarchy_of, in_get, inl, inr, is_hardware, is_some, is_there, leaf_found, leaf_of, leaf_owned, leaf_setting, leaf_threads, leaves}
-use Rattle.spec_laws.proofs.Common.{leaves_found, leaves_of, leb-true, meant, nat_le, none_in, none_right, number_in, option_and_then, option_map, option_map_or, priority_in, refl, server, serves, settings_sound, settled_of, slice_get, so, stack_in}
-use Rattle.spec_laws.proofs.Common.{stack_pages, subst, sym, thread, threads_of, true, unwrap_or, whole_pages, within, ℕ, ◌&&◌, ◌*◌, ◌+◌, ◌/◌, ◌∙◌, ◌≡◌, ◌≤◌}
+use Rattle.std.proofs.Common.{rules}
+use Rattle.spec_laws.proofs.Common.{Bool, Domain, Given, Images, IsIn, Leaf, LeafFound, None, Option, Some, Source, Value, [], and_parts, ap, arith, bad_in_leaf, bad_value, cond, ends, ends_at, false}
+use Rattle.spec_laws.proofs.Common.{first_setting_fault, flat_of, from_flat_map, from_get_map, get_map, given, hierarchy_of, in_get, inl, inr, is_there, leaf_found, leaf_owned, leaf_setting, leaf_threads, leaves}
+use Rattle.spec_laws.proofs.Common.{leaves_found, leaves_of, leb-true, meant, nat_le, none_in, none_right, number_in, option_and_then, option_map, option_map_or, refl, server, serves, settings_sound, settled_of, slice_get, so, stack_in}
+use Rattle.spec_laws.proofs.Common.{stack_pages, subst, sym, thread, threads_of, true, unwrap_or, whole_pages, within, ℕ, ◌&&◌, ◌/◌, ◌≡◌, ◌≤◌}
 use Rattle.adl_meaning.specs.Values.{Given as Value_given}
 use Rattle.vspace_layout.specs.declared.thread.ThreadOf.{ThreadOf}
 use Rattle.spec_laws.proofs.Lists.{shown_if}
 
 -- ---- threads are of leaves of their domain
 
-server_leaf : (g : Given) (leaf : ℕ) (e : EndAt) (x : ThreadOf) → IsIn x (server g.flat leaf e) → x.leaf ≡ leaf
-server_leaf g leaf e x i = ap (λ (z : ThreadOf). z.leaf) (sym (shown_if (serves g.flat e) (thread leaf (Some e)) x i).1)
-
 pub thread_leaf : (g : Given) (leaf : ℕ) (x : ThreadOf) → IsIn x (leaf_threads g.flat (ends g) leaf) → x.leaf ≡ leaf
 thread_leaf g leaf x (inl same) = ap (λ (z : ThreadOf). z.leaf) (sym same)
 thread_leaf g leaf x (inr i) =
     let e = from_flat_map (server g.flat leaf) x (ends_at (ends g) leaf) i in
-    server_leaf g leaf e.0 x e.2
+    ap (λ (z : ThreadOf). z.leaf) (sym (shown_if (serves g.flat e.0) (thread leaf (Some e.0)) x e.2).1)
 
 -- a domain with a leaf is there
 pub domain_there : (g : Given) (d l : ℕ) → IsIn l (leaves_of g.flat d) → (x : Domain) × (slice_get g.flat.domains d ≡ Some x)
     × IsIn l x.leaves
-domain_there g d l i = by_domain (slice_get g.flat.domains d) refl i
-  where
-    by_domain : (o : Option Domain) → slice_get g.flat.domains d ≡ o → IsIn l (option_map_or (λ (x : Domain). x.leaves) o [])
-        → (x : Domain) × (slice_get g.flat.domains d ≡ Some x) × IsIn l x.leaves
-    by_domain None e i = absurd i
-    by_domain (Some x) e i = (x, e, i)
+domain_there g d l i = grind (arith)
 
 -- ---- stacks
 
 stack_sized : (n b : ℕ) → option_map whole_pages (within 1 16777216 n) ≡ Some b → 4096 ≤ b
-stack_sized n b e = by_test (nat_le 1 n && nat_le n 16777216) refl e
-  where
-    by_test : (t : Bool) → (nat_le 1 n && nat_le n 16777216) ≡ t → option_map whole_pages (cond t (Some n) None) ≡ Some b
-        → 4096 ≤ b
-    by_test true t e =
-        let is : (n + 4095) / 4096 * 4096 ≡ b = cc in
-        omega (arith, leb-true 1 n (and_parts (nat_le 1 n) (nat_le n 16777216) t).0, is)
-    by_test false t e = cc
+stack_sized n b e = by_test (nat_le 1 n && nat_le n 16777216) refl e where
+  by_test : (t : Bool) → (nat_le 1 n && nat_le n 16777216) ≡ t → option_map whole_pages (cond t (Some n) None) ≡ Some b
+      → 4096 ≤ b
+  by_test true t e = grind (arith, leb-true, and_parts)
+  by_test false t e = cc
 
 stack_is : (v : Value) (b : ℕ) → stack_in v ≡ Some b → 4096 ≤ b
-stack_is v b e = by_number (number_in v.kind) e
-  where
-    by_number : (o : Option ℕ) → option_map whole_pages (option_and_then (within 1 16777216) o) ≡ Some b → 4096 ≤ b
-    by_number None e = cc
-    by_number (Some n) e = stack_sized n b e
+stack_is v b e = by_number (number_in v.kind) e where
+  by_number : (o : Option ℕ) → option_map whole_pages (option_and_then (within 1 16777216) o) ≡ Some b → 4096 ≤ b
+  by_number None e = cc
+  by_number (Some n) e = stack_sized n b e
 
 stack_meant : (o : Option Value_given) → bad_value stack_in o ≡ [] → 4096 ≤ unwrap_or (meant stack_in 16384 o) 0
 stack_meant None good = omega arith
-stack_meant (Some g) good =
-    let b = is_there (stack_in g.value) (so (is_some (stack_in g.value)) _ good) in
-    let is : unwrap_or (stack_in g.value) 0 ≡ b.0 = ap (λ o. unwrap_or o 0) b.1 in
-    omega (arith, stack_is g.value b.0 b.1, is)
+stack_meant (Some g) good = grind (arith, is_there, so, stack_is)
 
 leaf_stack : (f : LeafFound) → f.leaf.hardware ≡ false → bad_in_leaf f ≡ [] → 4096 ≤ (leaf_setting f).stack
-leaf_stack f soft good =
-    let is : (leaf_setting f).stack ≡ unwrap_or (meant stack_in 16384 f.stack) 0 =
-    ap (λ b. cond b 0 (unwrap_or (meant stack_in 16384 f.stack) 0)) soft in
-    omega (arith, is, stack_meant f.stack (none_right (bad_value priority_in f.priority) (bad_value stack_in f.stack) good))
+leaf_stack f soft good = grind (arith, stack_meant, none_right)
 
 -- a leaf of a domain is software
 pub soft_leaf : (s : Source) (l d : ℕ) (leaf : Leaf) → slice_get (flat_of s).leaves l ≡ Some leaf → leaf.domain ≡ Some d
     → leaf.hardware ≡ false
-soft_leaf s l d leaf at is =
-    let h = hierarchy_of s in let x = from_get_map (leaf_of h) (leaves h) l leaf at in
-    let own : (leaf_of h x.0).domain ≡ Some d = ap (λ (z : Leaf). z.domain) x.2 ∙ is in
-    ap (λ (z : Leaf). z.hardware) (sym x.2) ∙ by_test (is_hardware h x.0.part) (domain_number h (domain_of h x.0.path)) own
-  where
-    by_test : (b : Bool) (n : ℕ) → cond b None (Some n) ≡ Some d → b ≡ false
-    by_test true n e = cc
-    by_test false n e = refl
+soft_leaf s l d leaf at is = search (rules, from_get_map)
 
 stack_some : (s : Source) → first_setting_fault s ≡ None → (l d : ℕ) (leaf : Leaf) → slice_get (flat_of s).leaves l ≡ Some leaf
     → leaf.domain ≡ Some d → 1 ≤ stack_pages (settled_of s) l

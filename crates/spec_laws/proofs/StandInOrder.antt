@@ -1,9 +1,7 @@
 -- Kind stands behind kind, and each kind by its numbers
-use Rattle.spec_laws.proofs.Common.{CanSlot, Directory, FrameOf, HasNumber, IsIn, Level, List, OfDomain}
-use Rattle.spec_laws.proofs.Common.{Part, Some, StandInOrder, Tables, [], ap, arith, endpoint}
-use Rattle.spec_laws.proofs.Common.{entry, entry_name, get_map, get_or, in_place, inl, inr, irq, length, length-map, level_series, lock, map, notification}
-use Rattle.spec_laws.proofs.Common.{part, parts, place_of, rank, refl, sections, slice_get, slice_get-get_or, slice_get_within, spec_of, split_get, subst, suc}
-use Rattle.spec_laws.proofs.Common.{ℕ, ◌++◌, ◌+◌, ◌<◌, ◌∷◌, ◌≡◌, ◌≤◌, below, sym, table_part, all_tables, page_table}
+use Rattle.spec_laws.proofs.Common.{CanSlot, Directory, FrameOf, HasNumber, IsIn, Level, List, OfDomain, Part, Some, StandInOrder, Tables, [], ap, arith, endpoint, entry, entry_name, get_map, get_or, in_place, inl, inr, irq, length, length-map}
+use Rattle.spec_laws.proofs.Common.{level_series, lock, map, notification, part, parts, place_of, rank, refl, sections, slice_get, slice_get-get_or, slice_get_within, spec_of, split_get, subst, suc, ℕ, ◌++◌, ◌+◌, ◌<◌, ◌∷◌, ◌≡◌, ◌≤◌, below, sym}
+use Rattle.spec_laws.proofs.Common.{table_part, all_tables, page_table}
 use Rattle.system_spec.specs.declared.series.Series.TheVariants as series
 use Rattle.spec_laws.proofs.Numbering.{irqs_before, lock_numbered}
 use Rattle.spec_laws.proofs.Sections.{in_section, told}
@@ -112,7 +110,6 @@ module _ (t : Tables) (can : CanSlot t) where
     only = λ place l. parts_numbered (part_of place) (in_place (part_of place) (parts t) place (part_at place l));
     kinds_rise = λ p q less l. (rise p q less l).kinds;
     numbers_rise = λ p q less l same. (rise p q less l).numbers same;
-  }
-    where
-      rise : (p q : ℕ) → p < q → q < length (spec_of t).entries → ComesBefore (part_of p) (part_of q)
-      rise p q less l = parts_rise t p q (part_of p) (part_of q) (part_at p (omega (arith, less, l))) (part_at q l) less
+  } where
+    rise : (p q : ℕ) → p < q → q < length (spec_of t).entries → ComesBefore (part_of p) (part_of q)
+    rise p q less l = parts_rise t p q (part_of p) (part_of q) (part_at p (omega (arith, less, l))) (part_at q l) less

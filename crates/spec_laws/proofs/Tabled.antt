@@ -1,14 +1,14 @@
 -- A space has a table of a level for an address exactly where a page is mapped under it, and tables have their domain's label
-use Rattle.spec_laws.proofs.Common.{AreShapes, AreStacked, AreTableLabels, AreTables, AreTablesOf, Arrives, CanMap, Domain, IsIn, IsOf, List, Mapping, Object, Shape, Some, TableOf, Tables, [], above, all_tables, ap, append_assoc, arch, arith}
-use Rattle.spec_laws.proofs.Common.{arrives, as_many, at_place, before, below, div-div-eq-div-mul, domain_tables, drop, from_gather, from_map, head_of, heads, in_gather, in_map, in_place, in_runs, inl, inr, labels_of, layers, length, level_of, map}
-use Rattle.spec_laws.proofs.Common.{mapped_pages, mul-div_cancel, mul-one, mul_assoc, objects_from, one_table, page_table, place, place_of, refl, root_of, root_span, runs, shapes, shapes_fit, shapes_stack, sizes, slice_get, span, span_some, spec_of}
-use Rattle.spec_laws.proofs.Common.{subst, suc, sym, system, table_of, table_part, tables_at, tables_counted, tables_exact, upper, upper_below, uppers, zero, ℕ, ◌*◌, ◌++◌, ◌+◌, ◌/◌, ◌<◌, ◌↔◌, ◌∙◌, ◌∷◌, ◌≡◌}
+use Rattle.spec_laws.proofs.Common.{AreShapes, AreStacked, AreTableLabels, AreTables, AreTablesOf, Arrives, CanMap, Domain, IsIn, IsOf, List, Mapping, Object, Shape, Some, TableOf, Tables, [], above, ap, append_assoc, arch, arith}
+use Rattle.spec_laws.proofs.Common.{arrives, as_many, at_place, below, div-div-eq-div-mul, drop, from_gather, from_map, head_of, heads, in_gather, in_map, in_place, in_runs, inl, inr, labels_of, layers, length, map}
+use Rattle.spec_laws.proofs.Common.{mapped_pages, mul-div_cancel, mul-one, mul_assoc, objects_from, one_table, place, place_of, refl, root_of, root_span, runs, shapes, shapes_fit, shapes_stack, sizes, slice_get, span, span_some, spec_of}
+use Rattle.spec_laws.proofs.Common.{subst, suc, sym, system, table_of, tables_at, tables_counted, tables_exact, upper, upper_below, uppers, zero, ℕ, ◌*◌, ◌++◌, ◌+◌, ◌/◌, ◌<◌, ◌↔◌, ◌∙◌, ◌∷◌, ◌≡◌}
 use Rattle.arch_policy.specs.declared.owner.Owner.TheVariants as owners
 use Rattle.page_tables.specs.Levels.{numbered}
 use Rattle.spec_laws.proofs.Finding.{from_maps, in_maps, mapping, maps, maps_below, some_map}
-use Rattle.spec_laws.proofs.Labels.{label_is, moved}
+use Rattle.spec_laws.proofs.Labels.{label_at, moved}
 use Rattle.spec_laws.proofs.Paging.{is_mapped, mapped_is}
-use Rattle.spec_laws.proofs.Rooted.{frames_from, from_root, table_in, tables_of_domain}
+use Rattle.spec_laws.proofs.Rooted.{frames_from, from_root, tables_of_domain}
 
 -- ---- levels above others
 
@@ -146,10 +146,8 @@ module _ (t : Tables) (can : CanMap t) where
   table_label d n x h l =
       let long : length (tables_of_domain t d) ≡ length (tables_at t 0 0 d) = tables_counted t (root_of t d) (frames_from t) d
       ∙ sym (tables_counted t 0 0 d) in
-      let o = at_place (tables_at t 0 0 d) n (omega (arith, long, l)) in
-      let p = table_part (all_tables t) (before (domain_tables t) t.flat.domains d + n) (page_table d n (level_of o.0)) in
-      let at : place t (TableOf d n) ≡ root_of t d + n = omega arith in
-      moved t (place t (TableOf d n)) (root_of t d + n) (owners.OfDomain d) at (label_is t p (table_in t d x h n o.0 o.1))
+      moved t (place t (TableOf d n)) (root_of t d + n) (owners.OfDomain d) (omega arith)
+      (label_at t (TableOf d n) ((x, h), at_place (tables_at t 0 0 d) n (omega (arith, long, l))))
 
   table_labels : AreTableLabels t (spec_of t) (root_of t) (labels_of t)
   table_labels = λ d v j n x l ls h b e a.

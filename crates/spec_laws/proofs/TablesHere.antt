@@ -1,5 +1,6 @@
 -- What the page tables of a domain hold: tables of the same domain, and its pages; and that each of its pages is held.
-use Rattle.spec_laws.proofs.Common.{Aarch64, Arch, Arm11, Cap, Contains, Directory, Domain, FrameOf, Global, InTable, IsIn, IsThere, Level, List, Mapping, None, Object, Option, Page, Shape, Some, Table, TableOf, Tables, Upper, [], ap, arch, arith}
+use Rattle.std.proofs.Common.{rules}
+use Rattle.spec_laws.proofs.Common.{Aarch64, Arch, Arm11, Cap, Contains, Directory, Domain, FrameOf, Global, InTable, IsIn, IsThere, Level, List, Mapping, Object, Option, Page, Shape, Some, Table, TableOf, Tables, Upper, [], ap, arch, arith}
 use Rattle.spec_laws.proofs.Common.{at_contains, at_place, contains_at, domain_label, from_map, in_map, in_place, in_tables, inl, inr, label_of, linked_none, map, object, object_at, object_there, page_mapping, page_rights, pages_at, place, place_of}
 use Rattle.spec_laws.proofs.Common.{policy_tables, refl, shape, shapes, slice_get, slice_get_within, slot_of, slots_lead, spec_of, subst, sym, tables_at, tables_of, ℕ, ◌+◌, ◌^◌, ◌∙◌, ◌∷◌, ◌≡◌, ◌⊎◌}
 use Rattle.cap_model.specs.Auth.{table_of as slots_of}
@@ -36,10 +37,7 @@ module _ (t : Tables) where
     pub holds : IsPageCap domain held ⊎ IsTableCap domain held
 
   page_cap_of : (d : ℕ) (m : Mapping) → IsIn m (mappings d) → IsPageCap d m.cap
-  page_cap_of d m i =
-      let p = from_map (page_mapping frame_first) m (pages_at t d) i in
-      let object : m.cap.object ≡ frame_first + p.0.frame = ap (λ (z : Mapping). z.cap.object) (sym p.2) in
-      record { page = p.0; there = p.1; object = omega (arith, object); rights = ap (λ (z : Mapping). z.cap.rights) (sym p.2) }
+  page_cap_of d m i = search (rules, from_map)
 
   of_slot : (d : ℕ) (x : Domain) (level : Level) (slots : List (ℕ × Cap)) (slot : ℕ × Cap) → slice_get t.flat.domains d ≡ Some x
       → IsIn (objects.Pages level slots) (standing t d) → IsIn slot slots → IsPageCap d slot.1 ⊎ IsTableCap d slot.1

@@ -1,11 +1,10 @@
 -- Each page table is one that some page needs, and tables of a level stand by domain and address
-use Rattle.spec_laws.proofs.Common.{AreShapes, AreStacked, AreTablesInOrder, Arrives, Ascends, Bool, CanMap, Cap, Directory, Domain, Global, IsBefore, IsIn, IsNamed, IsTableFor, IsTableOfSpace, IsThere}
-use Rattle.spec_laws.proofs.Common.{Level, List, MappedPage, Mapping, Object, Page, PageTable, Rises, Shape, Some, Table, TableOf, Tables, Upper, [], above, all_tables, ap}
-use Rattle.spec_laws.proofs.Common.{append_assoc, arch, arith, arrives, as_many, at_place, before, below, cases_lt, cond, count_by, domain_tables, drop, eq-eqb, eqb-true, false, first_of, from_ones, from_place, from_runs, gather}
-use Rattle.spec_laws.proofs.Common.{gather_ones, gathered, get_ones, head_of, heads, in_place, inl, inr, is_of, kind_of_object, layers, length, level_number, level_of, level_series, map, mapped_pages, mul-le-mul_right, name_at, name_of, object}
-use Rattle.spec_laws.proofs.Common.{object_at, object_there, objects_from, objects_stand, of_level, one_table, page_mapping, page_table, parts, place, refl, root_of, root_span, runs, shapes, shapes_fit, shapes_stack, sizes}
-use Rattle.spec_laws.proofs.Common.{slice_get, span, span_some, spec_of, subst, suc, sym, system, table_of, table_part, tables_at, tables_counted, tables_rise, take, true, upper, upper_below, uppers, zero, ℕ, ◌++◌, ◌+◌, ◌-◌, ◌/◌}
-use Rattle.spec_laws.proofs.Common.{◌<◌, ◌∙◌, ◌∷◌, ◌≡◌, ◌≤◌}
+use Rattle.spec_laws.proofs.Common.{AreShapes, AreStacked, AreTablesInOrder, Arrives, Ascends, Bool, CanMap, Cap, Directory, Domain, Global, IsBefore, IsIn, IsNamed, IsTableFor, IsTableOfSpace, IsThere, Level, List, MappedPage, Mapping, Object, Page}
+use Rattle.spec_laws.proofs.Common.{PageTable, Rises, Shape, Some, Table, TableOf, Tables, Upper, [], above, all_tables, ap, append_assoc, arch, arith, arrives, as_many, at_place, before, below, cases_lt, cond, count_by, domain_tables, drop, eq-eqb}
+use Rattle.spec_laws.proofs.Common.{eqb-true, false, first_of, from_ones, from_place, from_runs, gather, gather_ones, gathered, get_ones, head_of, heads, in_place, inl, inr, is_of, kind_of_object, layers, length, level_number, level_of, level_series}
+use Rattle.spec_laws.proofs.Common.{map, mapped_pages, mul-le-mul_right, name_at, name_of, object, object_at, object_there, objects_from, objects_stand, of_level, one_table, page_mapping, page_table, parts, place, refl, root_of, root_span, runs}
+use Rattle.spec_laws.proofs.Common.{shapes, shapes_fit, shapes_stack, sizes, slice_get, span, span_some, spec_of, subst, suc, sym, system, table_of, table_part, tables_at, tables_counted, tables_rise, take, true, upper, upper_below, uppers, zero, ℕ}
+use Rattle.spec_laws.proofs.Common.{◌++◌, ◌+◌, ◌-◌, ◌/◌, ◌<◌, ◌∙◌, ◌∷◌, ◌≡◌, ◌≤◌}
 use Rattle.cap_model.specs.declared.kind.Kind.TheVariants as kinds
 use Rattle.cap_model.specs.declared.object.Object.TheVariants as objects
 use Rattle.page_tables.specs.Levels.{numbered}
@@ -145,21 +144,20 @@ attained : (p : PageTable → Bool) (xs : List PageTable) (a n : ℕ) → n < co
 attained p [] zero n l = absurd (omega (arith, l))
 attained p [] (suc a) n l = absurd (omega (arith, l))
 attained p (y ∷ ys) zero n l = absurd (omega (arith, l))
-attained p (y ∷ ys) (suc a) n l = by_test (p y) refl n l (λ m k. attained p ys a m k)
-  where
-    by_test : (b : Bool) → p y ≡ b → (n : ℕ) → n < count_by p (y ∷ take a ys)
-        → ((m : ℕ) → m < count_by p (take a ys) → (b : ℕ) × (x : PageTable) × (slice_get ys b ≡ Some x) × (p x ≡ true)
-        × (count_by p (take b ys) ≡ m))
-        → (b : ℕ) × (x : PageTable) × (slice_get (y ∷ ys) b ≡ Some x) × (p x ≡ true) × (count_by p (take b (y ∷ ys)) ≡ n)
-    by_test true e zero l more = (0, y, refl, e, refl)
-    by_test true e (suc n) l more =
-        let one : ones p y ≡ 1 = ap (λ z. cond z 1 0) e in
-        let r = more n (omega (arith, l, count_cons p y (take a ys), one)) in
-        (suc r.0, r.1, r.2, r.3, omega (arith, count_cons p y (take r.0 ys), one, r.4))
-    by_test false e n l more =
-        let no : ones p y ≡ 0 = ap (λ z. cond z 1 0) e in
-        let r = more n (omega (arith, l, count_cons p y (take a ys), no)) in
-        (suc r.0, r.1, r.2, r.3, omega (arith, count_cons p y (take r.0 ys), no, r.4))
+attained p (y ∷ ys) (suc a) n l = by_test (p y) refl n l (λ m k. attained p ys a m k) where
+  by_test : (b : Bool) → p y ≡ b → (n : ℕ) → n < count_by p (y ∷ take a ys)
+      → ((m : ℕ) → m < count_by p (take a ys) → (b : ℕ) × (x : PageTable) × (slice_get ys b ≡ Some x) × (p x ≡ true)
+      × (count_by p (take b ys) ≡ m))
+      → (b : ℕ) × (x : PageTable) × (slice_get (y ∷ ys) b ≡ Some x) × (p x ≡ true) × (count_by p (take b (y ∷ ys)) ≡ n)
+  by_test true e zero l more = (0, y, refl, e, refl)
+  by_test true e (suc n) l more =
+      let one : ones p y ≡ 1 = ap (λ z. cond z 1 0) e in
+      let r = more n (omega (arith, l, count_cons p y (take a ys), one)) in
+      (suc r.0, r.1, r.2, r.3, omega (arith, count_cons p y (take r.0 ys), one, r.4))
+  by_test false e n l more =
+      let no : ones p y ≡ 0 = ap (λ z. cond z 1 0) e in
+      let r = more n (omega (arith, l, count_cons p y (take a ys), no)) in
+      (suc r.0, r.1, r.2, r.3, omega (arith, count_cons p y (take r.0 ys), no, r.4))
 
 -- an object of a level's kind is a table of the level
 from_kind : (o : Object) (l : Level) → kind_of_object o ≡ kinds.Pages l → (slots : List (ℕ × Cap)) × (o ≡ objects.Pages l slots)

@@ -1,4 +1,5 @@
 -- Page tables hold frames and tables of the next level, each in a slot of its own, and the root of a space stands first.
+use Rattle.std.proofs.Common.{rules}
 use Rattle.spec_laws.proofs.Common.{Aarch64, Arch, Arm11, Bool, Cap, Directory, Domain, FrameOf, Global, IsChild, IsFit, IsIn, IsThere, Layer, Level, List, Mapping, NONE, Object, Page, Rights, Rises, Some, Table, TableOf, Tables, Upper, [], and_from}
 use Rattle.spec_laws.proofs.Common.{ap, arch, arith, at_place, cap, child, div-add-mod, eq-eqb, false, fits_as, frame_object, from_map, get_or_from_slice_get, in_append, in_place, inl, inr, is_root_object, is_space_root, keeps, keeps_table}
 use Rattle.spec_laws.proofs.Common.{kept_rise, kind_number, kind_of_object, kind_rights, layers, length, list_all, lt-ltb, map, nat_lt, object, object_there, option_map_or, page_mapping, page_rights, pages_at, place, refl, rise, root_first}
@@ -103,13 +104,10 @@ module _ (t : Tables) where
 
     root_there : (ms : List Mapping) → ms ≡ mappings → (p : Page) → IsIn p (pages_at t d)
         → (o : Object) × (slice_get (standing d) 0 ≡ Some o) × (is_root_object (arch t) (Some o) ≡ true)
-    root_there [] e p i = absurd (none (pages_at t d) i e)
-      where
-        none : (ps : List Page) → IsIn p ps → [] ≡ map (page_mapping (place t (FrameOf 0))) ps → ⊥
-        none [] i e = i
-        none (q ∷ ps) i e = let long : length (map (page_mapping (place t (FrameOf 0))) []) ≡ length
-            (map (page_mapping (place t (FrameOf 0))) (q ∷ ps)) = ap (λ (z : List Mapping). length z) e in
-            absurd (omega (arith, long))
+    root_there [] e p i = absurd (none (pages_at t d) i e) where
+      none : (ps : List Page) → IsIn p ps → [] ≡ map (page_mapping (place t (FrameOf 0))) ps → ⊥
+      none [] i e = i
+      none (q ∷ ps) i e = search (rules)
     root_there (m ∷ ms) e p i =
         let first = place t (TableOf d 0) in
         let r = root_of (arch t) m ms first (λ y j. below y (subst (λ z. IsIn y z) e j)) in
@@ -136,14 +134,13 @@ module _ (t : Tables) where
 
     -- pages are read and written at most
     page_suits : (p : Page) → within (page_rights p) (kind_rights kinds.Frame) ≡ true
-    page_suits p = by_test p.read p.write
-      where
-        by_test : (r w : Bool) → within (record { read = r; write = w; grant = false; reply = false })
-            (kind_rights kinds.Frame) ≡ true
-        by_test true true = refl
-        by_test true false = refl
-        by_test false true = refl
-        by_test false false = refl
+    page_suits p = by_test p.read p.write where
+      by_test : (r w : Bool) → within (record { read = r; write = w; grant = false; reply = false })
+          (kind_rights kinds.Frame) ≡ true
+      by_test true true = refl
+      by_test true false = refl
+      by_test false true = refl
+      by_test false false = refl
 
     page_fits : (level : Level) (c : Cap) → level ≡ Table → (y : Mapping) → IsIn y mappings → c ≡ y.cap
         → fits_as (spec_of t) (child level) c ≡ true

@@ -1,4 +1,5 @@
 -- No two parts have one name.
+use Rattle.std.proofs.Common.{rules}
 use Rattle.spec_laws.proofs.Common.{Bool, Entry, IsIn, List, Part, Some, Tables, [], and_from, ap, arith, bytes_eq, bytes_eq-Decides, differ, entry, false, false_from_ne_true, flat_map, from_get_map, length, list_any, map, names_differ, not}
 use Rattle.spec_laws.proofs.Common.{not_from_false, or_from, part_name, parts, place_of, rank, refl, same_Some, sections, slice_get, spec_of, subst, suc, sym, take, true, ℕ, ◌+◌, ◌<◌, ◌^◌, ◌∙◌, ◌∷◌, ◌≡◌}
 use Rattle.spec_laws.proofs.Names.{same_number, same_series}
@@ -51,10 +52,7 @@ module _ (t : Tables) (few : length t.flat.connections < 2 ^ 32) (all : length (
       (section_told a.section a.list a.is).number a.place p a.stands
 
   names_apart : differ bytes_eq (map part_name (parts t)) ≡ true
-  names_apart = apart bytes_eq (map part_name (parts t)) (λ m n x y e f s.
-      let p = from_get_map part_name (parts t) m x e in
-      let q = from_get_map part_name (parts t) n y f in
-      names_tell m n p.0 q.0 p.1 q.1 (p.2 ∙ sym ((bytes_eq-Decides y x).0 s) ∙ sym q.2))
+  names_apart = search (rules, apart, from_get_map, names_tell, bytes_eq-Decides)
 
   names_of : (ps : List Part) → map (λ (e : Entry). e.name) (map (entry t) ps) ≡ map part_name ps
   names_of [] = refl

@@ -120,11 +120,10 @@ module _ (t : Tables) (can : CanMap t) where
 
   pub thread_domain : (d i : ℕ) (y : ThreadOf) → slice_get (threads_of (system t) d) i ≡ Some y
       → (x : Domain) × (slice_get t.flat.domains d ≡ Some x)
-  thread_domain d i y e = has_domain t d not_none
-    where
-      not_none : leaves_of t.flat d ≡ [] → ⊥
-      not_none leaves =
-          let f = subst (λ z. slice_get z i ≡ Some y) (ap (λ ls. threads_in t.flat (ends (system t)) ls) leaves) e in cc
+  thread_domain d i y e = has_domain t d not_none where
+    not_none : leaves_of t.flat d ≡ [] → ⊥
+    not_none leaves =
+        let f = subst (λ z. slice_get z i ≡ Some y) (ap (λ ls. threads_in t.flat (ends (system t)) ls) leaves) e in cc
 
   numbers_are : AreThreadsNumbered t (spec_of t) (map_lines t)
   numbers_are = λ d i at y e j.

@@ -101,31 +101,31 @@ module _ (t : Tables) (can : CanMap t) where
 
   pub once_threads : (d : ℕ) (x : Domain) → slice_get t.flat.domains d ≡ Some x → Once (threads_of (system t) d)
   once_threads d x h =
-      let leaves = subst (λ z. Once z) (sym (leaves_are (system t) d x h)) (λ i j leaf a b. can.grouped.once d i j leaf x h a b) in
+      let leaves = subst (λ z. Once z) (sym (leaves_are (system t) d x h))
+      (λ i j leaf a b. can.grouped.once d i j leaf x h a b) in
       once_flat (leaf_threads t.flat all) (leaves_of t.flat d) leaves
       (λ leaf i. (
       let g = can.grouped.listed d leaf x h (subst (λ z. IsIn leaf z) (leaves_are (system t) d x h) i) in
       of_leaf leaf g.0 g.1))
-      (λ l m y i j. sym (thread_leaf (system t) l y i) ∙ thread_leaf (system t) m y j)
-    where
-      none : (leaf : ℕ) (y : ThreadOf) → thread leaf None ≡ y → (e : EndAt) → thread leaf (Some e) ≡ y → ⊥
-      none leaf y a e b = let nothing : Option EndAt = None in let f : nothing ≡ Some e =
-          ap (λ (z : ThreadOf). z.end) (a ∙ sym b) in cc
+      (λ l m y i j. sym (thread_leaf (system t) l y i) ∙ thread_leaf (system t) m y j) where
+        none : (leaf : ℕ) (y : ThreadOf) → thread leaf None ≡ y → (e : EndAt) → thread leaf (Some e) ≡ y → ⊥
+        none leaf y a e b = let nothing : Option EndAt = None in let f : nothing ≡ Some e =
+            ap (λ (z : ThreadOf). z.end) (a ∙ sym b) in cc
 
-      once_server : (leaf : ℕ) (e : EndAt) → Once (server t.flat leaf e)
-      once_server leaf e = once_if (serves t.flat e) (thread leaf (Some e))
+        once_server : (leaf : ℕ) (e : EndAt) → Once (server t.flat leaf e)
+        once_server leaf e = once_if (serves t.flat e) (thread leaf (Some e))
 
-      of_leaf : (leaf : ℕ) (found : Leaf) → slice_get t.flat.leaves leaf ≡ Some found → Once (leaf_threads t.flat all leaf)
-      of_leaf leaf found g =
-          let P : List EndAt → Type 0 = λ z. Once z in
-          let ends_once =
-          subst P (sym (ends_are t leaf found g)) (once_leaf t.flat.connections leaf (leaf_members t.source t.flat leaf)) in
-          let served = once_flat (server t.flat leaf) (ends_at all leaf) ends_once (λ e i. once_server leaf e) (λ e f y i j. (
-          let q : Some e ≡ Some f = ap (λ (z : ThreadOf). z.end) ((server_is leaf e y i).1 ∙ sym (server_is leaf f y j).1) in
-          cc)) in
-          once_cons (thread leaf None) (flat_map (server t.flat leaf) (ends_at all leaf)) served
-          (λ i. let b = from_flat_map (server t.flat leaf) (thread leaf None) (ends_at all leaf) i in
-          none leaf (thread leaf None) refl b.0 (server_is leaf b.0 (thread leaf None) b.2).1)
+        of_leaf : (leaf : ℕ) (found : Leaf) → slice_get t.flat.leaves leaf ≡ Some found → Once (leaf_threads t.flat all leaf)
+        of_leaf leaf found g =
+            let P : List EndAt → Type 0 = λ z. Once z in
+            let ends_once =
+            subst P (sym (ends_are t leaf found g)) (once_leaf t.flat.connections leaf (leaf_members t.source t.flat leaf)) in
+            let served = once_flat (server t.flat leaf) (ends_at all leaf) ends_once (λ e i. once_server leaf e) (λ e f y i j. (
+            let q : Some e ≡ Some f = ap (λ (z : ThreadOf). z.end) ((server_is leaf e y i).1 ∙ sym (server_is leaf f y j).1) in
+            cc)) in
+            once_cons (thread leaf None) (flat_map (server t.flat leaf) (ends_at all leaf)) served
+            (λ i. let b = from_flat_map (server t.flat leaf) (thread leaf None) (ends_at all leaf) i in
+            none leaf (thread leaf None) refl b.0 (server_is leaf b.0 (thread leaf None) b.2).1)
 
   -- ---- lines
 

@@ -1,6 +1,7 @@
 -- What threads have is of their own domains.
+use Rattle.std.proofs.Common.{rules}
 use Rattle.spec_laws.proofs.Common.{Authority, Buffer, CNodeOf, Cap, Domain, FrameOf, Given, IsConnected, IsIn, IsThere, List, MappedPage, None, Object, OfThreads, Option, Own, Page, RW, Region, Some, TableOf, Tables, Tcb, ThreadOf, ThreadPlace, []}
-use Rattle.spec_laws.proofs.Common.{ap, arith, at_entry, base, boot_thread, buffer_cap, buffer_of, buffer_start, cap, domain_label, eqb-true, find, flat_map, found, frame_at, get_behind, get_front, inl, inr, label_of, map, mapped_pages, no_thread}
+use Rattle.spec_laws.proofs.Common.{ap, arith, at_entry, base, boot_thread, buffer_of, buffer_start, cap, domain_label, eqb-true, find, flat_map, found, frame_at, get_behind, get_front, inl, inr, label_of, map, mapped_pages, no_thread}
 use Rattle.spec_laws.proofs.Common.{number_of, number_shown, object, object_at, option_map, option_map_or, page, page_of, pages_at, place, place_of, policy_tables, refl, region, region_start, regions, slice_get, spec_of, subst, suc, sym, tcb}
 use Rattle.spec_laws.proofs.Common.{thread_regions, threads_at, threads_of, window_region, windows_of, zero, ℕ, ◌*◌, ◌+◌, ◌==◌, ◌∙◌, ◌∷◌, ◌≡◌}
 use Rattle.cap_model.specs.declared.object.Object.TheVariants as objects
@@ -106,10 +107,7 @@ module _ (t : Tables) (h : IsConnected t) where
   from_frame d pages at held e = go (find (λ (p : Page). p.vaddr == at) pages) refl where
     go : (o : Option Page) → find (λ (p : Page). p.vaddr == at) pages ≡ o → (p : Page) × IsIn p pages × (p.vaddr ≡ at)
         × (held.object ≡ place t (FrameOf p.frame))
-    go None q = absurd (
-        let w : ◌≡◌ {A = Option Cap} None (Some held) =
-        sym (ap (λ z. option_map (λ f. cap (place t (FrameOf f)) RW 0) (option_map (λ (p : Page). p.frame) z)) q) ∙ e in
-        cc)
+    go None q = search (rules)
     go (Some p) q =
         let f = found (λ (p : Page). p.vaddr == at) pages p q in
         let w : Some (cap (place t (FrameOf p.frame)) RW 0) ≡ Some held =

@@ -136,9 +136,8 @@ total_one f (y ∷ ys) x (inr i) = let ih = total_one f ys x i in omega (arith, 
 -- sums of sums, the other way round
 pub totals_swap : {X Y : Type 0} (f : ℕ → X → Y → ℕ) (xs : List X) (ys : List Y)
     → totals (λ k x. total (λ y. f k x y) ys) xs ≡ total (λ y. totals (λ k x. f k x y) xs) ys
-totals_swap f xs [] = totals_const 0 xs ∙ none (length xs)
-  where
-    none : (n : ℕ) → 0 * n ≡ 0
-    none n = omega arith
+totals_swap f xs [] = totals_const 0 xs ∙ none (length xs) where
+  none : (n : ℕ) → 0 * n ≡ 0
+  none n = omega arith
 totals_swap {X} {Y} f xs (y ∷ ys) = totals_add (λ k x. f k x y) (λ k x. total (λ z. f k x z) ys) xs
     ∙ ap (λ n. totals (λ k x. f k x y) xs + n) (totals_swap f xs ys)

@@ -1,6 +1,7 @@
 -- The uses of a domain are those of the ends that join its leaves, and its locks.
+use Rattle.std.proofs.Common.{rules}
 use Rattle.spec_laws.proofs.Common.{Bool, Connector, Flat, FlatConnection, FlatEnd, Handler, Interrupt, IsIn, Leaf, List, Member, Notification, OfEnd, OwnLock, Role, Rpc, SlotUse, Some, Source, To, []}
-use Rattle.spec_laws.proofs.Common.{and_from, and_parts, ap, cond, domain_uses, end_uses, eq-eqb, eqb-true, false, from_gather, gather, in_append, in_gather, in_left, in_place, in_right, inl, inr, is_lock, joined_uses, joins, leaf_members, leaf_uses}
+use Rattle.spec_laws.proofs.Common.{and_from, and_parts, ap, cond, domain_uses, end_uses, eq-eqb, eqb-true, false, from_gather, gather, in_append, in_gather, in_left, in_place, in_right, inl, inr, joined_uses, joins, leaf_members, leaf_uses}
 use Rattle.spec_laws.proofs.Common.{lock_uses, member_uses, members_at, members_of_leaf, place_of, refl, slice_get, subst, sym, true, true≢false, ℕ, ◌∙◌, ◌≡◌, ◌⊎◌}
 use lib.Dec.{eqb}
 use Rattle.adl_ast.specs.declared.component.Lock.{Lock}
@@ -24,9 +25,7 @@ IsLock ms leaf u = (m : ℕ) × (u ≡ OwnLock leaf m) × (x : Lock) × (slice_g
 
 from_joined : (leaf m k n : ℕ) (c : FlatConnection) (e : FlatEnd) (u : SlotUse) → IsIn u (joined_uses leaf m k c.connector n e)
     → (e.leaf ≡ leaf) × IsIn u (end_uses c.connector e.role k n)
-from_joined leaf m k n c e u i =
-    let q = from_if (joins leaf m e) (end_uses c.connector e.role k n) u i in
-    (eqb-true e.leaf leaf (and_parts (eqb e.leaf leaf) (eqb e.member m) q.0).0, q.1)
+from_joined leaf m k n c e u i = search (rules, from_if, eqb-true, and_parts, eqb)
 
 in_joined : (leaf m k n : ℕ) (c : FlatConnection) (e : FlatEnd) (u : SlotUse) → e.leaf ≡ leaf → e.member ≡ m
     → IsIn u (end_uses c.connector e.role k n) → IsIn u (joined_uses leaf m k c.connector n e)
@@ -35,24 +34,15 @@ in_joined leaf m k n c e u l q i =
     (sym (and_from (eqb e.leaf leaf) (eqb e.member m) (eq-eqb e.leaf leaf l) (eq-eqb e.member m q))) i
 
 from_member : (cs : List FlatConnection) (leaf m : ℕ) (u : SlotUse) → IsIn u (member_uses cs leaf m) → UseOf cs leaf u
-from_member cs leaf m u i =
-    let k = from_gather (λ k (c : FlatConnection). gather (λ n e. joined_uses leaf m k c.connector n e) c.ends) u cs i in
-    let n = from_gather (λ n e. joined_uses leaf m k.0 k.1.connector n e) u k.1.ends k.3 in
-    let j = from_joined leaf m k.0 n.0 k.1 n.1 u n.3 in
-    record { place = k.0; connection = k.1; here = k.2; number = n.0; end = n.1; stands = n.2; joins = j.0; use_is = j.1 }
+from_member cs leaf m u i = search (rules, from_gather, from_joined)
 
 in_member : (cs : List FlatConnection) (leaf m : ℕ) (u : SlotUse) (o : UseOf cs leaf u) → o.end.member ≡ m
     → IsIn u (member_uses cs leaf m)
-in_member cs leaf m u o q =
-    in_gather (λ k (c : FlatConnection). gather (λ n e. joined_uses leaf m k c.connector n e) c.ends) u cs o.place o.connection
-    o.here (in_gather (λ n e. joined_uses leaf m o.place o.connection.connector n e) u o.connection.ends o.number o.end o.stands
-    (in_joined leaf m o.place o.number o.connection o.end u o.joins q o.use_is))
+in_member cs leaf m u o q = search (rules, in_gather, in_joined)
 
 from_lock : (ms : List Member) (leaf m : ℕ) (member : Member) (u : SlotUse) → slice_get ms m ≡ Some member
     → IsIn u (lock_uses leaf m member) → IsLock ms leaf u
-from_lock ms leaf m member u s i =
-    let q = shown_if (is_lock member) (OwnLock leaf m) u i in
-    let w = lock_of_member member q.0 in (m, sym q.1, w.0, s ∙ ap (λ z. Some z) w.1)
+from_lock ms leaf m member u s i = search (rules, shown_if, lock_of_member)
 
 pub from_leaf : (cs : List FlatConnection) (leaf : ℕ) (ms : List Member) (u : SlotUse) → IsIn u (leaf_uses cs leaf ms)
     → UseOf cs leaf u ⊎ IsLock ms leaf u
@@ -73,9 +63,7 @@ in_leaf cs leaf ms u o member s =
 
 pub from_domain : (source : Source) (flat : Flat) (leaves : List ℕ) (u : SlotUse) → IsIn u (domain_uses source flat leaves)
     → (leaf : ℕ) × IsIn leaf leaves × (UseOf flat.connections leaf u ⊎ IsLock (leaf_members source flat leaf) leaf u)
-from_domain source flat leaves u i =
-    let l = from_gather (λ i leaf. leaf_uses flat.connections leaf (leaf_members source flat leaf)) u leaves i in
-    (l.1, in_place l.1 leaves l.0 l.2, from_leaf flat.connections l.1 (leaf_members source flat l.1) u l.3)
+from_domain source flat leaves u i = search (rules, from_gather, in_place, from_leaf)
 
 pub in_domain : (source : Source) (flat : Flat) (leaves : List ℕ) (u : SlotUse) (leaf : ℕ) (found : Leaf)
     (o : UseOf flat.connections leaf u) (member : Member) → IsIn leaf leaves → slice_get flat.leaves leaf ≡ Some found

@@ -1,7 +1,6 @@
 -- What the slots of a domain lead to: ends of connections that have a slot, interrupts, and locks.
-use Rattle.spec_laws.proofs.Common.{Domain, FlatConnection, FlatEnd, Handler, Interrupt, IsIn, List, OfEnd, OwnLock, SlotPlan, SlotUse, Some, Tables}
-use Rattle.spec_laws.proofs.Common.{[], ap, domain_uses, get_map, in_place, inl, inr, option_map_or, plan_of}
-use Rattle.spec_laws.proofs.Common.{slice_get, slots_of, subst, true, uses_at, ℕ, ◌∙◌, ◌≡◌, sym}
+use Rattle.std.proofs.Common.{rules}
+use Rattle.spec_laws.proofs.Common.{Domain, FlatConnection, FlatEnd, Handler, Interrupt, IsIn, List, OfEnd, OwnLock, SlotUse, Some, Tables, domain_uses, get_map, in_place, inl, inr, slice_get, slots_of, subst, true, uses_at, ℕ, ◌≡◌, sym}
 use Rattle.spec_laws.proofs.Used.{UseOf, from_domain, from_end_uses, has_slot}
 
 pub record IsEnd (cs : List FlatConnection) (k n : ℕ) : Type 0 where
@@ -30,16 +29,13 @@ of_end cs leaf u o =
 -- the uses of a domain are those of the flat system
 pub uses_are : (t : Tables) → t.slots ≡ slots_of t.source t.flat → (d : ℕ) (x : Domain) → slice_get t.flat.domains d ≡ Some x
     → uses_at t d ≡ domain_uses t.source t.flat x.leaves
-uses_are t laid d x h =
-    let plan : slice_get t.slots.domains d ≡ Some (plan_of (domain_uses t.source t.flat x.leaves)) =
-    ap (λ s. slice_get s.domains d) laid ∙ get_map (λ (z : Domain). plan_of (domain_uses t.source t.flat z.leaves))
-    t.flat.domains d x h in
-    ap (λ p. option_map_or (λ (z : SlotPlan). z.uses) p []) plan
+uses_are t laid d x h = search (rules, get_map)
 
 pub is_use : (t : Tables) → t.slots ≡ slots_of t.source t.flat → (d : ℕ) (x : Domain) → slice_get t.flat.domains d ≡ Some x
     → (n : ℕ) (u : SlotUse) → slice_get (uses_at t d) n ≡ Some u → IsUse t.flat.connections u
 is_use t laid d x h n u s =
-    let f = from_domain t.source t.flat x.leaves u (subst (λ z. IsIn u z) (uses_are t laid d x h) (in_place u (uses_at t d) n s)) in
+    let f = from_domain t.source t.flat x.leaves u (subst (λ z. IsIn u z) (uses_are t laid d x h)
+    (in_place u (uses_at t d) n s)) in
     elim f.2 [
       | inl o ↦ of_end t.flat.connections f.0 u o
       | inr lock ↦ subst (IsUse t.flat.connections) (sym lock.1) tt

@@ -1,10 +1,9 @@
 -- What stands at a place of the spec, and whose label it has.
-use Rattle.spec_laws.proofs.Common.{CNodeOf, EndpointOf, Entry, FrameInfo, FrameOf, IrqOf, IsIn, IsThere, Layer, List, LockOf, None, NotificationOf, Object}
-use Rattle.spec_laws.proofs.Common.{OfConnection, OfDomain, OfLeaf, Option, Owner, Part, Some, Spec, TableOf, Tables, ThreadOf, What, [], ap, arch, arith}
-use Rattle.spec_laws.proofs.Common.{endpoint, entry, entry_at, entry_object, frame_object, frame_owner, from_get_map, from_map, get_or}
-use Rattle.spec_laws.proofs.Common.{has_part, in_append, in_place, inl, inr, irq, irq_owner, label_of, labels_of, layers, lock, map, notification, number_of, object, object_at}
-use Rattle.spec_laws.proofs.Common.{option_map_or, page_mapping, pages_at, part_label, parts, place, place_is, refl, shapes, sizes, slice_get, slice_index, spec_of, stands, subst, suc, sym, table_of}
-use Rattle.spec_laws.proofs.Common.{tcb, there, zero, ℕ, ◌+◌, ◌∙◌, ◌∷◌, ◌≡◌, ◌⊎◌}
+use Rattle.std.proofs.Common.{rules}
+use Rattle.spec_laws.proofs.Common.{CNodeOf, EndpointOf, Entry, FrameInfo, FrameOf, IrqOf, IsIn, IsThere, Layer, List, LockOf, None, NotificationOf, Object, OfConnection, OfDomain, OfLeaf, Option, Owner, Part, Some, Spec, TableOf, Tables, ThreadOf}
+use Rattle.spec_laws.proofs.Common.{What, [], ap, arch, arith, endpoint, entry, entry_at, entry_object, frame_object, frame_owner, from_get_map, from_map, get_or, has_part, in_append, in_place, inl, inr, irq, irq_owner, label_of, labels_of, layers}
+use Rattle.spec_laws.proofs.Common.{lock, map, notification, number_of, object, object_at, option_map_or, page_mapping, pages_at, part_label, parts, place, place_is, refl, shapes, sizes, slice_get, slice_index, spec_of, stands, subst, suc, sym}
+use Rattle.spec_laws.proofs.Common.{table_of, tcb, there, zero, ℕ, ◌+◌, ◌∙◌, ◌∷◌, ◌≡◌, ◌⊎◌}
 use Rattle.cap_model.specs.declared.object.Object.TheVariants as objects
 use Rattle.page_tables.specs.Levels.{numbered as tables_numbered}
 use Rattle.spec_laws.proofs.EachPart.{of_every}
@@ -124,10 +123,7 @@ pub object_stands : (t : Tables) (o : ℕ) (x : Object) → object_at (spec_of t
 object_stands t o x h = go (slice_get (spec_of t).entries o) refl where
   go : (e : Option Entry) → slice_get (spec_of t).entries o ≡ e → IsAt t o x
   go None there = absurd (let w : entry_object None ≡ Some x = subst (λ z. entry_object z ≡ Some x) there h in cc)
-  go (Some entry) there =
-      let w : entry_object (Some entry) ≡ Some x = subst (λ z. entry_object z ≡ Some x) there h in
-      let same : entry.object ≡ x = cc in
-      subst (λ z. IsAt t o z) same (entry_is t o entry there)
+  go (Some entry) there = search (rules, entry_is)
 
 -- what boot has for an object that stands
 pub boots : {A : Type 0} (spec : Spec) (f : Object → A) (o : ℕ) (x : Object) (d : A) → object_at spec o ≡ Some x
@@ -135,10 +131,7 @@ pub boots : {A : Type 0} (spec : Spec) (f : Object → A) (o : ℕ) (x : Object)
 boots {A} spec f o x d h = go (slice_get spec.entries o) refl where
   go : (e : Option Entry) → slice_get spec.entries o ≡ e → get_or (map (λ (e : Entry). f e.object) spec.entries) o d ≡ f x
   go None there = absurd (let w : entry_object None ≡ Some x = subst (λ z. entry_object z ≡ Some x) there h in cc)
-  go (Some entry) there =
-      let w : entry_object (Some entry) ≡ Some x = subst (λ z. entry_object z ≡ Some x) there h in
-      let same : entry.object ≡ x = cc in
-      entry_at f spec.entries o d entry there ∙ ap f same
+  go (Some entry) there = search (rules, entry_at)
 
 -- ---- which part it is, by the class of its object
 

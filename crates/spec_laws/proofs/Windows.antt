@@ -1,8 +1,8 @@
 -- The ends that see memory, and the pages of a space that show it.
-use Rattle.spec_laws.proofs.Common.{Connector, EndAt, FlatConnection, FlatEnd, Given, IsIn, List, MappedPage, Memory, None, Option, Own, Region, Shown, Some, [], ap, arith, base, end_in, end_window, ends, ends_at, false}
-use Rattle.spec_laws.proofs.Common.{flat_map, from_flat_map, from_gather, from_map, from_range, in_append, in_place, inl, inr, is_window, leaf_windows, leaves_of, map, mapped_pages, memory_pages, option_and_then, option_map, option_map_or, page_of}
-use Rattle.spec_laws.proofs.Common.{pages_of_region, range_with_len, refl, region_part, regions, section_page, section_pages, section_part, sees_memory, slice_get, subst, thread_regions, threads_of, true, window_pages, window_region, windows_of, ℕ}
-use Rattle.spec_laws.proofs.Common.{⊎_elim, ◌<◌, ◌∷◌, ◌≡◌}
+use Rattle.std.proofs.Common.{rules}
+use Rattle.spec_laws.proofs.Common.{Connector, EndAt, FlatConnection, FlatEnd, Given, IsIn, List, MappedPage, Memory, None, Option, Own, Region, Shown, Some, [], ap, base, end_in, ends, false, flat_map, from_flat_map, from_gather, from_map}
+use Rattle.spec_laws.proofs.Common.{from_range, in_append, in_place, inl, inr, is_window, leaves_of, map, mapped_pages, memory_pages, option_and_then, option_map, option_map_or, page_of, pages_of_region, range_with_len, refl, region_part, regions}
+use Rattle.spec_laws.proofs.Common.{section_page, section_pages, section_part, sees_memory, slice_get, subst, thread_regions, threads_of, true, window_pages, window_region, windows_of, ℕ, ⊎_elim, ◌<◌, ◌∷◌, ◌≡◌}
 use Rattle.vspace_layout.specs.declared.thread.ThreadOf.{ThreadOf}
 use Rattle.spec_laws.proofs.Lists.{shown_if}
 
@@ -15,25 +15,21 @@ pub record IsSeen (g : Given) (e : EndAt) : Type 0 where
   pub window : is_window connection.connector end.role ≡ true
 
 sees : (g : Given) (e : EndAt) → sees_memory g.flat e ≡ true → IsSeen g e
-sees g e s = by_connection (slice_get g.flat.connections e.connection) refl s
-  where
-    by_end : (c : FlatConnection) → slice_get g.flat.connections e.connection ≡ Some c → (o : Option FlatEnd)
-        → slice_get c.ends e.end ≡ o → option_map_or (λ (x : Connector × FlatEnd). is_window x.0 x.1.role)
-        (option_map (λ f. (c.connector, f)) o) false ≡ true → IsSeen g e
-    by_end c at None is s = cc
-    by_end c at (Some f) is s = record { connection = c; there = at; end = f; joined = is; window = s }
+sees g e s = by_connection (slice_get g.flat.connections e.connection) refl s where
+  by_end : (c : FlatConnection) → slice_get g.flat.connections e.connection ≡ Some c → (o : Option FlatEnd)
+      → slice_get c.ends e.end ≡ o → option_map_or (λ (x : Connector × FlatEnd). is_window x.0 x.1.role)
+      (option_map (λ f. (c.connector, f)) o) false ≡ true → IsSeen g e
+  by_end c at None is s = cc
+  by_end c at (Some f) is s = record { connection = c; there = at; end = f; joined = is; window = s }
 
-    by_connection : (o : Option FlatConnection) → slice_get g.flat.connections e.connection ≡ o
-        → option_map_or (λ (x : Connector × FlatEnd). is_window x.0 x.1.role) (option_and_then (end_in e.end) o) false ≡ true
-        → IsSeen g e
-    by_connection None at s = cc
-    by_connection (Some c) at s = by_end c at (slice_get c.ends e.end) refl s
+  by_connection : (o : Option FlatConnection) → slice_get g.flat.connections e.connection ≡ o
+      → option_map_or (λ (x : Connector × FlatEnd). is_window x.0 x.1.role) (option_and_then (end_in e.end) o) false ≡ true
+      → IsSeen g e
+  by_connection None at s = cc
+  by_connection (Some c) at s = by_end c at (slice_get c.ends e.end) refl s
 
 pub seen : (g : Given) (d : ℕ) (e : EndAt) → IsIn e (windows_of g d) → IsSeen g e
-seen g d e i =
-    let a = from_flat_map (leaf_windows g.flat (ends g)) e (leaves_of g.flat d) i in
-    let b = from_flat_map (end_window g.flat) e (ends_at (ends g) a.0) a.2 in
-    let w = shown_if (sees_memory g.flat b.0) b.0 e b.2 in sees g e (subst (λ z. sees_memory g.flat z ≡ true) w.1 w.0)
+seen g d e i = search (rules, from_flat_map, shown_if, sees)
 
 -- its pages are those of the connection's memory
 pub seen_pages : (g : Given) (e : EndAt) (s : IsSeen g e) → window_pages g.flat g.settled e ≡ memory_pages g.settled
@@ -69,11 +65,7 @@ pages_show g d p i =
     subst (λ (z : MappedPage). ShowsHere g d z.shown) s.2 tt) (λ j. let k = from_gather
     (pages_of_region g.settled (base g) (regions g d)) p (regions g d) j in
     by_page k.1 (in_place k.1 (regions g d) k.0 k.2) _ k.3) (in_append p (section_part g.images (leaves_of g.flat d))
-    (region_part g.settled (base g) (regions g d)) i)
-  where
-    by_page : (r : Region) → IsIn r (regions g d) → (start : ℕ)
-        → IsIn p (map (page_of g.settled start r) (range_with_len 0 r.pages)) → ShowsHere g d p.shown
-    by_page r is start i =
-        let m = from_map (page_of g.settled start r) p (range_with_len 0 r.pages) i in
-        let l = from_range 0 r.pages m.0 m.1 in
-        subst (λ (z : MappedPage). ShowsHere g d z.shown) m.2 (regions_show g d r is start m.0 (omega (arith, l)))
+    (region_part g.settled (base g) (regions g d)) i) where
+      by_page : (r : Region) → IsIn r (regions g d) → (start : ℕ)
+          → IsIn p (map (page_of g.settled start r) (range_with_len 0 r.pages)) → ShowsHere g d p.shown
+      by_page r is start i = search (rules, from_map, from_range, regions_show)

@@ -1,7 +1,7 @@
 -- Page tables hold pages of windows alone that lead to other labels, and a page of each window.
-use Rattle.spec_laws.proofs.Common.{AtOtherEnd, Bool, Cap, Domain, FlatConnection, FrameOf, From, HasPage, HasWindows, InTable, IsConnected, IsIn, IsWindow, LeadsTo, MappedPage, Mmio, ObjectKind, OfDevice, OfFrames, Page, Read, Some, TableOf, Tables}
+use Rattle.spec_laws.proofs.Common.{AtOtherEnd, Bool, Cap, Domain, FrameOf, From, HasPage, HasWindows, InTable, IsConnected, IsIn, IsWindow, LeadsTo, MappedPage, Mmio, ObjectKind, OfDevice, OfFrames, Page, Read, Some, TableOf, Tables}
 use Rattle.spec_laws.proofs.Common.{ap, arith, base, domain_label, false, frame_object, gives, in_place, inl, inr, is_at_device, is_window, kind_at, kind_of_object, kind_there, label_of, leaf_label, mapped_pages, may_read, may_write, memory_number}
-use Rattle.spec_laws.proofs.Common.{memory_pages, number_of, number_shown, object, opposite, option_map_or, page, page_mapping, page_of, page_rights, place, place_of, policy_tables, refl, region_start, regions, setting_of, slice_get, spec_of, subst}
+use Rattle.spec_laws.proofs.Common.{memory_pages, number_of, number_shown, object, option_map_or, page, page_mapping, page_of, page_rights, place, place_of, policy_tables, refl, region_start, regions, setting_of, slice_get, spec_of, subst}
 use Rattle.spec_laws.proofs.Common.{sym, true, window_pages, window_region, window_rights, ℕ, ◌<◌, ◌∙◌, ◌≡◌, ◌≢◌}
 use Rattle.arch_policy.specs.Ends.{EndAt}
 use Rattle.cap_model.specs.declared.kind.Kind.TheVariants as kinds
@@ -9,7 +9,7 @@ use Rattle.cap_model.specs.declared.object.Object.TheVariants as objects
 use Rattle.cspace_layout.specs.declared.end_at.EndAt.{EndAt as Joined}
 use Rattle.spec_laws.proofs.EndsHere.{from_windows, in_windows, joined, leaves_are}
 use Rattle.spec_laws.proofs.EdgeJoints.{in_its_domain, leaf_of_domain, one_end}
-use Rattle.spec_laws.proofs.Mapped.{IsPage, OfWindow, Sees, first_page, from_mapped, from_pages, hard_to, in_pages, laid, own_frame, sees_device, sees_shared, window_there}
+use Rattle.spec_laws.proofs.Mapped.{IsPage, OfWindow, Sees, first_page, from_mapped, from_pages, in_pages, laid, own_frame, sees_device, sees_shared, window_there}
 use Rattle.spec_laws.proofs.Rows.{seen_by, seen_window, window_sees, window_soft}
 use Rattle.spec_laws.proofs.TablesHere.{in_table, page_held}
 use Rattle.spec_laws.proofs.Whose.{label_there, labels, owner_of}
@@ -128,16 +128,11 @@ module _ (t : Tables) (h : IsConnected t) where
               (hard x left s.connector s.role) (hard x right s.connector s.role) in
               (r.object ∙ sym s.object, left.label_is ∙ sym (right.label_is ∙ ap (leaf_label (policy_tables t)) leaf))
         ]
-      ]
-    where
-      hard : (x : EndAt t.flat) {l : ℕ} (o : AtOtherEnd (policy_tables t) x l) → x.connection.connector ≡ Mmio → x.end.role ≡ From
-          → is_at_device o.at ≡ true
-      hard x o e f =
-          let both : Some o.at.connection ≡ Some x.connection = sym o.at.here ∙ ap (λ z. slice_get t.flat.connections z)
-          o.same ∙ x.here in
-          let same : o.at.connection ≡ x.connection = cc in
-          hard_to o.at.connection.connector o.at.end.role (ap (λ (z : FlatConnection). z.connector) same ∙ e)
-          (o.role ∙ ap opposite f)
+      ] where
+        hard : (x : EndAt t.flat) {l : ℕ} (o : AtOtherEnd (policy_tables t) x l) → x.connection.connector ≡ Mmio
+            → x.end.role ≡ From
+            → is_at_device o.at ≡ true
+        hard x o e f = cc
 
   every : (x : EndAt t.flat) (o : ObjectKind) (label : ℕ) → gives x.connection.connector x.end.role o Read ≡ true
       → LeadsTo (policy_tables t) x o label → HasPage (policy_tables t) (spec_of t) (labels t) x o label

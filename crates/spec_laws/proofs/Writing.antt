@@ -1,11 +1,11 @@
 -- The spec of laid-out tables can be written and read back.
-use Rattle.spec_laws.proofs.Common.{Bool, Entry, FlatConnection, FrameInfo, FrameOf, IsFit, IsIn, IsSized, IsWritable, IsWritten, List, None, Object, Option, Part, Some, TableOf}
-use Rattle.spec_laws.proofs.Common.{Tables, ThreadPlace, What, [], ap, arch, arith, by_number, canonical, cap_count, caps_of, cond, entry, entry_line, entry_name, entry_text, false, flat_map, frame_object, gather, in_place, irq_line, irq_number}
-use Rattle.spec_laws.proofs.Common.{is_laid, is_number, is_word, layers, le-ltb, leb, length, length-map, line_by, lines, list_all-map, map, name_at, object, option_map_or, page_mapping, pages_at, part_name, parts, place, put_line, refl, shapes}
-use Rattle.spec_laws.proofs.Common.{slice_get, slice_get-map, spec_of, subst, sym, table_of, tables_at, tcb, there, thread_count, threads_at, true, ℕ, ◌*◌, ◌+◌, ◌<◌, ◌^◌, ◌∙◌, ◌∷◌, ◌≡◌, ◌≤◌}
+use Rattle.spec_laws.proofs.Common.{Entry, FlatConnection, FrameInfo, FrameOf, IsFit, IsIn, IsSized, IsWritable, IsWritten, List, None, Object, Option, Part, Some, TableOf}
+use Rattle.spec_laws.proofs.Common.{Tables, ThreadPlace, What, [], ap, arch, arith, by_number, canonical, cap_count, caps_of, entry, entry_line, entry_name, entry_text, flat_map, frame_object, gather, in_place, irq_line, irq_number}
+use Rattle.spec_laws.proofs.Common.{is_laid, is_number, is_word, layers, le-ltb, length, length-map, line_by, lines, list_all-map, map, name_at, object, option_map_or, page_mapping, pages_at, part_name, parts, place, put_line, refl, shapes}
+use Rattle.spec_laws.proofs.Common.{slice_get, slice_get-map, spec_of, subst, sym, table_of, tables_at, tcb, there, thread_count, threads_at, ℕ, ◌*◌, ◌+◌, ◌<◌, ◌^◌, ◌∙◌, ◌∷◌, ◌≡◌, ◌≤◌}
 use Rattle.std.specs.Option.{option_map}
 use Rattle.cap_model.specs.declared.object.Object.TheVariants as objects
-use Rattle.capdl_text.specs.Texts.{is_long, most_bytes}
+use Rattle.capdl_text.specs.Texts.{most_bytes}
 use Rattle.spec_laws.proofs.CapsFit.{all_pass}
 use Rattle.spec_laws.proofs.Capping.{looked_up}
 use Rattle.spec_laws.proofs.Counting.{Most, parts_most}
@@ -22,12 +22,7 @@ use Rattle.spec_laws.proofs.Totals.{length_flat_map, length_gather, sum_map, tot
 
 put_length : (x : ℕ × ℕ) (ls : List (ℕ × ℕ)) → length (put_line x ls) ≡ 1 + length ls
 put_length x [] = refl
-put_length x (y ∷ ys) = by_test (leb x.0 y.0) (put_length x ys)
-  where
-    by_test : (b : Bool) → length (put_line x ys) ≡ 1 + length ys
-        → length (cond b (x ∷ y ∷ ys) (y ∷ put_line x ys)) ≡ 1 + length (y ∷ ys)
-    by_test true e = omega arith
-    by_test false e = omega (arith, e)
+put_length x (y ∷ ys) = grind (arith, put_length x ys)
 
 sorted_length : (ls : List (ℕ × ℕ)) → length (by_number ls) ≡ length ls
 sorted_length [] = refl
@@ -87,12 +82,11 @@ module _ (t : Tables) where
 
     short_at : (o : ℕ) → length (name_at (spec_of t) o) ≤ 16
     short_at o = subst (λ (z : Option Entry). length (entry_name z) ≤ 16) (sym (slice_get-map (entry t) (parts t) o))
-        (by_part (slice_get (parts t) o) (λ p e. in_place p (parts t) o e))
-      where
-        by_part : (x : Option Part) → ((p : Part) → x ≡ Some p → IsIn p (parts t))
-            → length (entry_name (option_map (entry t) x)) ≤ 16
-        by_part None h = omega arith
-        by_part (Some p) h = part_short p (number_of p (h p refl))
+        (by_part (slice_get (parts t) o) (λ p e. in_place p (parts t) o e)) where
+          by_part : (x : Option Part) → ((p : Part) → x ≡ Some p → IsIn p (parts t))
+              → length (entry_name (option_map (entry t) x)) ≤ 16
+          by_part None h = omega arith
+          by_part (Some p) h = part_short p (number_of p (h p refl))
 
     line_of : (p : Part) → IsIn p (parts t) → length (entry_line (entry t p)) ≤ 53 + longer p.what
     line_of p i =
@@ -144,11 +138,6 @@ module _ (t : Tables) where
           sized.connections,
         )
 
-    text_few : is_long (canonical (spec_of t)) ≡ false
-    text_few =
-        let s = canonical_short (spec_of t) short_at 34501632 26838016 159744 lines_long texts_long irqs_long in
-        le-ltb most_bytes (length (canonical (spec_of t))) (omega (arith, s))
-
     -- ---- names and objects
 
     pub spec_writable : IsWritable (spec_of t)
@@ -160,7 +149,8 @@ module _ (t : Tables) where
           ∙ all_pass (λ (p : Part). is_laid (object t p.what)) (parts t)
           (λ p i. (fine_there t fit written p.what (there t p i)).0);
       lines = all_pass (λ (l : ℕ × ℕ). is_number l.0) (lines t) (λ l i. number_is l.0 (number_in l i));
-      short = text_few;
+      short = let s = canonical_short (spec_of t) short_at 34501632 26838016 159744 lines_long texts_long irqs_long in
+          le-ltb most_bytes (length (canonical (spec_of t))) (omega (arith, s));
       few_objects = (let l = objects_within t sized in omega (arith, l));
       few_caps = (let l = caps_within t sized in omega (arith, l));
     }

@@ -33,5 +33,4 @@ pub use Rattle.vspace_layout.specs.Given
 pub use Rattle.vspace_layout.specs.PageLimits
 pub use Rattle.source_images.specs.ImagesRead
 pub use Rattle.system_spec.specs.Buildable
-pub use Rattle.system_spec.specs.Windowed
 pub use Rattle.vspace_layout.specs.CanLay

@@ -16,7 +16,7 @@ use Rattle.cspace_layout.specs.declared.plan.SlotUse.{SlotUse}
 use Rattle.cspace_layout.specs.declared.plan.SlotUse.TheVariants.{OfEnd, Handler, OwnLock}
 use Rattle.system_spec.specs.declared.series.Series.TheVariants as series
 use Rattle.system_spec.specs.Bits.{IsLeastBits}
-use Rattle.system_spec.specs.Places.{has_irq}
+use Rattle.system_spec.specs.Landmarks.{has_irq}
 
 -- the object at the place has the name of its series and this number
 abbrev pub IsNamed : Spec → ℕ → Series → ℕ → Type 0

@@ -7,15 +7,13 @@ root_of-root-requires g c = c.requires.whole.root
 
 pub read_images-requires : goal.read_images-requires
 read_images-requires g c =
-    let m = c.args.meaning in
-    let files = c.requires.whole.few.files in
+    let m = c.args.meaning in let files = c.requires.whole.few.files in
     let leaves = (sound_small m.source m.flat m.settled c.requires).leaves in
     omega (arith, files, leaves)
 
 pub with_layout-requires-clause-imaged : goal.with_layout-requires-clause-imaged
 with_layout-requires-clause-imaged g c =
-    let m = c.args.meaning in
-    let some = g.met.F.Files.some c.read_images.new.files in
+    let m = c.args.meaning in let some = g.met.F.Files.some c.read_images.new.files in
     images_imaged some.0 c.root_of-root.result.now m c.in-Ok.images (c.in-Ok.ensures.read some.0 some.1)
     (sound_within m.source m.flat m.settled c.requires)
 
