@@ -1,5 +1,6 @@
 -- A search downwards finds an interface of a leaf exactly where the interface climbs up to the port.
-use Rattle.adl_hierarchy.proofs.Common.{AreNamesSound, Bool, Climbs, Composition, Export, Hierarchy, IsIn, IsLeaf, IsOnce, Known, Name, None, Option, Part, Path, Reached, Some, Source, [], ap, arith, at, behind, body, bytes_eq, bytes_eq-Decides}
+use Rattle.std.proofs.Common.{rules}
+use Rattle.adl_hierarchy.proofs.Common.{AreNamesSound, Bool, Climbs, Composition, Export, Hierarchy, IsIn, IsLeaf, IsOnce, Known, Name, None, Option, Part, Path, Reached, Some, Source, [], ap, arith, behind, body, bytes_eq, bytes_eq-Decides}
 use Rattle.adl_hierarchy.proofs.Common.{cond, export_named, exports_in, exports_of, false, found, hierarchy_of, is_composite, is_some, known_in, length, map, map_some, misfits_in_composition, name_of, option_and_then, option_and_then_some}
 use Rattle.adl_hierarchy.proofs.Common.{option_map, option_map_or, part_named, port_in, reached, reached_by, reached_within, refl, subst, suc, sym, true, zero, ℕ, ◌∙◌, ◌∷◌, ◌≡◌, ◌≤◌}
 use Rattle.adl_hierarchy.proofs.Exports.{no_misfit, targets_once}
@@ -17,24 +18,20 @@ pub record Found (h : Hierarchy) (k : ℕ) (port : Name × Name) (r : Reached) :
   pub climbs : Climbs h k port.0 rest r.interface port.1
 
 found_by : (h : Hierarchy) (f : ℕ → Name × Name → Option Reached) (k : ℕ) (port : Name × Name) (x : Part) (r : Reached)
-    → part_named (body h k).parts port.0 ≡ Some x
-    → ((p : Name × Name) (q : Reached) → f x.kind p ≡ Some q → Found h x.kind p q) → reached_by h f port.1 x ≡ Some r
-    → Found h k port r
+    → part_named (body h k).parts port.0 ≡ Some x → ((p : Name × Name) (q : Reached) → f x.kind p ≡ Some q → Found h x.kind p q)
+    → reached_by h f port.1 x ≡ Some r → Found h k port r
 found_by h f k port x r e ih t = by_kind (is_composite h x.kind) refl t
   where
-    by_kind : (b : Bool) → is_composite h x.kind ≡ b
-        → cond b
+    by_kind : (b : Bool) → is_composite h x.kind ≡ b → cond b
         (option_map (behind (name_of x)) (option_and_then (f x.kind) (option_and_then (λ (y : Export). port_in y.words)
         (export_named (exports_of (body h x.kind)) port.1))))
-        (Some (record { path = name_of x ∷ []; part = x; interface = port.1 })) ≡ Some r
-        → Found h k port r
+        (Some (record { path = name_of x ∷ []; part = x; interface = port.1 })) ≡ Some r → Found h k port r
     by_kind true c t =
         let m =
         map_some (behind (name_of x)) (option_and_then (f x.kind) (option_and_then (λ (y : Export). port_in y.words)
         (export_named (exports_of (body h x.kind)) port.1))) r t in
         let name = (named_in (body h k).parts port.0 x e).1 in
-        let R : Reached → Type 0 = λ z. Found h k port z in
-        subst R m.2 (option_and_then_some (f x.kind) (option_and_then (λ (y : Export). port_in y.words)
+        subst (λ z. Found h k port z) m.2 (option_and_then_some (f x.kind) (option_and_then (λ (y : Export). port_in y.words)
         (export_named (exports_of (body h x.kind)) port.1)) m.0 m.1 (λ p e1 e2.
         option_and_then_some (λ (y : Export). port_in y.words) (export_named (exports_of (body h x.kind)) port.1) p e1 (λ y e3 e4.
         let inner = ih p m.0 e2 in
@@ -51,25 +48,14 @@ found_by h f k port x r e ih t = by_kind (is_composite h x.kind) refl t
             e,
             p.1,
             inner.climbs,
-            record {
-              by = y;
-              stands = y'.0;
-              inner = e4;
-              outer = sym ((bytes_eq-Decides port.1 y.target.name).0 y'.1);
-            },
+            record { by = y; stands = y'.0; inner = e4; outer = sym ((bytes_eq-Decides port.1 y.target.name).0 y'.1) },
           );
         })))
     by_kind false c t =
         let here : Reached = record { path = name_of x ∷ []; part = x; interface = port.1 } in
         let name = (named_in (body h k).parts port.0 x e).1 in
         let s : here ≡ r = cc in
-        let R : Reached → Type 0 = λ z. Found h k port z in
-        subst R s (record {
-          rest = [];
-          path = ap (λ z. z ∷ []) name;
-          stands = (ap (part_named (body h k).parts) name ∙ e, c);
-          climbs = refl;
-        })
+        search (rules)
 
 pub found_climbs : (h : Hierarchy) (n k : ℕ) (port : Name × Name) (r : Reached) → reached_within h n k port ≡ Some r
     → Found h k port r
@@ -124,16 +110,9 @@ climbs_found h a (suc n) k c [] i j l leaf w =
     }
 climbs_found h a (suc n) k c (d ∷ q) i j l leaf w =
     let x = w.0 in
-    let m = w.2 in
     let ex = w.4 in
-    let inside : IsLeaf h x.kind (d ∷ q) = (
-      leaf.0,
-      sym (ap (λ o. option_and_then (λ (z : Part). at h z.kind (d ∷ q)) o) w.1)
-          ∙ leaf.1,
-      leaf.2,
-    ) in
-    let r = climbs_found h a n x.kind d q i m (omega arith) inside w.3 in
-    let composite : is_composite h x.kind ≡ true = has_composition (body h x.kind).composition ex.by ex.stands in
+    let inside : IsLeaf h x.kind (d ∷ q) = search (rules) in
+    let r = climbs_found h a n x.kind d q i w.2 (omega arith) inside w.3 in
     let named : export_named (exports_of (body h x.kind)) j ≡ Some ex.by =
     ap (export_named (exports_of (body h x.kind))) (sym ex.outer) ∙ find_once (λ (y : Export). y.target.name)
     (exports_of (body h x.kind)) ex.by (a x.kind) ex.stands in
@@ -143,11 +122,7 @@ climbs_found h a (suc n) k c (d ∷ q) i j l leaf w =
     let B : Option Reached → Option Reached = λ o. option_map (behind (name_of x)) o in
     record {
       reached = behind (name_of x) r.reached;
-      found =
-          ap (λ o. option_and_then (reached_by h (reached_within h n) j) o) w.1
-          ∙ ap (λ b. cond b (F (option_and_then (λ (y : Export). port_in y.words) (export_named (exports_of (body h x.kind)) j)))
-          here) composite
-          ∙ ap (λ o. F (option_and_then (λ (y : Export). port_in y.words) o)) named ∙ ap F ex.inner ∙ ap B r.found;
+      found = search (rules, has_composition);
       path = ap (λ z. z ∷ r.reached.path) (named_in (body h k).parts c x w.1).1 ∙ ap (λ z. c ∷ z) r.path;
       interface = r.interface;
     }

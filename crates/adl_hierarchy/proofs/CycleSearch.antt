@@ -1,7 +1,7 @@
 -- The search for cycles.
 use Rattle.std.proofs.Common.{rules}
-use Rattle.adl_hierarchy.proofs.Common.{AreCycleNumbers, AreHeldBy, AreRoots, Holds, InRange, IsTurned, List, TellCycles, Walk, [], arith, both_ways, cases_eq, eq-eqb, eqb-true, false≢true, get_or, get_or-set_other, get_or-set_same, has, inl}
-use Rattle.adl_hierarchy.proofs.Common.{inner_of, inr, is_held, length, length-set, refl, set, subst, suc, sym, true, zero, ℕ, ◌++◌, ◌<◌, ◌∙◌, ◌∷◌, ◌≡◌, ◌⊎◌}
+use Rattle.adl_hierarchy.proofs.Common.{AreCycleNumbers, AreHeldBy, AreRoots, Holds, InRange, IsTurned, List, TellCycles, Walk, [], arith, both_ways, cases_eq, eq-eqb, eqb-true, false≢true, get_or, get_or-set_other, get_or-set_same, has}
+use Rattle.adl_hierarchy.proofs.Common.{inner_of, is_held, length, length-set, refl, set, subst, suc, sym, true, zero, ℕ, ◌++◌, ◌<◌, ◌∷◌, ◌≡◌, ◌⊎◌}
 use lib.Dec.{eqb}
 use Rattle.adl_hierarchy.proofs.Cycling.{exact}
 use Rattle.adl_hierarchy.proofs.Marks.{has_new, has_old, has_pushed}

@@ -52,10 +52,9 @@ leaves_of_domain h d n =
           ),
       λ x.
           let s : 0 + n ≡ n = omega arith in
-          let P : ℕ → Type 0 = λ m. IsIn m (flat_domain h d).leaves in
           let b = and_from (not (is_hardware h x.0.part)) (same_path (domain_of h x.0.path) d)
           (not_true (is_hardware h x.0.part) x.2) ((same_path-Decides (domain_of h x.0.path) d).1 x.3) in
-          subst P s (in_map number (0 + n, x.0) (filter inner (enumerate_from 0 (leaves h)))
+          subst (λ m. IsIn m (flat_domain h d).leaves) s (in_map number (0 + n, x.0) (filter inner (enumerate_from 0 (leaves h)))
           (in_filter inner (enumerate_from 0 (leaves h)) (0 + n, x.0) (in_enumerate 0 (leaves h) n x.0 x.1) b)),
     )
 

@@ -1,5 +1,6 @@
 -- The group above a path is the outermost.
-use Rattle.adl_hierarchy.proofs.Common.{Hierarchy, Name, None, Option, Part, Path, Some, [], ap, body, group_above, group_or, map_some, option_and_then, option_and_then_some, option_map, part_at, part_named, refl, subst, sym, ℕ, ◌++◌, ◌↔◌, ◌∙◌, ◌∷◌}
+use Rattle.std.proofs.Common.{rules}
+use Rattle.adl_hierarchy.proofs.Common.{Hierarchy, Name, None, Option, Part, Path, Some, [], ap, body, group_above, group_or, map_some, option_and_then, option_and_then_some, option_map, part_at, part_named, refl, sym, ℕ, ◌++◌, ◌↔◌, ◌∙◌, ◌∷◌}
 use Rattle.adl_hierarchy.proofs.Common.{◌≡◌}
 use Rattle.adl_hierarchy.specs.OutermostGroup.{IsOutermostGroup}
 use Rattle.adl_hierarchy.proofs.PartsAt.{part_behind}
@@ -15,11 +16,7 @@ first_part h k n (c ∷ q) m y e = option_and_then_some (λ (z : Part). part_at 
 
 inner_part : (h : Hierarchy) (k : ℕ) (n : Name) (q : Path) (m : Name) (x y : Part) → part_named (body h k).parts n ≡ Some x
     → part_at h k (n ∷ q ++ m ∷ []) ≡ Some y → part_at h x.kind (q ++ m ∷ []) ≡ Some y
-inner_part h k n q m x y e f =
-    let z = first_part h k n q m y f in
-    let s : z.0 ≡ x = let a = z.1 in cc in
-    let P : Part → Type 0 = λ u. part_at h u.kind (q ++ m ∷ []) ≡ Some y in
-    subst P s z.2
+inner_part h k n q m x y e f = search (rules, first_part)
 
 not_nothing : (q : Path) (n : Name) (r : Path) → [] ≡ q ++ n ∷ r → ⊥
 not_nothing [] n r e = cc
@@ -27,18 +24,11 @@ not_nothing (c ∷ q) n r e = cc
 
 -- where the first instance on the way stands in no group, and none behind it does, none does
 none_before : (h : Hierarchy) (k : ℕ) (n : Name) (x : Part) (above : Path) → part_named (body h k).parts n ≡ Some x
-    → x.group ≡ None
-    → ((q : Path) (m : Name) (r : Path) (y : Part) → above ≡ q ++ m ∷ r → part_at h x.kind (q ++ m ∷ []) ≡ Some y
+    → x.group ≡ None → ((q : Path) (m : Name) (r : Path) (y : Part) → above ≡ q ++ m ∷ r → part_at h x.kind (q ++ m ∷ []) ≡ Some y
     → y.group ≡ None)
     → (q : Path) (m : Name) (r : Path) (y : Part) → n ∷ above ≡ q ++ m ∷ r → part_at h k (q ++ m ∷ []) ≡ Some y → y.group ≡ None
-none_before h k n x above a t inner [] m r y f s =
-    let name : n ≡ m = ap head_of f in
-    let same : x ≡ y = let e = ap (part_named (body h k).parts) name in cc in
-    ap (λ (z : Part). z.group) (sym same) ∙ t
-none_before h k n x above a t inner (c ∷ q) m r y f s =
-    let name : n ≡ c = ap head_of f in
-    let P : Name → Type 0 = λ z. part_at h k (z ∷ q ++ m ∷ []) ≡ Some y in
-    inner q m r y (ap tail_of f) (inner_part h k n q m x y a (subst P (sym name) s))
+none_before h k n x above a t inner [] m r y f s = cc
+none_before h k n x above a t inner (c ∷ q) m r y f s = search (rules, head_of, tail_of, inner_part)
 
 pub above_outermost : (h : Hierarchy) (k : ℕ) (p d : Path) → group_above h k p ≡ Some d → IsOutermostGroup h k p d
 above_outermost h k [] d e = cc
@@ -81,9 +71,7 @@ pub outermost_above : (h : Hierarchy) (k : ℕ) (above : Path) (name : Name) (be
     → part_at h k (above ++ name ∷ []) ≡ Some part → part.group ≡ Some group
     → ((q : Path) (n : Name) (r : Path) (x : Part) → above ≡ q ++ n ∷ r → part_at h k (q ++ n ∷ []) ≡ Some x → x.group ≡ None)
     → group_above h k (above ++ name ∷ below) ≡ Some (above ++ group ∷ [])
-outermost_above h k [] name below part group e g first =
-    ap (λ o. option_and_then (λ (x : Part). group_or x.group (option_map (λ q. name ∷ q) (group_above h x.kind below))) o) e
-    ∙ ap (λ o. group_or o (option_map (λ q. name ∷ q) (group_above h part.kind below))) g
+outermost_above h k [] name below part group e g first = cc
 outermost_above h k (n ∷ q) name below part group e g first =
     let x = first_part h k n q name part e in
     let none : x.0.group ≡ None = first [] n q x.0 refl x.1 in
@@ -91,12 +79,7 @@ outermost_above h k (n ∷ q) name below part group e g first =
     (part_behind h k n (u ++ m ∷ []) x.0 y x.1 s)) in
     let F : Option Path → Option Path = λ o. option_map (λ z. n ∷ z) o in
     ap (λ o. option_and_then (λ (x : Part). group_or x.group (option_map (λ z. n ∷ z) (group_above h x.kind (q ++ name ∷ below))))
-    o) x.1
-    ∙ ap (λ o. group_or o (F (group_above h x.0.kind (q ++ name ∷ below)))) none ∙ ap F inner
+    o) x.1 ∙ ap (λ o. group_or o (F (group_above h x.0.kind (q ++ name ∷ below)))) none ∙ ap F inner
 
 pub group_is_outermost : (h : Hierarchy) (k : ℕ) (p d : Path) → (group_above h k p ≡ Some d) ↔ IsOutermostGroup h k p d
-group_is_outermost h k p d = (
-  above_outermost h k p d,
-  λ w. ap (group_above h k) w.split ∙ outermost_above h k w.above w.name w.below w.part w.group w.stands w.grouped w.first
-      ∙ ap Some (sym w.path),
-)
+group_is_outermost h k p d = search (rules, above_outermost, outermost_above)

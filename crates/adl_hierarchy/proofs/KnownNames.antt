@@ -1,11 +1,12 @@
 -- Where no name is unknown: types have components with numbers, and dotted names have instances.
-use Rattle.adl_hierarchy.proofs.Common.{AreNamesSound, Component, Composition, Connection, Connector, End, Export, Held, Id, Instance, IsDotted, IsIn, ItemAt, Known, Line, List, Member, Name, None, Option, Some, Source, [], a_connection, a_group}
-use Rattle.adl_hierarchy.proofs.Common.{an_instance, ap, arith, as_composition, as_connection, as_export, body, component_named, components, compositions, connections_in, connector_of, exports_in, flat_map, from_filter_map, from_flat_map, held_as}
-use Rattle.adl_hierarchy.proofs.Common.{hierarchy_of, inl, inr, instance_held, instances_by, instances_in, is_some, kind_named, known_in, known_of, length, map_some, member_held, none_in, none_left, none_right, option_map, port_in, port_of, refl}
+use Rattle.std.proofs.Common.{rules}
+use Rattle.adl_hierarchy.proofs.Common.{AreNamesSound, Component, Composition, Connection, Connector, End, Export, Held, Id, Instance, IsDotted, IsIn, ItemAt, Known, Line, List, Member, Name, None, Option, Some, Source, [], a_group}
+use Rattle.adl_hierarchy.proofs.Common.{ap, arith, as_composition, as_export, body, component_named, components, compositions, connections_in, connector_of, exports_in, from_filter_map, from_flat_map, held_as}
+use Rattle.adl_hierarchy.proofs.Common.{hierarchy_of, inl, inr, instances_by, instances_in, is_some, kind_named, known_in, known_of, length, map_some, none_in, none_left, none_right, option_map, port_in, port_of, refl}
 use Rattle.adl_hierarchy.proofs.Common.{slice_get, subst, suc, sym, unknown_in_composition, unknown_interface, unless_known, ℕ, ◌∙◌, ◌∷◌, ◌≡◌, ◌≤◌}
 use Rattle.adl_ast.specs.declared.component.Member.TheVariants as members
 use Rattle.adl_ast.specs.declared.composition.Line.TheVariants as lines
-use Rattle.adl_meaning.specs.Unknown.{unknown_type, unknown_connector, unknown_in_two, unknown_in_group, unknown_in_three, unknown_in_dotted, unknown_target, unknown_in_line, unknown_in_member, unknown_in_item, is_procedure}
+use Rattle.adl_meaning.specs.Unknown.{unknown_type, unknown_in_group, unknown_in_three, unknown_in_dotted, unknown_in_line, unknown_in_member, unknown_in_item, is_procedure}
 use Rattle.adl_hierarchy.proofs.ComponentNumbers.{number_found}
 use Rattle.adl_hierarchy.proofs.Lists.{in_get}
 use Rattle.adl_hierarchy.proofs.HeldInstances.{instance_in, member_in}
@@ -26,13 +27,7 @@ typed s n known e =
     let a = map_some known_of (option_map (λ (c : ItemAt × Component). c.1) (component_named s n)) known e in
     let b = map_some (λ (c : ItemAt × Component). c.1) (component_named s n) a.0 a.1 in
     let k = number_found (components s) 0 n b.0 b.1 in
-    record {
-      number = k.0;
-      component = b.0;
-      numbered = k.1 ∙ ap Some (omega arith);
-      stands = k.2;
-      is_known = ap known_of b.2 ∙ a.2;
-    }
+    search (rules)
 
 -- ---- compositions
 
@@ -59,13 +54,7 @@ no_unknown s sound k composition e = elim (composed s k composition e) [
         → unknown_in_composition (known_in s) (Some owner) composition ≡ []
     of_member owner (members.Composition z) t n = let p : z ≡ composition = cc in
         ap (unknown_in_composition (known_in s) (Some owner)) (sym p) ∙ n
-    of_member owner (members.Control p) t n = cc
-    of_member owner (members.Hardware p) t n = cc
-    of_member owner (members.Include i) t n = cc
-    of_member owner (members.Interface i) t n = cc
-    of_member owner (members.Attribute a) t n = cc
-    of_member owner (members.Lock l) t n = cc
-    of_member owner (members.Configuration f) t n = cc
+    of_member owner _ t n = cc
 
 known_type : (types : Name → Option Known) (owner : Option Known) (held : Name → Option Held) (l : Line) (i : Instance)
     → IsIn i (instances_by l) → unknown_in_line types owner held l ≡ [] → unknown_type types i ≡ []
@@ -88,10 +77,7 @@ is_typed types i e = by_case (types i.component.name) refl e
 pub instance_typed : (types : Name → Option Known) (owner : Option Known) (k : Composition) (i : Instance)
     → unknown_in_composition types owner k ≡ [] → IsIn i (instances_in k)
     → (known : Known) × (types i.component.name ≡ Some known)
-instance_typed types owner k i e m =
-    let l = from_flat_map instances_by i k.lines m in
-    is_typed types i (known_type types owner (held_as k) l.0 i l.2 (none_in (unknown_in_line types owner (held_as k))
-    k.lines l.0 e l.1))
+instance_typed types owner k i e m = search (rules, from_flat_map, is_typed, known_type, none_in)
 
 -- the dotted names of exports and ends are known
 pub export_known : (types : Name → Option Known) (owner : Option Known) (k : Composition) (x : Export)
@@ -102,52 +88,19 @@ export_known types owner k x e m =
   where
     by_line : (l : Line) → as_export l ≡ Some x → unknown_in_line types owner (held_as k) l ≡ []
         → unknown_in_dotted types (held_as k) x.words ≡ []
-    by_line (lines.Instance i) t n = cc
-    by_line (lines.Group g) t n = cc
-    by_line (lines.Connection c) t n = cc
-    by_line (lines.Export y) t n =
-        let s : y ≡ x = cc in
-        ap (λ (z : Export). unknown_in_dotted types (held_as k) z.words) (sym s)
-        ∙ none_left (unknown_in_dotted types (held_as k) y.words) (unknown_target owner y.target) n
+    by_line (lines.Export y) t n = search (rules, none_left)
+    by_line _ t n = cc
 
 pub end_known : (types : Name → Option Known) (owner : Option Known) (k : Composition) (x : Connection) (e : End)
     → unknown_in_composition types owner k ≡ [] → IsIn x (connections_in k) → IsIn e x.ends
     → unknown_in_dotted types (held_as k) e.words ≡ []
-end_known types owner k x e none m i =
-    let l = from_filter_map as_connection x k.lines m in
-    none_in (λ (e : End). unknown_in_dotted types (held_as k) e.words) x.ends e
-    (by_line l.0 l.2 (none_in (unknown_in_line types owner (held_as k)) k.lines l.0 none l.1)) i
-  where
-    by_line : (l : Line) → as_connection l ≡ Some x → unknown_in_line types owner (held_as k) l ≡ []
-        → flat_map (λ (e : End). unknown_in_dotted types (held_as k) e.words) x.ends ≡ []
-    by_line (lines.Instance i) t n = cc
-    by_line (lines.Group g) t n = cc
-    by_line (lines.Export y) t n = cc
-    by_line (lines.Connection y) t n =
-        let s : y ≡ x = cc in
-        ap (λ (z : Connection). flat_map (λ (e : End). unknown_in_dotted types (held_as k) e.words) z.ends) (sym s)
-        ∙ none_right (unknown_connector y) (flat_map (λ (e : End). unknown_in_dotted types (held_as k) e.words) y.ends) n
+end_known types owner k x e none m i = search (rules, from_filter_map, none_in, none_right)
 
 -- so is each connector
 pub connector_known : (types : Name → Option Known) (owner : Option Known) (k : Composition) (x : Connection)
     → unknown_in_composition types owner k ≡ [] → IsIn x (connections_in k)
     → (c : Connector) × (connector_of x.connector.name ≡ Some c)
-connector_known types owner k x none m =
-    let l = from_filter_map as_connection x k.lines m in
-    is_there (connector_of x.connector.name) refl
-    (by_line l.0 l.2 (none_in (unknown_in_line types owner (held_as k)) k.lines l.0 none l.1))
-  where
-    is_there : (o : Option Connector) → connector_of x.connector.name ≡ o → unless_known (is_some o) x.connector ≡ []
-        → (c : Connector) × (connector_of x.connector.name ≡ Some c)
-    is_there None t n = cc
-    is_there (Some c) t n = (c, t)
-
-    by_line : (l : Line) → as_connection l ≡ Some x → unknown_in_line types owner (held_as k) l ≡ [] → unknown_connector x ≡ []
-    by_line (lines.Instance i) t n = cc
-    by_line (lines.Group g) t n = cc
-    by_line (lines.Export y) t n = cc
-    by_line (lines.Connection y) t n = let s : y ≡ x = cc in ap unknown_connector (sym s) ∙ none_left (unknown_connector y)
-        (flat_map (λ (e : End). unknown_in_dotted types (held_as k) e.words) y.ends) n
+connector_known types owner k x none m = search (rules, from_filter_map, none_in, is_some, none_left)
 
 -- ---- dotted names
 
@@ -164,44 +117,17 @@ pub dotted_known : (types : Name → Option Known) (k : Composition) (words : Li
     → unknown_in_dotted types (held_as k) words ≡ [] → IsKnown types k words
 dotted_known types k [] d e = let l = d.0 in absurd (omega (arith, l))
 dotted_known types k (a ∷ []) d e = let l : 2 ≤ 1 = d.0 in absurd (omega (arith, l))
-dotted_known types k (a ∷ j ∷ []) d e = by_case (held_as k a.name) refl e
-  where
-    by_case : (o : Option Held) → held_as k a.name ≡ o → unknown_in_two types o a j ≡ [] → IsKnown types k (a ∷ j ∷ [])
-    by_case None t n = cc
-    by_case (Some (an_instance i)) t n =
-        let m = instance_in k a.name i t in
-        let F : Name → Option (Name × Name) = λ z. Some (z, j.name) in
-        record {
-          instance = i;
-          interface = j;
-          stands = m.0;
-          port = ap (λ o. option_map (λ (i : Instance). (i, j.name)) (instance_held o)) t;
-          last = ap F (sym m.1);
-          declared = n;
-        }
-    by_case (Some (a_group f)) t n = cc
-    by_case (Some a_connection) t n = cc
+dotted_known types k (a ∷ j ∷ []) d e = search (rules, instance_in)
 dotted_known types k (g ∷ a ∷ j ∷ []) d e = by_case (held_as k g.name) refl e
   where
     by_case : (o : Option Held) → held_as k g.name ≡ o → unknown_in_three types o g a j ≡ [] → IsKnown types k (g ∷ a ∷ j ∷ [])
-    by_case None t n = cc
-    by_case (Some (an_instance i)) t n = cc
     by_case (Some (a_group f)) t n = of_member (f a.name) refl n
       where
         of_member : (o : Option Instance) → f a.name ≡ o → unknown_in_group types o a j ≡ [] → IsKnown types k (g ∷ a ∷ j ∷ [])
         of_member None u n = cc
         of_member (Some i) u n =
             let m = member_in k g.name a.name f i t u in
-            let F : Name → Option (Name × Name) = λ z. Some (z, j.name) in
-            record {
-              instance = i;
-              interface = j;
-              stands = m.0;
-              port = ap (λ o. option_map (λ (i : Instance). (i, j.name)) (member_held o a.name)) t
-                  ∙ ap (λ o. option_map (λ (i : Instance). (i, j.name)) o) u;
-              last = ap F (sym m.1);
-              declared = n;
-            }
-    by_case (Some a_connection) t n = cc
+            search (rules)
+    by_case _ t n = cc
 dotted_known types k (a ∷ b ∷ c ∷ x ∷ more) d e = let l : suc (suc (suc (suc (length more)))) ≤ 3 = d.1 in
     absurd (omega (arith, l))

@@ -1,10 +1,10 @@
 -- The limits of a hierarchy, where none is passed.
 use Rattle.std.proofs.Common.{rules}
-use Rattle.adl_hierarchy.proofs.Common.{AreNamesSound, Assembly, IsIn, ItemAt, Name, None, Source, [], assemblies, connections, depth, first_size_fault, hierarchy_of, inl, leaves, length, limits_passed, ltb-false, none_in, none_left}
-use Rattle.adl_hierarchy.proofs.Common.{none_right, one_assembly, refl, subst, sym, ℕ, ◌++◌, ◌≡◌, ◌≤◌}
-use Rattle.std.specs.Prelude.{nat_lt, codes}
+use Rattle.adl_hierarchy.proofs.Common.{AreNamesSound, Assembly, ItemAt, Name, None, Source, [], connections, depth, first_size_fault, hierarchy_of, leaves, length, ltb-false, none_in, none_left}
+use Rattle.adl_hierarchy.proofs.Common.{none_right, one_assembly, ℕ, ◌≡◌, ◌≤◌}
+use Rattle.std.specs.Prelude.{nat_lt}
 use Rattle.adl_hierarchy.proofs.Exports.{not_so}
-use Rattle.adl_meaning.specs.SizeFaults.{all_ends, limit_passed, size_faults}
+use Rattle.adl_meaning.specs.SizeFaults.{all_ends, limit_passed}
 use Rattle.adl_meaning.proofs.Least.{least-empty}
 
 pub record AreInLimits (s : Source) : Type 0 where

@@ -1,5 +1,6 @@
 -- In trees that tokens spell, dotted names of ends and exports have two words or three.
-use Rattle.adl_hierarchy.proofs.Common.{AreDotted, Assembly, Component, Composition, Connection, End, Ended, Export, File, Id, IsDotted, IsIn, Item, ItemAt, Line, List, Member, None, Option, Seen, Some, Source, [], ap, arith, as_composition}
+use Rattle.std.proofs.Common.{rules}
+use Rattle.adl_hierarchy.proofs.Common.{AreDotted, Assembly, Component, Composition, Connection, End, Ended, Export, File, Id, IsDotted, IsIn, Item, ItemAt, Line, List, Member, None, Option, Seen, Some, Source, [], arith, as_composition}
 use Rattle.adl_hierarchy.proofs.Common.{as_connection, as_export, body, compositions, enumerate_from, from_enumerate, from_filter_map, from_flat_map, from_map, hierarchy_of, inl, inr, items_in, items_of, subst, sym, ℕ, ◌∷◌, ◌≡◌}
 use Rattle.cam_base.specs.declared.token.Mark.TheVariants as marks
 use Rattle.cam_base.specs.Form.{behind}
@@ -48,76 +49,40 @@ export_name x w = let p = w.1 in let P : Export → Type 0 = λ z. IsDotted z.wo
 connection_end : (k : Connection) → IsOne connection_line k → (e : End) → IsIn e k.ends → IsOne end_line e
 unfolding connection_line
 connection_end k w e i =
-    let p = w.1 in
-    let q = p.2.4.4.4.4.3 in
+    let q = w.1.2.4.4.4.4.3 in
     let P : Connection → Type 0 = λ z. IsIn e z.ends in
-    let Q : List End → Type 0 = λ z. IsIn e z in
-    elim (subst Q q.1 (subst P p.1 i)) [
+    elim (subst (λ z. IsIn e z) q.1 (subst P w.1.1 i)) [
       | inl s ↦ let R : End → Type 0 = λ z. IsOne end_line z in subst R s (q.2.0, q.2.3)
       | inr j ↦
           let y = one_of (behind (mark_code marks.Comma) end_form) q.0.1 q.2.1 e q.2.4 j in
-          let R : End → Type 0 = λ z. IsOne end_line z in
-          subst R (sym y.1.1) (y.1.2.1, y.1.2.4)
+          subst (λ z. IsOne end_line z) (sym y.1.1) (y.1.2.1, y.1.2.4)
     ]
 
 line_connection : (l : Line) (k : Connection) → IsOne composition_member_line l → as_connection l ≡ Some k
     → IsOne connection_line k
 unfolding composition_member_line
-line_connection l k w e = elim w.1 [
-  | inl a ↦ let u : as_connection l ≡ None = ap as_connection a.1 in cc
-  | inr (inl a) ↦ let u : as_connection l ≡ None = ap as_connection a.1 in cc
-  | inr (inr (inl a)) ↦
-      let u : as_connection l ≡ Some a.0 = ap as_connection a.1 in
-      let s : a.0 ≡ k = cc in
-      let P : Connection → Type 0 = λ z. IsOne connection_line z in
-      subst P s (w.0, a.2)
-  | inr (inr (inr a)) ↦ let u : as_connection l ≡ None = ap as_connection a.1 in cc
-]
+line_connection l k w e = search (rules)
 
 line_export : (l : Line) (x : Export) → IsOne composition_member_line l → as_export l ≡ Some x → IsOne export_line x
 unfolding composition_member_line
-line_export l x w e = elim w.1 [
-  | inl a ↦ let u : as_export l ≡ None = ap as_export a.1 in cc
-  | inr (inl a) ↦ let u : as_export l ≡ None = ap as_export a.1 in cc
-  | inr (inr (inl a)) ↦ let u : as_export l ≡ None = ap as_export a.1 in cc
-  | inr (inr (inr a)) ↦
-      let u : as_export l ≡ Some a.0 = ap as_export a.1 in
-      let s : a.0 ≡ x = cc in
-      let P : Export → Type 0 = λ z. IsOne export_line z in
-      subst P s (w.0, a.2)
-]
+line_export l x w e = search (rules)
 
 composition_member : (k : Composition) → IsOne composition_line k → (l : Line) → IsIn l k.lines → IsOne composition_member_line l
 unfolding composition_line
 composition_member k w l i =
     let p = w.1 in
-    let P : Composition → Type 0 = λ z. IsIn l z.lines in
-    one_of composition_member_form p.0.1.1.0 p.2.4.4.0 l p.2.4.4.3 (subst P p.1 i)
+    one_of composition_member_form p.0.1.1.0 p.2.4.4.0 l p.2.4.4.3 (subst (λ (z : Composition). IsIn l z.lines) p.1 i)
 
 -- the compositions of items
 member_composition : (m : Member) (k : Composition) → IsOne member_line m → as_composition m ≡ Some k → IsOne composition_line k
 unfolding member_line
-member_composition m k w e = elim w.1 [
-  | inl a ↦ let u : as_composition m ≡ None = ap as_composition a.1 in cc
-  | inr (inl a) ↦ let u : as_composition m ≡ None = ap as_composition a.1 in cc
-  | inr (inr (inl a)) ↦ let u : as_composition m ≡ None = ap as_composition a.1 in cc
-  | inr (inr (inr (inl a))) ↦ let u : as_composition m ≡ None = ap as_composition a.1 in cc
-  | inr (inr (inr (inr (inl a)))) ↦ let u : as_composition m ≡ None = ap as_composition a.1 in cc
-  | inr (inr (inr (inr (inr (inl a))))) ↦ let u : as_composition m ≡ None = ap as_composition a.1 in cc
-  | inr (inr (inr (inr (inr (inr (inl a)))))) ↦
-      let u : as_composition m ≡ Some a.0 = ap as_composition a.1 in
-      let s : a.0 ≡ k = cc in
-      let P : Composition → Type 0 = λ z. IsOne composition_line z in
-      subst P s (w.0, a.2)
-  | inr (inr (inr (inr (inr (inr (inr a)))))) ↦ let u : as_composition m ≡ None = ap as_composition a.1 in cc
-]
+member_composition m k w e = search (rules)
 
 component_member : (c : Component) → IsOne component_line c → (m : Member) → IsIn m c.members → IsOne member_line m
 unfolding component_line
 component_member c w m i =
     let p = w.1 in
-    let P : Component → Type 0 = λ z. IsIn m z.members in
-    one_of member_form p.0.1.1.1.0 p.2.4.4.4.0 m p.2.4.4.4.3 (subst P p.1 i)
+    one_of member_form p.0.1.1.1.0 p.2.4.4.4.0 m p.2.4.4.4.3 (subst (λ (z : Component). IsIn m z.members) p.1 i)
 
 component_composition : (c : Component) (k : Composition) → IsOne component_line c → IsIn k (compositions c)
     → IsOne composition_line k
@@ -128,28 +93,15 @@ assembly_composition : (a : Assembly) → IsOne assembly_line a → IsOne compos
 unfolding assembly_line
 assembly_composition a w =
     let p = w.1 in
-    let P : Assembly → Type 0 = λ z. IsOne composition_line z.composition in
-    subst P (sym p.1) (p.2.4.4.4.0, p.2.4.4.4.3)
+    subst (λ (z : Assembly). IsOne composition_line z.composition) (sym p.1) (p.2.4.4.4.0, p.2.4.4.4.3)
 
 pub item_component : (c : Component) → IsOne item_line (items.Component c) → IsOne component_line c
 unfolding item_line
-item_component c w = elim w.1 [
-  | inl a ↦ let u = a.1 in cc
-  | inr (inl a) ↦ let u = a.1 in cc
-  | inr (inr (inl a)) ↦ let u = a.1 in let s : a.0 ≡ c = cc in let P : Component → Type 0 = λ z. IsOne component_line z in
-      subst P s (w.0, a.2)
-  | inr (inr (inr a)) ↦ let u = a.1 in cc
-]
+item_component c w = search (rules)
 
 item_assembly : (a : Assembly) → IsOne item_line (items.Assembly a) → IsOne assembly_line a
 unfolding item_line
-item_assembly d w = elim w.1 [
-  | inl a ↦ let u = a.1 in cc
-  | inr (inl a) ↦ let u = a.1 in cc
-  | inr (inr (inl a)) ↦ let u = a.1 in cc
-  | inr (inr (inr a)) ↦ let u = a.1 in let s : a.0 ≡ d = cc in let P : Assembly → Type 0 = λ z. IsOne assembly_line z in
-      subst P s (w.0, a.2)
-]
+item_assembly d w = search (rules)
 
 ended_item : (e : Ended) → IsOne ended_line e → IsOne item_line e.item
 unfolding ended_line
@@ -157,10 +109,7 @@ ended_item e w = let p = w.1 in let P : Ended → Type 0 = λ z. IsOne item_line
 
 pub file_item : (f : File) → IsOne file_line f → (e : Ended) → IsIn e f.items → IsOne item_line e.item
 unfolding file_line
-file_item f w e i =
-    let p = w.1 in
-    let P : File → Type 0 = λ z. IsIn e z.items in
-    ended_item e (one_of ended_form p.0 w.0 e p.2 (subst P p.1 i))
+file_item f w e i = let p = w.1 in ended_item e (one_of ended_form p.0 w.0 e p.2 (subst (λ (z : File). IsIn e z.items) p.1 i))
 
 pub item_spelled : (s : Source) → AreSpelled s → (x : ItemAt × Item) → IsIn x (items_of s) → IsOne item_line x.1
 item_spelled s spelled x i =
@@ -169,17 +118,15 @@ item_spelled s spelled x i =
     let e = from_map (λ (e : ℕ × Ended). let at : ItemAt = record { file = f.0.0; item = e.0 } in (at, e.1.item)) x
     (enumerate_from 0 f.0.1.tree.items) f.2 in
     let m = from_enumerate 0 f.0.1.tree.items e.0 e.1 in
-    let P : ItemAt × Item → Type 0 = λ z. IsOne item_line z.1 in
-    subst P e.2 (file_item f.0.1.tree (spelled f.0.1 (in_get s.files n.0 f.0.1 n.2)) e.0.1
-    (in_get f.0.1.tree.items m.0 e.0.1 m.2))
+    subst (λ (z : ItemAt × Item). IsOne item_line z.1) e.2 (file_item f.0.1.tree (spelled f.0.1 (in_get s.files n.0 f.0.1 n.2))
+    e.0.1 (in_get f.0.1.tree.items m.0 e.0.1 m.2))
 
 composition_spelled : (s : Source) → AreSpelled s → (k : ℕ) (c : Composition) → (body (hierarchy_of s) k).composition ≡ Some c
     → IsOne composition_line c
 composition_spelled s spelled k c e = elim (composed s k c e) [
   | inl d ↦
       let x = component_item s d.0 d.1 in
-      let P : Item → Type 0 = λ z. IsOne item_line z in
-      component_composition d.0.1 c (item_component d.0.1 (subst P x.2 (item_spelled s spelled x.0 x.1)))
+      component_composition d.0.1 c (item_component d.0.1 (subst (λ z. IsOne item_line z) x.2 (item_spelled s spelled x.0 x.1)))
       (in_get (compositions d.0.1) 0 c d.2)
   | inr d ↦
       let x = assembly_item s d.0 d.1 in
