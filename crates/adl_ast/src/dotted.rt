@@ -1,7 +1,7 @@
 ghost use Rattle.std.specs.Prelude.{◌≡◌, [], ◌∷◌, ◌++◌, IfOk, OnOk};
 
 use crate::Id;
-use cam_base::NoMemory;
+use cam_base::Made;
 use smallvec::SmallVec;
 use std::alloc::Global;
 use std::marker::Model;
@@ -23,7 +23,7 @@ impl Model for Dotted {
 
 impl Dotted {
     /// Two words.
-    pub fn pair(alloc: Global, first: Id, second: Id) -> Result<Dotted, NoMemory>
+    pub fn pair(alloc: Global, first: Id, second: Id) -> Made<Dotted>
         ensures { IfOk result (λ d. d ≡ first ∷ second ∷ []) }
     {
         let mut ids = SmallVec::new(alloc);
@@ -33,7 +33,7 @@ impl Dotted {
     }
 
     /// Puts a word at the end.
-    pub fn push(&mut self, word: Id) -> Result<(), NoMemory>
+    pub fn push(&mut self, word: Id) -> Made<()>
         ensures { OnOk result (self.new ≡ self.old ++ word ∷ []) }
     {
         self.ids.push(word)?;

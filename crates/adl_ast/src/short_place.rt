@@ -1,6 +1,6 @@
 ghost use Rattle.std.specs.Prelude.{◌≡◌, IfOk};
 
-use cam_base::{NoMemory, Place};
+use cam_base::{Made, NoMemory, Place};
 use std::marker::Model;
 
 /// A place in half the room. Contracts see it as the place.
@@ -21,7 +21,7 @@ impl Model for ShortPlace {
 
 impl ShortPlace {
     /// The same place. A file of 4 GiB is met as one for which memory is wanting.
-    pub fn new(place: Place) -> Result<ShortPlace, NoMemory>
+    pub fn new(place: Place) -> Made<ShortPlace>
         ensures { IfOk result (λ short. short ≡ place) }
     {
         match (u32::try_from(place.first), u32::try_from(place.end)) {

@@ -1,6 +1,6 @@
 ghost use Rattle.std.specs.Prelude.{◌≡◌, [], ◌∷◌, ◌++◌, OnOk, OnErr};
 
-use cam_base::{Name, NoMemory};
+use cam_base::{Made, Name};
 use smallvec::SmallVec;
 use std::alloc::Global;
 use std::marker::Model;
@@ -30,7 +30,7 @@ impl Words {
     }
 
     /// Puts a word at the end. Refused, it leaves the words as they were.
-    pub fn push(&mut self, word: Name) -> Result<(), NoMemory>
+    pub fn push(&mut self, word: Name) -> Made<()>
         ensures ok { OnOk result (self.new ≡ self.old ++ word ∷ []) }
         ensures err { OnErr result (self.new ≡ self.old) }
     {

@@ -6,7 +6,7 @@ ghost use Rattle.adl_meaning.specs.UsedTwice.{clashes};
 ghost use Rattle.std.specs.Prelude.{IfOk, None, OnOk, Some, false, if◌then◌else◌, is_some, nat_le, unwrap_or, ◌+◌, ◌≡◌, ◌≤◌};
 
 use crate::{PlacedConnection, PlacedEnd};
-use cam_base::NoMemory;
+use cam_base::Made;
 use indexmap::IndexMap;
 use std::alloc::Global;
 use std::marker::Model;
@@ -36,7 +36,7 @@ struct EndKey {
 }
 
 /// Adds an end at a key, and answers whether one was there. The table says of each key whether there are several.
-fn add_at(seen: &mut IndexMap<EndKey, bool>, key: EndKey) -> Result<bool, NoMemory>
+fn add_at(seen: &mut IndexMap<EndKey, bool>, key: EndKey) -> Made<bool>
     ensures before { IfOk result (λ before. before ≡ is_some (seen_at seen.old.entries key)) }
     ensures seen { OnOk result ((k : EndKey) → seen_at seen.new.entries k
         ≡ (if same_key key k then Some (is_some (seen_at seen.old.entries key)) else seen_at seen.old.entries k)) }
@@ -91,7 +91,7 @@ impl<'t, 'a> JoinedEnd<'t, 'a> {
 fn joined_ends<'t, 'a>(
     alloc: Global,
     connections: &'t [PlacedConnection<'a>],
-) -> Result<Vec<JoinedEnd<'t, 'a>>, NoMemory>
+) -> Made<Vec<JoinedEnd<'t, 'a>>>
     ensures { IfOk result (λ v. v.items ≡ all_joined connections.entry.now) }
 {
     let mut ends = Vec::new(alloc);
@@ -104,7 +104,7 @@ fn joined_ends<'t, 'a>(
 }
 
 /// Adds the ends of all connections together, and answers whether several join one interface.
-fn add_all(ends: &[JoinedEnd<'_, '_>], seen: &mut IndexMap<EndKey, bool>) -> Result<bool, NoMemory>
+fn add_all(ends: &[JoinedEnd<'_, '_>], seen: &mut IndexMap<EndKey, bool>) -> Made<bool>
     requires { (k : EndKey) → seen_at seen.old.entries k ≡ None }
     ensures seen { OnOk result ((k : EndKey) → seen_at seen.new.entries k ≡ tally (count_by (joins k) ends.now)) }
     ensures once { IfOk result (λ several. several ≡ false → (k : EndKey) → count_by (joins k) ends.now ≤ 1) }
@@ -118,7 +118,7 @@ fn add_all(ends: &[JoinedEnd<'_, '_>], seen: &mut IndexMap<EndKey, bool>) -> Res
 }
 
 /// Adds the ends of each connection apart.
-fn add_apart(ends: &[JoinedEnd<'_, '_>], seen: &mut IndexMap<EndKey, bool>) -> Result<(), NoMemory>
+fn add_apart(ends: &[JoinedEnd<'_, '_>], seen: &mut IndexMap<EndKey, bool>) -> Made<()>
     requires { (k : EndKey) → seen_at seen.old.entries k ≡ tally (count_by (joins k) ends.now) }
     ensures { OnOk result ((k : EndKey) → seen_at seen.new.entries k
         ≡ tally (count_by (joins k) ends.now + count_by (joins_apart k) ends.now)) }
@@ -153,10 +153,7 @@ impl<'t, 'a> Model for CountedEnds<'t, 'a> {
 
 impl<'t, 'a> CountedEnds<'t, 'a> {
     /// Counts the ends of connections.
-    pub fn new(
-        alloc: Global,
-        connections: &'t [PlacedConnection<'a>],
-    ) -> Result<CountedEnds<'t, 'a>, NoMemory>
+    pub fn new(alloc: Global, connections: &'t [PlacedConnection<'a>]) -> Made<CountedEnds<'t, 'a>>
         ensures { IfOk result (λ t. t ≡ all_joined connections.entry.now) }
     {
         let ends = joined_ends(alloc, connections)?;

@@ -12,14 +12,11 @@ use adl_ast::Source;
 use adl_items::Names;
 use adl_meaning::{Flat, FlatConnection, FlatEnd};
 use adl_program::{Program, program_of};
-use cam_base::{Fault, List, NoMemory, Path, Refused};
+use cam_base::{Fault, List, Made, Path, Refused};
 use std::alloc::Global;
 use std::slice;
 
-fn flat_connection(
-    alloc: Global,
-    connection: &PlacedConnection<'_>,
-) -> Result<FlatConnection, NoMemory>
+fn flat_connection(alloc: Global, connection: &PlacedConnection<'_>) -> Made<FlatConnection>
     ensures { IfOk result (λ k. k ≡ flat_connection_of connection.now) }
 {
     let id = &connection.connection.id;
@@ -44,7 +41,7 @@ fn flat_connection(
 fn flat_connections(
     alloc: Global,
     connections: &[PlacedConnection<'_>],
-) -> Result<List<FlatConnection>, NoMemory>
+) -> Made<List<FlatConnection>>
     ensures { IfOk result (λ ks. ks ≡ map flat_connection_of connections.now) }
 {
     let mut flat = Vec::with_capacity(alloc, connections.len())?;

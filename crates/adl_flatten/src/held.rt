@@ -5,7 +5,7 @@ ghost use Rattle.adl_flatten.specs.AreTemplates.{AreHeld, IsReady};
 ghost use Rattle.std.specs.Prelude.{All, IfOk, [], false, length, slice_index_or, ℕ, ◌&&◌, ◌<◌, ◌==◌, ◌^◌, ◌||◌, ◌≡◌};
 
 use adl_program::{Part, Program};
-use cam_base::NoMemory;
+use cam_base::Made;
 use std::alloc::Global;
 
 /// Marks the components of the instances of a body, if the body is marked.
@@ -23,7 +23,7 @@ fn mark_inner(number: u32, parts: &[Part<'_>], marks: &mut [bool])
 }
 
 /// Whether the assembly holds each body by number. It counts as holding itself.
-pub fn held_bodies(alloc: Global, program: &Program<'_>) -> Result<Vec<bool>, NoMemory>
+pub fn held_bodies(alloc: Global, program: &Program<'_>) -> Made<Vec<bool>>
     requires ready { IsReady program.now }
     requires few { length (leaves program.now) < 2 ^ 32 }
     ensures { IfOk result (λ v. AreHeld program.now [] v.items) }

@@ -9,7 +9,7 @@ ghost use Rattle.std.specs.Prelude.{IfOk, OnOk, [], length, map, option_map, ◌
 use crate::PlacedLeaf;
 use adl_meaning::{Domain, ItemAt, Leaf};
 use adl_program::Program;
-use cam_base::{List, Name, NoMemory, Path};
+use cam_base::{List, Made, Name, Path};
 use indexmap::IndexSet;
 use std::alloc::Global;
 
@@ -29,7 +29,7 @@ fn flat_leaf(
     program: &Program<'_>,
     leaf: &PlacedLeaf<'_>,
     domain: Option<u32>,
-) -> Result<Leaf, NoMemory>
+) -> Made<Leaf>
     ensures { IfOk result (λ l. l ≡ leaf_with program.now domain leaf.now) }
 {
     let body = program.body(leaf.kind);
@@ -48,7 +48,7 @@ pub fn flat_leaves<'a>(
     alloc: Global,
     program: &Program<'_>,
     leaves: &'a [PlacedLeaf<'_>],
-) -> Result<(List<Leaf>, IndexSet<&'a [Name]>), NoMemory>
+) -> Made<(List<Leaf>, IndexSet<&'a [Name]>)>
     requires are { leaves.now ≡ template_leaves program.now (top_number program.now) }
     requires few { length leaves.now < 2 ^ 32 }
     ensures leaves { IfOk result (λ x. x.0 ≡ map (leaf_in program.now (domains program.now)) leaves.entry.now) }
@@ -71,7 +71,7 @@ pub fn flat_leaves<'a>(
 
 /// Puts a leaf into the domain of the number, if there is one.
 #[tactic(auto, using(crate::proofs::Homes::set_beyond))]
-fn put_into(domain: Option<u32>, leaf: u32, domains: &mut Vec<Domain>) -> Result<(), NoMemory>
+fn put_into(domain: Option<u32>, leaf: u32, domains: &mut Vec<Domain>) -> Made<()>
     ensures { OnOk result (domains.new.items ≡ put_into domain leaf domains.old.items) }
 {
     if let Some(number) = domain {
@@ -83,11 +83,7 @@ fn put_into(domain: Option<u32>, leaf: u32, domains: &mut Vec<Domain>) -> Result
 }
 
 /// The domains of a flat system, which have these paths, each with its leaves.
-pub fn flat_domains(
-    alloc: Global,
-    paths: &[&[Name]],
-    leaves: &[Leaf],
-) -> Result<List<Domain>, NoMemory>
+pub fn flat_domains(alloc: Global, paths: &[&[Name]], leaves: &[Leaf]) -> Made<List<Domain>>
     requires { length leaves.now < 2 ^ 32 }
     ensures { IfOk result (λ ds. ds ≡ filled 0 leaves.now (map (λ p. record { path = p.now; leaves = [] }) paths.now)) }
 {

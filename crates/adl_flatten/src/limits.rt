@@ -11,7 +11,7 @@ use adl_ast::{Assembly, Source};
 use adl_items::{Located, all_items, first_assembly};
 use adl_meaning::Earliest;
 use adl_program::{Part, Program, Wire};
-use cam_base::{Code, Fault, NoMemory, Refused};
+use cam_base::{Code, Fault, Made, Refused};
 use std::alloc::Global;
 
 const DEPTH: u64 = 16;
@@ -121,7 +121,7 @@ fn body_totals(program: &Program<'_>, all: &[Totals], number: u32) -> Totals
 }
 
 /// The totals of the assembly, from those of all bodies, inner ones first.
-fn assembly_totals(alloc: Global, program: &Program<'_>) -> Result<Totals, NoMemory>
+fn assembly_totals(alloc: Global, program: &Program<'_>) -> Made<Totals>
     requires { IsReady program.now }
     ensures { IfOk result (λ t. t ≡ totals_in program.now (top_number program.now)) }
 {

@@ -6,11 +6,11 @@ ghost use Rattle.std.specs.Prelude.{All, IfOk, OnOk, map, option_map, ◌++◌, 
 
 use crate::placed::{PlacedConnection, PlacedEnd};
 use adl_program::Part;
-use cam_base::{List, Name, NoMemory};
+use cam_base::{List, Made, Name};
 use std::alloc::Global;
 
 /// The path behind a name.
-pub fn behind(alloc: Global, name: &Name, path: &[Name]) -> Result<List<Name>, NoMemory>
+pub fn behind(alloc: Global, name: &Name, path: &[Name]) -> Made<List<Name>>
     ensures { IfOk result (λ p. p ≡ name.now ∷ path.now) }
 {
     let mut names = Vec::with_capacity(alloc, path.len().saturating_add(1))?;
@@ -26,7 +26,7 @@ pub fn home_of(
     alloc: Global,
     part: &Part<'_>,
     home: &Option<List<Name>>,
-) -> Result<Option<List<Name>>, NoMemory>
+) -> Made<Option<List<Name>>>
     ensures { IfOk result (λ o. o ≡ group_or part.now.group (option_map (λ q. name_of part.now ∷ q) home.now)) }
 {
     match (part.group, home) {
@@ -43,7 +43,7 @@ pub fn place_connections<'a>(
     before: u32,
     inner: &[PlacedConnection<'a>],
     connections: &mut Vec<PlacedConnection<'a>>,
-) -> Result<(), NoMemory>
+) -> Made<()>
     requires { All (λ c. All (λ e. before + e.leaf < 2 ^ 32) c.ends) inner.now }
     ensures { OnOk result (connections.new.items ≡ connections.old.items
         ++ map (moved_connection (name_of part.now) before) inner.now) }

@@ -13,7 +13,7 @@ use crate::place::{behind, home_of, place_connections};
 use crate::placed::{PlacedConnection, PlacedEnd, PlacedLeaf, Target};
 use adl_ast::{Id, InterfaceKind, Line};
 use adl_program::{Body, Part, Program, port_in};
-use cam_base::{List, Name, NoMemory};
+use cam_base::{List, Made, Name};
 use name_tables::NameTable;
 use std::alloc::Global;
 
@@ -65,7 +65,7 @@ fn place_part<'a>(
     all: &[Template<'a>],
     part: &Part<'a>,
     leaves: &mut Vec<PlacedLeaf<'a>>,
-) -> Result<(), NoMemory>
+) -> Made<()>
     requires within { part.now.kind < length all.now }
     requires each { (t : TemplateOf) → IsTemplate program.now part.now.kind (slice_index_or all.now part.now.kind t) }
     ensures { OnOk result (leaves.new.items ≡ leaves.old.items ++ leaves_by program.now part.now) }
@@ -129,7 +129,7 @@ fn targets_of<'a>(
     all: &[Template<'a>],
     before: &[u32],
     number: u32,
-) -> Result<NameTable<'a, Option<Target>>, NoMemory>
+) -> Made<NameTable<'a, Option<Target>>>
     requires inner { AreInner program.now number all.now }
     requires before { AreBefore program.now number before.now }
     ensures { IfOk result (λ t. (n : Seq ℕ) → found t n ≡ export_target program.now number n) }
@@ -154,7 +154,7 @@ fn connections_of<'a>(
     all: &[Template<'a>],
     before: &[u32],
     number: u32,
-) -> Result<Vec<PlacedConnection<'a>>, NoMemory>
+) -> Made<Vec<PlacedConnection<'a>>>
     requires inner { AreInner program.now number all.now }
     requires before { AreBefore program.now number before.now }
     ensures { IfOk result (λ v. v.items ≡ own_connections program.now number
@@ -195,7 +195,7 @@ fn template_of<'a>(
     program: &Program<'a>,
     all: &[Template<'a>],
     number: u32,
-) -> Result<Template<'a>, NoMemory>
+) -> Made<Template<'a>>
     requires { AreInner program.now number all.now }
     ensures { IfOk result (λ t. IsTemplate program.now number t) }
 {
@@ -220,7 +220,7 @@ fn template_of<'a>(
 /// # Errors
 ///
 /// Want of memory.
-pub fn assembly_template<'a>(alloc: Global, program: &Program<'a>) -> Result<Template<'a>, NoMemory>
+pub fn assembly_template<'a>(alloc: Global, program: &Program<'a>) -> Made<Template<'a>>
     requires ready { IsReady program.now }
     requires few { length (leaves program.now) < 2 ^ 32 }
     ensures { IfOk result (λ t. IsTemplate program.now (top_number program.now) t) }

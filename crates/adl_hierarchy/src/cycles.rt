@@ -12,7 +12,7 @@ ghost use Rattle.std.specs.Prelude.{◌≡◌, ◌<◌, ◌^◌, ◌⊎◌, ℕ,
 
 use crate::holding::holds;
 use crate::number_set::NumberSet;
-use cam_base::{List, NoMemory};
+use cam_base::{List, Made};
 use std::alloc::Global;
 use std::marker::Model;
 
@@ -35,7 +35,7 @@ impl Model for Cycles {
     ghost invariant = { λ k. IsTold k.graph k.numbers };
 }
 
-fn add_outer(inner: &[u32], component: u32, outer: &mut Vec<List<u32>>) -> Result<(), NoMemory>
+fn add_outer(inner: &[u32], component: u32, outer: &mut Vec<List<u32>>) -> Made<()>
     requires { (c : ℕ) → has inner.now c ≡ true → c < length outer.old.items }
     ensures size { OnOk result (length outer.new.items ≡ length outer.old.items) }
     ensures edges { OnOk result ((c a : ℕ) → has (inner_of outer.new.items c) a ≡ true
@@ -47,7 +47,7 @@ fn add_outer(inner: &[u32], component: u32, outer: &mut Vec<List<u32>>) -> Resul
     Ok(())
 }
 
-fn no_lists(alloc: Global, count: usize) -> Result<Vec<List<u32>>, NoMemory>
+fn no_lists(alloc: Global, count: usize) -> Made<Vec<List<u32>>>
     ensures size { IfOk result (λ v. length v.items ≡ count) }
     ensures none { IfOk result (λ v. (c a : ℕ) → has (inner_of v.items c) a ≡ false) }
 {
@@ -59,7 +59,7 @@ fn no_lists(alloc: Global, count: usize) -> Result<Vec<List<u32>>, NoMemory>
 }
 
 /// For each component those that it is an inner one of.
-fn turned(alloc: Global, graph: &[List<u32>]) -> Result<Vec<List<u32>>, NoMemory>
+fn turned(alloc: Global, graph: &[List<u32>]) -> Made<Vec<List<u32>>>
     requires range { InRange graph.now }
     requires few { length graph.now < 2 ^ 32 }
     ensures { IfOk result (λ t. IsTurned graph.now t.items) }
@@ -80,7 +80,7 @@ fn steps(graph: &[List<u32>]) -> usize {
     steps
 }
 
-fn push_unseen(inner: &[u32], seen: &NumberSet, waiting: &mut Vec<u32>) -> Result<(), NoMemory>
+fn push_unseen(inner: &[u32], seen: &NumberSet, waiting: &mut Vec<u32>) -> Made<()>
     requires inner { (c : ℕ) → has inner.now c ≡ true → c < seen.now.size }
     requires waiting { (x : ℕ) → has waiting.old.items x ≡ true → x < seen.now.size }
     ensures { OnOk result ((x : ℕ) → has waiting.new.items x ≡ true → x < seen.now.size) }
@@ -93,7 +93,7 @@ fn push_unseen(inner: &[u32], seen: &NumberSet, waiting: &mut Vec<u32>) -> Resul
     Ok(())
 }
 
-fn all_below(alloc: Global, size: u32) -> Result<Vec<u32>, NoMemory>
+fn all_below(alloc: Global, size: u32) -> Made<Vec<u32>>
     ensures { IfOk result (λ v. (x : ℕ) → has v.items x ≡ true → x < size) }
 {
     let mut numbers = Vec::new(alloc);
@@ -104,7 +104,7 @@ fn all_below(alloc: Global, size: u32) -> Result<Vec<u32>, NoMemory>
 }
 
 /// The components in the order in which a walk in depth leaves them.
-fn leaving_order(alloc: Global, graph: &[List<u32>]) -> Result<List<u32>, NoMemory>
+fn leaving_order(alloc: Global, graph: &[List<u32>]) -> Made<List<u32>>
     requires range { InRange graph.now }
     requires few { length graph.now < 2 ^ 32 }
 {
@@ -134,7 +134,7 @@ fn spread_once(
     root: u32,
     roots: &mut Vec<u32>,
     waiting: &mut Vec<u32>,
-) -> Result<(), NoMemory>
+) -> Made<()>
     requires range { InRange graph.now }
     requires component { component < length graph.now }
     requires held { Holds graph.now root component }
@@ -153,12 +153,7 @@ fn spread_once(
 }
 
 /// Gives the root to all that it holds through components that have none.
-fn spread(
-    alloc: Global,
-    graph: &[List<u32>],
-    root: u32,
-    roots: &mut Vec<u32>,
-) -> Result<(), NoMemory>
+fn spread(alloc: Global, graph: &[List<u32>], root: u32, roots: &mut Vec<u32>) -> Made<()>
     requires range { InRange graph.now }
     requires root { root < length graph.now }
     requires roots { AreRoots graph.now roots.old.items }
@@ -179,7 +174,7 @@ fn spread(
 
 /// The root of each component: the starts are taken in turn, and each one that has no root is that of itself and of all
 /// that it holds through components that have none.
-fn roots_from(alloc: Global, graph: &[List<u32>], starts: &[u32]) -> Result<Vec<u32>, NoMemory>
+fn roots_from(alloc: Global, graph: &[List<u32>], starts: &[u32]) -> Made<Vec<u32>>
     requires range { InRange graph.now }
     requires few { length graph.now < 2 ^ 32 }
     ensures { IfOk result (λ v. AreRoots graph.now v.items) }
@@ -196,7 +191,7 @@ fn roots_from(alloc: Global, graph: &[List<u32>], starts: &[u32]) -> Result<Vec<
 }
 
 /// The place of each component in the list.
-fn places(alloc: Global, list: &[u32], size: usize) -> Result<Vec<usize>, NoMemory>
+fn places(alloc: Global, list: &[u32], size: usize) -> Made<Vec<usize>>
     ensures { IfOk result (λ v. length v.items ≡ size) }
 {
     let mut places = vec![in alloc; 0; size]?;
@@ -209,7 +204,7 @@ fn places(alloc: Global, list: &[u32], size: usize) -> Result<Vec<usize>, NoMemo
 }
 
 /// Those of the list that are roots.
-fn own_roots(alloc: Global, list: &[u32], roots: &[u32]) -> Result<Vec<u32>, NoMemory> {
+fn own_roots(alloc: Global, list: &[u32], roots: &[u32]) -> Made<Vec<u32>> {
     let mut own = Vec::new(alloc);
     for number in list {
         if roots.get(*number as usize) == Some(number) {
@@ -292,7 +287,7 @@ fn tested(
 }
 
 /// The number of each component, where the search finds one for all that hold each other.
-fn numbers(alloc: Global, graph: &[List<u32>]) -> Result<Option<List<u32>>, NoMemory>
+fn numbers(alloc: Global, graph: &[List<u32>]) -> Made<Option<List<u32>>>
     requires range { InRange graph.now }
     requires few { length graph.now < 2 ^ 32 }
     ensures { IfOk result (λ o. MayTell graph.now o) }
@@ -316,7 +311,7 @@ fn numbers(alloc: Global, graph: &[List<u32>]) -> Result<Option<List<u32>>, NoMe
 
 impl Cycles {
     /// Finds the cycles, in time and memory along the size of the graph.
-    pub fn of(alloc: Global, graph: List<List<u32>>) -> Result<Cycles, NoMemory>
+    pub fn of(alloc: Global, graph: List<List<u32>>) -> Made<Cycles>
         requires range { InRange graph }
         requires few { length graph < 2 ^ 32 }
         ensures { IfOk result (λ k. k ≡ graph) }
@@ -327,7 +322,7 @@ impl Cycles {
 
     /// Whether the type of an instance, an inner one of the component that the instance stands in, is that component or
     /// holds it: a comparison, where the search found the cycles.
-    pub fn holds_back(&self, alloc: Global, component: u32, inner: u32) -> Result<bool, NoMemory>
+    pub fn holds_back(&self, alloc: Global, component: u32, inner: u32) -> Made<bool>
         requires component { component < length self.now }
         requires inner { has (inner_of self.now component) inner ≡ true }
         ensures { IfOk result (λ b. b ≡ is_held self.now inner component) }

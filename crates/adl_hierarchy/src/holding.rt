@@ -5,10 +5,10 @@ ghost use Rattle.adl_hierarchy.specs.Placing.{HasMore};
 ghost use Rattle.std.specs.Prelude.{◌≡◌, ◌<◌, ◌^◌, ℕ, true, false, length, IfOk, OnOk};
 
 use crate::number_set::NumberSet;
-use cam_base::{List, NoMemory};
+use cam_base::{List, Made};
 use std::alloc::Global;
 
-fn add_each(numbers: &[u32], found: &mut NumberSet) -> Result<(), NoMemory>
+fn add_each(numbers: &[u32], found: &mut NumberSet) -> Made<()>
     requires { (c : ℕ) → has numbers.now c ≡ true → c < found.old.size }
     ensures { OnOk result (HasMore numbers.now found.old found.new) }
 {
@@ -20,7 +20,7 @@ fn add_each(numbers: &[u32], found: &mut NumberSet) -> Result<(), NoMemory>
 
 /// Whether a component is another, or holds it, directly or through others. Takes time and memory along the size of the
 /// graph.
-pub fn holds(alloc: Global, graph: &[List<u32>], from: u32, to: u32) -> Result<bool, NoMemory>
+pub fn holds(alloc: Global, graph: &[List<u32>], from: u32, to: u32) -> Made<bool>
     requires range { InRange graph.now }
     requires few { length graph.now < 2 ^ 32 }
     requires from { from < length graph.now }

@@ -4,7 +4,7 @@ ghost use Rattle.adl_meaning.specs.Graph.{has};
 ghost use Rattle.adl_hierarchy.specs.Sets.{with_number};
 ghost use Rattle.std.specs.Prelude.{◌≡◌, ◌<◌, ◌≤◌, ℕ, true, false, [], ◌∷◌, ◌++◌, length, IfOk, OnOk};
 
-use cam_base::{List, NoMemory};
+use cam_base::{List, Made};
 use std::alloc::Global;
 use std::marker::Model;
 
@@ -30,7 +30,7 @@ impl Model for NumberSet {
 
 impl NumberSet {
     /// The empty set.
-    pub fn new(alloc: Global, size: u32) -> Result<NumberSet, NoMemory>
+    pub fn new(alloc: Global, size: u32) -> Made<NumberSet>
         ensures { IfOk result (λ s. s ≡ record { size = size; list = [] }) }
     {
         Ok(NumberSet {
@@ -70,7 +70,7 @@ impl NumberSet {
     }
 
     /// Puts a number into the set.
-    pub fn insert(&mut self, number: u32) -> Result<(), NoMemory>
+    pub fn insert(&mut self, number: u32) -> Made<()>
         requires { number < self.old.size }
         ensures { OnOk result (self.new ≡ record self.old { list = with_number self.old.list number }) }
     {

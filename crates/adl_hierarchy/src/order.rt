@@ -5,11 +5,11 @@ ghost use Rattle.adl_hierarchy.specs.Placing.{IsPlacing, IsAtEnd};
 ghost use Rattle.std.specs.Prelude.{◌≡◌, ◌<◌, ◌^◌, length, IfOk, IfSome, IfNone};
 
 use crate::placing::Placing;
-use cam_base::{List, NoMemory};
+use cam_base::{List, Made};
 use std::alloc::Global;
 
 /// Places as many components as there is a place for.
-fn place_all(alloc: Global, graph: &[List<u32>]) -> Result<Placing, NoMemory>
+fn place_all(alloc: Global, graph: &[List<u32>]) -> Made<Placing>
     requires range { InRange graph.now }
     requires few { length graph.now < 2 ^ 32 }
     ensures placing { IfOk result (λ p. IsPlacing graph.now p) }
@@ -27,7 +27,7 @@ fn place_all(alloc: Global, graph: &[List<u32>]) -> Result<Placing, NoMemory>
 
 /// The components, each after the types of its instances. None where one of them holds itself. Takes time and memory
 /// along the size of the graph.
-pub fn inner_first(alloc: Global, graph: &[List<u32>]) -> Result<Option<List<u32>>, NoMemory>
+pub fn inner_first(alloc: Global, graph: &[List<u32>]) -> Made<Option<List<u32>>>
     requires range { InRange graph.now }
     requires few { length graph.now < 2 ^ 32 }
     ensures order { IfOk result (λ found. IfSome found (λ order. IsInnerFirst graph.now order)) }

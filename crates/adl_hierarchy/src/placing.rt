@@ -8,7 +8,7 @@ ghost use Rattle.adl_hierarchy.specs.Placing.{IsPlacing, Waits, Settles};
 ghost use Rattle.std.specs.Prelude.{◌≡◌, ◌<◌, ◌≤◌, ◌^◌, ◌+◌, ℕ, true, false, [], length, take, slice_index, IfOk, OnOk};
 
 use crate::number_set::NumberSet;
-use cam_base::{List, NoMemory};
+use cam_base::{List, Made};
 use std::alloc::Global;
 
 /// How far the placing has come.
@@ -38,7 +38,7 @@ fn next_open(inner: &[u32], past: usize, placed: &NumberSet) -> usize
 
 impl Placing {
     /// Nothing is placed.
-    pub fn new(alloc: Global, graph: &[List<u32>]) -> Result<Placing, NoMemory>
+    pub fn new(alloc: Global, graph: &[List<u32>]) -> Made<Placing>
         requires { length graph.now < 2 ^ 32 }
         ensures { IfOk result (λ p. IsPlacing graph.now p) }
     {
@@ -54,7 +54,7 @@ impl Placing {
     }
 
     /// Places the component, or has it wait.
-    pub fn settle(&mut self, graph: &[List<u32>], component: u32) -> Result<(), NoMemory>
+    pub fn settle(&mut self, graph: &[List<u32>], component: u32) -> Made<()>
         requires range { InRange graph.now }
         requires component { component < length graph.now }
         requires placing { IsPlacing graph.now self.old }
@@ -72,7 +72,7 @@ impl Placing {
     }
 
     /// Places each component, or has it wait.
-    pub fn settle_all(&mut self, graph: &[List<u32>]) -> Result<(), NoMemory>
+    pub fn settle_all(&mut self, graph: &[List<u32>]) -> Made<()>
         requires range { InRange graph.now }
         requires few { length graph.now < 2 ^ 32 }
         requires placing { IsPlacing graph.now self.old }
@@ -86,7 +86,7 @@ impl Placing {
     }
 
     /// Places each of the components, or has it wait for another.
-    fn settle_each(&mut self, graph: &[List<u32>], components: &[u32]) -> Result<(), NoMemory>
+    fn settle_each(&mut self, graph: &[List<u32>], components: &[u32]) -> Made<()>
         requires range { InRange graph.now }
         requires components { (x : ℕ) → has components.now x ≡ true → x < length graph.now }
         requires placing { IsPlacing graph.now self.old }
@@ -100,12 +100,7 @@ impl Placing {
     }
 
     /// Lets those go on that wait for the component that was placed as the one of this index.
-    pub fn release(
-        &mut self,
-        alloc: Global,
-        graph: &[List<u32>],
-        index: usize,
-    ) -> Result<(), NoMemory>
+    pub fn release(&mut self, alloc: Global, graph: &[List<u32>], index: usize) -> Made<()>
         requires range { InRange graph.now }
         requires index { index < length self.old.placed.list }
         requires placing { IsPlacing graph.now self.old }

@@ -7,7 +7,7 @@ ghost use Rattle.std.specs.Option.{option_map};
 ghost use Rattle.std.specs.Str.{is_utf8};
 ghost use Rattle.std.specs.Prelude.{◌≡◌, ◌==◌, leb, map, [], ◌++◌, ◌∷◌, None, Some, IfOk, OnOk, IsTrue, if◌then◌else◌};
 
-use cam_base::{NoMemory, Refused, Text};
+use cam_base::{Made, Refused, Text};
 use std::alloc::{AllocError, Global};
 use std::str::from_utf8;
 use thiserror::Error;
@@ -78,7 +78,7 @@ fn is_in_folder(parts: &[&[u8]]) -> bool
 }
 
 /// One step up from the parts, where `up` is `..`; false where it leaves an absolute path.
-fn go_up<'a>(absolute: bool, parts: &mut Vec<&'a [u8]>, up: &'a [u8]) -> Result<bool, NoMemory>
+fn go_up<'a>(absolute: bool, parts: &mut Vec<&'a [u8]>, up: &'a [u8]) -> Made<bool>
     requires { IsTrue (is_up up.now) }
     ensures { IfOk result (λ inside. one_up absolute (inner_first parts.old.items)
         ≡ (if inside then Some (inner_first parts.new.items) else None)) }
@@ -95,7 +95,7 @@ fn go_up<'a>(absolute: bool, parts: &mut Vec<&'a [u8]>, up: &'a [u8]) -> Result<
 }
 
 /// Puts one part more of a path behind the others; false where it leaves an absolute path.
-fn put_part<'a>(absolute: bool, parts: &mut Vec<&'a [u8]>, part: &'a [u8]) -> Result<bool, NoMemory>
+fn put_part<'a>(absolute: bool, parts: &mut Vec<&'a [u8]>, part: &'a [u8]) -> Made<bool>
     ensures { IfOk result (λ inside. with_part absolute (inner_first parts.old.items) part.entry.now
         ≡ (if inside then Some (inner_first parts.new.items) else None)) }
 {
@@ -110,7 +110,7 @@ fn put_part<'a>(absolute: bool, parts: &mut Vec<&'a [u8]>, part: &'a [u8]) -> Re
 }
 
 /// The parts that are left of a path, outermost first; none where it leaves an absolute path.
-fn walk(alloc: Global, absolute: bool, path: &[u8]) -> Result<Option<Vec<&[u8]>>, NoMemory>
+fn walk(alloc: Global, absolute: bool, path: &[u8]) -> Made<Option<Vec<&[u8]>>>
     ensures { IfOk result (λ kept. option_map (λ parts. inner_first parts.items) kept ≡ with_parts absolute []
         (slice_split is_slash path.entry.now)) }
 {
@@ -125,7 +125,7 @@ fn walk(alloc: Global, absolute: bool, path: &[u8]) -> Result<Option<Vec<&[u8]>>
 }
 
 /// Puts parts at the end, each behind a slash.
-fn push_behind_slashes(parts: &[&[u8]], text: &mut Vec<u8>) -> Result<(), NoMemory>
+fn push_behind_slashes(parts: &[&[u8]], text: &mut Vec<u8>) -> Made<()>
     ensures { OnOk result (text.new.items ≡ text.old.items ++ flat_map (λ part. 47 ∷ part.now) parts.now) }
 {
     for part in parts {
@@ -136,7 +136,7 @@ fn push_behind_slashes(parts: &[&[u8]], text: &mut Vec<u8>) -> Result<(), NoMemo
 }
 
 /// Puts parts at the end, joined by slashes.
-fn push_joined(parts: &[&[u8]], text: &mut Vec<u8>) -> Result<(), NoMemory>
+fn push_joined(parts: &[&[u8]], text: &mut Vec<u8>) -> Made<()>
     ensures { OnOk result (text.new.items ≡ text.old.items ++ join_with_byte 47 (parts_of parts.now)) }
 {
     if let Some((first, rest)) = parts.split_first() {
@@ -147,7 +147,7 @@ fn push_joined(parts: &[&[u8]], text: &mut Vec<u8>) -> Result<(), NoMemory>
 }
 
 /// The text of parts, outermost first.
-fn path_text(alloc: Global, absolute: bool, parts: &[&[u8]]) -> Result<Text, NoMemory>
+fn path_text(alloc: Global, absolute: bool, parts: &[&[u8]]) -> Made<Text>
     ensures { IfOk result (λ text. text ≡ path_text absolute (inner_first parts.now)) }
 {
     let mut text = Vec::new(alloc);
@@ -171,7 +171,7 @@ fn fold_path(alloc: Global, path: &[u8]) -> Result<Text, Refused<BadPath>>
     Ok(path_text(alloc, absolute, parts.as_slice())?)
 }
 
-fn in_folder(alloc: Global, folder: &[u8], path: &[u8]) -> Result<Vec<u8>, NoMemory>
+fn in_folder(alloc: Global, folder: &[u8], path: &[u8]) -> Made<Vec<u8>>
     ensures { IfOk result (λ joined. joined.items ≡ in_folder folder.now path.now) }
 {
     let mut joined = folder.to_vec(alloc)?;

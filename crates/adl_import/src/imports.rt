@@ -8,19 +8,14 @@ ghost use Rattle.std.specs.Prelude.{◌≡◌, IfOk};
 
 use crate::{BadPath, fold};
 use adl_ast::{Ended, Import, Item};
-use cam_base::{Code, Fault, NoMemory, Place, Refused, Text};
+use cam_base::{Code, Fault, Made, Place, Refused, Text};
 use indexmap::IndexMap;
 use std::alloc::Global;
 
 /// The greatest number of files.
 const FILES_LIMIT: usize = 64;
 
-pub(crate) fn fault_at(
-    alloc: Global,
-    code: Code,
-    place: Place,
-    name: &[u8],
-) -> Result<Fault, NoMemory>
+pub(crate) fn fault_at(alloc: Global, code: Code, place: Place, name: &[u8]) -> Made<Fault>
     ensures { IfOk result (λ fault. fault ≡ fault_at code place name.now) }
 {
     let name = Text::new(alloc, name)?;

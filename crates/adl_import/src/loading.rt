@@ -10,7 +10,7 @@ use crate::imports::fault_at;
 use crate::turn::take_turn;
 use crate::{BadPath, fold_root};
 use adl_ast::Source;
-use cam_base::{Code, List, NoMemory, Place, Refused, SourceError, Text, Unread};
+use cam_base::{Code, List, Made, Place, Refused, SourceError, Text, Unread};
 use cam_io::Files;
 use indexmap::IndexMap;
 use std::alloc::Global;
@@ -22,7 +22,7 @@ const ROOT_PLACE: Place = Place {
     end: 0,
 };
 
-fn met_root(alloc: Global, root: &Text) -> Result<IndexMap<Text, Place>, NoMemory>
+fn met_root(alloc: Global, root: &Text) -> Made<IndexMap<Text, Place>>
     ensures { IfOk result (λ known. known.entries ≡ (root.now, ROOT_PLACE) ∷ []) }
 {
     let mut known = IndexMap::new(alloc);

@@ -15,7 +15,7 @@ use crate::imports::{fault_at, take_imports};
 use adl_ast::{ByteCount, File, SourceFile};
 use adl_lexer::lex_within;
 use adl_parse::parse_file;
-use cam_base::{Code, Fault, List, NoMemory, Place, Refused, SourceError, Text, Token, Unread};
+use cam_base::{Code, Fault, List, Made, Place, Refused, SourceError, Text, Token, Unread};
 use cam_io::{Files, WholeError, read_whole, take_whole};
 use indexmap::IndexMap;
 use std::alloc::Global;
@@ -89,7 +89,7 @@ fn fault_where_met(
     place: Place,
     name: &[u8],
     in_file: &Text,
-) -> Result<SourceError, NoMemory>
+) -> Made<SourceError>
     ensures { IfOk result (λ e. e ≡ Unread.Fault (fault_at code place name.now) in_file.now) }
 {
     let fault = fault_at(alloc, code, place, name)?;

@@ -7,7 +7,7 @@ ghost use Rattle.std.specs.Prelude.{◌≡◌, ◌<◌, ◌^◌, ◌++◌, map, 
 
 use adl_ast::{Assembly, Component, Item, Procedure, Source, SourceFile};
 use adl_meaning::ItemAt;
-use cam_base::NoMemory;
+use cam_base::Made;
 use std::alloc::Global;
 use std::marker::Model;
 
@@ -18,11 +18,7 @@ pub struct Located<'a, T> {
     pub item: &'a T,
 }
 
-fn add_file<'a>(
-    file: u32,
-    tree: &'a SourceFile,
-    items: &mut Vec<Located<'a, Item>>,
-) -> Result<(), NoMemory>
+fn add_file<'a>(file: u32, tree: &'a SourceFile, items: &mut Vec<Located<'a, Item>>) -> Made<()>
     requires { length tree.now.tree.items < 2 ^ 32 }
     ensures { OnOk result (map located items.new.items ≡ map located items.old.items ++ items_in (file, tree.now)) }
 {
@@ -40,7 +36,7 @@ fn add_file<'a>(
 }
 
 /// All items of a source, in order.
-pub fn all_items<'a>(alloc: Global, source: &'a Source) -> Result<Vec<Located<'a, Item>>, NoMemory>
+pub fn all_items<'a>(alloc: Global, source: &'a Source) -> Made<Vec<Located<'a, Item>>>
     requires { AreFew source.now }
     ensures { IfOk result (λ v. map located v.items ≡ items_of source.now) }
 {
@@ -52,10 +48,7 @@ pub fn all_items<'a>(alloc: Global, source: &'a Source) -> Result<Vec<Located<'a
 }
 
 /// The procedures among items.
-fn procedures<'a>(
-    alloc: Global,
-    items: &[Located<'a, Item>],
-) -> Result<Vec<Located<'a, Procedure>>, NoMemory>
+fn procedures<'a>(alloc: Global, items: &[Located<'a, Item>]) -> Made<Vec<Located<'a, Procedure>>>
     ensures { IfOk result (λ v. map located v.items ≡ filter_map as_procedure (map located items.now)) }
 {
     let mut found = Vec::new(alloc);
@@ -71,7 +64,7 @@ fn procedures<'a>(
 pub fn components<'a>(
     alloc: Global,
     items: &[Located<'a, Item>],
-) -> Result<Vec<Located<'a, Component>>, NoMemory>
+) -> Made<Vec<Located<'a, Component>>>
     ensures { IfOk result (λ v. map located v.items ≡ filter_map as_component (map located items.now)) }
 {
     let mut found = Vec::new(alloc);
@@ -84,10 +77,7 @@ pub fn components<'a>(
 }
 
 /// The assemblies among items.
-fn assemblies<'a>(
-    alloc: Global,
-    items: &[Located<'a, Item>],
-) -> Result<Vec<Located<'a, Assembly>>, NoMemory>
+fn assemblies<'a>(alloc: Global, items: &[Located<'a, Item>]) -> Made<Vec<Located<'a, Assembly>>>
     ensures { IfOk result (λ v. map located v.items ≡ filter_map as_assembly (map located items.now)) }
 {
     let mut found = Vec::new(alloc);
@@ -142,7 +132,7 @@ impl<'a> Model for SourceItems<'a> {
 
 impl<'a> SourceItems<'a> {
     /// Sorts the items of a source.
-    pub fn of(alloc: Global, source: &'a Source) -> Result<SourceItems<'a>, NoMemory>
+    pub fn of(alloc: Global, source: &'a Source) -> Made<SourceItems<'a>>
         requires { AreFew source.now }
         ensures { IfOk result (λ t. t ≡ source.now) }
     {

@@ -8,7 +8,7 @@ ghost use Rattle.std.specs.Prelude.{◌≡◌, ◌<◌, ◌^◌, ℕ, List as Se
 use crate::located::Located;
 use adl_ast::{Component, Id};
 use adl_meaning::ItemAt;
-use cam_base::{Name, NoMemory};
+use cam_base::{Made, Name};
 use indexmap::IndexMap;
 use name_tables::NameTable;
 use std::alloc::Global;
@@ -25,7 +25,7 @@ pub struct Names {
 pub fn component_numbers<'a>(
     alloc: Global,
     components: &[Located<'a, Component>],
-) -> Result<NameTable<'a, u32>, NoMemory>
+) -> Made<NameTable<'a, u32>>
     requires { length components.now < 2 ^ 32 }
     ensures { IfOk result (λ t. (n : Seq ℕ) → found t n ≡ number_named (trees components.now) n) }
 {

@@ -6,7 +6,7 @@ ghost use Rattle.std.specs.Prelude.{◌≡◌, IfOk};
 
 use crate::piece::{Piece, next_piece};
 use crate::run::blanks_end;
-use cam_base::{Code, Fault, List, NoMemory, Place, Refused, Text, Token, Tokens};
+use cam_base::{Code, Fault, List, Made, Place, Refused, Text, Token, Tokens};
 use std::alloc::Global;
 
 /// The tokens of a file's bytes, or the first fault that stands in them, in one pass. `specs/Lexes.antt` says which.
@@ -52,7 +52,7 @@ pub fn lex_within(
 }
 
 /// The name in a fault on these bytes.
-fn name_in(alloc: Global, code: Code, text: &[u8]) -> Result<Text, NoMemory>
+fn name_in(alloc: Global, code: Code, text: &[u8]) -> Made<Text>
     ensures { IfOk result (λ name. name ≡ name_in code text.now) }
 {
     match code {

@@ -3,7 +3,7 @@
 ghost use Rattle.adl_meaning.specs.Faults.{comes_first, is_before, noted, where_true, Refuses};
 ghost use Rattle.std.specs.Prelude.{◌≡◌, None, IfOk};
 
-use cam_base::{Code, Fault, NoMemory, Place, Refused, Text};
+use cam_base::{Code, Fault, Made, Place, Refused, Text};
 use std::alloc::Global;
 use std::marker::Model;
 
@@ -41,7 +41,7 @@ impl<'a> Model for Earliest<'a> {
 
 impl<'a> Wrong<'a> {
     /// The fault, with a name of its own.
-    pub fn copied(&self, alloc: Global) -> Result<Fault, NoMemory>
+    pub fn copied(&self, alloc: Global) -> Made<Fault>
         ensures { IfOk result (λ fault. fault ≡ self.now) }
     {
         Ok(Fault {
@@ -92,7 +92,7 @@ impl<'a> Earliest<'a> {
     }
 
     /// The earliest fault, with a name of its own.
-    pub fn into_fault(self, alloc: Global) -> Result<Option<Fault>, NoMemory>
+    pub fn into_fault(self, alloc: Global) -> Made<Option<Fault>>
         ensures { IfOk result (λ fault. fault ≡ self.entry) }
     {
         match self.fault {

@@ -10,7 +10,7 @@ use crate::tables::{ComponentTable, Holding};
 use adl_ast::{Assembly, Import, Item, Procedure, Source};
 use adl_items::SourceItems;
 use adl_meaning::Earliest;
-use cam_base::{Boxed, Name, NoMemory};
+use cam_base::{Boxed, Made, Name};
 use name_tables::NameTable;
 use std::alloc::Global;
 use std::marker::Model;
@@ -51,11 +51,7 @@ impl<'a> Model for SourceTables<'a> {
 }
 
 /// An item with what the names in it stand for. Notes those that stand twice.
-fn body_of<'a>(
-    alloc: Global,
-    item: &'a Item,
-    first: &mut Earliest<'a>,
-) -> Result<Body<'a>, NoMemory>
+fn body_of<'a>(alloc: Global, item: &'a Item, first: &mut Earliest<'a>) -> Made<Body<'a>>
     ensures noted { OnOk result ((more : Seq Fault) → noted first.new more
         ≡ noted first.old (duplicates_in_item item.entry.now ++ more)) }
     ensures body { IfOk result (λ b. item_of b ≡ item.entry.now) }
@@ -80,7 +76,7 @@ fn bodies<'a>(
     alloc: Global,
     items: &SourceItems<'a>,
     first: &mut Earliest<'a>,
-) -> Result<Vec<Body<'a>>, NoMemory>
+) -> Made<Vec<Body<'a>>>
     ensures noted { OnOk result (first.new ≡ noted first.old (flat_map (λ x. duplicates_in_item x.1) (items_of items.now))) }
     ensures bodies { IfOk result (λ v. map item_of v.items ≡ map (λ x. x.1) (items_of items.now)) }
 {
@@ -97,7 +93,7 @@ fn numbers<'a>(
     alloc: Global,
     items: &SourceItems<'a>,
     first: &mut Earliest<'a>,
-) -> Result<NameTable<'a, usize>, NoMemory>
+) -> Made<NameTable<'a, usize>>
     ensures noted { OnOk result (first.new ≡ noted first.old (repeats (map (λ c. c.1.id) (components items.now)))) }
     ensures numbers { IfOk result (λ t. (n : Seq ℕ) → found t n ≡ item_number (map (λ x. x.1) (items_of items.now)) n) }
 {
@@ -117,7 +113,7 @@ impl<'a> SourceTables<'a> {
         alloc: Global,
         items: &SourceItems<'a>,
         first: &mut Earliest<'a>,
-    ) -> Result<SourceTables<'a>, NoMemory>
+    ) -> Made<SourceTables<'a>>
         ensures noted { OnOk result (first.new ≡ noted first.old (duplicates items.now)) }
         ensures tables { IfOk result (λ t. t ≡ items.now) }
     {

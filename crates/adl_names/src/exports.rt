@@ -11,7 +11,7 @@ use crate::tables::{ComponentTable, Held, Holding, target};
 use adl_ast::{Export, Id, Instance, Interface, Line};
 use adl_items::last_name;
 use adl_meaning::Earliest;
-use cam_base::{Code, Name, NoMemory};
+use cam_base::{Code, Made, Name};
 use indexmap::IndexSet;
 use name_tables::NameSet;
 use std::alloc::Global;
@@ -94,7 +94,7 @@ fn take<'a>(
     tables: &SourceTables<'a>,
     port: Option<Port<'a>>,
     inners: &mut IndexSet<(u64, &'a [u8])>,
-) -> Result<bool, NoMemory>
+) -> Made<bool>
     ensures met { IfOk result (λ met. met
         ≡ option_map_or (is_port_among inners.old.keys) (inner_of (known_in tables.now) (option_map as_port port.entry)) false) }
     ensures taken { OnOk result ((p : PortOf) → is_port_among inners.new.keys p
@@ -118,7 +118,7 @@ fn note_export<'a>(
     export: &'a Export,
     taken: &mut Taken<'a>,
     first: &mut Earliest<'a>,
-) -> Result<(), NoMemory>
+) -> Made<()>
     ensures { OnOk result ((more : Seq ExportOf) →
         noted first.new (misfits_from tables.now owner.entry holding.now taken.new more)
         ≡ noted first.old (misfits_from tables.now owner.entry holding.now taken.old (export.entry.now ∷ more))) }
@@ -141,7 +141,7 @@ fn note_exports<'a>(
     owner: Option<&ComponentTable<'a>>,
     holding: &Holding<'a>,
     first: &mut Earliest<'a>,
-) -> Result<(), NoMemory>
+) -> Made<()>
     ensures { OnOk result (first.new ≡ noted first.old
         (misfits_after (known_in tables.now) (owner_of owner.entry) (held_as holding.now)
         (λ n. false) (λ p. false) (exports_in holding.now))) }
@@ -164,7 +164,7 @@ fn note_composition<'a>(
     owner: Option<&ComponentTable<'a>>,
     holding: &Holding<'a>,
     first: &mut Earliest<'a>,
-) -> Result<(), NoMemory>
+) -> Made<()>
     ensures { OnOk result ((more : Seq Fault) → noted first.new more
         ≡ noted first.old (misfits_in_composition (known_in tables.now) (owner_of owner.entry) holding.now ++ more)) }
 {
@@ -187,7 +187,7 @@ pub fn note_misfits<'a>(
     alloc: Global,
     tables: &SourceTables<'a>,
     first: &mut Earliest<'a>,
-) -> Result<(), NoMemory>
+) -> Made<()>
     ensures { OnOk result (first.new ≡ noted first.old (misfit_exports tables.now)) }
 {
     for body in tables.bodies() {

@@ -13,7 +13,7 @@ use crate::unknown::note_unknown;
 use adl_ast::{Assembly, Item, Source};
 use adl_items::{Located, Names, SourceItems};
 use adl_meaning::{Earliest, ItemAt, noted_is_least};
-use cam_base::{Code, Fault, Name, NoMemory, Place, Refused};
+use cam_base::{Code, Fault, Made, Name, Place, Refused};
 use indexmap::IndexMap;
 use std::alloc::Global;
 
@@ -35,7 +35,7 @@ fn note_assemblies<'a>(assemblies: &[Located<'a, Assembly>], first: &mut Earlies
 }
 
 /// The first fault of names that stands in a source.
-fn first_fault<'a>(alloc: Global, items: &SourceItems<'a>) -> Result<Earliest<'a>, NoMemory>
+fn first_fault<'a>(alloc: Global, items: &SourceItems<'a>) -> Made<Earliest<'a>>
     ensures { IfOk result (λ first. first ≡ first_name_fault items.now) }
 {
     noted_is_least();
@@ -51,12 +51,7 @@ fn first_fault<'a>(alloc: Global, items: &SourceItems<'a>) -> Result<Earliest<'a
 
 /// Puts a place under its name, where the name has none yet.
 #[tactic(auto, using(std::proofs::lemmas::Grind::common_steps, crate::proofs::Rising::rises_drop))]
-fn add_place(
-    alloc: Global,
-    name: &Name,
-    at: ItemAt,
-    table: &mut IndexMap<Name, ItemAt>,
-) -> Result<(), NoMemory>
+fn add_place(alloc: Global, name: &Name, at: ItemAt, table: &mut IndexMap<Name, ItemAt>) -> Made<()>
     ensures first { OnOk result ((n : Seq ℕ) → get bytes_eq table.new n
         ≡ option_or (get bytes_eq table.old n) (if bytes_eq n name.now then Some at else None)) }
     ensures rises { OnOk result (StayRising table.old table.new at) }
@@ -74,7 +69,7 @@ fn add_item(
     x: &Located<'_, Item>,
     procedures: &mut IndexMap<Name, ItemAt>,
     components: &mut IndexMap<Name, ItemAt>,
-) -> Result<(), NoMemory>
+) -> Made<()>
     ensures procedures { OnOk result (Finds as_procedure (λ p. p.id.name) procedures.old procedures.new (located x.now)) }
     ensures components { OnOk result (Finds as_component (λ c. c.id.name) components.old components.new (located x.now)) }
     ensures procedures_rise { OnOk result (StayRising procedures.old procedures.new x.now.at) }

@@ -8,12 +8,12 @@ use adl_ast::{Component, Instance, Member};
 use adl_hierarchy::Cycles;
 use adl_items::{Located, SourceItems, component_numbers, composition_of, instances_by};
 use adl_meaning::Earliest;
-use cam_base::{Code, List, NoMemory};
+use cam_base::{Code, List, Made};
 use name_tables::NameTable;
 use std::alloc::Global;
 
 /// The instances of a component, in each of its compositions.
-fn instances<'a>(alloc: Global, component: &'a Component) -> Result<Vec<&'a Instance>, NoMemory>
+fn instances<'a>(alloc: Global, component: &'a Component) -> Made<Vec<&'a Instance>>
     ensures { IfOk result (λ v. pointed v.items ≡ instances_of component.now) }
 {
     let mut found = Vec::new(alloc);
@@ -41,7 +41,7 @@ fn graph_of(
     alloc: Global,
     numbers: &NameTable<'_, u32>,
     components: &[Located<'_, Component>],
-) -> Result<List<List<u32>>, NoMemory>
+) -> Made<List<List<u32>>>
     ensures { IfOk result (λ g. g ≡ graph_of (found numbers.now) (trees components.now)) }
 {
     let mut graph = List::new(alloc);
@@ -64,7 +64,7 @@ pub fn note_recursive<'a>(
     alloc: Global,
     items: &SourceItems<'a>,
     first: &mut Earliest<'a>,
-) -> Result<(), NoMemory>
+) -> Made<()>
     ensures { OnOk result (first.new ≡ noted first.old (recursive_types items.now)) }
 {
     let components = items.components();

@@ -7,7 +7,7 @@ ghost use Rattle.adl_names.specs.Tables.{has_name, has_word, is_met, method_word
 
 use adl_ast::{Component, Id, Member, Param, ProcMember, Procedure};
 use adl_meaning::Earliest;
-use cam_base::{Code, Name, NoMemory};
+use cam_base::{Code, Made, Name};
 use name_tables::{FEW, NameTable};
 use std::alloc::Global;
 
@@ -18,7 +18,7 @@ pub fn put<'a, V: Drop>(
     value: V,
     table: &mut NameTable<'a, V>,
     first: &mut Earliest<'a>,
-) -> Result<(), NoMemory>
+) -> Made<()>
     ensures noted { OnOk result ((more : Seq Word) → noted first.new (repeats_after (has_name table.new) more)
         ≡ noted first.old (repeats_after (has_name table.old) (id.entry.now ∷ more))) }
     ensures found { OnOk result ((n : Seq ℕ) → found table.new n
@@ -112,11 +112,7 @@ pub fn note_few<'a, T: Worded>(items: &'a [T], first: &mut Earliest<'a>)
 }
 
 /// Notes the names that stand twice among items.
-fn note_repeats<'a, T: Worded>(
-    alloc: Global,
-    items: &'a [T],
-    first: &mut Earliest<'a>,
-) -> Result<(), NoMemory>
+fn note_repeats<'a, T: Worded>(alloc: Global, items: &'a [T], first: &mut Earliest<'a>) -> Made<()>
     ensures { OnOk result (first.new ≡ noted first.old (repeats (flat_map T.words items.entry.now))) }
 {
     if are_few(items) {
@@ -134,11 +130,7 @@ fn note_repeats<'a, T: Worded>(
 
 /// Notes the later ones of a method's parameters.
 #[tactic(auto, using(crate::proofs::FewRepeated::params_words))]
-fn note_params<'a>(
-    alloc: Global,
-    member: &'a ProcMember,
-    first: &mut Earliest<'a>,
-) -> Result<(), NoMemory>
+fn note_params<'a>(alloc: Global, member: &'a ProcMember, first: &mut Earliest<'a>) -> Made<()>
     ensures { OnOk result (first.new ≡ noted first.old (repeated_in member.entry.now)) }
 {
     match member {
@@ -152,7 +144,7 @@ pub fn note_procedure<'a>(
     alloc: Global,
     procedure: &'a Procedure,
     first: &mut Earliest<'a>,
-) -> Result<(), NoMemory>
+) -> Made<()>
     ensures { OnOk result (first.new ≡ noted first.old (duplicates_in_procedure procedure.entry.now)) }
 {
     let members = procedure.members.as_slice();

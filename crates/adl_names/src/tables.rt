@@ -10,7 +10,7 @@ use crate::repeats::{are_few, note_again, note_few, put};
 use adl_ast::{Attribute, Component, Composition, Group, Instance, Interface, Line, Member};
 use adl_items::{Declared, declared_under};
 use adl_meaning::Earliest;
-use cam_base::{Name, NoMemory};
+use cam_base::{Made, Name};
 use name_tables::{NameSet, NameTable};
 use std::alloc::Global;
 use std::marker::Model;
@@ -71,7 +71,7 @@ impl<'a> Model for ComponentTable<'a> {
 }
 
 /// The instances of a group by name, of which the first counts.
-fn members_of<'a>(alloc: Global, group: &'a Group) -> Result<Held<'a>, NoMemory>
+fn members_of<'a>(alloc: Global, group: &'a Group) -> Made<Held<'a>>
     ensures { IfOk result (λ held. held_told held ≡ a_group (member_of group.entry.now)) }
 {
     let mut members = NameTable::new(alloc);
@@ -86,7 +86,7 @@ fn add_line<'a>(
     line: &'a Line,
     table: &mut NameTable<'a, Held<'a>>,
     first: &mut Earliest<'a>,
-) -> Result<(), NoMemory>
+) -> Made<()>
     ensures noted { OnOk result (AreNoted table.old first.old (held_by line.entry.now) table.new first.new) }
     ensures found { OnOk result (AreNamed (holding_told table.old) (held_by line.entry.now) (holding_told table.new)) }
 {
@@ -105,7 +105,7 @@ fn add_line<'a>(
 }
 
 /// The targets of the exports of a composition.
-fn targets<'a>(alloc: Global, composition: &'a Composition) -> Result<NameSet<'a>, NoMemory>
+fn targets<'a>(alloc: Global, composition: &'a Composition) -> Made<NameSet<'a>>
     ensures { IfOk result (λ t. (n : Seq ℕ) → is_among t n ≡ is_exported (Some composition.entry.now) n) }
 {
     let mut targets = NameSet::new(alloc);
@@ -123,7 +123,7 @@ impl<'a> Holding<'a> {
         alloc: Global,
         composition: &'a Composition,
         first: &mut Earliest<'a>,
-    ) -> Result<Holding<'a>, NoMemory>
+    ) -> Made<Holding<'a>>
         ensures noted { OnOk result ((more : Seq Fault) → noted first.new more
             ≡ noted first.old (duplicates_in_composition composition.entry.now ++ more)) }
         ensures holding { IfOk result (λ h. h ≡ composition.entry.now) }
@@ -158,7 +158,7 @@ fn declare<'a>(
     member: &'a Member,
     table: &mut NameTable<'a, Declared<'a>>,
     first: &mut Earliest<'a>,
-) -> Result<(), NoMemory>
+) -> Made<()>
     ensures noted { OnOk result (AreNoted table.old first.old (declared_by member.entry.now) table.new first.new) }
     ensures found { OnOk result (AreNamed (declaring_told table.old) (declared_by member.entry.now) (declaring_told table.new)) }
 {
@@ -175,7 +175,7 @@ fn declaring<'a>(
     alloc: Global,
     members: &'a [Member],
     first: &mut Earliest<'a>,
-) -> Result<NameTable<'a, Declared<'a>>, NoMemory>
+) -> Made<NameTable<'a, Declared<'a>>>
     ensures noted { OnOk result (first.new ≡ noted first.old (repeats (words_of members.entry.now))) }
     ensures declared { IfOk result (λ t. (n : Seq ℕ) → declaring_told t n
         ≡ first_named (flat_map declared_by members.entry.now) n) }
@@ -193,7 +193,7 @@ fn declared_of<'a>(
     alloc: Global,
     component: &'a Component,
     first: &mut Earliest<'a>,
-) -> Result<Vec<NameTable<'a, Declared<'a>>>, NoMemory>
+) -> Made<Vec<NameTable<'a, Declared<'a>>>>
     ensures noted { OnOk result (first.new ≡ noted first.old (repeats (map (λ d. d.0) (declared_in component.entry.now)))) }
     ensures declared { IfOk result (λ v. IfSome (slice_get v.items 0) (Declares component.entry.now)) }
 {
@@ -212,7 +212,7 @@ fn holdings<'a>(
     alloc: Global,
     component: &'a Component,
     first: &mut Earliest<'a>,
-) -> Result<Vec<Holding<'a>>, NoMemory>
+) -> Made<Vec<Holding<'a>>>
     ensures noted { OnOk result (first.new
         ≡ noted first.old (flat_map duplicates_in_composition (compositions component.entry.now))) }
     ensures holdings { IfOk result (λ v. v.items ≡ compositions component.entry.now) }
@@ -232,7 +232,7 @@ impl<'a> ComponentTable<'a> {
         alloc: Global,
         component: &'a Component,
         first: &mut Earliest<'a>,
-    ) -> Result<ComponentTable<'a>, NoMemory>
+    ) -> Made<ComponentTable<'a>>
         ensures noted { OnOk result (first.new ≡ noted first.old (duplicates_in_component component.entry.now)) }
         ensures table { IfOk result (λ t. t ≡ component.entry.now) }
     {

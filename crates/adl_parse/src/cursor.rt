@@ -16,7 +16,7 @@ ghost use Rattle.std.specs.Prelude.{◌≡◌, ◌≤◌, ◌-◌, IfOk, drop, l
 use crate::terminal::{Terminal, is_of, text_at};
 use adl_ast::{Id, ShortPlace};
 use cam_base::{
-    Kind, Name, NoMemory, Place, ReadError, Stop, Text, Token, Tokens, Why, inner, is_name,
+    Kind, Made, Name, Place, ReadError, Stop, Text, Token, Tokens, Why, inner, is_name,
 };
 use std::alloc::Global;
 use std::marker::Model;
@@ -57,14 +57,14 @@ impl<'a> Lexeme<'a> {
     }
 
     /// What stands between the quotes of a text, or the angle brackets of a path.
-    pub fn inner_text(&self, alloc: Global) -> Result<Text, NoMemory>
+    pub fn inner_text(&self, alloc: Global) -> Made<Text>
         ensures { IfOk result (λ text. text ≡ inner self.now.text) }
     {
         Text::new(alloc, inner(text_at(self.bytes, self.token.place)))
     }
 
     /// The name and place of a word.
-    pub fn id(&self, alloc: Global) -> Result<Id, NoMemory>
+    pub fn id(&self, alloc: Global) -> Made<Id>
         ensures { IfOk result (λ id. id ≡ id_of self.now) }
     {
         let text = text_at(self.bytes, self.token.place);

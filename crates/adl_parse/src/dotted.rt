@@ -11,7 +11,7 @@ use crate::cursor::{Cursor, span};
 use crate::repeated::{Repeated, read_all};
 use crate::terminal::Terminal;
 use adl_ast::{Dotted, Id};
-use cam_base::{List, Mark, NoMemory, Place, ReadError};
+use cam_base::{List, Made, Mark, Place, ReadError};
 use std::alloc::Global;
 
 fn dot_word(at: &mut Cursor<'_>) -> Result<Id, ReadError>
@@ -48,12 +48,7 @@ impl Repeated for DotWords {
     }
 }
 
-fn dotted_of(
-    alloc: Global,
-    first: Id,
-    second: Id,
-    third: Option<Id>,
-) -> Result<(Dotted, Place), NoMemory>
+fn dotted_of(alloc: Global, first: Id, second: Id, third: Option<Id>) -> Made<(Dotted, Place)>
     ensures { IfOk result (λ x. x ≡ dotted_of first second third) }
 {
     let begin = first.place();
@@ -92,7 +87,7 @@ fn last_place(place: Place, ids: &[Id]) -> Place
     last
 }
 
-fn joined(alloc: Global, first: Id, second: Id, more: List<Id>) -> Result<Dotted, NoMemory>
+fn joined(alloc: Global, first: Id, second: Id, more: List<Id>) -> Made<Dotted>
     ensures { IfOk result (λ ids. ids ≡ first ∷ second ∷ more) }
 {
     let mut ids = Dotted::pair(alloc, first, second)?;

@@ -11,7 +11,9 @@ use crate::configuration::read_configuration;
 use crate::cursor::Cursor;
 use crate::value::read_value;
 use adl_ast::{Assembly, Composition, Configuration, Value};
-use cam_base::{Code, Fault, NoMemory, Place, ReadError, Refused, Stop, Text, Token, Tokens, Why};
+use cam_base::{
+    Code, Fault, Made, NoMemory, Place, ReadError, Refused, Stop, Text, Token, Tokens, Why,
+};
 use std::alloc::Global;
 
 fn file_of(tokens: &[Token]) -> u32
@@ -55,7 +57,7 @@ fn name_of(why: Why) -> &'static [u8]
 }
 
 /// The fault where reading stopped.
-fn fault_of(alloc: Global, bytes: &[u8], tokens: &[Token], stop: Stop) -> Result<Fault, NoMemory>
+fn fault_of(alloc: Global, bytes: &[u8], tokens: &[Token], stop: Stop) -> Made<Fault>
     ensures { IfOk result (λ fault. fault ≡ fault_of bytes.now tokens.now stop.why stop.left) }
 {
     let at = tokens.len().saturating_sub(stop.left);

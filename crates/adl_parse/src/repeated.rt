@@ -11,7 +11,7 @@ ghost use Rattle.cam_base.specs.Reading.{starts as starts_with};
 ghost use Rattle.std.specs.Prelude.{◌≡◌, ◌<◌, ◌∷◌, ◌++◌, [], IfOk, length, List as Seq, Ok as Good};
 
 use crate::cursor::Cursor;
-use cam_base::{List, NoMemory, ReadError, fitted};
+use cam_base::{List, Made, ReadError, fitted};
 use std::alloc::Global;
 
 /// A line of the grammar that is repeated.
@@ -48,7 +48,7 @@ fn read_behind<R: Repeated>(
 }
 
 /// The list of one, with room for so many.
-fn with_room<T: Drop>(alloc: Global, room: usize, first: T) -> Result<List<T>, NoMemory>
+fn with_room<T: Drop>(alloc: Global, room: usize, first: T) -> Made<List<T>>
     ensures { IfOk result (λ items. items ≡ first ∷ []) }
 {
     let mut items = List::from_vec(Vec::with_capacity(alloc, room)?);

@@ -8,7 +8,7 @@ ghost use Rattle.std.specs.Prelude.{◌≡◌, IfOk};
 use crate::cursor::Cursor;
 use crate::terminal::Terminal;
 use adl_ast::{Id, Words};
-use cam_base::{Mark, NoMemory, ReadError};
+use cam_base::{Made, Mark, ReadError};
 use std::alloc::Global;
 
 /// The words behind the first: one to three.
@@ -30,7 +30,7 @@ pub fn more_words(at: &mut Cursor<'_>) -> Result<More, ReadError>
 
 /// The words of the type, and the name, which is the last word.
 #[inline(always)]
-pub fn typed_of(alloc: Global, first: Id, more: More) -> Result<(Words, Id), NoMemory>
+pub fn typed_of(alloc: Global, first: Id, more: More) -> Made<(Words, Id)>
     ensures { IfOk result (λ x. x ≡ typed_of first more) }
 {
     let mut names = Words::new(alloc);

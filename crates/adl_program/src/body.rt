@@ -14,7 +14,7 @@ use crate::part::{Part, PartAt, Wire, parts_of, wires_of};
 use adl_ast::{Assembly, Attribute, Component, Composition, Configuration, Interface, Member};
 use adl_items::{Declared, Located, composition_of, declared_under, is_device};
 use adl_meaning::ItemAt;
-use cam_base::{Name, NoMemory};
+use cam_base::{Made, Name};
 use name_tables::{FEW, NameTable};
 use std::alloc::Global;
 use std::marker::Model;
@@ -268,7 +268,7 @@ fn configuration_of(component: &Component) -> Option<&Configuration>
 fn names_of<'a>(
     alloc: Global,
     parts: &[Part<'a>],
-) -> Result<(NameTable<'a, PartAt>, NameTable<'a, ()>), NoMemory>
+) -> Made<(NameTable<'a, PartAt>, NameTable<'a, ()>)>
     ensures parts { IfOk result (λ t. (n : Seq ℕ) → found t.0 n ≡ part_from 0 parts.now n) }
     ensures groups { IfOk result (λ t. (n : Seq ℕ)
         → is_some (found t.1 n) ≡ list_any (λ x. option_map_or (bytes_eq n) x.group false) parts.now) }
@@ -290,7 +290,7 @@ fn composed_of<'a>(
     alloc: Global,
     kinds: &NameTable<'_, u32>,
     composition: Option<&'a Composition>,
-) -> Result<Vec<Composed<'a>>, NoMemory>
+) -> Made<Vec<Composed<'a>>>
     ensures parts { IfOk result (λ v. parts_seen (slice_get v.items 0)
         ≡ parts_in (found kinds.now) (option_copied composition.entry)) }
     ensures tables { IfOk result (λ v. IsComposed (option_copied composition.entry) (slice_get v.items 0)) }
@@ -314,7 +314,7 @@ fn composed_of<'a>(
 
 /// Puts what a member declares under its name, where the name has nothing yet.
 #[tactic(auto, using(crate::proofs::Tables::filling, std::proofs::lemmas::Grind::common_steps))]
-fn declare<'a>(member: &'a Member, table: &mut NameTable<'a, Declared<'a>>) -> Result<(), NoMemory>
+fn declare<'a>(member: &'a Member, table: &mut NameTable<'a, Declared<'a>>) -> Made<()>
     ensures { OnOk result ((n : Seq ℕ) (more : Seq (Word × Told)) → option_or (declaring_told table.new n) (first_named more n)
         ≡ option_or (declaring_told table.old n) (first_named (declared_by member.entry.now ++ more) n)) }
 {
@@ -328,10 +328,7 @@ fn declare<'a>(member: &'a Member, table: &mut NameTable<'a, Declared<'a>>) -> R
 
 /// What members declare, by name. The first of a name counts.
 #[tactic(auto, using(crate::proofs::Tables::filling, std::proofs::lemmas::Grind::common_steps))]
-fn declared_in<'a>(
-    alloc: Global,
-    members: &'a [Member],
-) -> Result<NameTable<'a, Declared<'a>>, NoMemory>
+fn declared_in<'a>(alloc: Global, members: &'a [Member]) -> Made<NameTable<'a, Declared<'a>>>
     ensures { IfOk result (λ t. (n : Seq ℕ) → declaring_told t n ≡ first_named (flat_map declared_by members.entry.now) n) }
 {
     let mut declared = NameTable::with_room(alloc, members.len())?;
@@ -343,7 +340,7 @@ fn declared_in<'a>(
 
 /// Where interfaces stand among members, by name. The first of a name counts.
 #[tactic(auto, using(crate::proofs::Tables::filling, std::proofs::lemmas::Grind::common_steps))]
-fn places_in<'a>(alloc: Global, members: &'a [Member]) -> Result<NameTable<'a, usize>, NoMemory>
+fn places_in<'a>(alloc: Global, members: &'a [Member]) -> Made<NameTable<'a, usize>>
     ensures { IfOk result (λ t. (n : Seq ℕ) → unwrap_or (found t n) (length members.entry.now)
         ≡ place_by (is_interface n) members.entry.now) }
 {
@@ -358,7 +355,7 @@ fn places_in<'a>(alloc: Global, members: &'a [Member]) -> Result<NameTable<'a, u
 }
 
 /// What stands among the members of a component.
-fn members_of<'a>(alloc: Global, component: &'a Component) -> Result<Members<'a>, NoMemory>
+fn members_of<'a>(alloc: Global, component: &'a Component) -> Made<Members<'a>>
     ensures { IfOk result (λ t. AreMembers (Some component.entry.now) t) }
 {
     let members = component.members.as_slice();
@@ -371,7 +368,7 @@ fn members_of<'a>(alloc: Global, component: &'a Component) -> Result<Members<'a>
 }
 
 /// What stands among the members of a component, where they are many; else none.
-fn many_of<'a>(alloc: Global, component: &'a Component) -> Result<Vec<Members<'a>>, NoMemory>
+fn many_of<'a>(alloc: Global, component: &'a Component) -> Made<Vec<Members<'a>>>
     ensures { IfOk result (λ v. IfSome (slice_get v.items 0) (AreMembers (Some component.entry.now))) }
 {
     let mut many = Vec::new(alloc);
@@ -387,7 +384,7 @@ pub fn body_of<'a>(
     alloc: Global,
     kinds: &NameTable<'_, u32>,
     it: &Located<'a, Component>,
-) -> Result<Body<'a>, NoMemory>
+) -> Made<Body<'a>>
     ensures { IfOk result (λ b. b ≡ body_of (found kinds.now) (it.now.at, it.now.item.now)) }
 {
     let composition = composition_of(it.item);
@@ -406,7 +403,7 @@ pub fn top_of<'a>(
     alloc: Global,
     kinds: &NameTable<'_, u32>,
     it: &Option<Located<'a, Assembly>>,
-) -> Result<Body<'a>, NoMemory>
+) -> Made<Body<'a>>
     ensures { IfOk result (λ b. b ≡ top_of (found kinds.now) (option_map located it.now)) }
 {
     let (item, composition, configuration) = match it {

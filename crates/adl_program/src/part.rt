@@ -7,7 +7,7 @@ ghost use Rattle.std.specs.Prelude.{IfOk, ◌≡◌};
 use adl_ast::{Connection, Instance, Line};
 use adl_items::instances_by;
 use adl_meaning::Connector;
-use cam_base::{Name, NoMemory};
+use cam_base::{Made, Name};
 use name_tables::NameTable;
 use std::alloc::Global;
 use std::marker::Model;
@@ -67,7 +67,7 @@ pub fn parts_of<'a>(
     alloc: Global,
     kinds: &NameTable<'_, u32>,
     lines: &'a [Line],
-) -> Result<Vec<Part<'a>>, NoMemory>
+) -> Made<Vec<Part<'a>>>
     ensures { IfOk result (λ v. v.items ≡ flat_map (parts_by (found kinds.now)) lines.entry.now) }
 {
     let mut parts = Vec::new(alloc);
@@ -90,7 +90,7 @@ pub fn parts_of<'a>(
 }
 
 /// The connections among lines, where the connector is one of the six.
-pub fn wires_of<'a>(alloc: Global, lines: &'a [Line]) -> Result<Vec<Wire<'a>>, NoMemory>
+pub fn wires_of<'a>(alloc: Global, lines: &'a [Line]) -> Made<Vec<Wire<'a>>>
     ensures { IfOk result (λ v. v.items ≡ filter_map wire_of (filter_map as_connection lines.entry.now)) }
 {
     let mut wires = Vec::new(alloc);

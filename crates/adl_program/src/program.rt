@@ -9,7 +9,7 @@ use crate::body::{Body, Leaf};
 use crate::leads::{Leads, all_leads, lead};
 use adl_ast::{Id, Source};
 use adl_hierarchy::{inner_first, sound_hierarchies_are_finite};
-use cam_base::{List, NoMemory};
+use cam_base::{List, Made};
 use std::alloc::Global;
 use std::marker::Model;
 
@@ -82,7 +82,7 @@ impl<'a> Program<'a> {
 /// # Errors
 ///
 /// Want of memory.
-pub fn program_of<'a>(alloc: Global, source: &'a Source) -> Result<Program<'a>, NoMemory>
+pub fn program_of<'a>(alloc: Global, source: &'a Source) -> Made<Program<'a>>
     requires few { AreFew source.now }
     requires sound { AreNamesSound source.now }
     ensures { IfOk result (λ p. p ≡ hierarchy_of source.now) }

@@ -11,7 +11,7 @@ use crate::search::{Lookup, Memo, value_at};
 use crate::{Found, Given, Joint, LeafFound, is_shared};
 use adl_ast::{Component, Interface, Item, Member, Role, Source};
 use adl_meaning::{Flat, FlatConnection, FlatEnd, ItemAt, Leaf};
-use cam_base::{List, Name, NoMemory};
+use cam_base::{List, Made, Name};
 
 /// The component that stands at a place.
 fn component_at(source: &Source, at: ItemAt) -> Option<&Component>
@@ -64,7 +64,7 @@ fn value_of<'a>(
     memo: &mut Memo<'a>,
     joint: &Joint<'a>,
     setting: &[u8],
-) -> Result<Option<Given<'a>>, NoMemory>
+) -> Made<Option<Given<'a>>>
     requires { IsRemembered lookup.now memo.old }
     ensures value { IfOk result (λ o. o ≡ value_of lookup.now joint.now setting.now) }
     ensures memo { OnOk result (IsRemembered lookup.now memo.new) }
@@ -86,7 +86,7 @@ fn value_where<'a>(
     on: bool,
     joint: &Joint<'a>,
     setting: &[u8],
-) -> Result<Option<Given<'a>>, NoMemory>
+) -> Made<Option<Given<'a>>>
     requires { IsRemembered lookup.now memo.old }
     ensures value { IfOk result (λ o. o ≡ where_set on (value_of lookup.now joint.now setting.now)) }
     ensures memo { OnOk result (IsRemembered lookup.now memo.new) }
@@ -103,7 +103,7 @@ fn size_of<'a>(
     lookup: &Lookup<'_, 'a>,
     memo: &mut Memo<'a>,
     joint: &Joint<'a>,
-) -> Result<Option<Given<'a>>, NoMemory>
+) -> Made<Option<Given<'a>>>
     requires { IsRemembered lookup.now memo.old }
     ensures value { IfOk result (λ o. o ≡ size_of lookup.now joint.now) }
     ensures memo { OnOk result (IsRemembered lookup.now memo.new) }
@@ -116,11 +116,7 @@ fn size_of<'a>(
 }
 
 /// The values of the settings of an end.
-fn found_at<'a>(
-    lookup: &Lookup<'_, 'a>,
-    memo: &mut Memo<'a>,
-    joint: Joint<'a>,
-) -> Result<Found<'a>, NoMemory>
+fn found_at<'a>(lookup: &Lookup<'_, 'a>, memo: &mut Memo<'a>, joint: Joint<'a>) -> Made<Found<'a>>
     requires { IsRemembered lookup.now memo.old }
     ensures value { IfOk result (λ f. f ≡ found_at lookup.now joint.entry) }
     ensures memo { OnOk result (IsRemembered lookup.now memo.new) }
@@ -147,7 +143,7 @@ fn push_found<'a>(
     memo: &mut Memo<'a>,
     joint: Option<Joint<'a>>,
     found: &mut List<Found<'a>>,
-) -> Result<(), NoMemory>
+) -> Made<()>
     requires { IsRemembered lookup.now memo.old }
     ensures found { OnOk result ((rest : Seq End) → found.new ++ rest
         ≡ found.old ++ cons_option (option_map (found_at lookup.now) joint.entry) rest) }
@@ -166,7 +162,7 @@ pub fn found_on<'a>(
     source: &'a Source,
     flat: &'a Flat,
     connection: &'a FlatConnection,
-) -> Result<List<Found<'a>>, NoMemory>
+) -> Made<List<Found<'a>>>
     requires { IsRemembered lookup.now memo.old }
     ensures found { IfOk result (λ k. k ≡ found_on lookup.now source.now flat.now connection.now) }
     ensures memo { OnOk result (IsRemembered lookup.now memo.new) }
@@ -188,7 +184,7 @@ pub fn leaf_found<'a>(
     lookup: &Lookup<'_, 'a>,
     memo: &mut Memo<'a>,
     leaf: &'a Leaf,
-) -> Result<LeafFound<'a>, NoMemory>
+) -> Made<LeafFound<'a>>
     requires { IsRemembered lookup.now memo.old }
     ensures found { IfOk result (λ f. f ≡ leaf_found lookup.now leaf.entry.now) }
     ensures memo { OnOk result (IsRemembered lookup.now memo.new) }

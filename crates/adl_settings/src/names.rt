@@ -8,11 +8,11 @@ use crate::tables::settings_of;
 use adl_ast::Member;
 use adl_items::last_name;
 use adl_program::{Bodies, Body};
-use cam_base::NoMemory;
+use cam_base::Made;
 use indexmap::IndexSet;
 use std::alloc::Global;
 
-fn add<'a>(name: &'a [u8], names: &mut IndexSet<&'a [u8]>) -> Result<(), NoMemory>
+fn add<'a>(name: &'a [u8], names: &mut IndexSet<&'a [u8]>) -> Made<()>
     ensures { OnOk result ((n : Bytes) → is_named names.new.keys n ≡ (is_named names.old.keys n || bytes_eq n name.entry.now)) }
 {
     names.insert(name)?;
@@ -27,7 +27,7 @@ fn members_of<'a>(body: &Body<'a>) -> &'a [Member]
 }
 
 /// Adds the last words of a body's settings, and the names of its attributes.
-fn add_body<'a>(body: &Body<'a>, names: &mut IndexSet<&'a [u8]>) -> Result<(), NoMemory>
+fn add_body<'a>(body: &Body<'a>, names: &mut IndexSet<&'a [u8]>) -> Made<()>
     ensures { OnOk result ((n : Bytes) → is_named names.new.keys n ≡ (is_named names.old.keys n || gives n body.now)) }
 {
     for setting in settings_of(body) {
@@ -42,7 +42,7 @@ fn add_body<'a>(body: &Body<'a>, names: &mut IndexSet<&'a [u8]>) -> Result<(), N
 }
 
 /// The names of the settings of all bodies, and of all attributes.
-fn all_names<'a>(alloc: Global, bodies: &Bodies<'a>) -> Result<IndexSet<&'a [u8]>, NoMemory>
+fn all_names<'a>(alloc: Global, bodies: &Bodies<'a>) -> Made<IndexSet<&'a [u8]>>
     ensures { IfOk result (λ s. (n : Bytes) → is_named s.keys n ≡ is_valued bodies.now n) }
 {
     let mut names = IndexSet::new(alloc);
@@ -58,7 +58,7 @@ pub fn names_for<'a>(
     alloc: Global,
     bodies: &Bodies<'a>,
     leaves: usize,
-) -> Result<Option<IndexSet<&'a [u8]>>, NoMemory>
+) -> Made<Option<IndexSet<&'a [u8]>>>
     ensures { IfOk result (λ o. AreNames bodies.now (option_map (λ s. s.keys) o)) }
 {
     if bodies.top_number() as usize > leaves {

@@ -6,7 +6,7 @@ ghost use Rattle.adl_settings.specs.DeviceOverlap.{overlaps, region_of, regions_
 
 use crate::Found;
 use adl_meaning::Earliest;
-use cam_base::{Code, NoMemory, Place};
+use cam_base::{Code, Made, Place};
 use name_tables::{PageIndex, Region};
 use std::alloc::Global;
 
@@ -30,7 +30,7 @@ fn region_of(end: &Found<'_>) -> Option<DeviceRegion>
 }
 
 /// Adds the regions of devices at the ends of a connection.
-pub fn add_regions(ends: &[Found<'_>], regions: &mut Vec<DeviceRegion>) -> Result<(), NoMemory>
+pub fn add_regions(ends: &[Found<'_>], regions: &mut Vec<DeviceRegion>) -> Made<()>
     ensures { OnOk result (regions.new.items ≡ regions.old.items ++ regions_in ends.now) }
 {
     for end in ends {
@@ -41,7 +41,7 @@ pub fn add_regions(ends: &[Found<'_>], regions: &mut Vec<DeviceRegion>) -> Resul
     Ok(())
 }
 
-fn all_pages(alloc: Global, regions: &[DeviceRegion]) -> Result<Vec<Region>, NoMemory>
+fn all_pages(alloc: Global, regions: &[DeviceRegion]) -> Made<Vec<Region>>
     ensures { IfOk result (λ v. v.items ≡ map (λ a. a.pages) regions.now) }
 {
     Ok(regions.iter().map(|region| region.pages).collect(alloc)?)
@@ -49,11 +49,7 @@ fn all_pages(alloc: Global, regions: &[DeviceRegion]) -> Result<Vec<Region>, NoM
 
 /// Notes the dataports of devices that share a page with another.
 #[tactic(auto, using(crate::proofs::Noted::shared_in_index, std::proofs::lemmas::Grind::common_steps))]
-pub fn note_overlaps(
-    alloc: Global,
-    regions: &[DeviceRegion],
-    first: &mut Earliest<'_>,
-) -> Result<(), NoMemory>
+pub fn note_overlaps(alloc: Global, regions: &[DeviceRegion], first: &mut Earliest<'_>) -> Made<()>
     ensures { OnOk result (first.new ≡ noted first.old (overlaps regions.now)) }
 {
     let pages = all_pages(alloc, regions)?;

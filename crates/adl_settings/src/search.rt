@@ -11,7 +11,7 @@ use crate::tables::{SettingTables, within};
 use adl_ast::{Setter, Setting};
 use adl_items::last_name;
 use adl_program::Bodies;
-use cam_base::{Name, NoMemory};
+use cam_base::{Made, Name};
 use indexmap::{IndexMap, IndexSet};
 use std::alloc::Global;
 use std::marker::Model;
@@ -108,7 +108,7 @@ fn again<'a>(found: &Option<Given<'a>>) -> Option<Given<'a>>
 }
 
 /// The names of a path with a name behind them.
-fn key_of<'q>(alloc: Global, path: &'q [Name], name: &'q [u8]) -> Result<Vec<&'q [u8]>, NoMemory>
+fn key_of<'q>(alloc: Global, path: &'q [Name], name: &'q [u8]) -> Made<Vec<&'q [u8]>>
     ensures { IfOk result (λ v. pointed v.items ≡ path.now ++ name.now ∷ []) }
 {
     let mut key = Vec::with_capacity(alloc, path.len().saturating_add(1))?;
@@ -126,7 +126,7 @@ fn given_by<'a>(
     memo: &mut Memo<'a>,
     setting: Option<&'a Setting>,
     path: &'a [Name],
-) -> Result<Option<Given<'a>>, NoMemory>
+) -> Made<Option<Given<'a>>>
     requires { IsRemembered lookup.now memo.old }
     ensures value { IfOk result (λ o. o ≡ given_from (attribute_at lookup.now path.now) (option_copied setting.entry)) }
     ensures memo { OnOk result (IsRemembered lookup.now memo.new) }
@@ -155,7 +155,7 @@ fn search<'a>(
     memo: &mut Memo<'a>,
     path: &'a [Name],
     name: &[u8],
-) -> Result<Option<Given<'a>>, NoMemory>
+) -> Made<Option<Given<'a>>>
     requires { IsRemembered lookup.now memo.old }
     ensures value { IfOk result (λ o. o ≡ value_at lookup.now path.now name.now) }
     ensures memo { OnOk result (IsRemembered lookup.now memo.new) }
@@ -179,7 +179,7 @@ fn referred<'a>(
     memo: &mut Memo<'a>,
     path: &'a [Name],
     name: &'a [u8],
-) -> Result<Option<Given<'a>>, NoMemory>
+) -> Made<Option<Given<'a>>>
     requires { IsRemembered lookup.now memo.old }
     ensures value { IfOk result (λ o. o ≡ value_at lookup.now path.now name.now) }
     ensures memo { OnOk result (IsRemembered lookup.now memo.new) }
@@ -199,7 +199,7 @@ pub fn value_at<'a>(
     memo: &mut Memo<'a>,
     path: &'a [Name],
     name: &[u8],
-) -> Result<Option<Given<'a>>, NoMemory>
+) -> Made<Option<Given<'a>>>
     requires { IsRemembered lookup.now memo.old }
     ensures value { IfOk result (λ o. o ≡ value_at lookup.now path.now name.now) }
     ensures memo { OnOk result (IsRemembered lookup.now memo.new) }

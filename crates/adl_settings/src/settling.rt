@@ -20,7 +20,7 @@ use adl_ast::Source;
 use adl_items::Names;
 use adl_meaning::{Earliest, EndSettings, Flat, LeafSetting, Settled};
 use adl_program::{Bodies, Program, bodies_of};
-use cam_base::{Fault, List, NoMemory, Refused};
+use cam_base::{Fault, List, Made, Refused};
 use indexmap::IndexMap;
 use std::alloc::Global;
 
@@ -30,7 +30,7 @@ fn settle_leaves<'a>(
     memo: &mut Memo<'a>,
     flat: &'a Flat,
     first: &mut Earliest<'a>,
-) -> Result<List<LeafSetting>, NoMemory>
+) -> Made<List<LeafSetting>>
     requires { IsRemembered lookup.now memo.old }
     ensures settings { IfOk result (λ list. list ≡ map leaf_setting (leaves_found lookup.now flat.now)) }
     ensures noted { OnOk result (first.new ≡ noted first.old (flat_map bad_in_leaf (leaves_found lookup.now flat.now))) }
@@ -45,7 +45,7 @@ fn settle_leaves<'a>(
     Ok(List::from_vec(settings))
 }
 
-fn end_settings(alloc: Global, ends: &[Found<'_>]) -> Result<EndSettings, NoMemory>
+fn end_settings(alloc: Global, ends: &[Found<'_>]) -> Made<EndSettings>
     ensures { IfOk result (λ settings. settings ≡ end_settings ends.now) }
 {
     let mut settings = Vec::with_capacity(alloc, ends.len())?;
@@ -64,7 +64,7 @@ fn settle_ends<'a>(
     source: &'a Source,
     flat: &'a Flat,
     judged: &mut Judged<'a>,
-) -> Result<List<EndSettings>, NoMemory>
+) -> Made<List<EndSettings>>
     requires { IsRemembered lookup.now memo.old }
     ensures settings { IfOk result (λ list. list ≡ map end_settings (founds_in lookup.now source.now flat.now)) }
     ensures first { OnOk result (judged.new.first

@@ -10,7 +10,7 @@ use adl_ast::{Id, Setting};
 use adl_items::last_name;
 use adl_meaning::Earliest;
 use adl_program::{Bodies, Body};
-use cam_base::{Code, Name, NoMemory};
+use cam_base::{Code, Made, Name};
 use indexmap::IndexMap;
 use std::alloc::Global;
 
@@ -41,7 +41,7 @@ impl<'a> SettingTable<'a> {
 
     /// Puts a setting under its key, where the key has none yet, and answers whether it has one.
     #[tactic(auto, using(crate::proofs::SettingKeys::found_there, crate::proofs::SettingKeys::found_kept))]
-    fn add(&mut self, key: Vec<&'a [u8]>, setting: &'a Setting) -> Result<bool, NoMemory>
+    fn add(&mut self, key: Vec<&'a [u8]>, setting: &'a Setting) -> Made<bool>
         ensures met { IfOk result (λ met. met ≡ is_some (setting_found self.old (pointed key.entry.items))) }
         ensures found { OnOk result ((q : Seq Bytes) → setting_found self.new q
             ≡ option_or (setting_found self.old q)
@@ -99,7 +99,7 @@ fn step<'a>(
     body: Option<u32>,
     word: &'a Id,
     path: &mut Vec<&'a [u8]>,
-) -> Result<Option<u32>, NoMemory>
+) -> Made<Option<u32>>
     ensures { IfOk result (λ after. (rest : Seq Word) (last : Word)
         → pointed path.new.items ++ path_from bodies.now after (rest ++ last ∷ [])
         ≡ pointed path.old.items ++ path_from bodies.now body (word.entry.now ∷ rest ++ last ∷ [])) }
@@ -113,12 +113,7 @@ fn step<'a>(
 }
 
 /// The path that words name in a body, with the last word behind it.
-fn key_in<'a>(
-    alloc: Global,
-    bodies: &Bodies<'a>,
-    body: u32,
-    words: &'a [Id],
-) -> Result<Vec<&'a [u8]>, NoMemory>
+fn key_in<'a>(alloc: Global, bodies: &Bodies<'a>, body: u32, words: &'a [Id]) -> Made<Vec<&'a [u8]>>
     ensures { IfOk result (λ v. pointed v.items ≡ key_of bodies.now body words.now) }
 {
     let mut key = Vec::new(alloc);
@@ -141,7 +136,7 @@ fn add_setting<'a>(
     setting: &'a Setting,
     settings: &mut SettingTable<'a>,
     first: &mut Earliest<'a>,
-) -> Result<(), NoMemory>
+) -> Made<()>
     ensures found { OnOk result ((p : Seq Bytes) (x : Bytes) → setting_found settings.new (p ++ x ∷ [])
         ≡ option_or (setting_found settings.old (p ++ x ∷ []))
         (if sets bodies.now body p x setting.entry.now then Some setting.entry.now else None)) }
@@ -170,7 +165,7 @@ fn table_of<'a>(
     bodies: &Bodies<'a>,
     number: u32,
     first: &mut Earliest<'a>,
-) -> Result<SettingTable<'a>, NoMemory>
+) -> Made<SettingTable<'a>>
     ensures found { IfOk result (λ t. IsTable bodies.now number t) }
     ensures noted { OnOk result (first.new ≡ noted first.old (repeated_in bodies.now (number, body bodies.now number))) }
 {
@@ -188,7 +183,7 @@ pub fn setting_tables<'a>(
     alloc: Global,
     bodies: &Bodies<'a>,
     first: &mut Earliest<'a>,
-) -> Result<SettingTables<'a>, NoMemory>
+) -> Made<SettingTables<'a>>
     ensures found { IfOk result (λ ts. AreTables bodies.now ts) }
     ensures noted { OnOk result (first.new ≡ noted first.old (settings_twice bodies.now)) }
 {

@@ -8,12 +8,12 @@ ghost use Rattle.adl_settings.specs.Repeated.{is_marked, is_repeated};
 
 use crate::Found;
 use adl_meaning::Earliest;
-use cam_base::{Code, NoMemory, Path, Place};
+use cam_base::{Code, Made, Path, Place};
 use indexmap::IndexMap;
 use std::alloc::Global;
 
 /// Whether each of the numbers stands twice or more; nothing is marked where there is one number at most.
-fn repeated(alloc: Global, numbers: &[u64]) -> Result<IndexMap<u64, bool>, NoMemory>
+fn repeated(alloc: Global, numbers: &[u64]) -> Made<IndexMap<u64, bool>>
     ensures { IfOk result (λ t. (n : ℕ) → is_marked t.entries n ≡ is_repeated numbers.now n) }
 {
     if numbers.len() < 2 {
@@ -50,7 +50,7 @@ fn irq_at(end: &Found<'_>) -> Option<Irq>
 }
 
 /// Adds the interrupts of devices at the ends of a connection.
-pub fn add_irqs(ends: &[Found<'_>], irqs: &mut Vec<Irq>) -> Result<(), NoMemory>
+pub fn add_irqs(ends: &[Found<'_>], irqs: &mut Vec<Irq>) -> Made<()>
     ensures { OnOk result (irqs.new.items ≡ irqs.old.items ++ irqs_in ends.now) }
 {
     for end in ends {
@@ -61,7 +61,7 @@ pub fn add_irqs(ends: &[Found<'_>], irqs: &mut Vec<Irq>) -> Result<(), NoMemory>
     Ok(())
 }
 
-fn repeated_irqs(alloc: Global, irqs: &[Irq]) -> Result<IndexMap<u64, bool>, NoMemory>
+fn repeated_irqs(alloc: Global, irqs: &[Irq]) -> Made<IndexMap<u64, bool>>
     ensures { IfOk result (λ t. (n : ℕ) → is_marked t.entries n ≡ is_repeated (map (λ a. a.number) irqs.now) n) }
 {
     let numbers: Vec<u64> = irqs.iter().map(|irq| irq.number).collect(alloc)?;
@@ -69,11 +69,7 @@ fn repeated_irqs(alloc: Global, irqs: &[Irq]) -> Result<IndexMap<u64, bool>, NoM
 }
 
 /// Notes the interrupts that have the number of another.
-pub fn note_irqs_twice(
-    alloc: Global,
-    irqs: &[Irq],
-    first: &mut Earliest<'_>,
-) -> Result<(), NoMemory>
+pub fn note_irqs_twice(alloc: Global, irqs: &[Irq], first: &mut Earliest<'_>) -> Made<()>
     ensures { OnOk result (first.new ≡ noted first.old (irqs_twice irqs.now)) }
 {
     let twice = repeated_irqs(alloc, irqs)?;
@@ -99,7 +95,7 @@ fn own_badge(end: &Found<'_>) -> Option<u64>
     end.badge().filter(|_| has_badge)
 }
 
-fn own_badges(alloc: Global, ends: &[Found<'_>]) -> Result<Vec<u64>, NoMemory>
+fn own_badges(alloc: Global, ends: &[Found<'_>]) -> Made<Vec<u64>>
     ensures { IfOk result (λ v. v.items ≡ filter_map own_badge ends.now) }
 {
     Ok(ends.iter().filter_map(own_badge).collect(alloc)?)
@@ -110,7 +106,7 @@ pub fn note_badges_twice<'a>(
     alloc: Global,
     ends: &[Found<'a>],
     first: &mut Earliest<'a>,
-) -> Result<(), NoMemory>
+) -> Made<()>
     ensures { OnOk result (first.new ≡ noted first.old (badges_twice_in ends.now)) }
 {
     let badges = own_badges(alloc, ends)?;

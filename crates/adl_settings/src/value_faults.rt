@@ -13,7 +13,7 @@ use crate::overlaps::{DeviceRegion, add_regions, note_overlaps};
 use crate::twice::{Irq, add_irqs, note_badges_twice, note_irqs_twice};
 use crate::{Found, Given, LeafFound};
 use adl_meaning::Earliest;
-use cam_base::{Code, Fault, NoMemory, Refused};
+use cam_base::{Code, Fault, Made, Refused};
 use std::alloc::Global;
 
 /// Notes the literal of a value that means nothing.
@@ -79,7 +79,7 @@ pub struct Judged<'a> {
 impl<'a> Judged<'a> {
     /// Judges the values of a connection's ends.
     #[tactic(auto, using(adl_meaning::proofs::Noting::noting))]
-    pub fn add(&mut self, alloc: Global, ends: &[Found<'a>]) -> Result<(), NoMemory>
+    pub fn add(&mut self, alloc: Global, ends: &[Found<'a>]) -> Made<()>
         ensures first { OnOk result (self.new.first ≡ noted self.old.first (faults_on ends.now)) }
         ensures regions { OnOk result (self.new.regions.items ≡ self.old.regions.items ++ regions_in ends.now) }
         ensures irqs { OnOk result (self.new.irqs.items ≡ self.old.irqs.items ++ irqs_in ends.now) }

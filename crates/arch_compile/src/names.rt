@@ -1,7 +1,7 @@
 ghost use Rattle.arch_compile.specs.BuildTexts.{AreNamedBy};
 ghost use Rattle.std.specs.Prelude.{◌≡◌, ◌++◌, string_bytes, IfOk};
 
-use cam_base::NoMemory;
+use cam_base::Made;
 use std::alloc::Global;
 
 /// The names of the files that a build is written to.
@@ -15,7 +15,7 @@ pub struct TextNames {
 
 impl TextNames {
     /// Those of this base: `BASE.cdl`, `BASE.policy`, `BASE.cert` and `BASE.map`.
-    pub fn of(alloc: Global, base: &str) -> Result<TextNames, NoMemory>
+    pub fn of(alloc: Global, base: &str) -> Made<TextNames>
         ensures { IfOk result (AreNamedBy base.now) }
     {
         Ok(TextNames {
@@ -27,7 +27,7 @@ impl TextNames {
     }
 }
 
-fn joined(alloc: Global, base: &str, ending: &str) -> Result<String, NoMemory>
+fn joined(alloc: Global, base: &str, ending: &str) -> Made<String>
     ensures { IfOk result (λ name. string_bytes name ≡ base.now ++ ending.now) }
 {
     let mut name = String::from_str(alloc, base)?;

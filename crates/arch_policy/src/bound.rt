@@ -4,10 +4,10 @@ ghost use Rattle.arch_policy.specs.Bound.{IsBound, IsBoundBy, bound_to};
 ghost use Rattle.cap_model.specs.Adds.{Adds};
 ghost use Rattle.std.specs.Prelude.{◌≡◌, ◌++◌, OnOk};
 
-use cam_base::{List, NoMemory};
+use cam_base::{List, Made};
 use cap_model::{Authority, Edge, EdgeTable};
 
-fn push_bound_to(handle: Edge, signal: Option<Edge>, edges: &mut List<Edge>) -> Result<(), NoMemory>
+fn push_bound_to(handle: Edge, signal: Option<Edge>, edges: &mut List<Edge>) -> Made<()>
     ensures { OnOk result (edges.new ≡ edges.old ++ bound_to handle signal) }
 {
     match signal {
@@ -20,7 +20,7 @@ fn push_bound_to(handle: Edge, signal: Option<Edge>, edges: &mut List<Edge>) -> 
     }
 }
 
-fn push_bound_by(handle: Edge, signals: &EdgeTable, edges: &mut List<Edge>) -> Result<(), NoMemory>
+fn push_bound_by(handle: Edge, signals: &EdgeTable, edges: &mut List<Edge>) -> Made<()>
     ensures { OnOk result (Adds (IsBoundBy handle signals.now) edges.old edges.new) }
 {
     let (first, past) = signals.out_of(handle.from);
@@ -31,11 +31,7 @@ fn push_bound_by(handle: Edge, signals: &EdgeTable, edges: &mut List<Edge>) -> R
 }
 
 /// Puts what a device may signal, by the edges of handlers and those by which they signal, behind the others.
-pub fn push_bound(
-    handles: &EdgeTable,
-    signals: &EdgeTable,
-    edges: &mut List<Edge>,
-) -> Result<(), NoMemory>
+pub fn push_bound(handles: &EdgeTable, signals: &EdgeTable, edges: &mut List<Edge>) -> Made<()>
     ensures { OnOk result (Adds (IsBound handles.now signals.now) edges.old edges.new) }
 {
     for handle in handles.iter() {

@@ -13,7 +13,7 @@ ghost use Rattle.std.specs.Prelude.{◌≡◌, ◌↔◌, ◌⊎◌, true, IfOk}
 use crate::edges::has_lock;
 use crate::{Tables, domain_label};
 use adl_meaning::Leaf;
-use cam_base::NoMemory;
+use cam_base::Made;
 use cap_model::{Authority, AuthoritySet, Edge, EdgeTable, with_set};
 use cspace_layout::members_at;
 use std::alloc::Global;
@@ -29,13 +29,13 @@ fn lock_authorities() -> AuthoritySet
 }
 
 /// The edges, and what there is to do with a lock within this label.
-fn with_lock(edges: Vec<Edge>, label: u32) -> Result<Vec<Edge>, NoMemory>
+fn with_lock(edges: Vec<Edge>, label: u32) -> Made<Vec<Edge>>
     ensures { IfOk result (λ new. Adds (IsWithLock label) edges.items new.items) }
 {
     with_set(edges, label, lock_authorities(), label)
 }
 
-fn with_leaf(edges: Vec<Edge>, tables: &Tables<'_>, leaf: &Leaf) -> Result<Vec<Edge>, NoMemory>
+fn with_leaf(edges: Vec<Edge>, tables: &Tables<'_>, leaf: &Leaf) -> Made<Vec<Edge>>
     ensures { IfOk result (λ new. Adds (IsOfLeaf (told tables.now) leaf.now) edges.items new.items) }
 {
     let Some(domain) = leaf.domain else {
@@ -48,7 +48,7 @@ fn with_leaf(edges: Vec<Edge>, tables: &Tables<'_>, leaf: &Leaf) -> Result<Vec<E
 }
 
 /// The edges, and those of domains with a lock.
-fn with_locks(edges: Vec<Edge>, tables: &Tables<'_>) -> Result<Vec<Edge>, NoMemory>
+fn with_locks(edges: Vec<Edge>, tables: &Tables<'_>) -> Made<Vec<Edge>>
     ensures { IfOk result (λ new. Adds (IsLockEdge (told tables.now)) edges.items new.items) }
 {
     let mut edges = edges;
@@ -59,7 +59,7 @@ fn with_locks(edges: Vec<Edge>, tables: &Tables<'_>) -> Result<Vec<Edge>, NoMemo
 }
 
 /// The edges of a table.
-fn edges_of(alloc: Global, table: &EdgeTable) -> Result<Vec<Edge>, NoMemory>
+fn edges_of(alloc: Global, table: &EdgeTable) -> Made<Vec<Edge>>
     ensures { IfOk result (λ edges. edges.items ≡ table.now) }
 {
     let mut edges = Vec::with_capacity(alloc, table.len())?;
@@ -75,11 +75,7 @@ fn edges_of(alloc: Global, table: &EdgeTable) -> Result<Vec<Edge>, NoMemory>
 /// # Errors
 ///
 /// Want of memory.
-pub fn certificate_of(
-    alloc: Global,
-    tables: &Tables<'_>,
-    policy: &EdgeTable,
-) -> Result<EdgeTable, NoMemory>
+pub fn certificate_of(alloc: Global, tables: &Tables<'_>, policy: &EdgeTable) -> Made<EdgeTable>
     ensures sorted { IfOk result IsSorted }
     ensures exact { IfOk result (λ cert. (e : Triple) → (has cert e ≡ true)
         ↔ ((has policy.now e ≡ true) ⊎ IsLockEdge (told tables.now) e)) }

@@ -20,7 +20,7 @@ use crate::Tables;
 use crate::tables::{connection_label, domain_label, leaf_label};
 use adl_ast::{Member, Role};
 use adl_meaning::{Connector, EndSetting, FlatConnection, FlatEnd};
-use cam_base::{List, NoMemory};
+use cam_base::{List, Made};
 use cap_model::{Authority, Edge, EdgeTable};
 use conn_rules::{ObjectKind, RuleRow, row};
 use cspace_layout::{is_lock, members_at, setting_of};
@@ -79,7 +79,7 @@ fn labels_in_role(
     tables: &Tables<'_>,
     role: Role,
     ends: &[FlatEnd],
-) -> Result<List<u32>, NoMemory>
+) -> Made<List<u32>>
     ensures { IfOk result (λ labels. labels ≡ labels_in_role (told tables.now) role ends.now) }
 {
     let mut labels = List::new(alloc);
@@ -105,7 +105,7 @@ fn push_given(
     from: u32,
     to: u32,
     edges: &mut List<Edge>,
-) -> Result<(), NoMemory>
+) -> Made<()>
     ensures { OnOk result (edges.new ≡ edges.old ++ given_with setting row from to) }
 {
     let authorities = AUTHORITIES;
@@ -128,7 +128,7 @@ fn push_given_to_each(
     from: u32,
     targets: &[u32],
     edges: &mut List<Edge>,
-) -> Result<(), NoMemory>
+) -> Made<()>
     ensures { OnOk result (edges.new ≡ edges.old ++ gather (λ i m. given_with setting row from m) targets.now) }
 {
     for to in targets {
@@ -138,7 +138,7 @@ fn push_given_to_each(
 }
 
 impl EndHere<'_> {
-    fn push_row(self, alloc: Global, row: RuleRow, edges: &mut List<Edge>) -> Result<(), NoMemory>
+    fn push_row(self, alloc: Global, row: RuleRow, edges: &mut List<Edge>) -> Made<()>
         ensures { OnOk result (edges.new ≡ edges.old ++ row_edges (told self.entry.tables) self.entry.place
             self.entry.connection.now self.entry.number self.entry.end row) }
     {
@@ -158,7 +158,7 @@ impl EndHere<'_> {
         }
     }
 
-    fn push_all(self, alloc: Global, edges: &mut List<Edge>) -> Result<(), NoMemory>
+    fn push_all(self, alloc: Global, edges: &mut List<Edge>) -> Made<()>
         ensures { OnOk result (edges.new ≡ edges.old ++ end_edges (told self.entry.tables) self.entry.place
             self.entry.connection.now self.entry.number self.entry.end) }
     {
@@ -175,7 +175,7 @@ impl EndHere<'_> {
     /// # Errors
     ///
     /// Want of memory.
-    pub fn gives(self, alloc: Global, edge: Edge) -> Result<bool, NoMemory>
+    pub fn gives(self, alloc: Global, edge: Edge) -> Made<bool>
         ensures { IfOk result (λ given. given ≡ has (end_edges (told self.entry.tables) self.entry.place
             self.entry.connection.now self.entry.number self.entry.end) edge) }
     {
@@ -190,7 +190,7 @@ impl EndHere<'_> {
 }
 
 /// The edges that the connector table gives ends.
-pub fn direct_edges(alloc: Global, tables: &Tables<'_>) -> Result<List<Edge>, NoMemory>
+pub fn direct_edges(alloc: Global, tables: &Tables<'_>) -> Made<List<Edge>>
     requires few { length tables.now.flat.now.connections < 2 ^ 32 }
     requires short { (k : ℕ) (c : Line) → slice_get tables.now.flat.now.connections k ≡ Some c → length c.ends < 2 ^ 32 }
     ensures { IfOk result (λ edges. edges ≡ direct_edges (told tables.now)) }
@@ -220,7 +220,7 @@ fn push_to_each(
     authority: Authority,
     ends: &[FlatEnd],
     edges: &mut List<Edge>,
-) -> Result<(), NoMemory>
+) -> Made<()>
     ensures { OnOk result (edges.new ≡ edges.old ++ gather (λ j m. edge from authority m ∷ [])
         (labels_in_role (told tables.now) From ends.now)) }
 {
@@ -245,7 +245,7 @@ fn push_from(
     ends: &[FlatEnd],
     end: FlatEnd,
     edges: &mut List<Edge>,
-) -> Result<(), NoMemory>
+) -> Made<()>
     ensures { OnOk result (edges.new ≡ edges.old ++ (if same_role end.role To then gather (λ j m. edge (leaf_label
         (told tables.now) end.leaf) authority m ∷ []) (labels_in_role (told tables.now) From ends.now) else [])) }
 {
@@ -261,7 +261,7 @@ fn push_crossed(
     authority: Authority,
     ends: &[FlatEnd],
     edges: &mut List<Edge>,
-) -> Result<(), NoMemory>
+) -> Made<()>
     ensures { OnOk result (edges.new ≡ edges.old ++ crossed (labels_in_role (told tables.now) To ends.now) authority
         (labels_in_role (told tables.now) From ends.now)) }
 {
@@ -277,7 +277,7 @@ fn push_crossed_at(
     authority: Authority,
     connection: &FlatConnection,
     edges: &mut List<Edge>,
-) -> Result<(), NoMemory>
+) -> Made<()>
     ensures { OnOk result (edges.new ≡ edges.old ++ crossed_at (told tables.now) connector authority connection.now) }
 {
     if connection.connector != connector {
@@ -293,7 +293,7 @@ pub fn push_crossed_edges(
     connector: Connector,
     authority: Authority,
     edges: &mut List<Edge>,
-) -> Result<(), NoMemory>
+) -> Made<()>
     ensures { OnOk result (edges.new ≡ edges.old ++ crossed_edges (told tables.now) connector authority) }
 {
     for connection in tables.flat.connections.as_slice() {
@@ -311,7 +311,7 @@ fn signals(connection: &FlatConnection, end: FlatEnd) -> bool
 }
 
 /// Puts who signals on which notification behind the others.
-fn push_signals(tables: &Tables<'_>, edges: &mut List<Edge>) -> Result<(), NoMemory>
+fn push_signals(tables: &Tables<'_>, edges: &mut List<Edge>) -> Made<()>
     requires { length tables.now.flat.now.connections < 2 ^ 32 }
     ensures { OnOk result (edges.new ≡ edges.old ++ signal_edges (told tables.now)) }
 {
@@ -337,7 +337,7 @@ pub fn has_lock(members: &[Member]) -> bool
 }
 
 /// Puts which domains have a lock behind the others.
-fn push_locks(tables: &Tables<'_>, edges: &mut List<Edge>) -> Result<(), NoMemory>
+fn push_locks(tables: &Tables<'_>, edges: &mut List<Edge>) -> Made<()>
     ensures { OnOk result (edges.new ≡ edges.old ++ lock_edges (told tables.now)) }
 {
     for leaf in tables.flat.leaves.as_slice() {
@@ -360,7 +360,7 @@ fn push_locks(tables: &Tables<'_>, edges: &mut List<Edge>) -> Result<(), NoMemor
 /// # Errors
 ///
 /// Want of memory.
-pub fn signal_table(alloc: Global, tables: &Tables<'_>) -> Result<EdgeTable, NoMemory>
+pub fn signal_table(alloc: Global, tables: &Tables<'_>) -> Made<EdgeTable>
     requires { length tables.now.flat.now.connections < 2 ^ 32 }
     ensures { IfOk result (λ table. (e : Triple) → has table e ≡ has (signal_edges (told tables.now)) e) }
 {
@@ -370,7 +370,7 @@ pub fn signal_table(alloc: Global, tables: &Tables<'_>) -> Result<EdgeTable, NoM
 }
 
 /// By which edges labels signal, on notifications and by locks.
-pub fn signals_of(alloc: Global, tables: &Tables<'_>) -> Result<List<Edge>, NoMemory>
+pub fn signals_of(alloc: Global, tables: &Tables<'_>) -> Made<List<Edge>>
     requires { length tables.now.flat.now.connections < 2 ^ 32 }
     ensures { IfOk result (λ edges. edges ≡ signal_edges (told tables.now) ++ lock_edges (told tables.now)) }
 {

@@ -10,7 +10,7 @@ ghost use Rattle.std.specs.Prelude.{◌≡◌, ◌+◌, ◌<◌, ◌^◌, ◌++�
 
 use crate::LabelNumbers;
 use adl_meaning::{Connector, Domain, Flat, FlatConnection, Leaf};
-use cam_base::{List, Name, NoMemory, Path, Text};
+use cam_base::{List, Made, Name, Path, Text};
 use std::alloc::Global;
 use std::slice::Iter;
 
@@ -37,7 +37,7 @@ fn push_text(
     is_label: bool,
     path: &Path,
     texts: &mut List<(Text, usize)>,
-) -> Result<(), NoMemory>
+) -> Made<()>
     ensures { OnOk result (firsts texts.new ≡ firsts texts.old ++ where_true is_label (joined path.now)) }
 {
     if is_label {
@@ -48,17 +48,13 @@ fn push_text(
     Ok(())
 }
 
-fn push_device(alloc: Global, leaf: &Leaf, texts: &mut List<(Text, usize)>) -> Result<(), NoMemory>
+fn push_device(alloc: Global, leaf: &Leaf, texts: &mut List<(Text, usize)>) -> Made<()>
     ensures { OnOk result (firsts texts.new ≡ firsts texts.old ++ where_true (is_device leaf.now.domain) (joined leaf.now.path)) }
 {
     push_text(alloc, leaf.domain.is_none(), &leaf.path, texts)
 }
 
-fn push_domains(
-    alloc: Global,
-    domains: &[Domain],
-    texts: &mut List<(Text, usize)>,
-) -> Result<(), NoMemory>
+fn push_domains(alloc: Global, domains: &[Domain], texts: &mut List<(Text, usize)>) -> Made<()>
     ensures { OnOk result (firsts texts.new ≡ firsts texts.old ++ domain_texts domains.now) }
 {
     for domain in domains {
@@ -67,11 +63,7 @@ fn push_domains(
     Ok(())
 }
 
-fn push_devices(
-    alloc: Global,
-    leaves: &[Leaf],
-    texts: &mut List<(Text, usize)>,
-) -> Result<(), NoMemory>
+fn push_devices(alloc: Global, leaves: &[Leaf], texts: &mut List<(Text, usize)>) -> Made<()>
     ensures { OnOk result (firsts texts.new ≡ firsts texts.old ++ device_texts leaves.now) }
 {
     for leaf in leaves {
@@ -84,7 +76,7 @@ fn push_connections(
     alloc: Global,
     connections: &[FlatConnection],
     texts: &mut List<(Text, usize)>,
-) -> Result<(), NoMemory>
+) -> Made<()>
     ensures { OnOk result (firsts texts.new ≡ firsts texts.old ++ connection_texts connections.now) }
 {
     for connection in connections {
@@ -95,7 +87,7 @@ fn push_connections(
 }
 
 /// The texts of all labels, each with its place among them. Devices are few, so no room is taken for theirs.
-fn all_texts(alloc: Global, flat: &Flat) -> Result<List<(Text, usize)>, NoMemory>
+fn all_texts(alloc: Global, flat: &Flat) -> Made<List<(Text, usize)>>
     ensures { IfOk result (λ found. firsts found ≡ texts flat.now) }
 {
     let room = flat.domains.len().saturating_add(flat.connections.len());
@@ -108,10 +100,7 @@ fn all_texts(alloc: Global, flat: &Flat) -> Result<List<(Text, usize)>, NoMemory
 
 /// The texts in byte order, each once, and where the text of each place came to stand before they were each taken once. Texts are
 /// often listed in few runs that are in order, so they are sorted by runs.
-fn in_order(
-    alloc: Global,
-    texts: List<(Text, usize)>,
-) -> Result<(List<Text>, List<usize>), NoMemory>
+fn in_order(alloc: Global, texts: List<(Text, usize)>) -> Made<(List<Text>, List<usize>)>
     ensures { IfOk result (λ found. found.0 ≡ in_order (firsts texts)) }
 {
     let mut placed = texts.into_vec();
@@ -194,7 +183,7 @@ fn stands_at(texts: &[Text], place: usize, names: &[Name]) -> bool
 }
 
 /// How many of the texts, which are in order, come before that of the path, looked for first at a place.
-fn path_rank(alloc: Global, texts: &[Text], place: usize, path: &Path) -> Result<usize, NoMemory>
+fn path_rank(alloc: Global, texts: &[Text], place: usize, path: &Path) -> Made<usize>
     requires { IsOrdered texts.now }
     ensures { IfOk result (λ n. n ≡ rank texts.now (joined path.now)) }
 {
@@ -212,7 +201,7 @@ fn push_number(
     place: usize,
     path: &Path,
     numbers: &mut List<u32>,
-) -> Result<(), NoMemory>
+) -> Made<()>
     requires ordered { IsOrdered texts.now }
     requires few { length texts.now < 2 ^ 32 }
     ensures { OnOk result (numbers.new ≡ numbers.old ++ rank texts.now (joined path.now) ∷ []) }
@@ -231,7 +220,7 @@ fn domain_numbers(
     texts: &[Text],
     places: &mut Iter<'_, usize>,
     domains: &[Domain],
-) -> Result<List<u32>, NoMemory>
+) -> Made<List<u32>>
     requires ordered { IsOrdered texts.now }
     requires few { length texts.now < 2 ^ 32 }
     ensures { IfOk result (λ numbers. numbers ≡ domain_numbers texts.now domains.now) }
@@ -248,7 +237,7 @@ fn connection_numbers(
     texts: &[Text],
     places: &mut Iter<'_, usize>,
     connections: &[FlatConnection],
-) -> Result<List<u32>, NoMemory>
+) -> Made<List<u32>>
     requires ordered { IsOrdered texts.now }
     requires few { length texts.now < 2 ^ 32 }
     ensures { IfOk result (λ numbers. numbers ≡ connection_numbers texts.now connections.now) }
@@ -271,7 +260,7 @@ fn device_numbers(
     places: &mut Iter<'_, usize>,
     domains: &[u32],
     leaves: &[Leaf],
-) -> Result<List<u32>, NoMemory>
+) -> Made<List<u32>>
     requires ordered { IsOrdered texts.now }
     requires few { length texts.now < 2 ^ 32 }
     ensures { IfOk result (λ numbers. numbers ≡ device_numbers texts.now leaves.now) }
@@ -290,12 +279,7 @@ fn device_numbers(
 
 /// The numbers of the labels with these texts, which are looked for first at these places, in the order in which labels are
 /// listed.
-fn label_numbers(
-    alloc: Global,
-    texts: &[Text],
-    places: &[usize],
-    flat: &Flat,
-) -> Result<LabelNumbers, NoMemory>
+fn label_numbers(alloc: Global, texts: &[Text], places: &[usize], flat: &Flat) -> Made<LabelNumbers>
     requires are { texts.now ≡ label_texts flat.now }
     requires ordered { IsOrdered texts.now }
     requires few { length texts.now < 2 ^ 32 }
@@ -318,7 +302,7 @@ fn label_numbers(
 /// # Errors
 ///
 /// Want of memory.
-pub fn labels_of(alloc: Global, flat: &Flat) -> Result<Labelling, NoMemory>
+pub fn labels_of(alloc: Global, flat: &Flat) -> Made<Labelling>
     requires { length flat.now.domains + length flat.now.connections + length flat.now.leaves < 2 ^ 32 }
     ensures texts { IfOk result (λ labels. labels.texts ≡ label_texts flat.now) }
     ensures numbers { IfOk result (λ labels. labels.numbers ≡ label_numbers flat.now) }
@@ -329,7 +313,7 @@ pub fn labels_of(alloc: Global, flat: &Flat) -> Result<Labelling, NoMemory>
 }
 
 /// The texts with their numbers.
-pub fn label_lines(alloc: Global, texts: List<Text>) -> Result<List<(u32, Text)>, NoMemory>
+pub fn label_lines(alloc: Global, texts: List<Text>) -> Made<List<(u32, Text)>>
     requires { length texts < 2 ^ 32 }
     ensures { IfOk result (λ lines. lines ≡ gather (λ n t. (n, t) ∷ []) texts) }
 {

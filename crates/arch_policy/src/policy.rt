@@ -16,13 +16,13 @@ use crate::labels::{Labelling, label_lines, labels_of};
 use crate::{LabelNumbers, Tables};
 use adl_ast::Source;
 use adl_meaning::{Connector, Flat, Settled};
-use cam_base::{Fault, List, NoMemory, Refused};
+use cam_base::{Fault, List, Made, Refused};
 use cap_model::{Authority, Edge, EdgeTable, Policy};
 use cspace_layout::limit_fault;
 use std::alloc::Global;
 
 /// Who handles the interrupt of which device.
-fn handlers(alloc: Global, tables: &Tables<'_>) -> Result<EdgeTable, NoMemory>
+fn handlers(alloc: Global, tables: &Tables<'_>) -> Made<EdgeTable>
     ensures { IfOk result (λ table. (e : Triple) → has table e ≡ has (handle_edges (told tables.now)) e) }
 {
     let mut edges = List::new(alloc);
@@ -31,11 +31,7 @@ fn handlers(alloc: Global, tables: &Tables<'_>) -> Result<EdgeTable, NoMemory>
 }
 
 /// By which edges labels signal. Where nothing is handled, none is bound, and none is listed.
-fn signallers(
-    alloc: Global,
-    tables: &Tables<'_>,
-    handlers: &EdgeTable,
-) -> Result<EdgeTable, NoMemory>
+fn signallers(alloc: Global, tables: &Tables<'_>, handlers: &EdgeTable) -> Made<EdgeTable>
     requires { length tables.now.flat.now.connections < 2 ^ 32 }
     ensures { IfOk result (λ table. 0 < length handlers.now → (e : Triple)
         → has table e ≡ has (signal_edges (told tables.now) ++ lock_edges (told tables.now)) e) }
@@ -48,7 +44,7 @@ fn signallers(
 }
 
 /// The edges that have a reason, those within a label too.
-fn reasoned_edges(alloc: Global, tables: &Tables<'_>) -> Result<List<Edge>, NoMemory>
+fn reasoned_edges(alloc: Global, tables: &Tables<'_>) -> Made<List<Edge>>
     requires few { length tables.now.flat.now.connections < 2 ^ 32 }
     requires short { (k : ℕ) (c : Line) → slice_get tables.now.flat.now.connections k ≡ Some c → length c.ends < 2 ^ 32 }
     ensures { IfOk result (λ edges. (e : Triple) → has edges e ≡ has (reasoned_edges (told tables.now)) e) }
@@ -62,7 +58,7 @@ fn reasoned_edges(alloc: Global, tables: &Tables<'_>) -> Result<List<Edge>, NoMe
 }
 
 /// The table of the assigned edges.
-fn assigned_edges(alloc: Global, tables: &Tables<'_>) -> Result<EdgeTable, NoMemory>
+fn assigned_edges(alloc: Global, tables: &Tables<'_>) -> Made<EdgeTable>
     requires few { length tables.now.flat.now.connections < 2 ^ 32 }
     requires short { (k : ℕ) (c : Line) → slice_get tables.now.flat.now.connections k ≡ Some c → length c.ends < 2 ^ 32 }
     ensures sorted { IfOk result IsSorted }
@@ -81,7 +77,7 @@ fn edges_with(
     flat: &Flat,
     settled: &Settled,
     numbers: &LabelNumbers,
-) -> Result<EdgeTable, NoMemory>
+) -> Made<EdgeTable>
     requires within { IsWithin source.now flat.now }
     requires numbers { numbers.now ≡ label_numbers flat.now }
     ensures sorted { IfOk result IsSorted }
@@ -99,7 +95,7 @@ fn edges_with(
 }
 
 /// The limit on edges, where so many pass it.
-fn edge_fault(alloc: Global, source: &Source, count: usize) -> Result<Option<Fault>, NoMemory>
+fn edge_fault(alloc: Global, source: &Source, count: usize) -> Made<Option<Fault>>
     ensures { IfOk result (λ fault. fault ≡ (if nat_lt 200000 count then limit_fault source.now (codes "edges") else None)) }
 {
     if count > 200_000 {

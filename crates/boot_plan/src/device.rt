@@ -6,9 +6,10 @@ ghost use Rattle.boot_plan.specs.Needs.{are_usual};
 ghost use Rattle.boot_plan.specs.Regions.{are_regions, is_region};
 ghost use Rattle.std.specs.Prelude.{◌≡◌, ◌<◌, ◌^◌, [], IfOk, length, true};
 
-use crate::need::{Made, Need};
+use crate::need::Need;
 use crate::plan_refusal::{PlanRefusal, Refusal};
 use crate::untyped::Untyped;
+use cam_base::Made;
 use name_tables::{PageIndex, Region};
 use std::alloc::Global;
 use std::collections::BTreeSet;

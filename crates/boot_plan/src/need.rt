@@ -5,12 +5,9 @@ ghost use Rattle.boot_plan.specs.Rooms.{block_bytes};
 ghost use Rattle.cap_model.specs.Kept.{IsKept};
 ghost use Rattle.std.specs.Prelude.{◌≡◌, true, IfOk};
 
-use cam_base::NoMemory;
+use cam_base::Made;
 use cap_model::{Arch, Level, Object, Spec};
 use std::alloc::Global;
-
-/// What is made, unless memory runs out.
-pub type Made<T> = Result<T, NoMemory>;
 
 /// What an object needs of memory.
 #[derive(Clone, Copy, Debug, PartialEq, Eq)]

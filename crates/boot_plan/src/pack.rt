@@ -10,11 +10,11 @@ ghost use Rattle.boot_plan.specs.Rooms.{had};
 ghost use Rattle.std.specs.List.Sorted.{IsPermutation};
 ghost use Rattle.std.specs.Prelude.{◌≡◌, ◌<◌, ◌≤◌, ◌^◌, IfOk, length, true};
 
-use crate::need::{Made, Need};
+use crate::need::Need;
 use crate::plan_refusal::Places;
 use crate::room::{MAX_BITS, bytes_needed};
 use crate::untyped::Untyped;
-use cam_base::List;
+use cam_base::{List, Made};
 use std::alloc::Global;
 
 /// Regions in the order in which they are filled, and the offset at which each begins.

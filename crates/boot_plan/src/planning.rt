@@ -9,12 +9,13 @@ ghost use Rattle.cap_model.specs.Kept.{IsKept};
 ghost use Rattle.std.specs.Prelude.{◌≡◌, ◌<◌, ◌≤◌, ◌^◌, IfOk, length, true};
 
 use crate::device::device_refusal;
-use crate::need::{Made, Need, needs};
+use crate::need::{Need, needs};
 use crate::overlap::overlap;
 use crate::pack::{Rooms, pack, starts};
 use crate::plan_refusal::{BootPlan, Places, PlanRefusal};
 use crate::room::no_room;
 use crate::untyped::Untyped;
+use cam_base::Made;
 use cap_model::Spec;
 use std::alloc::Global;
 

@@ -11,7 +11,7 @@ ghost use Rattle.std.specs.Prelude.{◌≡◌, true};
 use crate::need::Need;
 use crate::plan_refusal::BootPlan;
 use cam_base::hexadecimal;
-use cam_io::{Failed, Outputs, Writer};
+use cam_io::{Outputs, Writer, Written};
 use cap_model::{Arch, Entry, Spec};
 use itoa::Buffer;
 
@@ -60,12 +60,7 @@ fn bytes_placed(spec: &Spec, places: &[Option<u64>]) -> u64
 
 /// Writes a plan to an open channel. `specs/Texts.antt` has its text. After a failure, which comes only where the outputs'
 /// count rose, the channel has a front of it. Takes no memory.
-pub fn write_plan<O: Outputs>(
-    spec: &Spec,
-    plan: &BootPlan,
-    out: &mut O,
-    channel: u8,
-) -> Result<(), Failed>
+pub fn write_plan<O: Outputs>(spec: &Spec, plan: &BootPlan, out: &mut O, channel: u8) -> Written
     requires open { IsOpen (O.sink out.old) channel }
     requires kept { IsKept spec.now }
     ensures { Writes result channel (plan_text spec.now plan.now.places) (O.sink out.old) (O.sink out.new) (O.faults out.old)

@@ -1,6 +1,6 @@
 ghost use Rattle.std.specs.Prelude.{◌≡◌, IfOk};
 
-use crate::NoMemory;
+use crate::Made;
 use std::alloc::Global;
 use std::marker::Model;
 
@@ -20,7 +20,7 @@ impl<T> Model for Boxed<T> {
 
 impl<T: Drop> Boxed<T> {
     /// The same part.
-    pub fn new(alloc: Global, part: T) -> Result<Boxed<T>, NoMemory>
+    pub fn new(alloc: Global, part: T) -> Made<Boxed<T>>
         ensures { IfOk result (λ b. b ≡ part) }
     {
         Ok(Boxed {

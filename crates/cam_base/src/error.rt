@@ -12,6 +12,9 @@ use thiserror::Error;
 #[error("no memory")]
 pub struct NoMemory;
 
+/// What is made, unless memory runs out.
+pub type Made<T> = Result<T, NoMemory>;
+
 impl From<AllocError> for NoMemory {
     ghost from_gives = { λ _ _. Unit {0} };
 

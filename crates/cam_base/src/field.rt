@@ -3,12 +3,12 @@
 ghost use Rattle.std.specs.Prelude.{◌≡◌, IfOk, map, take};
 ghost use Rattle.cam_base.specs.Fields.{fields, is_padded, spaced_fields};
 
-use crate::NoMemory;
+use crate::Made;
 use crate::part::part_from;
 use std::alloc::{AllocError, Global};
 
 /// The first `most` fields of a line, all of them where it has no more.
-pub fn fields<'a>(alloc: Global, line: &'a [u8], most: usize) -> Result<Vec<&'a [u8]>, NoMemory>
+pub fn fields<'a>(alloc: Global, line: &'a [u8], most: usize) -> Made<Vec<&'a [u8]>>
     ensures { IfOk result (λ v. map (λ f. f.now) v.items ≡ take most (fields line.entry.now)) }
 {
     let mut fields = Vec::new(alloc);
@@ -39,7 +39,7 @@ fn all_fields(alloc: Global, line: &[u8]) -> Result<Vec<&[u8]>, AllocError>
 }
 
 /// The fields of a line that several spaces may part, none where one stands in front of them or behind.
-pub fn spaced_fields(alloc: Global, line: &[u8]) -> Result<Vec<&[u8]>, NoMemory>
+pub fn spaced_fields(alloc: Global, line: &[u8]) -> Made<Vec<&[u8]>>
     ensures { IfOk result (λ v. map (λ f. f.now) v.items ≡ spaced_fields line.entry.now) }
 {
     let mut fields = Vec::new(alloc);

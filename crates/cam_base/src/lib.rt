@@ -31,7 +31,7 @@ mod token;
 
 pub use boxed::Boxed;
 pub use code::Code;
-pub use error::{NoMemory, Refused, SourceError, Unread};
+pub use error::{Made, NoMemory, Refused, SourceError, Unread};
 pub use field::{fields, spaced_fields};
 pub use gather_laws::{numbers_are_sums, what_is_gathered_comes_from_an_element};
 pub use grammar_error::{ReadError, Stop, Why};

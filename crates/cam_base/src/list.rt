@@ -1,6 +1,6 @@
 ghost use Rattle.std.specs.Prelude.{◌≡◌, ◌==◌, [], ◌∷◌, ◌++◌, length, OnOk, OnErr, IfOk};
 
-use crate::NoMemory;
+use crate::Made;
 use std::alloc::Global;
 use std::marker::Model;
 
@@ -71,7 +71,7 @@ impl<T> List<T> {
 impl<T: Drop> List<T> {
     /// Puts an item at the end. Refused, it leaves the list as it was.
     #[inline(always)]
-    pub fn push(&mut self, item: T) -> Result<(), NoMemory>
+    pub fn push(&mut self, item: T) -> Made<()>
         ensures ok { OnOk result (self.new ≡ self.old ++ item ∷ []) }
         ensures err { OnErr result (self.new ≡ self.old) }
     {
@@ -86,7 +86,7 @@ impl<T: Drop> List<T> {
 
 impl<T: Copy> List<T> {
     /// A copy of a slice.
-    pub fn from_slice(alloc: Global, items: &[T]) -> Result<List<T>, NoMemory>
+    pub fn from_slice(alloc: Global, items: &[T]) -> Made<List<T>>
         ensures { IfOk result (λ list. list ≡ items.now) }
     {
         Ok(List {
@@ -95,7 +95,7 @@ impl<T: Copy> List<T> {
     }
 
     /// Puts a copy of a slice at the end. Refused, it leaves the list as it was.
-    pub fn extend(&mut self, items: &[T]) -> Result<(), NoMemory>
+    pub fn extend(&mut self, items: &[T]) -> Made<()>
         ensures ok { OnOk result (self.new ≡ self.old ++ items.now) }
         ensures err { OnErr result (self.new ≡ self.old) }
     {

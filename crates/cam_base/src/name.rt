@@ -11,7 +11,7 @@ ghost use Rattle.std.specs.Prelude.{◌≡◌, ◌++◌, false, IfOk, IsErrOf, �
 ghost use Rattle.std.specs.Str.{bytes_eq};
 
 use crate::name_bytes::{NameBytes, Packed};
-use crate::{NoMemory, Refused};
+use crate::{Made, Refused};
 use std::alloc::Global;
 use std::cmp::Ordering;
 use std::default::MadeWith;
@@ -123,7 +123,7 @@ impl Name {
 
     /// A copy of the bytes, which are known to be an identifier of 1 to 127 bytes.
     #[tactic(auto, using(crate::proofs::Naming::name_short))]
-    pub fn of_identifier(alloc: Global, bytes: &[u8]) -> Result<Name, NoMemory>
+    pub fn of_identifier(alloc: Global, bytes: &[u8]) -> Made<Name>
         requires { IsTrue (is_name bytes.now) }
         ensures { IfOk result (λ name. name ≡ bytes.now) }
     {
@@ -134,7 +134,7 @@ impl Name {
 
     /// A copy of these bytes and of those behind them, which together are known to be an identifier of 1 to 127 bytes.
     #[tactic(auto, using(crate::proofs::Naming::parts_short))]
-    pub fn of_parts(alloc: Global, front: &[u8], back: &[u8]) -> Result<Name, NoMemory>
+    pub fn of_parts(alloc: Global, front: &[u8], back: &[u8]) -> Made<Name>
         requires { IsTrue (is_name (front.now ++ back.now)) }
         ensures { IfOk result (λ name. name ≡ front.now ++ back.now) }
     {
@@ -152,7 +152,7 @@ impl Name {
     }
 
     /// An equal name.
-    pub fn copy(&self, alloc: Global) -> Result<Name, NoMemory>
+    pub fn copy(&self, alloc: Global) -> Made<Name>
         ensures { IfOk result (λ name. name ≡ self.now) }
     {
         Ok(Name {

@@ -3,7 +3,7 @@
 ghost use Rattle.cam_base.specs.NameBytes.{bytes_of};
 ghost use Rattle.std.specs.Prelude.{◌≡◌, ◌≤◌, ◌<◌, ◌+◌, ◌++◌, length, IfOk};
 
-use crate::NoMemory;
+use crate::Made;
 use std::alloc::Global;
 use std::marker::Model;
 
@@ -84,7 +84,7 @@ pub(crate) enum NameBytes {
 
 impl NameBytes {
     /// A copy of the bytes.
-    pub(crate) fn of(alloc: Global, bytes: &[u8]) -> Result<NameBytes, NoMemory>
+    pub(crate) fn of(alloc: Global, bytes: &[u8]) -> Made<NameBytes>
         requires { length bytes.now ≤ 127 }
         ensures { IfOk result (λ b. bytes_of b ≡ bytes.now) }
     {
@@ -98,7 +98,7 @@ impl NameBytes {
     }
 
     /// A copy of these bytes and of those behind them.
-    pub(crate) fn joined(alloc: Global, front: &[u8], back: &[u8]) -> Result<NameBytes, NoMemory>
+    pub(crate) fn joined(alloc: Global, front: &[u8], back: &[u8]) -> Made<NameBytes>
         requires { length front.now + length back.now ≤ 127 }
         ensures { IfOk result (λ b. bytes_of b ≡ front.now ++ back.now) }
     {
@@ -110,7 +110,7 @@ impl NameBytes {
     }
 
     /// Equal bytes.
-    pub(crate) fn copy(&self, alloc: Global) -> Result<NameBytes, NoMemory>
+    pub(crate) fn copy(&self, alloc: Global) -> Made<NameBytes>
         ensures { IfOk result (λ b. bytes_of b ≡ bytes_of self.now) }
     {
         match self {

@@ -2,7 +2,7 @@ ghost use Rattle.cam_base.specs.Paths.{joined};
 ghost use Rattle.std.specs.List.{flat_map};
 ghost use Rattle.std.specs.Prelude.{◌≡◌, [], ◌∷◌, ◌++◌, IfOk, OnOk, OnErr};
 
-use crate::{List, Name, NoMemory, Text};
+use crate::{List, Made, Name, Text};
 use smallvec::SmallVec;
 use std::alloc::Global;
 use std::marker::Model;
@@ -32,7 +32,7 @@ impl Path {
     }
 
     /// Puts a name at the end. Refused, it leaves the path as it was.
-    pub fn push(&mut self, name: Name) -> Result<(), NoMemory>
+    pub fn push(&mut self, name: Name) -> Made<()>
         ensures ok { OnOk result (self.new ≡ self.old ++ name ∷ []) }
         ensures err { OnErr result (self.new ≡ self.old) }
     {
@@ -48,14 +48,14 @@ impl Path {
     }
 
     /// The names, joined by dots. Room for all of them is taken at once.
-    pub fn text(&self, alloc: Global) -> Result<Text, NoMemory>
+    pub fn text(&self, alloc: Global) -> Made<Text>
         ensures { IfOk result (λ text. text ≡ joined self.now) }
     {
         join_names(alloc, self.names())
     }
 
     /// The path of some names and more behind them. Room for all of them is taken at once.
-    pub fn of(alloc: Global, names: &[Name], more: &[Name]) -> Result<Path, NoMemory>
+    pub fn of(alloc: Global, names: &[Name], more: &[Name]) -> Made<Path>
         ensures { IfOk result (λ path. path ≡ names.now ++ more.now) }
     {
         let count = names.len().saturating_add(more.len());
@@ -70,14 +70,14 @@ impl Path {
     }
 
     /// An equal path.
-    pub fn copy(&self, alloc: Global) -> Result<Path, NoMemory>
+    pub fn copy(&self, alloc: Global) -> Made<Path>
         ensures { IfOk result (λ path. path ≡ self.now) }
     {
         Path::of(alloc, self.names(), &[])
     }
 }
 
-fn join_names(alloc: Global, names: &[Name]) -> Result<Text, NoMemory>
+fn join_names(alloc: Global, names: &[Name]) -> Made<Text>
     ensures { IfOk result (λ text. text ≡ joined names.now) }
 {
     let mut room: usize = 0;
@@ -92,7 +92,7 @@ fn join_names(alloc: Global, names: &[Name]) -> Result<Text, NoMemory>
     Ok(Text::from_vec(bytes.into_vec()))
 }
 
-fn push_dotted(names: &[Name], bytes: &mut List<u8>) -> Result<(), NoMemory>
+fn push_dotted(names: &[Name], bytes: &mut List<u8>) -> Made<()>
     ensures { OnOk result (bytes.new ≡ bytes.old ++ flat_map (λ m. 46 ∷ m) names.now) }
 {
     for name in names {

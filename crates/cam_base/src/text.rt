@@ -7,7 +7,7 @@ ghost use Rattle.std.specs.Ordering.{nat_cmp, as_partial_cmp};
 ghost use Rattle.std.specs.Prelude.{◌≡◌, [], IfOk};
 ghost use Rattle.std.specs.Str.{bytes_eq};
 
-use crate::NoMemory;
+use crate::Made;
 use std::alloc::Global;
 use std::cmp::Ordering;
 use std::hash::{Hash, Hasher};
@@ -29,7 +29,7 @@ impl Model for Text {
 
 impl Text {
     /// A copy of the bytes.
-    pub fn new(alloc: Global, bytes: &[u8]) -> Result<Text, NoMemory>
+    pub fn new(alloc: Global, bytes: &[u8]) -> Made<Text>
         ensures { IfOk result (λ text. text ≡ bytes.now) }
     {
         Ok(Text {
@@ -61,7 +61,7 @@ impl Text {
     }
 
     /// An equal text.
-    pub fn copy(&self, alloc: Global) -> Result<Text, NoMemory>
+    pub fn copy(&self, alloc: Global) -> Made<Text>
         ensures { IfOk result (λ text. text ≡ self.now) }
     {
         Text::new(alloc, self.as_bytes())

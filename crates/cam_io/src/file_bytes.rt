@@ -4,7 +4,7 @@ ghost use Rattle.cam_io.specs.FileBytes.{bytes_in};
 ghost use Rattle.std.specs.Prelude.{◌≡◌, IfOk};
 
 use crate::Files;
-use cam_base::{List, NoMemory};
+use cam_base::{List, Made};
 use std::alloc::Global;
 
 /// All bytes of a file: those that its files keep, or else those that were read.
@@ -26,12 +26,7 @@ impl FileBytes {
     }
 
     /// The bytes as a list, copied where the files keep them.
-    pub fn into_list<F: Files>(
-        self,
-        alloc: Global,
-        files: &F,
-        name: &str,
-    ) -> Result<List<u8>, NoMemory>
+    pub fn into_list<F: Files>(self, alloc: Global, files: &F, name: &str) -> Made<List<u8>>
         ensures { IfOk result (λ list. list ≡ bytes_in self (F.lends files.now name.now)) }
     {
         match self {

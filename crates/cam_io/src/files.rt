@@ -5,7 +5,7 @@ ghost use Rattle.std.specs.FinMap as map;
 ghost use Rattle.std.specs.Option.{option_copied};
 ghost use Rattle.std.specs.Prelude.{◌≡◌, ◌<◌, ◌+◌, ℕ, List as Items, Option, length, IfOk, IfSome, OnErr};
 
-use cam_base::{List, NoMemory, Refused};
+use cam_base::{List, Made, Refused};
 use std::alloc::Global;
 use thiserror::Error;
 
@@ -52,7 +52,7 @@ pub trait Files {
         ensures told { InAll (told self.now) (λ m. IfSome result (λ bytes. map.get m name.now ≡ Some bytes.now)) };
 
     /// All bytes of a file, where these files keep them. They needn't keep them from then on: a later read of the name may fail.
-    fn give(&mut self, alloc: Global, name: &str) -> Result<Option<List<u8>>, NoMemory>
+    fn give(&mut self, alloc: Global, name: &str) -> Made<Option<List<u8>>>
         ensures kept { KeepsFiles told faults self.old self.new }
         ensures same { InAll (told self.old) (told self.new) }
         ensures given { IfOk result (λ bytes. bytes ≡ lends self.old name.now) }

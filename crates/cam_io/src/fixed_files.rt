@@ -3,7 +3,7 @@ ghost use Rattle.std.specs.Prelude.{◌≡◌, OnOk, OnErr};
 
 use crate::named_file::{NamedFile, found, put_file, read_file};
 use crate::{Failed, Files, Got};
-use cam_base::NoMemory;
+use cam_base::Made;
 use std::alloc::Global;
 use std::marker::Model;
 
@@ -38,7 +38,7 @@ impl FixedFiles {
     }
 
     /// Gives a name these bytes in place of those that it has. Refused, it leaves the files as they were.
-    pub fn add(&mut self, name: &str, bytes: &[u8]) -> Result<(), NoMemory>
+    pub fn add(&mut self, name: &str, bytes: &[u8]) -> Made<()>
         ensures ok { OnOk result (self.new ≡ map.insert self.old name.now bytes.now) }
         ensures err { OnErr result (self.new ≡ self.old) }
     {

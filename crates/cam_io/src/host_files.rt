@@ -9,7 +9,7 @@ ghost use Rattle.std.specs.Prelude.{◌≡◌, ◌<◌, ◌≤◌, ◌+◌, leng
 
 use crate::seen::{Seen, place_of};
 use crate::{Failed, Files, Got};
-use cam_base::{List, NoMemory, Refused};
+use cam_base::{List, Made, Refused};
 use std::alloc::Global;
 
 /// The files of the host. What they answer of a name they keep, and answer again, so that no two of their answers ever
@@ -62,7 +62,7 @@ impl HostFiles {
     }
 
     /// The place of a name's entry, which is made where there is none.
-    fn place(&mut self, name: &str) -> Result<usize, NoMemory>
+    fn place(&mut self, name: &str) -> Made<usize>
         ensures told { InAll (host_told self.new) (host_told self.old) }
         ensures learned { InAll (host_told self.old) (host_told self.new) }
         ensures faults { self.new.faults ≡ self.old.faults }
@@ -136,7 +136,7 @@ impl Files for HostFiles {
         self.seen[place].whole()
     }
 
-    fn give(&mut self, alloc: Global, name: &str) -> Result<Option<List<u8>>, NoMemory> {
+    fn give(&mut self, alloc: Global, name: &str) -> Made<Option<List<u8>>> {
         let Some(place) = place_of(self.seen.as_slice(), name.as_bytes()) else {
             return Ok(None);
         };

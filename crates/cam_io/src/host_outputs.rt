@@ -3,7 +3,7 @@ ghost use Rattle.cam_io.specs.Host.{begun_by, faults_by, host_sink};
 ghost use Rattle.cam_io.specs.Sinks.{IsOpen, appended, with_begun};
 ghost use Rattle.std.specs.Prelude.{◌≡◌, ◌<◌, ◌≤◌, ℕ, false, length, take, IfOk, OnOk, OnErr};
 
-use crate::{Failed, Outputs};
+use crate::{Failed, Outputs, Written};
 use std::fs;
 use std::fs::File;
 use std::io::Write;
@@ -71,12 +71,7 @@ fn write_once(
 }
 
 /// Makes a file in the channel's place.
-fn begin_file(
-    rt: &HostRuntime,
-    files: &mut [Option<File>],
-    at: usize,
-    name: &str,
-) -> Result<(), Failed>
+fn begin_file(rt: &HostRuntime, files: &mut [Option<File>], at: usize, name: &str) -> Written
     requires { at < length files.old }
     ensures ok { OnOk result (host_sink files.new ≡ with_begun (host_sink files.old) at name.now) }
     ensures err { OnErr result (files.new ≡ files.old) }
@@ -97,7 +92,7 @@ impl Outputs for HostOutputs {
 
     ghost faults = { faults_by };
 
-    fn begin(&mut self, channel: u8, name: &str) -> Result<(), Failed>
+    fn begin(&mut self, channel: u8, name: &str) -> Written
         requires low { 2 ≤ channel }
         requires high { channel ≤ 5 }
         requires fresh { (begun_by self.old).begun channel ≡ false }

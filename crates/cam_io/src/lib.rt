@@ -34,7 +34,7 @@ pub use host_files::HostFiles;
 pub use host_outputs::HostOutputs;
 pub use mem_files::MemFiles;
 pub use mem_outputs::MemOutputs;
-pub use outputs::Outputs;
+pub use outputs::{Outputs, Written};
 pub use whole::{WholeError, read_whole, see_whole, take_whole};
 pub use write::write_all;
 pub use writer::Writer;

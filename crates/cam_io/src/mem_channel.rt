@@ -2,7 +2,7 @@ ghost use Rattle.cam_io.specs.Channels.{begun_name, blank, name_room, named_chan
 ghost use Rattle.std.specs.Option.{option_map};
 ghost use Rattle.std.specs.Prelude.{◌≡◌, min, leb, cond, length, take, IfOk};
 
-use cam_base::NoMemory;
+use cam_base::Made;
 use std::alloc::Global;
 use std::marker::Model;
 
@@ -32,7 +32,7 @@ impl Model for MemChannel {
 
 impl MemChannel {
     /// A channel that isn't begun and holds nothing, with room for so many bytes.
-    pub(crate) fn new(alloc: Global, room: usize) -> Result<MemChannel, NoMemory>
+    pub(crate) fn new(alloc: Global, room: usize) -> Made<MemChannel>
         ensures { IfOk result (λ c. c ≡ blank room) }
     {
         Ok(MemChannel {

@@ -7,7 +7,7 @@ ghost use Rattle.std.specs.Prelude.{List as Items, ◌≡◌, ◌<◌, ◌∷◌
 
 use crate::named_file::{NamedFile, count_fault, put_file, read_file};
 use crate::{Failed, Files, Got};
-use cam_base::{List, NoMemory};
+use cam_base::{List, Made};
 use std::alloc::Global;
 
 /// Files in memory. A read fails exactly where the number of its call was stated; calls are counted from 1, and one
@@ -40,7 +40,7 @@ impl MemFiles {
     }
 
     /// Gives a name these bytes in place of those that it has. Refused, it leaves the files as they were.
-    pub fn add(&mut self, name: &str, bytes: &[u8]) -> Result<(), NoMemory>
+    pub fn add(&mut self, name: &str, bytes: &[u8]) -> Made<()>
         ensures ok { OnOk result (held self.new ≡ map.insert (held self.old) name.now bytes.now) }
         ensures err { OnErr result (held self.new ≡ held self.old) }
         ensures counts { (r : Items ℕ) → counts self.new r ≡ counts self.old r }
@@ -57,7 +57,7 @@ impl MemFiles {
     }
 
     /// States that the call of this number fails. Refused, it leaves the files as they were.
-    pub fn fail_at(&mut self, call: u64) -> Result<(), NoMemory>
+    pub fn fail_at(&mut self, call: u64) -> Made<()>
         ensures ok { OnOk result (failing self.new ≡ failing self.old ++ call ∷ []) }
         ensures err { OnErr result (failing self.new ≡ failing self.old) }
         ensures contents { held self.new ≡ held self.old }

@@ -6,8 +6,8 @@ ghost use Rattle.std.specs.Option.{option_map};
 ghost use Rattle.std.specs.Prelude.{◌≡◌, ◌<◌, ◌≤◌, ◌⊎◌, ◌↔◌, ◌∷◌, [], ◌++◌, ◌==◌, ◌-◌, ℕ, false, leb, cond, min, take, length, Contains, IsErr, IsTrue, OnOk, OnErr, IfOk};
 
 use crate::mem_channel::MemChannel;
-use crate::{Failed, Outputs};
-use cam_base::{List, NoMemory};
+use crate::{Failed, Outputs, Written};
+use cam_base::{List, Made};
 use std::alloc::Global;
 
 /// The six channels in memory. Calls of `begin` and `write` are counted together from 1, and one past number 2^64 - 1
@@ -46,7 +46,7 @@ fn begin_at(channels: &mut [MemChannel], at: usize, name: &str) -> bool
 
 impl MemOutputs {
     /// Six channels that aren't begun and hold nothing, each with room for `room` bytes and a name of 4,096 bytes.
-    pub fn new(alloc: Global, room: usize) -> Result<MemOutputs, NoMemory>
+    pub fn new(alloc: Global, room: usize) -> Made<MemOutputs>
         ensures channels { IfOk result (λ o. channels o ≡ blank room ∷ blank room ∷ blank room ∷ blank room ∷ blank room
             ∷ blank room ∷ []) }
         ensures fresh { IfOk result (λ o. (k : ℕ) → (mem_sink o).begun k ≡ false) }
@@ -70,7 +70,7 @@ impl MemOutputs {
     }
 
     /// States that the call of this number fails. Refused, it leaves the outputs as they were.
-    pub fn fail_at(&mut self, call: u64) -> Result<(), NoMemory>
+    pub fn fail_at(&mut self, call: u64) -> Made<()>
         ensures ok { OnOk result (failing self.new ≡ failing self.old ++ call ∷ []) }
         ensures err { OnErr result (failing self.new ≡ failing self.old) }
         ensures channels { channels self.new ≡ channels self.old }
@@ -133,7 +133,7 @@ impl Outputs for MemOutputs {
 
     ghost faults = { mem_faults };
 
-    fn begin(&mut self, channel: u8, name: &str) -> Result<(), Failed>
+    fn begin(&mut self, channel: u8, name: &str) -> Written
         requires low { 2 ≤ channel }
         requires high { channel ≤ 5 }
         requires fresh { (mem_sink self.old).begun channel ≡ false }

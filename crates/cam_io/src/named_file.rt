@@ -7,7 +7,7 @@ ghost use Rattle.std.specs.Prelude.{List as Items, ◌≡◌, ◌<◌, ◌≤◌
 ghost use Rattle.std.specs.Str.{bytes_eq};
 
 use crate::Got;
-use cam_base::{NoMemory, Text};
+use cam_base::{Made, Text};
 use std::alloc::Global;
 
 /// A file in memory, and how often reads of it have failed.
@@ -94,7 +94,7 @@ pub(crate) fn put_file(
     others: u64,
     name: &[u8],
     bytes: &[u8],
-) -> Result<(), NoMemory>
+) -> Made<()>
     ensures ok { OnOk result (contents_of files.new.items ≡ map.insert (contents_of files.old.items) name.now bytes.now) }
     ensures err { OnErr result (contents_of files.new.items ≡ contents_of files.old.items) }
     ensures counts { (r : Items ℕ) → count_of files.new.items others r ≡ count_of files.old.items others r }

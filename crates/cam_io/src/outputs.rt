@@ -4,6 +4,9 @@ ghost use Rattle.std.specs.Prelude.{◌≡◌, ◌<◌, ◌≤◌, ℕ, false, l
 
 use crate::Failed;
 
+/// What is written, unless the outputs fail.
+pub type Written = Result<(), Failed>;
+
 /// Numbered channels: 0 standard output, 1 standard error, 2 capDL, 3 policy, 4 certificate, 5 map. The first two are
 /// always open, the others once they are begun.
 pub trait Outputs {
@@ -14,7 +17,7 @@ pub trait Outputs {
     ghost faults: { Self → ℕ };
 
     /// Begins a channel from 2 to 5 under a name. `Failed` only where the count rose; the channel isn't begun then.
-    fn begin(&mut self, channel: u8, name: &str) -> Result<(), Failed>
+    fn begin(&mut self, channel: u8, name: &str) -> Written
         requires low { 2 ≤ channel }
         requires high { channel ≤ 5 }
         requires fresh { (sink self.old).begun channel ≡ false }

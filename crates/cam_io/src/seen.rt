@@ -7,8 +7,8 @@ ghost use Rattle.std.specs.Option.{option_copied};
 ghost use Rattle.std.specs.Prelude.{List as Items, ◌≡◌, ◌<◌, ◌≤◌, ◌+◌, ◌⊎◌, ◌↔◌, ℕ, [], true, false, Option, IfNone, IfOk, IfSome, IsTrue, length, option_map, slice_get, slice_set};
 
 use crate::named_file::{copy_from, read_from, same};
-use crate::{Failed, Got};
-use cam_base::{NoMemory, Refused, Text};
+use crate::{Failed, Got, Written};
+use cam_base::{Made, Refused, Text};
 use std::alloc::Global;
 use std::fs;
 use std::fs::File;
@@ -60,7 +60,7 @@ pub(crate) fn place_of(seen: &[Seen], name: &[u8]) -> Option<usize>
 
 impl Seen {
     /// Nothing was asked of the name.
-    pub(crate) fn new(alloc: Global, name: &[u8]) -> Result<Seen, NoMemory>
+    pub(crate) fn new(alloc: Global, name: &[u8]) -> Made<Seen>
         ensures name { IfOk result (λ s. s.name ≡ name.now) }
         ensures unasked { IfOk result (λ s. s.extent ≡ Extent.Unasked) }
     {
@@ -100,7 +100,7 @@ impl Seen {
     }
 
     /// Asks whether there is a file, and opens it.
-    fn open(&mut self, rt: &HostRuntime, name: &str) -> Result<(), Failed>
+    fn open(&mut self, rt: &HostRuntime, name: &str) -> Written
         requires { self.old.extent ≡ Extent.Unasked }
         ensures name { self.new.name ≡ self.old.name }
         ensures grows { Grows self.old self.new }
@@ -126,7 +126,7 @@ impl Seen {
     }
 
     /// Reads on in the file that was begun, as much as has room in the buffer.
-    fn read_on(&mut self, buf: &mut [u8]) -> Result<(), Failed>
+    fn read_on(&mut self, buf: &mut [u8]) -> Written
         requires begun { self.old.extent ≡ Extent.Begun }
         requires some { 0 < length buf.old }
         ensures name { self.new.name ≡ self.old.name }
@@ -157,7 +157,7 @@ impl Seen {
     }
 
     /// Asks whether there is a file, where nothing was asked.
-    fn meet(&mut self, rt: &HostRuntime, name: &str) -> Result<(), Failed>
+    fn meet(&mut self, rt: &HostRuntime, name: &str) -> Written
         ensures name { self.new.name ≡ self.old.name }
         ensures grows { Grows self.old self.new }
         ensures learns { (count : ℕ) → Learns self.old self.new count }
@@ -169,7 +169,7 @@ impl Seen {
     }
 
     /// Takes the memory for what the host says that the file has, as far as it is looked at, and a byte more, to see its end.
-    fn make_room(&mut self, limit: u64) -> Result<(), NoMemory>
+    fn make_room(&mut self, limit: u64) -> Made<()>
         ensures name { self.new.name ≡ self.old.name }
         ensures extent { self.new.extent ≡ self.old.extent }
         ensures bytes { self.new.bytes.items ≡ self.old.bytes.items }
@@ -207,7 +207,7 @@ impl Seen {
 
     /// Takes memory for a read where there is none left, and answers for how many bytes there is then: the buffer has room
     /// for them, and no more of the file is looked at than so many and one more.
-    fn next_room(&mut self, limit: u64) -> Result<usize, NoMemory>
+    fn next_room(&mut self, limit: u64) -> Made<usize>
         requires { length self.old.bytes.items ≤ limit }
         ensures name { self.new.name ≡ self.old.name }
         ensures extent { self.new.extent ≡ self.old.extent }
@@ -289,7 +289,7 @@ impl Seen {
     }
 
     /// Asks whether there is a file, or reads on in it, as much as has room in the buffer.
-    fn ask(&mut self, rt: &HostRuntime, name: &str, at: u64, buf: &mut [u8]) -> Result<(), Failed>
+    fn ask(&mut self, rt: &HostRuntime, name: &str, at: u64, buf: &mut [u8]) -> Written
         requires some { 0 < length buf.old }
         requires behind { IsBehind self.old.extent self.old.bytes.items at }
         ensures name { self.new.name ≡ self.old.name }
@@ -306,7 +306,7 @@ impl Seen {
     }
 
     /// Asks, or reads on, until what was seen answers a read at this place.
-    fn reach(&mut self, rt: &HostRuntime, name: &str, at: u64, buf: &mut [u8]) -> Result<(), Failed>
+    fn reach(&mut self, rt: &HostRuntime, name: &str, at: u64, buf: &mut [u8]) -> Written
         requires { 0 < length buf.old }
         ensures name { self.new.name ≡ self.old.name }
         ensures grows { Grows self.old self.new }

@@ -4,7 +4,7 @@ ghost use Rattle.cam_io.specs.Sinks.{IsOpen, is_open};
 ghost use Rattle.std.specs.List.{flat_map};
 ghost use Rattle.std.specs.Prelude.{◌≡◌, ◌+◌, ◌-◌, ◌^◌, ◌≤◌, IsTrue, [], false, length, map, min};
 
-use crate::{Failed, Outputs, write_all};
+use crate::{Failed, Outputs, Written, write_all};
 use arrayvec::ArrayVec;
 
 /// Outputs and one of their channels, open, to which a text is written piece by piece. Up to 16 KiB of it wait, and go on in
@@ -122,7 +122,7 @@ impl<'a, O: Outputs> Writer<'a, O> {
     }
 
     /// Sends what waits. `Failed` where a call has failed.
-    pub fn flush(&mut self) -> Result<(), Failed>
+    pub fn flush(&mut self) -> Written
         ensures { Flushes self.old result self.new }
     {
         if self.failed {

@@ -4,7 +4,7 @@ ghost use Rattle.cam_io.specs.MemOutputs.{sink_of};
 ghost use Rattle.std.specs.Prelude.{◌≡◌, ℕ, false};
 
 use crate::case::{NamedText, Program, Run};
-use cam_base::NoMemory;
+use cam_base::Made;
 use cam_io::{MemFiles, MemOutputs};
 use camkes_tool::run;
 use std::alloc::Global;
@@ -21,7 +21,7 @@ pub struct Done {
 }
 
 /// The files of a case, of which the read of this number fails.
-fn files_of(alloc: Global, files: &[NamedText], failing: u64) -> Result<MemFiles, NoMemory> {
+fn files_of(alloc: Global, files: &[NamedText], failing: u64) -> Made<MemFiles> {
     let mut held = MemFiles::new(alloc);
     for file in files {
         held.add(file.name.as_str(), file.bytes.as_slice())?;
@@ -46,7 +46,7 @@ pub fn perform(
     files: &[NamedText],
     failing_read: u64,
     failing_write: u64,
-) -> Result<Done, NoMemory> {
+) -> Made<Done> {
     let mut files = files_of(alloc, files, failing_read)?;
     let mut out = MemOutputs::new(alloc, ROOM)?;
     out.fail_at(failing_write)?;

@@ -2,7 +2,7 @@
 
 use crate::bench::{Done, perform};
 use crate::case::{Case, NamedText, Run};
-use cam_base::NoMemory;
+use cam_base::Made;
 use cam_io::MemOutputs;
 use std::alloc::{AllocError, Global};
 use std::fmt;
@@ -170,12 +170,7 @@ fn is_read_fault(alloc: Global, done: &Done, name: &str) -> Result<bool, AllocEr
 }
 
 /// Lets each read fail in turn: the first that isn't told rightly, or the one behind the last if it is made.
-fn reads_differ(
-    alloc: Global,
-    case: &Case,
-    wanted: &Run,
-    names: &[String],
-) -> Result<Option<Part>, NoMemory> {
+fn reads_differ(alloc: Global, case: &Case, wanted: &Run, names: &[String]) -> Made<Option<Part>> {
     let files = case.files.as_slice();
     let mut number: u64 = 1;
     for name in names {
@@ -191,7 +186,7 @@ fn reads_differ(
 
 /// Lets each begin and write fail in turn: the first where the outputs aren't cut short, or the one behind the last if
 /// it is made.
-fn writes_differ(alloc: Global, case: &Case, wanted: &Run) -> Result<Option<Part>, NoMemory> {
+fn writes_differ(alloc: Global, case: &Case, wanted: &Run) -> Made<Option<Part>> {
     for number in 1..MOST_WRITES {
         let done = perform(alloc, wanted, case.files.as_slice(), 0, number)?;
         if done.status != 5 {
@@ -206,7 +201,7 @@ fn writes_differ(alloc: Global, case: &Case, wanted: &Run) -> Result<Option<Part
 }
 
 /// What differs where calls are to fail in turn.
-fn failures_differ(alloc: Global, case: &Case, wanted: &Run) -> Result<Option<Part>, NoMemory> {
+fn failures_differ(alloc: Global, case: &Case, wanted: &Run) -> Made<Option<Part>> {
     if let Some(names) = &wanted.reads {
         if let Some(part) = reads_differ(alloc, case, wanted, names.as_slice())? {
             return Ok(Some(part));
@@ -228,7 +223,7 @@ fn text_of(alloc: Global, part: Part, done: &Done) -> Result<String, AllocError>
     String::from_utf8_lossy(alloc, done.out.bytes(channel))
 }
 
-fn judge_run(alloc: Global, case: &Case, wanted: &Run) -> Result<Option<Verdict>, NoMemory> {
+fn judge_run(alloc: Global, case: &Case, wanted: &Run) -> Made<Option<Verdict>> {
     let (read, write) = (wanted.failing_read, wanted.failing_write);
     let done = perform(alloc, wanted, case.files.as_slice(), read, write)?;
     let part = match difference(wanted, &done) {
@@ -247,7 +242,7 @@ fn judge_run(alloc: Global, case: &Case, wanted: &Run) -> Result<Option<Verdict>
 }
 
 /// The first run of a case that differs from what it must do, if one does. A case without runs has none.
-pub fn judge(alloc: Global, case: &Case) -> Result<Option<Verdict>, NoMemory> {
+pub fn judge(alloc: Global, case: &Case) -> Made<Option<Verdict>> {
     let mut number: u64 = 0;
     for wanted in case.runs.as_slice() {
         number = number.saturating_add(1);

@@ -2,7 +2,7 @@ ghost use Rattle.camkes_tool.specs.GeneratedFiles.{client_line, from_end, genera
 ghost use Rattle.std.specs.List.{flat_map, range_with_len};
 ghost use Rattle.std.specs.Prelude.{◌≡◌, ◌++◌, decimal, IfOk, OnOk};
 
-use cam_base::{List, NoMemory};
+use cam_base::{List, Made};
 use cam_io::FixedFiles;
 use itoa::Buffer;
 use std::alloc::Global;
@@ -21,7 +21,7 @@ assembly { composition {
 ";
 
 /// Writes a line, or an end, for each client: its number between two texts.
-fn push_clients(text: &mut List<u8>, count: u64, front: &[u8], back: &[u8]) -> Result<(), NoMemory>
+fn push_clients(text: &mut List<u8>, count: u64, front: &[u8], back: &[u8]) -> Made<()>
     ensures { OnOk result (text.new ≡ text.old ++ flat_map (λ i. front.now ++ decimal i ++ back.now) (range_with_len 0 count)) }
 {
     for i in 0..count {
@@ -33,7 +33,7 @@ fn push_clients(text: &mut List<u8>, count: u64, front: &[u8], back: &[u8]) -> R
     Ok(())
 }
 
-fn root_text(alloc: Global, count: u64) -> Result<List<u8>, NoMemory>
+fn root_text(alloc: Global, count: u64) -> Made<List<u8>>
     ensures { IfOk result (λ text. text ≡ root_text count) }
 {
     let mut text = List::new(alloc);
@@ -52,7 +52,7 @@ fn root_text(alloc: Global, count: u64) -> Result<List<u8>, NoMemory>
 /// # Errors
 ///
 /// Want of memory.
-pub fn generated(alloc: Global, count: u64) -> Result<FixedFiles, NoMemory>
+pub fn generated(alloc: Global, count: u64) -> Made<FixedFiles>
     ensures { IfOk result (λ files. files ≡ generated count) }
 {
     let root = root_text(alloc, count)?;

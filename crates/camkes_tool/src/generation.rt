@@ -9,7 +9,7 @@ ghost use Rattle.std.specs.Prelude.{◌≡◌, length, map, IfOk, Ok};
 
 use crate::{ROOT, generated};
 use arch_compile::{Build, Summary, compile};
-use cam_base::{List, Name, NoMemory, SourceError, Unread};
+use cam_base::{List, Made, Name, NoMemory, SourceError, Unread};
 use cap_model::Labels;
 use cert_check::{Verdict, check};
 use std::alloc::Global;
@@ -42,7 +42,7 @@ fn compiled(alloc: Global, count: u64) -> Result<Build, SourceError>
 }
 
 /// What a build has, in numbers, once the checker has accepted its certificate.
-fn accepted(alloc: Global, build: &Build) -> Result<Summary, NoMemory>
+fn accepted(alloc: Global, build: &Build) -> Made<Summary>
     requires { IsTrioValid build.now }
     ensures { IfOk result (IsAccepted build.now) }
 {
@@ -54,7 +54,7 @@ fn accepted(alloc: Global, build: &Build) -> Result<Summary, NoMemory>
 }
 
 /// The labels that stand beside names, in order.
-fn labels_beside(alloc: Global, objects: &[(Name, u32)]) -> Result<Vec<u32>, NoMemory>
+fn labels_beside(alloc: Global, objects: &[(Name, u32)]) -> Made<Vec<u32>>
     ensures { IfOk result (λ labels. labels.items ≡ map (λ o. o.1) objects.now) }
 {
     let labels = objects.iter().map(|object| object.1).collect(alloc)?;
@@ -62,7 +62,7 @@ fn labels_beside(alloc: Global, objects: &[(Name, u32)]) -> Result<Vec<u32>, NoM
 }
 
 /// The labels that a build's policy gives the objects of its spec, which stand in its order.
-fn labels_of(alloc: Global, build: &Build) -> Result<Labels, NoMemory>
+fn labels_of(alloc: Global, build: &Build) -> Made<Labels>
     requires { IsTrioValid build.now }
     ensures labels { IfOk result (λ labels. IsLabelling build.now.spec build.now.policy (Ok labels)) }
     ensures each { IfOk result (λ labels. length labels.by_object ≡ length build.now.spec.entries) }

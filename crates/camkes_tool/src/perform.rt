@@ -7,14 +7,14 @@ ghost use Rattle.camkes_tool.specs.Lines.{fault_line, read_fault_line};
 use crate::{Answer, write_generated};
 use arch_compile::write_texts;
 use cam_base::Fault;
-use cam_io::{Failed, Outputs, Writer, write_all};
+use cam_io::{Outputs, Writer, Written, write_all};
 use command_words::usage_line;
 use itoa::Buffer;
 use source_commands::write_listing;
 use text_commands::{write_code, write_fault as write_refusal, write_place};
 
 /// Does what the answer says. Takes no memory.
-pub fn perform<O: Outputs>(answer: &Answer, out: &mut O) -> Result<(), Failed>
+pub fn perform<O: Outputs>(answer: &Answer, out: &mut O) -> Written
     requires { AreUnbegun (O.sink out.old) }
     ensures { Acts (script answer.now) result (O.sink out.old) (O.sink out.new) (O.faults out.old) (O.faults out.new) }
 {
@@ -33,7 +33,7 @@ pub fn perform<O: Outputs>(answer: &Answer, out: &mut O) -> Result<(), Failed>
 }
 
 /// Writes the line of a fault of the source.
-fn write_fault<O: Outputs>(out: &mut O, file: &[u8], fault: &Fault) -> Result<(), Failed>
+fn write_fault<O: Outputs>(out: &mut O, file: &[u8], fault: &Fault) -> Written
     ensures { Writes result 1 (fault_line file.now fault.now)
         (O.sink out.old) (O.sink out.new) (O.faults out.old) (O.faults out.new) }
 {
@@ -47,7 +47,7 @@ fn write_fault<O: Outputs>(out: &mut O, file: &[u8], fault: &Fault) -> Result<()
     to.flush()
 }
 
-fn write_read_fault<O: Outputs>(out: &mut O, file: &[u8]) -> Result<(), Failed>
+fn write_read_fault<O: Outputs>(out: &mut O, file: &[u8]) -> Written
     ensures { Writes result 1 (read_fault_line file.now) (O.sink out.old) (O.sink out.new) (O.faults out.old) (O.faults out.new) }
 {
     let mut to = Writer::new(out, 1);

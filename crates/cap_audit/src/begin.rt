@@ -8,7 +8,7 @@ ghost use Rattle.cap_model.specs.Kept.{IsKept};
 ghost use Rattle.std.specs.Prelude.{◌≡◌, ◌<◌, ◌+◌, Some, None, length, IfOk, OnOk};
 
 use crate::found::{Findings, Held};
-use cam_base::NoMemory;
+use cam_base::Made;
 use cap_model::{Cap, Object, Spec};
 use std::alloc::Global;
 use std::collections::BTreeMap;
@@ -34,7 +34,7 @@ fn put_root(roots: &mut [Option<u32>], root: Option<u32>, t: u32)
     }
 }
 
-fn no_roots(alloc: Global, n: usize) -> Result<Vec<Option<u32>>, NoMemory>
+fn no_roots(alloc: Global, n: usize) -> Made<Vec<Option<u32>>>
     ensures { IfOk result (λ roots. roots.items ≡ repeated None n) }
 {
     let mut roots = Vec::new(alloc);
@@ -56,7 +56,7 @@ fn put_roots(roots: &mut [Option<u32>], spec: &Spec)
 }
 
 /// Each root CNode with a thread whose root it is.
-pub fn roots(alloc: Global, spec: &Spec) -> Result<Vec<Option<u32>>, NoMemory>
+pub fn roots(alloc: Global, spec: &Spec) -> Made<Vec<Option<u32>>>
     requires { IsKept spec.now }
     ensures { IfOk result (λ roots. AreRoots spec.now roots.items) }
 {
@@ -98,7 +98,7 @@ fn value_of(
     findings: &mut Findings,
     places: &mut BTreeMap<(u32, u8, u64), usize>,
     cap: Cap,
-) -> Result<usize, NoMemory>
+) -> Made<usize>
     ensures { IfOk result (HasValue findings.old cap findings.new) }
 {
     let key = key_of(cap);
@@ -118,7 +118,7 @@ fn own_slots(
     spec: &Spec,
     c: u32,
     slots: &[(u64, Cap)],
-) -> Result<(), NoMemory>
+) -> Made<()>
     requires starts { Starts spec.now findings.old c 0 }
     requires slots { slots.now ≡ slots_at spec.now c }
     requires inside { c < length spec.now.entries }
@@ -133,7 +133,7 @@ fn own_slots(
 }
 
 /// All capabilities of slots, those that are equal as one value.
-fn own_all(alloc: Global, findings: &mut Findings, spec: &Spec) -> Result<(), NoMemory>
+fn own_all(alloc: Global, findings: &mut Findings, spec: &Spec) -> Made<()>
     requires kept { IsKept spec.now }
     requires starts { Starts spec.now findings.old 0 0 }
     ensures { OnOk result (Starts spec.now findings.new (length spec.now.entries) 0) }
@@ -159,7 +159,7 @@ fn mark_all(findings: &mut Findings, spec: &Spec)
 }
 
 /// What is found before the first step.
-pub fn begin(alloc: Global, spec: &Spec) -> Result<Findings, NoMemory>
+pub fn begin(alloc: Global, spec: &Spec) -> Made<Findings>
     requires { IsKept spec.now }
     ensures found { IfOk result (λ f. IsFound spec.now f) }
     ensures slots { IfOk result (λ f. HasSlots spec.now f) }

@@ -8,7 +8,7 @@ ghost use Rattle.cap_model.specs.State.{boot_node};
 ghost use Rattle.std.specs.List.{All, Contains};
 ghost use Rattle.std.specs.Prelude.{◌≡◌, ◌<◌, ◌++◌, ◌∷◌, [], true, false, map, IsTrue, OnOk, IfOk, length, Some, slice_get, slice_set, slice_index, slice_index_or};
 
-use cam_base::NoMemory;
+use cam_base::{Made, NoMemory};
 use cap_machine::Step;
 use cap_model::{Cap, Entry, Object, Rights, Spec};
 use std::alloc::Global;
@@ -66,14 +66,14 @@ impl Shelf {
         self.helds.as_slice()
     }
 
-    fn copy(&self) -> Result<Vec<Held>, NoMemory>
+    fn copy(&self) -> Made<Vec<Held>>
         ensures { IfOk result (λ helds. helds.items ≡ self.now) }
     {
         let helds = self.helds.clone()?;
         Ok(helds)
     }
 
-    fn push(&mut self, held: Held) -> Result<(), NoMemory>
+    fn push(&mut self, held: Held) -> Made<()>
         ensures { OnOk result (self.new ≡ self.old ++ held ∷ []) }
     {
         self.helds.push(held)?;
@@ -114,7 +114,7 @@ impl Marks {
     }
 }
 
-fn put_held(shelves: &mut [Shelf], c: u32, held: Held) -> Result<(), NoMemory>
+fn put_held(shelves: &mut [Shelf], c: u32, held: Held) -> Made<()>
     ensures { OnOk result (shelves.new ≡ slice_set shelves.old c (slice_index_or shelves.old c [] ++ held ∷ [])) }
 {
     let c = c as usize;
@@ -163,7 +163,7 @@ pub fn whole() -> Rights
     }
 }
 
-fn push_steps(steps: &mut Vec<Step>, course: Course, n: u64) -> Result<(), NoMemory>
+fn push_steps(steps: &mut Vec<Step>, course: Course, n: u64) -> Made<()>
     ensures { OnOk result (steps.new.items ≡ steps.old.items ++ steps_of course n) }
 {
     match course {
@@ -198,7 +198,7 @@ fn push_steps(steps: &mut Vec<Step>, course: Course, n: u64) -> Result<(), NoMem
     Ok(())
 }
 
-fn blank_shelves(alloc: Global, n: usize) -> Result<Vec<Shelf>, NoMemory>
+fn blank_shelves(alloc: Global, n: usize) -> Made<Vec<Shelf>>
     ensures { IfOk result (λ shelves. shelves.items ≡ empties n) }
 {
     let mut shelves = Vec::new(alloc);
@@ -220,7 +220,7 @@ fn next_of(object: &Object) -> u64
     }
 }
 
-fn boot_nexts(alloc: Global, entries: &[Entry]) -> Result<Vec<u64>, NoMemory>
+fn boot_nexts(alloc: Global, entries: &[Entry]) -> Made<Vec<u64>>
     requires { All (λ e. Bootable e.object) entries.now }
     ensures { IfOk result (λ nexts. nexts.items ≡ map (λ e. (boot_node e.object).next) entries.now) }
 {
@@ -231,7 +231,7 @@ fn boot_nexts(alloc: Global, entries: &[Entry]) -> Result<Vec<u64>, NoMemory>
     Ok(nexts)
 }
 
-fn blank_row(alloc: Global, object: &Object, width: usize) -> Result<Marks, NoMemory>
+fn blank_row(alloc: Global, object: &Object, width: usize) -> Made<Marks>
     ensures { IfOk result (λ row. row ≡ blank_row width object.now) }
 {
     let n = match object {
@@ -243,7 +243,7 @@ fn blank_row(alloc: Global, object: &Object, width: usize) -> Result<Marks, NoMe
     })
 }
 
-fn blanks(alloc: Global, n: usize) -> Result<Vec<bool>, NoMemory>
+fn blanks(alloc: Global, n: usize) -> Made<Vec<bool>>
     ensures { IfOk result (λ marks. marks.items ≡ blanks n) }
 {
     let mut marks = Vec::new(alloc);
@@ -253,7 +253,7 @@ fn blanks(alloc: Global, n: usize) -> Result<Vec<bool>, NoMemory>
     Ok(marks)
 }
 
-fn blank_rows(alloc: Global, entries: &[Entry], width: usize) -> Result<Vec<Marks>, NoMemory>
+fn blank_rows(alloc: Global, entries: &[Entry], width: usize) -> Made<Vec<Marks>>
     ensures { IfOk result (λ rows. rows.items ≡ blank_rows width entries.now) }
 {
     let mut rows = Vec::new(alloc);
@@ -301,7 +301,7 @@ impl Findings {
     }
 
     /// What a CNode holds.
-    pub fn held_copy(&self, alloc: Global, c: u32) -> Result<Vec<Held>, NoMemory>
+    pub fn held_copy(&self, alloc: Global, c: u32) -> Made<Vec<Held>>
         ensures { IfOk result (λ helds. helds.items ≡ held_by self.now c) }
     {
         match self.held.get(c as usize) {
@@ -378,7 +378,7 @@ impl Findings {
     }
 
     /// Nothing found yet.
-    pub fn blank(alloc: Global, spec: &Spec) -> Result<Findings, NoMemory>
+    pub fn blank(alloc: Global, spec: &Spec) -> Made<Findings>
         requires { IsKept spec.now }
         ensures { IfOk result (λ f. Starts spec.now f 0 0) }
     {
@@ -406,7 +406,7 @@ impl Findings {
     }
 
     /// A value more, and its place.
-    pub fn add_value(&mut self, cap: Cap) -> Result<usize, NoMemory>
+    pub fn add_value(&mut self, cap: Cap) -> Made<usize>
         ensures values { OnOk result (self.new ≡ with_value self.old cap) }
         ensures place { IfOk result (λ place. place ≡ length self.old.values) }
     {
@@ -416,7 +416,7 @@ impl Findings {
     }
 
     /// A CNode has a value at a number from the start.
-    pub fn own(&mut self, c: u32, held: Held) -> Result<(), NoMemory>
+    pub fn own(&mut self, c: u32, held: Held) -> Made<()>
         ensures { OnOk result (self.new ≡ owned self.old c held) }
     {
         put_held(&mut self.held, c, held)?;
@@ -425,7 +425,7 @@ impl Findings {
     }
 
     /// All CNodes with rows in which nothing is known.
-    pub fn open_rows(&mut self, alloc: Global, spec: &Spec) -> Result<(), NoMemory>
+    pub fn open_rows(&mut self, alloc: Global, spec: &Spec) -> Made<()>
         ensures { OnOk result (self.new ≡ with_rows self.old (blank_rows (length self.old.values) spec.now.entries)) }
     {
         self.known = blank_rows(alloc, spec.entries.as_slice(), self.values.len())?;
@@ -440,7 +440,7 @@ impl Findings {
     }
 
     /// Puts a value where it isn't known yet, at the next number there.
-    fn land(&mut self, way: Way, held: Held) -> Result<(), NoMemory>
+    fn land(&mut self, way: Way, held: Held) -> Made<()>
         ensures { OnOk result (self.new ≡ landed self.old way held) }
     {
         let number = self.next(way.to);
@@ -464,7 +464,7 @@ impl Findings {
     }
 
     /// Brings what `from` holds along a way, where it isn't known at its end.
-    pub fn bring(&mut self, spec: &Spec, from: u32, way: Way, held: Held) -> Result<(), NoMemory>
+    pub fn bring(&mut self, spec: &Spec, from: u32, way: Way, held: Held) -> Made<()>
         requires found { IsFound spec.now self.old }
         requires way { IsWay spec.now self.old from way }
         requires held { Contains (held_by self.old from) held }

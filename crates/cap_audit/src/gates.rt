@@ -11,7 +11,7 @@ use crate::begin::root_of;
 use crate::kinds::stand_in;
 use crate::picks::{Pick, Wanted, picked};
 use crate::{Findings, Pair};
-use cam_base::NoMemory;
+use cam_base::Made;
 use cap_model::Spec;
 use std::alloc::Global;
 use std::marker::Model;
@@ -46,7 +46,7 @@ impl Model for Roster {
 }
 
 impl Roster {
-    fn push(&mut self, thread: u32) -> Result<(), NoMemory>
+    fn push(&mut self, thread: u32) -> Made<()>
         ensures { OnOk result (self.new ≡ self.old ++ thread ∷ []) }
     {
         self.threads.push(thread)?;
@@ -77,7 +77,7 @@ impl Model for Gate {
 }
 
 impl Gate {
-    fn push(&mut self, door: Pair) -> Result<(), NoMemory>
+    fn push(&mut self, door: Pair) -> Made<()>
         ensures { OnOk result (self.new ≡ self.old ++ door ∷ []) }
     {
         self.doors.push(door)?;
@@ -93,7 +93,7 @@ impl Gate {
 }
 
 /// Puts an object into the row of another.
-pub fn put_thread(rosters: &mut [Roster], c: u32, t: u32) -> Result<(), NoMemory>
+pub fn put_thread(rosters: &mut [Roster], c: u32, t: u32) -> Made<()>
     ensures { OnOk result (rosters.new ≡ with_more rosters.old c t) }
 {
     let c = c as usize;
@@ -104,7 +104,7 @@ pub fn put_thread(rosters: &mut [Roster], c: u32, t: u32) -> Result<(), NoMemory
     Ok(())
 }
 
-fn put_door(gates: &mut [Gate], o: u32, door: Pair) -> Result<(), NoMemory>
+fn put_door(gates: &mut [Gate], o: u32, door: Pair) -> Made<()>
     ensures { OnOk result (gates.new ≡ with_more gates.old o door) }
 {
     let o = o as usize;
@@ -116,7 +116,7 @@ fn put_door(gates: &mut [Gate], o: u32, door: Pair) -> Result<(), NoMemory>
 }
 
 /// Rows with nothing in them.
-pub fn no_rosters(alloc: Global, n: usize) -> Result<Vec<Roster>, NoMemory>
+pub fn no_rosters(alloc: Global, n: usize) -> Made<Vec<Roster>>
     ensures { IfOk result (λ rosters. rosters.items ≡ repeated [] n) }
 {
     let mut rosters = Vec::new(alloc);
@@ -128,7 +128,7 @@ pub fn no_rosters(alloc: Global, n: usize) -> Result<Vec<Roster>, NoMemory>
     Ok(rosters)
 }
 
-fn no_gates(alloc: Global, n: usize) -> Result<Vec<Gate>, NoMemory>
+fn no_gates(alloc: Global, n: usize) -> Made<Vec<Gate>>
     ensures { IfOk result (λ gates. gates.items ≡ repeated [] n) }
 {
     let mut gates = Vec::new(alloc);
@@ -140,7 +140,7 @@ fn no_gates(alloc: Global, n: usize) -> Result<Vec<Gate>, NoMemory>
     Ok(gates)
 }
 
-fn enrol(rosters: &mut [Roster], root: Option<u32>, t: u32) -> Result<(), NoMemory>
+fn enrol(rosters: &mut [Roster], root: Option<u32>, t: u32) -> Made<()>
     ensures { OnOk result (rosters.new ≡ enrolled rosters.old root t) }
 {
     match root {
@@ -149,7 +149,7 @@ fn enrol(rosters: &mut [Roster], root: Option<u32>, t: u32) -> Result<(), NoMemo
     }
 }
 
-fn enrol_all(rosters: &mut [Roster], spec: &Spec) -> Result<(), NoMemory>
+fn enrol_all(rosters: &mut [Roster], spec: &Spec) -> Made<()>
     requires kept { IsKept spec.now }
     requires none { rosters.old ≡ repeated [] (length spec.now.entries) }
     ensures { OnOk result (AreRosters spec.now rosters.new (length spec.now.entries)) }
@@ -162,7 +162,7 @@ fn enrol_all(rosters: &mut [Roster], spec: &Spec) -> Result<(), NoMemory>
 }
 
 /// The threads by their roots.
-pub fn rosters(alloc: Global, spec: &Spec) -> Result<Vec<Roster>, NoMemory>
+pub fn rosters(alloc: Global, spec: &Spec) -> Made<Vec<Roster>>
     requires { IsKept spec.now }
     ensures { IfOk result (λ rosters. AreRosters spec.now rosters.items (length spec.now.entries)) }
 {
@@ -171,7 +171,7 @@ pub fn rosters(alloc: Global, spec: &Spec) -> Result<Vec<Roster>, NoMemory>
     Ok(rosters)
 }
 
-fn let_in(gates: &mut [Gate], door: Pair, pick: Option<Pick>) -> Result<(), NoMemory>
+fn let_in(gates: &mut [Gate], door: Pair, pick: Option<Pick>) -> Made<()>
     ensures { OnOk result (gates.new ≡ gated gates.old door pick) }
 {
     match pick {
@@ -191,12 +191,7 @@ fn caller(spec: &Spec, findings: &Findings, heads: &[u32], pair: Pair) -> Option
     }
 }
 
-fn let_all_in(
-    gates: &mut [Gate],
-    spec: &Spec,
-    findings: &Findings,
-    heads: &[u32],
-) -> Result<(), NoMemory>
+fn let_all_in(gates: &mut [Gate], spec: &Spec, findings: &Findings, heads: &[u32]) -> Made<()>
     requires all { IsAll spec.now findings.now }
     requires none { gates.old ≡ repeated [] (length spec.now.entries) }
     ensures { OnOk result (AreGates spec.now findings.now heads.now gates.new (length findings.now.queue)) }
@@ -209,12 +204,7 @@ fn let_all_in(
 }
 
 /// By endpoints, those that stand for themselves and may call there.
-pub fn gates(
-    alloc: Global,
-    spec: &Spec,
-    findings: &Findings,
-    heads: &[u32],
-) -> Result<Vec<Gate>, NoMemory>
+pub fn gates(alloc: Global, spec: &Spec, findings: &Findings, heads: &[u32]) -> Made<Vec<Gate>>
     requires { IsAll spec.now findings.now }
     ensures { IfOk result (λ gates. AreGates spec.now findings.now heads.now gates.items (length findings.now.queue)) }
 {

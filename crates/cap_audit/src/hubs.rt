@@ -14,7 +14,7 @@ ghost use Rattle.std.specs.Prelude.{◌≡◌, ◌<◌, ◌↔◌, ℕ, true, le
 
 use crate::found::{Course, Way};
 use crate::ways::{Net, Web, connect};
-use cam_base::NoMemory;
+use cam_base::Made;
 use cap_model::{Cap, Spec};
 use std::alloc::Global;
 use std::marker::Model;
@@ -123,7 +123,7 @@ fn meet(
     passage: Passage,
     giver: Member,
     taker: Member,
-) -> Result<(), NoMemory>
+) -> Made<()>
     requires found { IsFound spec.now web.old.findings }
     requires ways { AreWays spec.now web.old.findings web.old.net }
     requires both { (e : ℕ) × IsMember spec.now web.old.findings e (Gives passage) giver × IsMember spec.now web.old.findings e
@@ -149,7 +149,7 @@ fn give(
     passage: Passage,
     giver: Member,
     takers: &[Member],
-) -> Result<(), NoMemory>
+) -> Made<()>
     requires found { IsFound spec.now web.old.findings }
     requires ways { AreWays spec.now web.old.findings web.old.net }
     requires giver { (e : ℕ) × IsMember spec.now web.old.findings e (Gives passage) giver × ((taker : Member)
@@ -170,7 +170,7 @@ fn take(
     passage: Passage,
     givers: &[Member],
     taker: Member,
-) -> Result<(), NoMemory>
+) -> Made<()>
     requires found { IsFound spec.now web.old.findings }
     requires ways { AreWays spec.now web.old.findings web.old.net }
     requires taker { (e : ℕ) × IsMember spec.now web.old.findings e (Takes passage) taker × ((giver : Member)
@@ -202,7 +202,7 @@ impl Hub {
         spec: &Spec,
         passage: Passage,
         giver: Member,
-    ) -> Result<(), NoMemory>
+    ) -> Made<()>
         requires found { IsFound spec.now web.old.findings }
         requires ways { AreWays spec.now web.old.findings web.old.net }
         requires hub { IsHub spec.now web.old.findings web.old.net passage giver.cap.object self.old }
@@ -227,7 +227,7 @@ impl Hub {
         spec: &Spec,
         passage: Passage,
         taker: Member,
-    ) -> Result<(), NoMemory>
+    ) -> Made<()>
         requires found { IsFound spec.now web.old.findings }
         requires ways { AreWays spec.now web.old.findings web.old.net }
         requires hub { IsHub spec.now web.old.findings web.old.net passage taker.cap.object self.old }
@@ -254,7 +254,7 @@ impl Hub {
         spec: &Spec,
         role: Role,
         member: Member,
-    ) -> Result<(), NoMemory>
+    ) -> Made<()>
         requires found { IsFound spec.now web.old.findings }
         requires ways { AreWays spec.now web.old.findings web.old.net }
         requires hub { IsHub spec.now web.old.findings web.old.net role.passage member.cap.object self.old }
@@ -277,7 +277,7 @@ fn add_at(
     spec: &Spec,
     role: Role,
     member: Member,
-) -> Result<(), NoMemory>
+) -> Made<()>
     requires found { IsFound spec.now web.old.findings }
     requires ways { AreWays spec.now web.old.findings web.old.net }
     requires inside { member.cap.object < length hubs.old }
@@ -320,7 +320,7 @@ fn allows(role: Role, cap: Cap) -> bool
     }
 }
 
-fn empty_hubs(alloc: Global, n: usize) -> Result<Vec<Hub>, NoMemory>
+fn empty_hubs(alloc: Global, n: usize) -> Made<Vec<Hub>>
     ensures { IfOk result (λ hubs. hubs.items ≡ repeated nobody n) }
 {
     let mut hubs = Vec::new(alloc);
@@ -332,7 +332,7 @@ fn empty_hubs(alloc: Global, n: usize) -> Result<Vec<Hub>, NoMemory>
 
 impl Hubs {
     /// With nobody at the hubs of n objects.
-    pub fn new(alloc: Global, n: usize) -> Result<Hubs, NoMemory>
+    pub fn new(alloc: Global, n: usize) -> Made<Hubs>
         ensures { IfOk result (λ hubs. hubs ≡ record { grants = repeated nobody n; replies = repeated nobody n }) }
     {
         let grants = empty_hubs(alloc, n)?;
@@ -347,7 +347,7 @@ impl Hubs {
         spec: &Spec,
         role: Role,
         member: Member,
-    ) -> Result<(), NoMemory>
+    ) -> Made<()>
         requires found { IsFound spec.now web.old.findings }
         requires ways { AreWays spec.now web.old.findings web.old.net }
         requires hubs { AreHubs spec.now web.old.findings web.old.net self.old }
@@ -377,7 +377,7 @@ impl Hubs {
         spec: &Spec,
         role: Role,
         member: Member,
-    ) -> Result<(), NoMemory>
+    ) -> Made<()>
         requires found { IsFound spec.now web.old.findings }
         requires ways { AreWays spec.now web.old.findings web.old.net }
         requires hubs { AreHubs spec.now web.old.findings web.old.net self.old }
@@ -400,7 +400,7 @@ impl Hubs {
         web: &mut Web,
         spec: &Spec,
         member: Member,
-    ) -> Result<(), NoMemory>
+    ) -> Made<()>
         requires found { IsFound spec.now web.old.findings }
         requires ways { AreWays spec.now web.old.findings web.old.net }
         requires hubs { AreHubs spec.now web.old.findings web.old.net self.old }

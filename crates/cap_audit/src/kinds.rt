@@ -9,7 +9,7 @@ ghost use Rattle.std.specs.Prelude.{◌≡◌, ◌<◌, ◌^◌, ◌==◌, if◌
 
 use crate::gates::{Roster, no_rosters, put_thread, threads_of};
 use crate::roots;
-use cam_base::NoMemory;
+use cam_base::Made;
 use cap_model::{Labels, Spec};
 use std::alloc::Global;
 
@@ -23,12 +23,7 @@ pub struct Kinds {
 
 impl Kinds {
     /// The kinds by classes: objects of one class hold the same.
-    pub fn of(
-        alloc: Global,
-        spec: &Spec,
-        labels: &Labels,
-        classes: &[u32],
-    ) -> Result<Kinds, NoMemory>
+    pub fn of(alloc: Global, spec: &Spec, labels: &Labels, classes: &[u32]) -> Made<Kinds>
         requires kept { IsKept spec.now }
         requires as_many { length classes.now ≡ length spec.now.entries }
         ensures faces { IfOk result (λ k. AreFirsts classes.now labels.now.by_object k.faces.items (length classes.now)) }
@@ -73,7 +68,7 @@ fn first_like(row: &[u32], marks: &[u32], c: u32) -> u32
 }
 
 /// Puts an object that stands for itself into the row of its class.
-fn put_first(rows: &mut [Roster], class: u32, first: u32, c: u32) -> Result<(), NoMemory>
+fn put_first(rows: &mut [Roster], class: u32, first: u32, c: u32) -> Made<()>
     ensures { OnOk result (rows.new ≡ (if first == c then with_more rows.old class c else rows.old)) }
 {
     if first == c {
@@ -82,12 +77,7 @@ fn put_first(rows: &mut [Roster], class: u32, first: u32, c: u32) -> Result<(), 
     Ok(())
 }
 
-fn firsts_in(
-    alloc: Global,
-    rows: &mut [Roster],
-    classes: &[u32],
-    marks: &[u32],
-) -> Result<Vec<u32>, NoMemory>
+fn firsts_in(alloc: Global, rows: &mut [Roster], classes: &[u32], marks: &[u32]) -> Made<Vec<u32>>
     requires few { length classes.now < 2 ^ 32 }
     requires none { rows.old ≡ repeated [] (length classes.now) }
     ensures { IfOk result (λ firsts. AreFirsts classes.now marks.now firsts.items (length classes.now)) }
@@ -103,7 +93,7 @@ fn firsts_in(
 }
 
 /// By places, the first with the same class and the same mark.
-fn firsts(alloc: Global, classes: &[u32], marks: &[u32]) -> Result<Vec<u32>, NoMemory>
+fn firsts(alloc: Global, classes: &[u32], marks: &[u32]) -> Made<Vec<u32>>
     requires { length classes.now < 2 ^ 32 }
     ensures { IfOk result (λ firsts. AreFirsts classes.now marks.now firsts.items (length classes.now)) }
 {
@@ -122,7 +112,7 @@ fn root_mark(root: Option<u32>) -> u32
 }
 
 /// 1 for each root of a thread.
-fn root_marks(alloc: Global, spec: &Spec) -> Result<Vec<u32>, NoMemory>
+fn root_marks(alloc: Global, spec: &Spec) -> Made<Vec<u32>>
     requires { IsKept spec.now }
     ensures { IfOk result (λ marks. AreRootMarks spec.now marks.items) }
 {
@@ -131,7 +121,7 @@ fn root_marks(alloc: Global, spec: &Spec) -> Result<Vec<u32>, NoMemory>
     Ok(marks)
 }
 
-fn marks_of(alloc: Global, roots: &[Option<u32>]) -> Result<Vec<u32>, NoMemory>
+fn marks_of(alloc: Global, roots: &[Option<u32>]) -> Made<Vec<u32>>
     ensures { IfOk result (λ marks. marks.items ≡ map root_mark roots.now) }
 {
     let marks = roots.iter().map(|root| root_mark(*root)).collect(alloc)?;
@@ -160,7 +150,7 @@ fn leave_out(roots: &mut [Option<u32>], spec: &Spec, heads: &[u32])
 }
 
 /// A thread of each root that stands for itself.
-pub fn head_roots(alloc: Global, spec: &Spec, heads: &[u32]) -> Result<Vec<Option<u32>>, NoMemory>
+pub fn head_roots(alloc: Global, spec: &Spec, heads: &[u32]) -> Made<Vec<Option<u32>>>
     requires { IsKept spec.now }
     ensures { IfOk result (λ roots. AreHeadRoots spec.now heads.now roots.items) }
 {
@@ -169,7 +159,7 @@ pub fn head_roots(alloc: Global, spec: &Spec, heads: &[u32]) -> Result<Vec<Optio
     Ok(roots)
 }
 
-fn put_members(members: &mut [Roster], heads: &[u32]) -> Result<(), NoMemory>
+fn put_members(members: &mut [Roster], heads: &[u32]) -> Made<()>
     requires few { length heads.now < 2 ^ 32 }
     requires none { members.old ≡ repeated [] (length heads.now) }
     ensures { OnOk result (AreMembers heads.now members.new (length heads.now)) }
@@ -181,7 +171,7 @@ fn put_members(members: &mut [Roster], heads: &[u32]) -> Result<(), NoMemory>
 }
 
 /// The objects by who stands for them.
-pub fn members(alloc: Global, heads: &[u32]) -> Result<Vec<Roster>, NoMemory>
+pub fn members(alloc: Global, heads: &[u32]) -> Made<Vec<Roster>>
     requires { length heads.now < 2 ^ 32 }
     ensures { IfOk result (λ members. AreMembers heads.now members.items (length heads.now)) }
 {

@@ -16,10 +16,10 @@ use crate::Pair;
 use crate::gates::{Company, Party, Place, Roster, doors_at, put_thread, threads_of};
 use crate::making::{Deed, Making};
 use crate::picks::{Pick, Wanted};
-use cam_base::NoMemory;
+use cam_base::Made;
 
 /// Shows what the capability of a pair confers, where its CNode is a face.
-fn hold_pair(making: &mut Making<'_>, pair: Pair) -> Result<(), NoMemory>
+fn hold_pair(making: &mut Making<'_>, pair: Pair) -> Made<()>
     requires so_far { IsSoFar making.old }
     requires held { Contains (held_by making.old.found pair.node) pair.held }
     ensures { OnOk result (Gains (OfFace making.old.spec making.old.labels making.old.found making.old.faces pair)
@@ -42,7 +42,7 @@ fn hold_pair(making: &mut Making<'_>, pair: Pair) -> Result<(), NoMemory>
 }
 
 /// Shows what all that was found confers.
-pub fn hold_all(making: &mut Making<'_>) -> Result<(), NoMemory>
+pub fn hold_all(making: &mut Making<'_>) -> Made<()>
     requires so_far { IsSoFar making.old }
     requires all { IsAll making.old.spec making.old.found }
     ensures { OnOk result
@@ -56,13 +56,7 @@ pub fn hold_all(making: &mut Making<'_>) -> Result<(), NoMemory>
 }
 
 /// Makes a thread take the step, from this capability to each of those.
-fn act_to_each(
-    making: &mut Making<'_>,
-    deed: Deed,
-    t: u32,
-    from: &Pick,
-    tos: &[Pick],
-) -> Result<(), NoMemory>
+fn act_to_each(making: &mut Making<'_>, deed: Deed, t: u32, from: &Pick, tos: &[Pick]) -> Made<()>
     requires so_far { IsSoFar making.old }
     requires own { OwnsFrom making.old.spec making.old.found t deed from.now tos.now }
     ensures { OnOk result (Gains (OfSome (λ to. OfDeed making.old.spec making.old.labels deed from.now.cap to.cap) tos.now)
@@ -81,7 +75,7 @@ fn act_from_each(
     t: u32,
     froms: &[Pick],
     tos: &[Pick],
-) -> Result<(), NoMemory>
+) -> Made<()>
     requires so_far { IsSoFar making.old }
     requires own { OwnsAll making.old.spec making.old.found t deed froms.now tos.now }
     ensures { OnOk result
@@ -95,7 +89,7 @@ fn act_from_each(
 }
 
 /// Makes a thread with this root take all such steps.
-fn act_at(making: &mut Making<'_>, deed: Deed, t: u32, node: u32) -> Result<(), NoMemory>
+fn act_at(making: &mut Making<'_>, deed: Deed, t: u32, node: u32) -> Made<()>
     requires so_far { IsSoFar making.old }
     requires root { HasRoot making.old.spec t node }
     ensures { OnOk result (Gains (OfDeeds making.old.spec making.old.labels making.old.found deed node) making.old making.new) }
@@ -106,12 +100,7 @@ fn act_at(making: &mut Making<'_>, deed: Deed, t: u32, node: u32) -> Result<(), 
     Ok(())
 }
 
-fn act_at_root(
-    making: &mut Making<'_>,
-    deed: Deed,
-    root: Option<u32>,
-    node: u32,
-) -> Result<(), NoMemory>
+fn act_at_root(making: &mut Making<'_>, deed: Deed, root: Option<u32>, node: u32) -> Made<()>
     requires so_far { IsSoFar making.old }
     requires root { (t : ℕ) → root ≡ Some t → HasRoot making.old.spec t node }
     ensures { OnOk result (Gains (OfRoot making.old.spec making.old.labels making.old.found deed root node)
@@ -137,11 +126,7 @@ fn thread_of(roots: &[Option<u32>], c: u32) -> Option<u32>
 }
 
 /// Makes threads take all such steps, one thread of each root.
-pub fn act_at_all(
-    making: &mut Making<'_>,
-    deed: Deed,
-    roots: &[Option<u32>],
-) -> Result<(), NoMemory>
+pub fn act_at_all(making: &mut Making<'_>, deed: Deed, roots: &[Option<u32>]) -> Made<()>
     requires so_far { IsSoFar making.old }
     requires kept { IsKept making.old.spec }
     requires roots { AreHeadRoots making.old.spec making.old.heads roots.now }
@@ -154,7 +139,7 @@ pub fn act_at_all(
     Ok(())
 }
 
-fn call(making: &mut Making<'_>, t: u32, at: Place, u: u32, peer: Place) -> Result<(), NoMemory>
+fn call(making: &mut Making<'_>, t: u32, at: Place, u: u32, peer: Place) -> Made<()>
     requires so_far { IsSoFar making.old }
     requires meets { Meets making.old.spec making.old.found at peer }
     requires root { HasRoot making.old.spec t at.node }
@@ -185,7 +170,7 @@ fn call_from_each(
     at: Place,
     u: u32,
     peer: Place,
-) -> Result<(), NoMemory>
+) -> Made<()>
     requires so_far { IsSoFar making.old }
     requires meets { Meets making.old.spec making.old.found at peer }
     requires roots { (k t : ℕ) → slice_get threads.now k ≡ Some t → HasRoot making.old.spec t at.node }
@@ -199,12 +184,7 @@ fn call_from_each(
 }
 
 /// All threads with the one root call those with the other.
-fn call_between(
-    making: &mut Making<'_>,
-    rosters: &[Roster],
-    at: Place,
-    peer: Place,
-) -> Result<(), NoMemory>
+fn call_between(making: &mut Making<'_>, rosters: &[Roster], at: Place, peer: Place) -> Made<()>
     requires so_far { IsSoFar making.old }
     requires rosters { AreRosters making.old.spec rosters.now (length making.old.spec.entries) }
     requires meets { Meets making.old.spec making.old.found at peer }
@@ -224,7 +204,7 @@ fn call_from_gate(
     rosters: &[Roster],
     gate: &[Place],
     peer: Place,
-) -> Result<(), NoMemory>
+) -> Made<()>
     requires so_far { IsSoFar making.old }
     requires rosters { AreRosters making.old.spec rosters.now (length making.old.spec.entries) }
     requires meet { (k : ℕ) (at : Place) → slice_get gate.now k ≡ Some at → Meets making.old.spec making.old.found at peer }
@@ -243,7 +223,7 @@ fn call_all(
     rosters: &[Roster],
     callers: &[Place],
     peers: &[Place],
-) -> Result<(), NoMemory>
+) -> Made<()>
     requires so_far { IsSoFar making.old }
     requires rosters { AreRosters making.old.spec rosters.now (length making.old.spec.entries) }
     requires meet { (j k : ℕ) (peer at : Place) → slice_get peers.now j ≡ Some peer → slice_get callers.now k ≡ Some at
@@ -259,12 +239,7 @@ fn call_all(
 }
 
 /// All for whom the CNode of the first pair stands call all for whom that of the second stands, by these values.
-fn call_kinds(
-    making: &mut Making<'_>,
-    company: &Company,
-    door: Pair,
-    pair: Pair,
-) -> Result<(), NoMemory>
+fn call_kinds(making: &mut Making<'_>, company: &Company, door: Pair, pair: Pair) -> Made<()>
     requires so_far { IsSoFar making.old }
     requires ready { AreReady making.old.spec making.old.found making.old.heads company.now.rosters.items
         company.now.members.items company.now.gates.items }
@@ -297,7 +272,7 @@ fn meet(
     met: &mut [Roster],
     door: Pair,
     pair: Pair,
-) -> Result<(), NoMemory>
+) -> Made<()>
     requires so_far { IsSoFar making.old }
     requires ready { AreReady making.old.spec making.old.found making.old.heads company.now.rosters.items
         company.now.members.items company.now.gates.items }
@@ -324,7 +299,7 @@ fn meet_all(
     met: &mut [Roster],
     gate: &[Pair],
     pair: Pair,
-) -> Result<(), NoMemory>
+) -> Made<()>
     requires so_far { IsSoFar making.old }
     requires ready { AreReady making.old.spec making.old.found making.old.heads company.now.rosters.items
         company.now.members.items company.now.gates.items }
@@ -345,12 +320,7 @@ fn meet_all(
 }
 
 /// Those who may call call those for whom the pair's CNode stands, where its capability listens.
-fn listen(
-    making: &mut Making<'_>,
-    company: &Company,
-    met: &mut [Roster],
-    pair: Pair,
-) -> Result<(), NoMemory>
+fn listen(making: &mut Making<'_>, company: &Company, met: &mut [Roster], pair: Pair) -> Made<()>
     requires so_far { IsSoFar making.old }
     requires ready { AreReady making.old.spec making.old.found making.old.heads company.now.rosters.items
         company.now.members.items company.now.gates.items }
@@ -374,11 +344,7 @@ fn listen(
 }
 
 /// Shows all calls.
-pub fn listen_all(
-    making: &mut Making<'_>,
-    company: &Company,
-    met: &mut [Roster],
-) -> Result<(), NoMemory>
+pub fn listen_all(making: &mut Making<'_>, company: &Company, met: &mut [Roster]) -> Made<()>
     requires so_far { IsSoFar making.old }
     requires ready { AreReady making.old.spec making.old.found making.old.heads company.now.rosters.items
         company.now.members.items company.now.gates.items }

@@ -7,7 +7,7 @@ ghost use Rattle.std.specs.Prelude.{◌≡◌, IfOk};
 
 use crate::gates::Place;
 use crate::{Findings, Held, is_kind};
-use cam_base::NoMemory;
+use cam_base::Made;
 use cap_model::{Cap, Kind, Spec, is_root};
 use std::alloc::Global;
 
@@ -76,7 +76,7 @@ pub fn picks(
     findings: &Findings,
     node: u32,
     wanted: Wanted,
-) -> Result<Vec<Pick>, NoMemory>
+) -> Made<Vec<Pick>>
     ensures { IfOk result (λ picks. picks.items ≡ filter_map (pick_of spec.now findings.now wanted) (held_by findings.now node)) }
 {
     let picks = findings
@@ -103,12 +103,7 @@ fn place_in(node: u32, helds: &[Held], value: usize) -> Option<Place>
 }
 
 /// Where each of these CNodes that has the value has it.
-pub fn places(
-    alloc: Global,
-    findings: &Findings,
-    nodes: &[u32],
-    value: usize,
-) -> Result<Vec<Place>, NoMemory>
+pub fn places(alloc: Global, findings: &Findings, nodes: &[u32], value: usize) -> Made<Vec<Place>>
     ensures { IfOk result (λ places. places.items ≡ filter_map (place_of findings.now value) nodes.now) }
 {
     let places = nodes

@@ -14,7 +14,7 @@ use crate::kinds::Kinds;
 use crate::loops::{act_at_all, hold_all, listen_all};
 use crate::making::{Deed, Making, Trail};
 use crate::{Classed, first_thread, spread};
-use cam_base::{List, NoMemory};
+use cam_base::{List, Made, NoMemory};
 use cap_machine::Step;
 use cap_model::{EdgeTable, Labels, Spec};
 use std::alloc::Global;
@@ -59,7 +59,7 @@ pub fn audit(alloc: Global, spec: &Spec, labels: &Labels) -> Result<AuditReport,
     }
 }
 
-fn report(alloc: Global, spec: &Spec, labels: &Labels) -> Result<AuditReport, NoMemory>
+fn report(alloc: Global, spec: &Spec, labels: &Labels) -> Made<AuditReport>
     requires kept { IsKept spec.now }
     requires labelled { length labels.now.by_object ≡ length spec.now.entries }
     requires none { HoldsNoThread spec.now }
@@ -78,7 +78,7 @@ fn report(alloc: Global, spec: &Spec, labels: &Labels) -> Result<AuditReport, No
 }
 
 /// The report in which all is shown.
-fn shown(making: Making<'_>) -> Result<AuditReport, NoMemory>
+fn shown(making: Making<'_>) -> Made<AuditReport>
     requires begun { IsBegun making }
     requires none { HoldsNoThread making.spec }
     ensures { IfOk result (λ r. IsReport making.entry.spec making.entry.labels r.edges r.steps) }
@@ -92,7 +92,7 @@ fn shown(making: Making<'_>) -> Result<AuditReport, NoMemory>
     })
 }
 
-fn show(making: &mut Making<'_>) -> Result<(), NoMemory>
+fn show(making: &mut Making<'_>) -> Made<()>
     requires { IsBegun making.old }
     ensures { OnOk result (Gains (λ e. Audited making.old.spec making.old.labels e.from e.authority e.to) making.old making.new) }
 {
@@ -104,7 +104,7 @@ fn show(making: &mut Making<'_>) -> Result<(), NoMemory>
 }
 
 /// The edges of the boot state.
-fn show_boot(making: &mut Making<'_>) -> Result<(), NoMemory>
+fn show_boot(making: &mut Making<'_>) -> Made<()>
     requires { IsBegun making.old }
     ensures { OnOk result (Gains (OfBoot making.old.spec making.old.labels) making.old making.new) }
 {
@@ -114,7 +114,7 @@ fn show_boot(making: &mut Making<'_>) -> Result<(), NoMemory>
 }
 
 /// The edges of maps and binds.
-fn show_deeds(making: &mut Making<'_>) -> Result<(), NoMemory>
+fn show_deeds(making: &mut Making<'_>) -> Made<()>
     requires { IsBegun making.old }
     ensures { OnOk result (Gains (OfAllDeeds making.old.spec making.old.labels making.old.found making.old.heads)
         making.old making.new) }
@@ -126,7 +126,7 @@ fn show_deeds(making: &mut Making<'_>) -> Result<(), NoMemory>
 }
 
 /// The edges of calls and saved replies.
-fn show_calls(making: &mut Making<'_>) -> Result<(), NoMemory>
+fn show_calls(making: &mut Making<'_>) -> Made<()>
     requires { IsBegun making.old }
     ensures { OnOk result (Gains (OfAllCalls making.old.spec making.old.labels) making.old making.new) }
 {

@@ -14,12 +14,12 @@ use crate::begin::{begin, roots};
 use crate::found::{Course, Findings, Pair, Way};
 use crate::hubs::{Hubs, Member};
 use crate::ways::{Net, Web, connect, go_along};
-use cam_base::NoMemory;
+use cam_base::Made;
 use cap_model::{Kind, Spec};
 use std::alloc::Global;
 
 /// Connects a root with the CNode that it has a capability to, there and back.
-fn link(alloc: Global, web: &mut Web, spec: &Spec, member: Member) -> Result<(), NoMemory>
+fn link(alloc: Global, web: &mut Web, spec: &Spec, member: Member) -> Made<()>
     requires found { IsFound spec.now web.old.findings }
     requires ways { AreWays spec.now web.old.findings web.old.net }
     requires root { HasRoot spec.now member.thread member.node }
@@ -52,13 +52,7 @@ fn link(alloc: Global, web: &mut Web, spec: &Spec, member: Member) -> Result<(),
 }
 
 /// Does what the rules ask for because a root has this capability.
-fn cover_cap(
-    alloc: Global,
-    web: &mut Web,
-    hubs: &mut Hubs,
-    spec: &Spec,
-    member: Member,
-) -> Result<(), NoMemory>
+fn cover_cap(alloc: Global, web: &mut Web, hubs: &mut Hubs, spec: &Spec, member: Member) -> Made<()>
     requires found { IsFound spec.now web.old.findings }
     requires ways { AreWays spec.now web.old.findings web.old.net }
     requires hubs { AreHubs spec.now web.old.findings web.old.net hubs.old }
@@ -105,7 +99,7 @@ fn cover(
     spec: &Spec,
     roots: &[Option<u32>],
     pair: Pair,
-) -> Result<(), NoMemory>
+) -> Made<()>
     requires found { IsFound spec.now web.old.findings }
     requires ways { AreWays spec.now web.old.findings web.old.net }
     requires hubs { AreHubs spec.now web.old.findings web.old.net hubs.old }
@@ -139,7 +133,7 @@ fn look(
     spec: &Spec,
     roots: &[Option<u32>],
     place: usize,
-) -> Result<(), NoMemory>
+) -> Made<()>
     requires search { IsSearch spec.now web.old.findings web.old.net hubs.old place }
     requires inside { place < length web.old.findings.queue }
     requires roots { AreRoots spec.now roots.now }
@@ -164,7 +158,7 @@ pub fn search(
     hubs: &mut Hubs,
     spec: &Spec,
     roots: &[Option<u32>],
-) -> Result<(), NoMemory>
+) -> Made<()>
     requires search { IsSearch spec.now web.old.findings web.old.net hubs.old 0 }
     requires roots { AreRoots spec.now roots.now }
     ensures { OnOk result (GoesOn spec.now web.old.findings (length web.new.findings.queue) web.new.findings
@@ -186,7 +180,7 @@ pub struct Classed {
 }
 
 /// What can spread, by the rules of `specs/Spread`. Takes time by what is found: each value once along each way.
-pub fn spread(alloc: Global, spec: &Spec) -> Result<Classed, NoMemory>
+pub fn spread(alloc: Global, spec: &Spec) -> Made<Classed>
     requires { IsKept spec.now }
     ensures found { IfOk result (λ s. IsFound spec.now s.findings) }
     ensures closed { IfOk result (λ s. IsClosed spec.now (IsFoundAt s.findings)) }

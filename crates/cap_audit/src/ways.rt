@@ -9,7 +9,7 @@ ghost use Rattle.std.specs.List.{Contains};
 ghost use Rattle.std.specs.Prelude.{◌≡◌, ◌<◌, ◌^◌, ◌++◌, ◌∷◌, [], length, IsTrue, IfOk, OnOk, slice_set, slice_index_or};
 
 use crate::found::{Findings, Held, Way};
-use cam_base::NoMemory;
+use cam_base::Made;
 use cap_model::Spec;
 use std::alloc::Global;
 use std::marker::Model;
@@ -30,7 +30,7 @@ impl Model for Lane {
 }
 
 impl Lane {
-    fn push(&mut self, way: Way) -> Result<(), NoMemory>
+    fn push(&mut self, way: Way) -> Made<()>
         ensures { OnOk result (self.new ≡ self.old ++ way ∷ []) }
     {
         self.ways.push(way)?;
@@ -44,7 +44,7 @@ impl Lane {
     }
 }
 
-fn put_way(lanes: &mut [Lane], c: u32, way: Way) -> Result<(), NoMemory>
+fn put_way(lanes: &mut [Lane], c: u32, way: Way) -> Made<()>
     ensures { OnOk result (lanes.new ≡ slice_set lanes.old c (slice_index_or lanes.old c [] ++ way ∷ [])) }
 {
     let c = c as usize;
@@ -85,7 +85,7 @@ impl Model for Net {
     ghost view = { λ n. record { out = n.out.items; classes = n.classes.items } };
 }
 
-fn counted(alloc: Global, n: usize) -> Result<Vec<u32>, NoMemory>
+fn counted(alloc: Global, n: usize) -> Made<Vec<u32>>
     requires { n < 2 ^ 32 }
     ensures { IfOk result (λ numbers. IsCounted numbers.items n) }
 {
@@ -96,7 +96,7 @@ fn counted(alloc: Global, n: usize) -> Result<Vec<u32>, NoMemory>
     Ok(numbers)
 }
 
-fn lanes(alloc: Global, n: usize) -> Result<Vec<Lane>, NoMemory>
+fn lanes(alloc: Global, n: usize) -> Made<Vec<Lane>>
     ensures { IfOk result (λ lanes. lanes.items ≡ repeated [] n) }
 {
     let mut lanes = Vec::new(alloc);
@@ -110,7 +110,7 @@ fn lanes(alloc: Global, n: usize) -> Result<Vec<Lane>, NoMemory>
 
 impl Net {
     /// No ways, and each of n objects in a class of its own.
-    pub fn new(alloc: Global, n: usize) -> Result<Net, NoMemory>
+    pub fn new(alloc: Global, n: usize) -> Made<Net>
         requires { n < 2 ^ 32 }
         ensures out { IfOk result (λ net. net.out ≡ repeated [] n) }
         ensures classes { IfOk result (λ net. IsCounted net.classes n) }
@@ -206,7 +206,7 @@ impl Net {
         }
     }
 
-    fn add(&mut self, c: u32, way: Way) -> Result<(), NoMemory>
+    fn add(&mut self, c: u32, way: Way) -> Made<()>
         ensures { OnOk result (self.new ≡ with_way self.old c way) }
     {
         put_way(&mut self.out, c, way)?;
@@ -231,7 +231,7 @@ pub fn go_along(
     from: u32,
     ways: &[Way],
     held: Held,
-) -> Result<(), NoMemory>
+) -> Made<()>
     requires found { IsFound spec.now findings.old }
     requires ways { (way : Way) → Contains ways.now way → IsWay spec.now findings.old from way }
     requires held { Contains (held_by findings.old from) held }
@@ -244,13 +244,7 @@ pub fn go_along(
 }
 
 /// Brings all these values along one way.
-fn all_go(
-    findings: &mut Findings,
-    spec: &Spec,
-    from: u32,
-    way: Way,
-    helds: &[Held],
-) -> Result<(), NoMemory>
+fn all_go(findings: &mut Findings, spec: &Spec, from: u32, way: Way, helds: &[Held]) -> Made<()>
     requires found { IsFound spec.now findings.old }
     requires way { IsWay spec.now findings.old from way }
     requires helds { (held : Held) → Contains helds.now held → Contains (held_by findings.old from) held }
@@ -270,13 +264,7 @@ pub struct Web {
 }
 
 /// Sees to it that ways lead from one CNode to the end of this way, and that all has gone along them.
-pub fn connect(
-    alloc: Global,
-    web: &mut Web,
-    spec: &Spec,
-    from: u32,
-    way: Way,
-) -> Result<(), NoMemory>
+pub fn connect(alloc: Global, web: &mut Web, spec: &Spec, from: u32, way: Way) -> Made<()>
     requires found { IsFound spec.now web.old.findings }
     requires ways { AreWays spec.now web.old.findings web.old.net }
     requires way { IsWay spec.now web.old.findings from way }

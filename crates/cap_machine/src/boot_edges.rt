@@ -9,12 +9,12 @@ ghost use Rattle.cap_model.specs.State.{boot};
 ghost use Rattle.std.specs.Prelude.{◌≡◌, ◌≤◌, ◌^◌, ◌<◌, ◌↔◌, ℕ, length, IfOk};
 
 use crate::collect::{with_each_slot, with_optional_cap, with_optional_link};
-use cam_base::NoMemory;
+use cam_base::Made;
 use cap_model::{Authority, Edge, EdgeTable, Labels, Object, Spec, Tcb};
 use std::alloc::Global;
 
 /// The edges of the boot state under a labelling, object by object; an edge may stand several times.
-fn edges_at_boot(alloc: Global, spec: &Spec, labels: &Labels) -> Result<Vec<Edge>, NoMemory>
+fn edges_at_boot(alloc: Global, spec: &Spec, labels: &Labels) -> Made<Vec<Edge>>
     requires { length labels.now.by_object ≡ length spec.now.entries }
     ensures { IfOk result (λ edges. (l : ℕ) (a : Authority) (m : ℕ) → (Has edges.items l a m)
         ↔ Auth spec.now labels.now.by_object (boot spec.now) l a m) }
@@ -24,7 +24,7 @@ fn edges_at_boot(alloc: Global, spec: &Spec, labels: &Labels) -> Result<Vec<Edge
 }
 
 /// The table of the edges of the boot state under a labelling.
-pub fn direct(alloc: Global, spec: &Spec, labels: &Labels) -> Result<EdgeTable, NoMemory>
+pub fn direct(alloc: Global, spec: &Spec, labels: &Labels) -> Made<EdgeTable>
     requires { length labels.now.by_object ≡ length spec.now.entries }
     ensures { IfOk result (λ table. (l : ℕ) (a : Authority) (m : ℕ) → (Has table l a m)
         ↔ Auth spec.now labels.now.by_object (boot spec.now) l a m) }
@@ -34,7 +34,7 @@ pub fn direct(alloc: Global, spec: &Spec, labels: &Labels) -> Result<EdgeTable, 
     Ok(table)
 }
 
-fn with_each_object(edges: Vec<Edge>, spec: &Spec, labels: &Labels) -> Result<Vec<Edge>, NoMemory>
+fn with_each_object(edges: Vec<Edge>, spec: &Spec, labels: &Labels) -> Made<Vec<Edge>>
     requires { length labels.now.by_object ≡ length spec.now.entries }
     ensures { IfOk result (λ new. Adds (OfSpec spec.now labels.now.by_object) edges.items new.items) }
 {
@@ -54,7 +54,7 @@ pub fn with_object(
     labels: &Labels,
     from: u32,
     object: &Object,
-) -> Result<Vec<Edge>, NoMemory>
+) -> Made<Vec<Edge>>
     ensures { IfOk result (λ new. Adds (OfObject spec.now labels.now.by_object from object.now) edges.items new.items) }
 {
     match object {
@@ -68,13 +68,7 @@ pub fn with_object(
     }
 }
 
-fn with_tcb(
-    edges: Vec<Edge>,
-    spec: &Spec,
-    labels: &Labels,
-    from: u32,
-    tcb: &Tcb,
-) -> Result<Vec<Edge>, NoMemory>
+fn with_tcb(edges: Vec<Edge>, spec: &Spec, labels: &Labels, from: u32, tcb: &Tcb) -> Made<Vec<Edge>>
     ensures { IfOk result (λ new. Adds (OfTcb spec.now labels.now.by_object from tcb.now) edges.items new.items) }
 {
     let edges = with_optional_link(edges, labels, from, Authority::Control, tcb.cspace)?;

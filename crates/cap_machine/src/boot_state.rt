@@ -9,11 +9,11 @@ ghost use Rattle.std.specs.Prelude.{◌≡◌, map, IfOk};
 
 use crate::node::Node;
 use crate::state::State;
-use cam_base::NoMemory;
+use cam_base::Made;
 use cap_model::{Entry, Object, Spec, ThreadState};
 use std::alloc::Global;
 
-fn boot_node(alloc: Global, object: &Object) -> Result<Node, NoMemory>
+fn boot_node(alloc: Global, object: &Object) -> Made<Node>
     requires { Bootable object.now }
     ensures { IfOk result (λ node. node ≡ boot_node object.now) }
 {
@@ -51,7 +51,7 @@ fn boot_irq(object: &Object) -> Option<u32>
     }
 }
 
-fn boot_nodes(alloc: Global, entries: &[Entry]) -> Result<Vec<Node>, NoMemory>
+fn boot_nodes(alloc: Global, entries: &[Entry]) -> Made<Vec<Node>>
     requires { All (λ e. Bootable e.object) entries.now }
     ensures { IfOk result (λ nodes. nodes.items ≡ map (λ e. boot_node e.object) entries.now) }
 {
@@ -62,7 +62,7 @@ fn boot_nodes(alloc: Global, entries: &[Entry]) -> Result<Vec<Node>, NoMemory>
     Ok(nodes)
 }
 
-fn boot_threads(alloc: Global, entries: &[Entry]) -> Result<Vec<ThreadState>, NoMemory>
+fn boot_threads(alloc: Global, entries: &[Entry]) -> Made<Vec<ThreadState>>
     ensures { IfOk result (λ threads. threads.items ≡ map (λ e. boot_thread e.object) entries.now) }
 {
     let mut threads = Vec::new(alloc);
@@ -72,7 +72,7 @@ fn boot_threads(alloc: Global, entries: &[Entry]) -> Result<Vec<ThreadState>, No
     Ok(threads)
 }
 
-fn boot_irqs(alloc: Global, entries: &[Entry]) -> Result<Vec<Option<u32>>, NoMemory>
+fn boot_irqs(alloc: Global, entries: &[Entry]) -> Made<Vec<Option<u32>>>
     ensures { IfOk result (λ irqs. irqs.items ≡ map (λ e. boot_irq e.object) entries.now) }
 {
     let mut irqs = Vec::new(alloc);
@@ -83,7 +83,7 @@ fn boot_irqs(alloc: Global, entries: &[Entry]) -> Result<Vec<Option<u32>>, NoMem
 }
 
 /// The state in which every run begins.
-pub fn boot(alloc: Global, spec: &Spec) -> Result<State, NoMemory>
+pub fn boot(alloc: Global, spec: &Spec) -> Made<State>
     requires { IsKept spec.now }
     ensures state { IfOk result (λ s. s.state ≡ boot spec.now) }
     ensures applied { IfOk result (λ s. s.applied ≡ 0) }

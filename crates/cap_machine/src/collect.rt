@@ -6,7 +6,7 @@ ghost use Rattle.authorities.specs.declared.authority.Authority.{Authority};
 ghost use Rattle.std.specs.List.{All};
 ghost use Rattle.std.specs.Prelude.{◌<◌, length, IfOk};
 
-use cam_base::NoMemory;
+use cam_base::Made;
 use cap_model::{Authority, Cap, Edge, Kind, Labels, Spec, conferred, with_edge, with_set};
 
 /// The edges and one more, with this authority, from the label to that of the object.
@@ -16,7 +16,7 @@ pub fn with_link(
     from: u32,
     authority: Authority,
     object: u32,
-) -> Result<Vec<Edge>, NoMemory>
+) -> Made<Vec<Edge>>
     ensures { IfOk result (λ new. Adds (OfLink labels.now.by_object from authority object) edges.items new.items) }
 {
     with_edge(
@@ -36,7 +36,7 @@ pub fn with_optional_link(
     from: u32,
     authority: Authority,
     object: Option<u32>,
-) -> Result<Vec<Edge>, NoMemory>
+) -> Made<Vec<Edge>>
     ensures { IfOk result (λ new. Adds (OfOption (OfLink labels.now.by_object from authority) object) edges.items new.items) }
 {
     match object {
@@ -52,7 +52,7 @@ pub fn with_cap(
     labels: &Labels,
     from: u32,
     cap: &Cap,
-) -> Result<Vec<Edge>, NoMemory>
+) -> Made<Vec<Edge>>
     ensures { IfOk result (λ new. Adds (OfCap spec.now labels.now.by_object from cap.now) edges.items new.items) }
 {
     if cap.object as usize >= spec.entries.len() {
@@ -69,7 +69,7 @@ pub fn with_optional_cap(
     labels: &Labels,
     from: u32,
     cap: &Option<Cap>,
-) -> Result<Vec<Edge>, NoMemory>
+) -> Made<Vec<Edge>>
     ensures { IfOk result (λ new. Adds (OfOption (OfCap spec.now labels.now.by_object from) cap.now) edges.items new.items) }
 {
     match cap {
@@ -85,7 +85,7 @@ pub fn with_each_slot(
     labels: &Labels,
     from: u32,
     slots: &[(u64, Cap)],
-) -> Result<Vec<Edge>, NoMemory>
+) -> Made<Vec<Edge>>
     ensures { IfOk result (λ new. Adds (OfSlots spec.now labels.now.by_object from slots.now) edges.items new.items) }
 {
     let mut edges = edges;

@@ -12,7 +12,7 @@ ghost use Rattle.std.specs.Prelude.{◌≡◌, ◌↔◌, ℕ, length, IfOk};
 use crate::node::Node;
 use crate::state::State;
 use crate::{with_cap, with_each_slot, with_link, with_optional_cap, with_optional_link};
-use cam_base::NoMemory;
+use cam_base::Made;
 use cap_model::{
     Authority, Content, Edge, EdgeTable, Labels, Mapped, Object, Pending, Spec, ThreadState,
     frame_conferred, with_set,
@@ -20,12 +20,7 @@ use cap_model::{
 use std::alloc::Global;
 
 /// The table of the authorities of a state under a labelling.
-pub fn authorities(
-    alloc: Global,
-    spec: &Spec,
-    state: &State,
-    labels: &Labels,
-) -> Result<EdgeTable, NoMemory>
+pub fn authorities(alloc: Global, spec: &Spec, state: &State, labels: &Labels) -> Made<EdgeTable>
     requires fits { FitsSpec spec.now state.now.state }
     requires labelled { length labels.now.by_object ≡ length spec.now.entries }
     ensures { IfOk result (λ table. (l : ℕ) (a : Authority) (m : ℕ) → (Has table l a m)
@@ -43,7 +38,7 @@ pub fn with_content(
     labels: &Labels,
     from: u32,
     content: &Content,
-) -> Result<Vec<Edge>, NoMemory>
+) -> Made<Vec<Edge>>
     ensures { IfOk result (λ new. Adds (OfContent spec.now labels.now.by_object from content.now) edges.items new.items) }
 {
     match content {
@@ -55,12 +50,7 @@ pub fn with_content(
 }
 
 /// The edges and those of CNodes.
-pub fn with_nodes(
-    edges: Vec<Edge>,
-    spec: &Spec,
-    labels: &Labels,
-    nodes: &[Node],
-) -> Result<Vec<Edge>, NoMemory>
+pub fn with_nodes(edges: Vec<Edge>, spec: &Spec, labels: &Labels, nodes: &[Node]) -> Made<Vec<Edge>>
     requires { length labels.now.by_object ≡ length nodes.now }
     ensures { IfOk result (λ new. Adds (OfNodes spec.now labels.now.by_object nodes.now) edges.items new.items) }
 {
@@ -77,7 +67,7 @@ fn with_pending(
     labels: &Labels,
     from: u32,
     pending: Option<Pending>,
-) -> Result<Vec<Edge>, NoMemory>
+) -> Made<Vec<Edge>>
     ensures { IfOk result (λ new. Adds (OfOption (λ reply. OfLink labels.now.by_object from Authority.Reply reply.caller)
         pending) edges.items new.items) }
 {
@@ -92,7 +82,7 @@ fn with_thread(
     labels: &Labels,
     from: u32,
     thread: &ThreadState,
-) -> Result<Vec<Edge>, NoMemory>
+) -> Made<Vec<Edge>>
     ensures { IfOk result (λ new. Adds (OfThread labels.now.by_object from thread.now) edges.items new.items) }
 {
     let edges = with_optional_link(edges, labels, from, Authority::Control, thread.root)?;
@@ -102,11 +92,7 @@ fn with_thread(
 }
 
 /// The edges and those of threads.
-pub fn with_threads(
-    edges: Vec<Edge>,
-    labels: &Labels,
-    threads: &[ThreadState],
-) -> Result<Vec<Edge>, NoMemory>
+pub fn with_threads(edges: Vec<Edge>, labels: &Labels, threads: &[ThreadState]) -> Made<Vec<Edge>>
     requires { length labels.now.by_object ≡ length threads.now }
     ensures { IfOk result (λ new. Adds (OfThreads labels.now.by_object threads.now) edges.items new.items) }
 {
@@ -119,11 +105,7 @@ pub fn with_threads(
 }
 
 /// The edges and those of interrupts.
-pub fn with_irqs(
-    edges: Vec<Edge>,
-    labels: &Labels,
-    irqs: &[Option<u32>],
-) -> Result<Vec<Edge>, NoMemory>
+pub fn with_irqs(edges: Vec<Edge>, labels: &Labels, irqs: &[Option<u32>]) -> Made<Vec<Edge>>
     requires { length labels.now.by_object ≡ length irqs.now }
     ensures { IfOk result (λ new. Adds (OfIrqs labels.now.by_object irqs.now) edges.items new.items) }
 {
@@ -136,7 +118,7 @@ pub fn with_irqs(
     Ok(edges)
 }
 
-fn with_added(edges: Vec<Edge>, labels: &Labels, added: &Mapped) -> Result<Vec<Edge>, NoMemory>
+fn with_added(edges: Vec<Edge>, labels: &Labels, added: &Mapped) -> Made<Vec<Edge>>
     ensures { IfOk result (λ new. Adds (OfAdded labels.now.by_object added.now) edges.items new.items) }
 {
     let from = labels.of(added.space);
@@ -145,11 +127,7 @@ fn with_added(edges: Vec<Edge>, labels: &Labels, added: &Mapped) -> Result<Vec<E
 }
 
 /// The edges and those of frames that were added to spaces.
-pub fn with_mapped(
-    edges: Vec<Edge>,
-    labels: &Labels,
-    mapped: &[Mapped],
-) -> Result<Vec<Edge>, NoMemory>
+pub fn with_mapped(edges: Vec<Edge>, labels: &Labels, mapped: &[Mapped]) -> Made<Vec<Edge>>
     ensures { IfOk result (λ new. Adds (OfMapped labels.now.by_object mapped.now) edges.items new.items) }
 {
     let mut edges = edges;
@@ -165,7 +143,7 @@ fn with_fixed(
     labels: &Labels,
     from: u32,
     object: &Object,
-) -> Result<Vec<Edge>, NoMemory>
+) -> Made<Vec<Edge>>
     ensures { IfOk result (λ new. Adds (OfFixed spec.now labels.now.by_object from object.now) edges.items new.items) }
 {
     match object {
@@ -176,11 +154,7 @@ fn with_fixed(
 }
 
 /// The edges and those of what stays as in the spec.
-pub fn with_spec_parts(
-    edges: Vec<Edge>,
-    spec: &Spec,
-    labels: &Labels,
-) -> Result<Vec<Edge>, NoMemory>
+pub fn with_spec_parts(edges: Vec<Edge>, spec: &Spec, labels: &Labels) -> Made<Vec<Edge>>
     requires { length labels.now.by_object ≡ length spec.now.entries }
     ensures { IfOk result (λ new. Adds (OfSpecParts spec.now labels.now.by_object) edges.items new.items) }
 {

@@ -3,11 +3,11 @@ ghost use Rattle.cap_model.specs.State.{no_node};
 ghost use Rattle.std.specs.Prelude.{◌≡◌, ◌<◌, ◌-◌, ◌^◌, slice_index_or, slice_set, OnOk, OnErr, Some};
 
 use crate::node::Node;
-use cam_base::NoMemory;
+use cam_base::Made;
 use cap_model::{Content, Pending, ThreadState};
 
 /// Puts something at the next number of a CNode.
-pub fn add_content(nodes: &mut [Node], c: u32, content: Content) -> Result<(), NoMemory>
+pub fn add_content(nodes: &mut [Node], c: u32, content: Content) -> Made<()>
     requires { (slice_index_or nodes.old c no_node).next < 2 ^ 64 - 1 }
     ensures ok { OnOk result (nodes.new ≡ grown_at nodes.old c content) }
     ensures err { OnErr result (nodes.new ≡ nodes.old) }

@@ -9,7 +9,7 @@ ghost use Rattle.std.specs.Ordering.{nat_cmp};
 ghost use Rattle.std.specs.Prelude.{◌≡◌, ◌<◌, ◌≤◌, ◌-◌, ◌^◌, map, true, nat_lt, OnOk, OnErr, IfOk};
 
 use crate::edges::with_content;
-use cam_base::NoMemory;
+use cam_base::Made;
 use cap_model::{Cap, Content, Edge, Labels, Spec};
 use std::alloc::Global;
 use std::collections::BTreeMap;
@@ -45,7 +45,7 @@ impl Node {
     }
 
     /// A CNode of so many bits at boot.
-    pub fn boot(alloc: Global, bits: u8, slots: &[(u64, Cap)]) -> Result<Node, NoMemory>
+    pub fn boot(alloc: Global, bits: u8, slots: &[(u64, Cap)]) -> Made<Node>
         requires few { bits ≤ 16 }
         requires rising { rise slots.now ≡ true }
         requires below { list_all (λ slot. nat_lt slot.0 (2 ^ bits)) slots.now ≡ true }
@@ -71,7 +71,7 @@ impl Node {
         spec: &Spec,
         labels: &Labels,
         from: u32,
-    ) -> Result<Vec<Edge>, NoMemory>
+    ) -> Made<Vec<Edge>>
         ensures { IfOk result (λ new. Adds (OfNode spec.now labels.now.by_object from self.now) edges.items new.items) }
     {
         let mut edges = edges;
@@ -82,7 +82,7 @@ impl Node {
     }
 
     /// Puts something at the next number. Refused, it leaves the node as it was.
-    pub fn add(&mut self, content: Content) -> Result<(), NoMemory>
+    pub fn add(&mut self, content: Content) -> Made<()>
         requires { self.old.next < 2 ^ 64 - 1 }
         ensures ok { OnOk result (self.new ≡ grown self.old content) }
         ensures err { OnErr result (self.new ≡ self.old) }
@@ -100,7 +100,7 @@ impl Node {
     }
 }
 
-fn boot_contents(alloc: Global, slots: &[(u64, Cap)]) -> Result<BTreeMap<u64, Content>, NoMemory>
+fn boot_contents(alloc: Global, slots: &[(u64, Cap)]) -> Made<BTreeMap<u64, Content>>
     requires { rise slots.now ≡ true }
     ensures entries { IfOk result (λ contents. contents.entries ≡ map boot_slot slots.now) }
     ensures ordered { IfOk result (λ contents. IsOrdered nat_cmp contents) }

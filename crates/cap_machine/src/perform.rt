@@ -9,7 +9,7 @@ use crate::edit::{
     add_content, remove_content, set_irq, set_pending, set_root, set_space, set_waits,
 };
 use crate::node::Node;
-use cam_base::NoMemory;
+use cam_base::Made;
 use cap_model::{Content, Mapped, Pending, ThreadState};
 
 fn call(threads: &mut [ThreadState], t: u32, u: u32, grants: bool)
@@ -41,7 +41,7 @@ pub fn perform(
     irqs: &mut Vec<Option<u32>>,
     mapped: &mut Vec<Mapped>,
     change: Change,
-) -> Result<(), NoMemory>
+) -> Made<()>
     requires { RoomFor nodes.old.items change }
     ensures ok { OnOk result (Turned change (parts nodes.old.items threads.old.items irqs.old.items mapped.old.items)
         (parts nodes.new.items threads.new.items irqs.new.items mapped.new.items)) }

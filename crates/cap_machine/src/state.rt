@@ -11,7 +11,7 @@ use crate::edges::{with_irqs, with_mapped, with_nodes, with_spec_parts, with_thr
 use crate::node::Node;
 use crate::perform::perform;
 use crate::step::{Step, Why};
-use cam_base::NoMemory;
+use cam_base::{Made, NoMemory};
 use cap_model::{Content, Edge, Labels, Mapped, Spec, ThreadState};
 use std::alloc::Global;
 use std::marker::Model;
@@ -105,7 +105,7 @@ impl State {
         edges: Vec<Edge>,
         spec: &Spec,
         labels: &Labels,
-    ) -> Result<Vec<Edge>, NoMemory>
+    ) -> Made<Vec<Edge>>
         requires fits { FitsSpec spec.now self.now.state }
         requires labelled { length labels.now.by_object ≡ length spec.now.entries }
         ensures { IfOk result (λ new. Adds (OfState spec.now labels.now.by_object self.now.state) edges.items new.items) }

@@ -7,7 +7,7 @@ ghost use Rattle.cap_model.specs.Between.{IsBetween};
 ghost use Rattle.std.specs.Prelude.{◌≡◌, ◌↔◌, ◌<◌, ◌^◌, ◌+◌, ◌||◌, ℕ, true, false, [], IfOk, OnOk, length};
 
 use crate::{Authority, Edge, EdgeTable};
-use cam_base::NoMemory;
+use cam_base::Made;
 use std::alloc::Global;
 use std::collections::BTreeSet;
 use std::marker::Model;
@@ -53,7 +53,7 @@ impl EdgeSet {
     }
 
     /// Puts an edge into the set.
-    pub fn insert(&mut self, edge: Edge) -> Result<(), NoMemory>
+    pub fn insert(&mut self, edge: Edge) -> Made<()>
         ensures has { OnOk result ((e : Edge) → has self.new e ≡ (has self.old e || same_edge edge e)) }
         ensures len { OnOk result (has self.old edge ≡ false → length self.new ≡ length self.old + 1) }
     {
@@ -62,7 +62,7 @@ impl EdgeSet {
     }
 
     /// The table of its edges.
-    pub fn table(&self, alloc: Global) -> Result<EdgeTable, NoMemory>
+    pub fn table(&self, alloc: Global) -> Made<EdgeTable>
         ensures { IfOk result (λ table. table ≡ self.now) }
     {
         let edges = self.listed(alloc)?;
@@ -71,7 +71,7 @@ impl EdgeSet {
     }
 
     /// Its edges, in order.
-    pub fn listed(&self, alloc: Global) -> Result<Vec<Edge>, NoMemory>
+    pub fn listed(&self, alloc: Global) -> Made<Vec<Edge>>
         ensures items { IfOk result (λ edges. edges.items ≡ self.now) }
         ensures sorted { IfOk result (λ edges. IsSorted edges.items) }
     {
@@ -80,7 +80,7 @@ impl EdgeSet {
     }
 
     /// Its edges from one up to another, in order.
-    fn between(&self, alloc: Global, first: Edge, last: Edge) -> Result<Vec<Edge>, NoMemory>
+    fn between(&self, alloc: Global, first: Edge, last: Edge) -> Made<Vec<Edge>>
         requires { AtMost first last }
         ensures between { IfOk result (λ edges. (e : Edge) → (has edges.items e ≡ true) ↔ IsBetween self.now first last e) }
         ensures sorted { IfOk result (λ edges. IsSorted edges.items) }
@@ -90,7 +90,7 @@ impl EdgeSet {
     }
 
     /// Its edges out of a label, in order.
-    pub fn out_of(&self, alloc: Global, label: u32) -> Result<Vec<Edge>, NoMemory>
+    pub fn out_of(&self, alloc: Global, label: u32) -> Made<Vec<Edge>>
         ensures from { IfOk result (λ edges. (e : Edge) → has edges.items e ≡ true → (has self.now e ≡ true) × (e.from ≡ label)) }
         ensures every { IfOk result (λ edges. (e : Edge) → has self.now e ≡ true → e.from ≡ label → e.to < 2 ^ 32
             → has edges.items e ≡ true) }
@@ -111,12 +111,7 @@ impl EdgeSet {
     }
 
     /// Its edges out of a label with an authority, in order.
-    pub fn out_with(
-        &self,
-        alloc: Global,
-        label: u32,
-        authority: Authority,
-    ) -> Result<Vec<Edge>, NoMemory>
+    pub fn out_with(&self, alloc: Global, label: u32, authority: Authority) -> Made<Vec<Edge>>
         ensures from { IfOk result (λ edges. (e : Edge) → has edges.items e ≡ true
             → (has self.now e ≡ true) × (e.from ≡ label) × (e.authority ≡ authority)) }
         ensures every { IfOk result (λ edges. (m : ℕ) → has self.now (edge label authority m) ≡ true → m < 2 ^ 32

@@ -3,10 +3,10 @@ ghost use Rattle.authorities.specs.Authorities.{number_of};
 ghost use Rattle.std.specs.Prelude.{IfOk, ◌≡◌};
 
 use crate::{Authority, AuthoritySet, Edge};
-use cam_base::NoMemory;
+use cam_base::Made;
 
 /// The edges and one more.
-pub fn with_edge(edges: Vec<Edge>, edge: Edge) -> Result<Vec<Edge>, NoMemory>
+pub fn with_edge(edges: Vec<Edge>, edge: Edge) -> Made<Vec<Edge>>
     ensures { IfOk result (λ new. Adds (Is edge) edges.items new.items) }
 {
     let mut edges = edges;
@@ -15,12 +15,7 @@ pub fn with_edge(edges: Vec<Edge>, edge: Edge) -> Result<Vec<Edge>, NoMemory>
 }
 
 /// The edges and those from one label to another with each authority of the set.
-pub fn with_set(
-    edges: Vec<Edge>,
-    from: u32,
-    set: AuthoritySet,
-    to: u32,
-) -> Result<Vec<Edge>, NoMemory>
+pub fn with_set(edges: Vec<Edge>, from: u32, set: AuthoritySet, to: u32) -> Made<Vec<Edge>>
     ensures { IfOk result (λ new. Adds (IsOfSet from set.bits to) edges.items new.items) }
 {
     let mut edges = edges;
@@ -37,7 +32,7 @@ fn with_numbered(
     set: AuthoritySet,
     number: u8,
     to: u32,
-) -> Result<Vec<Edge>, NoMemory>
+) -> Made<Vec<Edge>>
     ensures { IfOk result (λ new. Adds (λ e. IsOfSet from set.bits to e × (number_of e.authority ≡ number))
         edges.items new.items) }
 {

@@ -6,15 +6,11 @@ ghost use Rattle.std.specs.Prelude.{◌≡◌, ◌≢◌, ◌≤◌, ◌*◌, �
 
 use crate::Authority;
 use crate::rows::{Class, Row};
-use cam_base::NoMemory;
+use cam_base::Made;
 use std::alloc::Global;
 
 /// The class of these pairs.
-pub fn class_of_pairs(
-    alloc: Global,
-    label: u32,
-    pairs: &[(Authority, u32)],
-) -> Result<Class, NoMemory>
+pub fn class_of_pairs(alloc: Global, label: u32, pairs: &[(Authority, u32)]) -> Made<Class>
     requires rise { AllPairs PairBefore pairs.now }
     requires others { All (λ p. p.0 ≢ Authority.Reply) pairs.now }
     ensures label { IfOk result (λ class. class.label ≡ label) }
@@ -30,7 +26,7 @@ pub fn class_of_pairs(
 }
 
 /// A row of the first class for each label, where each row has so many edges.
-pub fn shared_rows(alloc: Global, labels: &[u32], count: usize) -> Result<Vec<Row>, NoMemory>
+pub fn shared_rows(alloc: Global, labels: &[u32], count: usize) -> Made<Vec<Row>>
     requires { length labels.now * count ≤ 2 ^ 40 }
     ensures { IfOk result (λ rows. AreShared labels.now count rows.items) }
 {

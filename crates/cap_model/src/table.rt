@@ -13,7 +13,7 @@ use crate::rows::{
 use crate::shared::{class_of_pairs, shared_rows};
 use crate::walk::Edges;
 use crate::{Authority, Edge};
-use cam_base::NoMemory;
+use cam_base::Made;
 use std::alloc::Global;
 use std::marker::Model;
 
@@ -53,7 +53,7 @@ impl EdgeTable {
     }
 
     /// The table of the edges of a slice, in any order; an edge that stands twice counts once.
-    pub fn from_list(alloc: Global, edges: &[Edge]) -> Result<EdgeTable, NoMemory>
+    pub fn from_list(alloc: Global, edges: &[Edge]) -> Made<EdgeTable>
         ensures sorted { IfOk result IsSorted }
         ensures same { IfOk result (λ table. (e : Edge) → has table e ≡ has edges.now e) }
     {
@@ -65,11 +65,7 @@ impl EdgeTable {
 
     /// The table in which each of the labels has the edges that the pairs stand for. The labels share one list, so the
     /// table takes memory for the labels and the pairs, and not for each edge.
-    pub fn shared(
-        alloc: Global,
-        labels: &[u32],
-        pairs: &[(Authority, u32)],
-    ) -> Result<EdgeTable, NoMemory>
+    pub fn shared(alloc: Global, labels: &[u32], pairs: &[(Authority, u32)]) -> Made<EdgeTable>
         requires labels { AllPairs ◌<◌ labels.now }
         requires pairs { AllPairs PairBefore pairs.now }
         requires others { All (λ p. p.0 ≢ Authority.Reply) pairs.now }
@@ -202,7 +198,7 @@ impl EdgeTable {
 }
 
 /// The table of edges that are in order.
-fn table_of(alloc: Global, edges: &[Edge]) -> Result<EdgeTable, NoMemory>
+fn table_of(alloc: Global, edges: &[Edge]) -> Made<EdgeTable>
     requires { IsSorted edges.now }
     ensures { IfOk result (λ table. table ≡ edges.now) }
 {

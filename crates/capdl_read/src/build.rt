@@ -9,7 +9,7 @@ ghost use Rattle.std.specs.Prelude.{◌≡◌, ℕ, [], map, slice_get, Some as 
 
 use crate::held::Slot;
 use crate::keyed::is_above;
-use cam_base::{Boxed, List, Name, NoMemory, Text};
+use cam_base::{Boxed, List, Made, Name, Text};
 use cap_model::{Cap, Entry, Fill, Object, Tcb};
 use capdl_text::{
     FillLine, FrameField, FrameValue, KindLine, ObjectLine, SlotKey, ThreadField, ThreadValue,
@@ -19,7 +19,7 @@ use std::alloc::Global;
 use std::collections::BTreeMap;
 
 /// Puts a capability into numbered slots.
-fn put_slot(key: SlotKey, cap: Cap, slots: &mut BTreeMap<u64, Cap>) -> Result<(), NoMemory>
+fn put_slot(key: SlotKey, cap: Cap, slots: &mut BTreeMap<u64, Cap>) -> Made<()>
     ensures { OnOk result (slots.new.entries ≡ put_slot key cap slots.old.entries) }
 {
     match key {
@@ -32,7 +32,7 @@ fn put_slot(key: SlotKey, cap: Cap, slots: &mut BTreeMap<u64, Cap>) -> Result<()
 }
 
 /// The numbered slots as they stand, where each stands above the one before it, as in most texts; else nothing.
-fn rising(alloc: Global, slots: &[Slot]) -> Result<Option<List<(u64, Cap)>>, NoMemory>
+fn rising(alloc: Global, slots: &[Slot]) -> Made<Option<List<(u64, Cap)>>>
     ensures { IfOk result (λ said. IfSome said (λ rising. rising ≡ numbered_from [] slots.now)) }
 {
     let mut rising = List::from_vec(Vec::with_capacity(alloc, slots.len())?);
@@ -52,7 +52,7 @@ fn rising(alloc: Global, slots: &[Slot]) -> Result<Option<List<(u64, Cap)>>, NoM
 }
 
 /// The numbered slots, put into their order one by one.
-fn sorted(alloc: Global, slots: &[Slot]) -> Result<List<(u64, Cap)>, NoMemory>
+fn sorted(alloc: Global, slots: &[Slot]) -> Made<List<(u64, Cap)>>
     ensures { IfOk result (λ sorted. sorted ≡ numbered_from [] slots.now) }
 {
     let mut sorted = BTreeMap::new(alloc);
@@ -64,7 +64,7 @@ fn sorted(alloc: Global, slots: &[Slot]) -> Result<List<(u64, Cap)>, NoMemory>
 }
 
 /// The numbered slots, sorted by number.
-fn numbered(alloc: Global, slots: &[Slot]) -> Result<List<(u64, Cap)>, NoMemory>
+fn numbered(alloc: Global, slots: &[Slot]) -> Made<List<(u64, Cap)>>
     ensures { IfOk result (λ sorted. sorted ≡ numbered_from [] slots.now) }
 {
     match rising(alloc, slots)? {
@@ -74,7 +74,7 @@ fn numbered(alloc: Global, slots: &[Slot]) -> Result<List<(u64, Cap)>, NoMemory>
 }
 
 /// Puts a field into a thread.
-fn put_field(alloc: Global, value: &ThreadValue, tcb: &mut Tcb) -> Result<(), NoMemory>
+fn put_field(alloc: Global, value: &ThreadValue, tcb: &mut Tcb) -> Made<()>
     ensures { OnOk result (tcb.new ≡ put_field value.now tcb.old) }
 {
     match value {
@@ -88,7 +88,7 @@ fn put_field(alloc: Global, value: &ThreadValue, tcb: &mut Tcb) -> Result<(), No
 }
 
 /// Puts each field into a thread.
-fn put_fields(alloc: Global, fields: &[ThreadField], tcb: &mut Tcb) -> Result<(), NoMemory>
+fn put_fields(alloc: Global, fields: &[ThreadField], tcb: &mut Tcb) -> Made<()>
     ensures { OnOk result (tcb.new ≡ fields_from tcb.old fields.now) }
 {
     for field in fields {
@@ -118,7 +118,7 @@ fn put_all_named(slots: &[Slot], tcb: &mut Tcb)
     }
 }
 
-fn thread_of(alloc: Global, fields: &[ThreadField], slots: &[Slot]) -> Result<Tcb, NoMemory>
+fn thread_of(alloc: Global, fields: &[ThreadField], slots: &[Slot]) -> Made<Tcb>
     ensures { IfOk result (λ tcb. tcb ≡ all_named (fields_from no_tcb fields.now) slots.now) }
 {
     let mut tcb = Tcb {
@@ -147,7 +147,7 @@ fn paddr_said(fields: &[FrameField]) -> Option<u64>
     None
 }
 
-fn maybe_fill(alloc: Global, fill: Option<&FillLine>) -> Result<Option<Boxed<Fill>>, NoMemory>
+fn maybe_fill(alloc: Global, fill: Option<&FillLine>) -> Made<Option<Boxed<Fill>>>
     ensures { IfOk result (λ made. made ≡ option_map fill_of (option_copied fill.entry)) }
 {
     let Some(fill) = fill else {
@@ -162,7 +162,7 @@ fn maybe_fill(alloc: Global, fill: Option<&FillLine>) -> Result<Option<Boxed<Fil
     Ok(Some(Boxed::new(alloc, made)?))
 }
 
-fn fill_said(alloc: Global, fields: &[FrameField]) -> Result<Option<Boxed<Fill>>, NoMemory>
+fn fill_said(alloc: Global, fields: &[FrameField]) -> Made<Option<Boxed<Fill>>>
     ensures { IfOk result (λ made. made ≡ fill_said fields.now) }
 {
     for field in fields {
@@ -185,7 +185,7 @@ fn first_numbered(slots: &[Slot]) -> Option<u32>
     None
 }
 
-fn object_of(alloc: Global, kind: &KindLine, slots: &[Slot]) -> Result<Object, NoMemory>
+fn object_of(alloc: Global, kind: &KindLine, slots: &[Slot]) -> Made<Object>
     requires { AreBitsFew kind.now }
     ensures { IfOk result (λ object. object ≡ object_of kind.now slots.now) }
 {
@@ -238,7 +238,7 @@ fn entry_of<'x>(
     alloc: Global,
     table: &SpreadNames<'x, List<Slot>>,
     object: &ObjectLine<'x>,
-) -> Result<Entry, NoMemory>
+) -> Made<Entry>
     requires { AreBitsFew object.now.kind }
     ensures { IfOk result (λ entry. entry ≡ entry_of (λ n. slots_told (spread_found table.now n)) object.now) }
 {
@@ -253,7 +253,7 @@ pub(crate) fn entries_of<'x>(
     alloc: Global,
     table: &SpreadNames<'x, List<Slot>>,
     objects: &[ObjectLine<'x>],
-) -> Result<List<Entry>, NoMemory>
+) -> Made<List<Entry>>
     requires { (i : ℕ) (o : ObjectTree) → slice_get objects.now i ≡ Present o → AreBitsFew o.kind }
     ensures { IfOk result (λ entries. entries ≡ map (entry_of (λ n. slots_told (spread_found table.now n))) objects.now) }
 {

@@ -15,7 +15,7 @@ use crate::first::First;
 use crate::kind::{Named, note_holder_kind, note_irq, note_objects, note_slot};
 use crate::known::{find, note_unknown};
 use crate::twice::meet_name;
-use cam_base::{List, NoMemory};
+use cam_base::{List, Made};
 use cap_model::{Arch, Cap, Rights};
 use capdl_text::{Holder, Id, IrqLine, Known, Param, SlotKey, SlotLine, SpecTree};
 use name_tables::SpreadNames;
@@ -82,7 +82,7 @@ fn slot_held<'x>(
     holder: Named,
     slot: &SlotLine<'x>,
     faults: &mut Faults,
-) -> Result<Slot, NoMemory>
+) -> Made<Slot>
     requires few { (n : Seq ℕ) → place_or (spread_found known.now n) < 2 ^ 32 }
     ensures unknown { OnOk result
         (faults.new.unknown ≡ noted faults.old.unknown (unknown (spread_found known.now) slot.now.object)) }
@@ -110,7 +110,7 @@ fn slots_held<'x>(
     holder: Named,
     slots: &[SlotLine<'x>],
     faults: &mut Faults,
-) -> Result<List<Slot>, NoMemory>
+) -> Made<List<Slot>>
     requires few { (n : Seq ℕ) → place_or (spread_found known.now n) < 2 ^ 32 }
     ensures unknown { OnOk result
         (faults.new.unknown ≡ noted faults.old.unknown (flat_map (λ s. unknown (spread_found known.now) s.object) slots.now)) }
@@ -133,7 +133,7 @@ fn holder_held<'x>(
     known: &SpreadNames<'x, Known>,
     line: &Holder<'x>,
     faults: &mut Faults,
-) -> Result<List<Slot>, NoMemory>
+) -> Made<List<Slot>>
     requires few { (n : Seq ℕ) → place_or (spread_found known.now n) < 2 ^ 32 }
     ensures unknown { OnOk result (faults.new.unknown ≡ noted faults.old.unknown (unknown_in (spread_found known.now) line.now)) }
     ensures kind { OnOk result (faults.new.kind ≡ noted faults.old.kind (off_in arch (spread_found known.now) line.now)) }
@@ -155,7 +155,7 @@ fn holders_held<'x>(
     holders: &[Holder<'x>],
     faults: &mut Faults,
     twice: &mut First,
-) -> Result<SpreadNames<'x, List<Slot>>, NoMemory>
+) -> Made<SpreadNames<'x, List<Slot>>>
     requires few { (n : Seq ℕ) → place_or (spread_found known.now n) < 2 ^ 32 }
     ensures unknown { OnOk result
         (faults.new.unknown ≡ noted faults.old.unknown (flat_map (unknown_in (spread_found known.now)) holders.now)) }
@@ -174,11 +174,7 @@ fn holders_held<'x>(
 }
 
 /// What an interrupt line holds.
-fn line_held<'x>(
-    known: &SpreadNames<'x, Known>,
-    id: &Id<'x>,
-    faults: &mut Faults,
-) -> Result<u32, NoMemory>
+fn line_held<'x>(known: &SpreadNames<'x, Known>, id: &Id<'x>, faults: &mut Faults) -> Made<u32>
     requires few { (n : Seq ℕ) → place_or (spread_found known.now n) < 2 ^ 32 }
     ensures unknown { OnOk result (faults.new.unknown ≡ noted faults.old.unknown (unknown (spread_found known.now) id.now)) }
     ensures kind { OnOk result
@@ -196,7 +192,7 @@ fn lines_held<'x>(
     known: &SpreadNames<'x, Known>,
     lines: &[IrqLine<'x>],
     faults: &mut Faults,
-) -> Result<List<(u64, u32)>, NoMemory>
+) -> Made<List<(u64, u32)>>
     requires few { (n : Seq ℕ) → place_or (spread_found known.now n) < 2 ^ 32 }
     ensures unknown { OnOk result
         (faults.new.unknown ≡ noted faults.old.unknown (flat_map (λ l. unknown (spread_found known.now) l.object) lines.now)) }
@@ -223,7 +219,7 @@ pub(crate) fn look_up<'x>(
     tree: &SpecTree<'x>,
     faults: &mut Faults,
     twice: &mut First,
-) -> Result<Held<'x>, NoMemory>
+) -> Made<Held<'x>>
     requires few { (n : Seq ℕ) → place_or (spread_found known.now n) < 2 ^ 32 }
     ensures unknown { OnOk result (faults.new.unknown ≡ noted faults.old.unknown (unknowns (spread_found known.now) tree.now)) }
     ensures kind { OnOk result (faults.new.kind ≡ noted faults.old.kind (kind_fields (spread_found known.now) tree.now)) }

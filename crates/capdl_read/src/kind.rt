@@ -9,14 +9,14 @@ ghost use Rattle.std.specs.Prelude.{◌≡◌, ◌++◌, OnOk};
 
 use crate::first::First;
 use crate::known::are_bits;
-use cam_base::{NoMemory, TextCode};
+use cam_base::{Made, TextCode};
 use cap_model::{Arch, Kind, Rights};
 use capdl_text::{
     FrameField, FrameValue, Id, KindLine, Known, ObjectLine, Param, SlotKey, SlotLine, Span,
     ThreadField, ThreadValue,
 };
 
-fn note_place(suits: bool, place: Span, first: &mut First) -> Result<(), NoMemory>
+fn note_place(suits: bool, place: Span, first: &mut First) -> Made<()>
     ensures { OnOk result (first.new ≡ noted first.old (where_false suits (at_place code.CapdlKindField place))) }
 {
     if suits {
@@ -25,7 +25,7 @@ fn note_place(suits: bool, place: Span, first: &mut First) -> Result<(), NoMemor
     first.note(TextCode::CapdlKindField, place, b"")
 }
 
-fn note_name(suits: bool, place: Span, name: &[u8], first: &mut First) -> Result<(), NoMemory>
+fn note_name(suits: bool, place: Span, name: &[u8], first: &mut First) -> Made<()>
     ensures { OnOk result (first.new ≡ noted first.old (where_false suits (fault code.CapdlKindField place name.now))) }
 {
     if suits {
@@ -34,13 +34,13 @@ fn note_name(suits: bool, place: Span, name: &[u8], first: &mut First) -> Result
     first.note(TextCode::CapdlKindField, place, name)
 }
 
-fn note_id(suits: bool, id: &Id, first: &mut First) -> Result<(), NoMemory>
+fn note_id(suits: bool, id: &Id, first: &mut First) -> Made<()>
     ensures { OnOk result (first.new ≡ noted first.old (where_false suits (at_id code.CapdlKindField id.now))) }
 {
     note_name(suits, id.place, id.name.as_bytes(), first)
 }
 
-fn note_thread_value(value: &ThreadValue, first: &mut First) -> Result<(), NoMemory>
+fn note_thread_value(value: &ThreadValue, first: &mut First) -> Made<()>
     ensures { OnOk result (first.new ≡ noted first.old (thread_value_off value.now)) }
 {
     match value {
@@ -49,7 +49,7 @@ fn note_thread_value(value: &ThreadValue, first: &mut First) -> Result<(), NoMem
     }
 }
 
-fn note_thread_fields(fields: &[ThreadField], first: &mut First) -> Result<(), NoMemory>
+fn note_thread_fields(fields: &[ThreadField], first: &mut First) -> Made<()>
     ensures { OnOk result (first.new ≡ noted first.old (flat_map (λ f. thread_value_off f.value) fields.now)) }
 {
     for field in fields {
@@ -64,7 +64,7 @@ fn is_fill(offset: u64, length: u64) -> bool
     0 < length && length <= 4096 && offset <= 4096 - length
 }
 
-fn note_frame_value(value: &FrameValue, first: &mut First) -> Result<(), NoMemory>
+fn note_frame_value(value: &FrameValue, first: &mut First) -> Made<()>
     ensures { OnOk result (first.new ≡ noted first.old (frame_value_off value.now)) }
 {
     match value {
@@ -77,7 +77,7 @@ fn note_frame_value(value: &FrameValue, first: &mut First) -> Result<(), NoMemor
     }
 }
 
-fn note_frame_fields(fields: &[FrameField], first: &mut First) -> Result<(), NoMemory>
+fn note_frame_fields(fields: &[FrameField], first: &mut First) -> Made<()>
     ensures { OnOk result (first.new ≡ noted first.old (flat_map (λ f. frame_value_off f.value) fields.now)) }
 {
     for field in fields {
@@ -86,7 +86,7 @@ fn note_frame_fields(fields: &[FrameField], first: &mut First) -> Result<(), NoM
     Ok(())
 }
 
-fn note_kind(arch: Arch, kind: &KindLine, first: &mut First) -> Result<(), NoMemory>
+fn note_kind(arch: Arch, kind: &KindLine, first: &mut First) -> Made<()>
     ensures { OnOk result (first.new ≡ noted first.old (kind_off arch kind.now)) }
 {
     match kind {
@@ -99,11 +99,7 @@ fn note_kind(arch: Arch, kind: &KindLine, first: &mut First) -> Result<(), NoMem
 }
 
 /// Notes what doesn't suit the kinds of objects that are said.
-pub(crate) fn note_objects(
-    arch: Arch,
-    objects: &[ObjectLine],
-    first: &mut First,
-) -> Result<(), NoMemory>
+pub(crate) fn note_objects(arch: Arch, objects: &[ObjectLine], first: &mut First) -> Made<()>
     ensures { OnOk result (first.new ≡ noted first.old (flat_map (λ o. kind_off arch o.kind) objects.now)) }
 {
     for object in objects {
@@ -129,7 +125,7 @@ pub(crate) struct Named<'h, 'x> {
 }
 
 /// Notes a holder of a kind without slots.
-pub(crate) fn note_holder_kind(holder: Named, first: &mut First) -> Result<(), NoMemory>
+pub(crate) fn note_holder_kind(holder: Named, first: &mut First) -> Made<()>
     ensures { OnOk result (first.new ≡ noted first.old (holder_off holder.entry.id.now holder.entry.known)) }
 {
     match holder.known {
@@ -147,7 +143,7 @@ fn has_key(kind: Kind, key: SlotKey) -> bool
     }
 }
 
-fn note_key(holder: Named, slot: &SlotLine, first: &mut First) -> Result<(), NoMemory>
+fn note_key(holder: Named, slot: &SlotLine, first: &mut First) -> Made<()>
     ensures { OnOk result (first.new ≡ noted first.old (key_off holder.entry.id.now holder.entry.known slot.now)) }
 {
     match holder.known {
@@ -215,7 +211,7 @@ fn note_cap(
     slot: &SlotLine,
     object: Option<Known>,
     first: &mut First,
-) -> Result<(), NoMemory>
+) -> Made<()>
     ensures { OnOk result (first.new ≡ noted first.old (cap_off arch holder slot.now object)) }
 {
     match object {
@@ -236,7 +232,7 @@ fn within(rights: Rights, most: Rights) -> bool
         && ((!rights.grant || most.grant) && (!rights.reply || most.reply))
 }
 
-fn note_param(kind: Kind, param: Param, first: &mut First) -> Result<(), NoMemory>
+fn note_param(kind: Kind, param: Param, first: &mut First) -> Made<()>
     ensures { OnOk result (first.new ≡ noted first.old (param_off kind param)) }
 {
     match param {
@@ -245,7 +241,7 @@ fn note_param(kind: Kind, param: Param, first: &mut First) -> Result<(), NoMemor
     }
 }
 
-fn note_params(kind: Kind, params: &[Param], first: &mut First) -> Result<(), NoMemory>
+fn note_params(kind: Kind, params: &[Param], first: &mut First) -> Made<()>
     ensures { OnOk result (first.new ≡ noted first.old (flat_map (param_off kind) params.now)) }
 {
     for param in params {
@@ -254,11 +250,7 @@ fn note_params(kind: Kind, params: &[Param], first: &mut First) -> Result<(), No
     Ok(())
 }
 
-fn note_slot_params(
-    slot: &SlotLine,
-    object: Option<Known>,
-    first: &mut First,
-) -> Result<(), NoMemory>
+fn note_slot_params(slot: &SlotLine, object: Option<Known>, first: &mut First) -> Made<()>
     ensures { OnOk result (first.new ≡ noted first.old (params_off slot.now object)) }
 {
     match object {
@@ -275,7 +267,7 @@ pub(crate) fn note_slot(
     slot: &SlotLine,
     object: Option<Known>,
     first: &mut First,
-) -> Result<(), NoMemory>
+) -> Made<()>
     ensures { OnOk result (first.new ≡ noted first.old (key_off holder.entry.id.now holder.entry.known slot.now
         ++ cap_off arch holder.entry.known slot.now object ++ params_off slot.now object)) }
 {
@@ -285,7 +277,7 @@ pub(crate) fn note_slot(
 }
 
 /// Notes the object of an interrupt line that is no interrupt.
-pub(crate) fn note_irq(id: &Id, object: Option<Known>, first: &mut First) -> Result<(), NoMemory>
+pub(crate) fn note_irq(id: &Id, object: Option<Known>, first: &mut First) -> Made<()>
     ensures { OnOk result (first.new ≡ noted first.old (irq_off id.now object)) }
 {
     match object {

@@ -6,7 +6,7 @@ ghost use Rattle.std.specs.List.{flat_map};
 ghost use Rattle.std.specs.Prelude.{◌≡◌, ◌∷◌, [], map, OnOk};
 
 use crate::first::First;
-use cam_base::{NoMemory, TextCode};
+use cam_base::{Made, TextCode};
 use capdl_text::{Holder, Id, ObjectLine, SlotLine, SpecTree};
 
 /// The most objects of a text.
@@ -17,7 +17,7 @@ const MAX_CAPS: u64 = 524_288;
 
 /// Notes a name where there is room for no more.
 #[tactic(auto, using(crate::proofs::Limits::past_one, crate::proofs::Limits::past_zero))]
-fn note_name(room: u64, id: &Id, first: &mut First) -> Result<(), NoMemory>
+fn note_name(room: u64, id: &Id, first: &mut First) -> Made<()>
     ensures { OnOk result (first.new ≡ noted first.old (past room (id.now ∷ []))) }
 {
     if room > 0 {
@@ -26,7 +26,7 @@ fn note_name(room: u64, id: &Id, first: &mut First) -> Result<(), NoMemory>
     first.note(TextCode::CapdlLimit, id.place, id.name.as_bytes())
 }
 
-fn note_objects(objects: &[ObjectLine], first: &mut First) -> Result<(), NoMemory>
+fn note_objects(objects: &[ObjectLine], first: &mut First) -> Made<()>
     ensures { OnOk result (first.new ≡ noted first.old (past most_objects (map (λ o. o.id) objects.now))) }
 {
     let mut room = MAX_OBJECTS;
@@ -37,7 +37,7 @@ fn note_objects(objects: &[ObjectLine], first: &mut First) -> Result<(), NoMemor
     Ok(())
 }
 
-fn note_slots(most: u64, slots: &[SlotLine], first: &mut First) -> Result<(), NoMemory>
+fn note_slots(most: u64, slots: &[SlotLine], first: &mut First) -> Made<()>
     ensures { OnOk result (first.new ≡ noted first.old (past most (map (λ s. s.object) slots.now))) }
 {
     let mut room = most;
@@ -48,7 +48,7 @@ fn note_slots(most: u64, slots: &[SlotLine], first: &mut First) -> Result<(), No
     Ok(())
 }
 
-fn note_holders(holders: &[Holder], first: &mut First) -> Result<(), NoMemory>
+fn note_holders(holders: &[Holder], first: &mut First) -> Made<()>
     ensures { OnOk result
         (first.new ≡ noted first.old (past most_caps (flat_map (λ h. map (λ s. s.object) h.slots) holders.now))) }
 {
@@ -62,7 +62,7 @@ fn note_holders(holders: &[Holder], first: &mut First) -> Result<(), NoMemory>
 
 /// Notes each object and each capability past the limits.
 #[tactic(auto, using(capdl_text::proofs::Noting::noting))]
-pub(crate) fn note_limits(tree: &SpecTree, first: &mut First) -> Result<(), NoMemory>
+pub(crate) fn note_limits(tree: &SpecTree, first: &mut First) -> Made<()>
     ensures { OnOk result (first.new ≡ noted first.old (limits tree.now)) }
 {
     note_objects(tree.objects.as_slice(), first)?;

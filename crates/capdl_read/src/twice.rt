@@ -12,7 +12,7 @@ ghost use Rattle.std.specs.Prelude.{◌≡◌, ◌||◌, ◌∷◌, ℕ, [], Non
 
 use crate::first::First;
 use crate::keyed::{Keyed, rise};
-use cam_base::{NoMemory, TextCode};
+use cam_base::{Made, TextCode};
 use capdl_text::{Holder, Id, IrqLine, KindLine, ObjectLine, SlotLine, Span, SpecTree};
 use name_tables::{KeySet, SpreadNames};
 
@@ -22,7 +22,7 @@ pub(crate) fn meet_name<'x, V: Drop>(
     value: V,
     met: &mut SpreadNames<'x, V>,
     first: &mut First,
-) -> Result<(), NoMemory>
+) -> Made<()>
     ensures first { OnOk result (first.new ≡ noted first.old (where_true (is_some (spread_found met.old id.now.name))
         (at_id code.CapdlTwice id.now))) }
     ensures met { OnOk result ((n : Seq ℕ) → spread_found met.new n
@@ -35,7 +35,7 @@ pub(crate) fn meet_name<'x, V: Drop>(
     Ok(())
 }
 
-fn note_irq_objects(lines: &[IrqLine], first: &mut First) -> Result<(), NoMemory>
+fn note_irq_objects(lines: &[IrqLine], first: &mut First) -> Made<()>
     ensures { OnOk result (first.new ≡ noted first.old (names_twice (map (λ l. l.object) lines.now))) }
 {
     let mut met = SpreadNames::with_room(first.alloc(), lines.len())?;
@@ -46,12 +46,7 @@ fn note_irq_objects(lines: &[IrqLine], first: &mut First) -> Result<(), NoMemory
 }
 
 /// Takes the next key, or notes that it was met before.
-fn meet_key(
-    keyed: ((u8, u64), Span),
-    name: &[u8],
-    met: &mut KeySet,
-    first: &mut First,
-) -> Result<(), NoMemory>
+fn meet_key(keyed: ((u8, u64), Span), name: &[u8], met: &mut KeySet, first: &mut First) -> Made<()>
     ensures first { OnOk result
         (first.new ≡ noted first.old (where_true (has_key met.old keyed.0) (fault code.CapdlTwice keyed.1 name.now))) }
     ensures met { OnOk result ((k : Pair) → has_key met.new k ≡ (has_key met.old k || same_key k keyed.0)) }
@@ -63,7 +58,7 @@ fn meet_key(
 }
 
 /// Notes what an earlier one is equal to, under this name. Most texts have their keys in rising order, where none is.
-fn note_keys<K: Keyed>(name: &[u8], items: &[K], first: &mut First) -> Result<(), NoMemory>
+fn note_keys<K: Keyed>(name: &[u8], items: &[K], first: &mut First) -> Made<()>
     ensures { OnOk result (first.new ≡ noted first.old (keys_twice name.now (map K.keyed_as items.now))) }
 {
     if rise(items) {
@@ -76,7 +71,7 @@ fn note_keys<K: Keyed>(name: &[u8], items: &[K], first: &mut First) -> Result<()
     Ok(())
 }
 
-fn note_fields(kind: &KindLine, first: &mut First) -> Result<(), NoMemory>
+fn note_fields(kind: &KindLine, first: &mut First) -> Made<()>
     ensures { OnOk result (first.new ≡ noted first.old (fields_twice kind.now)) }
 {
     match kind {
@@ -86,7 +81,7 @@ fn note_fields(kind: &KindLine, first: &mut First) -> Result<(), NoMemory>
     }
 }
 
-fn note_all_fields(objects: &[ObjectLine], first: &mut First) -> Result<(), NoMemory>
+fn note_all_fields(objects: &[ObjectLine], first: &mut First) -> Made<()>
     ensures { OnOk result (first.new ≡ noted first.old (flat_map (λ o. fields_twice o.kind) objects.now)) }
 {
     for object in objects {
@@ -95,7 +90,7 @@ fn note_all_fields(objects: &[ObjectLine], first: &mut First) -> Result<(), NoMe
     Ok(())
 }
 
-fn note_all_params(slots: &[SlotLine], first: &mut First) -> Result<(), NoMemory>
+fn note_all_params(slots: &[SlotLine], first: &mut First) -> Made<()>
     ensures { OnOk result (first.new ≡ noted first.old (flat_map params_twice slots.now)) }
 {
     for slot in slots {
@@ -105,7 +100,7 @@ fn note_all_params(slots: &[SlotLine], first: &mut First) -> Result<(), NoMemory
 }
 
 #[tactic(auto, using(capdl_text::proofs::Noting::noting))]
-fn note_holder(holder: &Holder, first: &mut First) -> Result<(), NoMemory>
+fn note_holder(holder: &Holder, first: &mut First) -> Made<()>
     ensures { OnOk result (first.new ≡ noted first.old (twice_in holder.now)) }
 {
     let name = holder.id.name.as_bytes();
@@ -113,7 +108,7 @@ fn note_holder(holder: &Holder, first: &mut First) -> Result<(), NoMemory>
     note_all_params(holder.slots.as_slice(), first)
 }
 
-fn note_all_slots(holders: &[Holder], first: &mut First) -> Result<(), NoMemory>
+fn note_all_slots(holders: &[Holder], first: &mut First) -> Made<()>
     ensures { OnOk result (first.new ≡ noted first.old (flat_map twice_in holders.now)) }
 {
     for holder in holders {
@@ -129,7 +124,7 @@ pub(crate) fn note_twices(
     objects: First,
     holders: First,
     first: &mut First,
-) -> Result<(), NoMemory>
+) -> Made<()>
     requires objects { objects ≡ noted None (names_twice (map (λ o. o.id) tree.now.objects)) }
     requires holders { holders ≡ noted None (names_twice (map (λ h. h.id) tree.now.holders)) }
     ensures { OnOk result (first.new ≡ noted first.old (twices tree.now)) }

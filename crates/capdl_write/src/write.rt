@@ -6,12 +6,12 @@ ghost use Rattle.std.specs.Prelude.{◌≡◌};
 
 use crate::holder::write_holders;
 use crate::object::write_objects;
-use cam_io::{Failed, Outputs, Writer};
+use cam_io::{Outputs, Writer, Written};
 use cap_model::{Arch, Spec};
 use itoa::Buffer;
 
 /// Writes the text of a spec to an open channel. After a failure the channel has a front of it. Takes no memory.
-pub fn write_spec<O: Outputs>(spec: &Spec, out: &mut O, channel: u8) -> Result<(), Failed>
+pub fn write_spec<O: Outputs>(spec: &Spec, out: &mut O, channel: u8) -> Written
     requires { IsOpen (O.sink out.old) channel }
     ensures { Writes result channel (canonical spec.now) (O.sink out.old) (O.sink out.new) (O.faults out.old) (O.faults out.new) }
 {

@@ -9,7 +9,7 @@ ghost use Rattle.std.specs.Prelude.{◌≡◌, length, IfOk};
 use crate::{EndAt, Wiring, is_lock, limit_fault};
 use adl_ast::Role;
 use adl_meaning::Connector;
-use cam_base::{Fault, NoMemory};
+use cam_base::{Fault, Made};
 use std::alloc::Global;
 
 fn count_end(wiring: &Wiring<'_>, at: EndAt) -> u64
@@ -60,7 +60,7 @@ fn count_domain(wiring: &Wiring<'_>, listed: &[u32]) -> u64
 }
 
 /// The first limit on slots that is passed, as a fault.
-pub fn slot_limit(alloc: Global, wiring: &Wiring<'_>) -> Result<Option<Fault>, NoMemory>
+pub fn slot_limit(alloc: Global, wiring: &Wiring<'_>) -> Made<Option<Fault>>
     ensures { IfOk result (λ fault. fault ≡ first_slot_fault wiring.now.source wiring.now.flat) }
 {
     let source = wiring.source();

@@ -12,10 +12,10 @@ use crate::count::slot_limit;
 use crate::{EndAt, SlotPlan, SlotUse, Slots, Wiring, is_lock};
 use adl_ast::{Member, Role, Source};
 use adl_meaning::{Connector, Flat, Settled};
-use cam_base::{Fault, List, NoMemory, Refused};
+use cam_base::{Fault, List, Made, Refused};
 use std::alloc::Global;
 
-fn add_end(wiring: &Wiring<'_>, at: EndAt, uses: &mut List<SlotUse>) -> Result<(), NoMemory>
+fn add_end(wiring: &Wiring<'_>, at: EndAt, uses: &mut List<SlotUse>) -> Made<()>
     ensures { OnOk result (uses.new ≡ uses.old ++ uses_at wiring.now.flat at) }
 {
     let first = SlotUse::OfEnd(at.connection, at.end);
@@ -33,7 +33,7 @@ fn add_end(wiring: &Wiring<'_>, at: EndAt, uses: &mut List<SlotUse>) -> Result<(
     }
 }
 
-fn add_ends(wiring: &Wiring<'_>, ends: &[EndAt], uses: &mut List<SlotUse>) -> Result<(), NoMemory>
+fn add_ends(wiring: &Wiring<'_>, ends: &[EndAt], uses: &mut List<SlotUse>) -> Made<()>
     ensures { OnOk result (uses.new ≡ uses.old ++ flat_map (uses_at wiring.now.flat) ends.now) }
 {
     for at in ends {
@@ -42,12 +42,7 @@ fn add_ends(wiring: &Wiring<'_>, ends: &[EndAt], uses: &mut List<SlotUse>) -> Re
     Ok(())
 }
 
-fn add_lock(
-    leaf: u32,
-    place: u32,
-    member: &Member,
-    uses: &mut List<SlotUse>,
-) -> Result<(), NoMemory>
+fn add_lock(leaf: u32, place: u32, member: &Member, uses: &mut List<SlotUse>) -> Made<()>
     ensures { OnOk result (uses.new ≡ uses.old ++ lock_uses leaf place member.now) }
 {
     if is_lock(member) {
@@ -56,7 +51,7 @@ fn add_lock(
     Ok(())
 }
 
-fn add_locks(leaf: u32, members: &[Member], uses: &mut List<SlotUse>) -> Result<(), NoMemory>
+fn add_locks(leaf: u32, members: &[Member], uses: &mut List<SlotUse>) -> Made<()>
     requires { length members.now < 2 ^ 32 }
     ensures { OnOk result (uses.new ≡ uses.old ++ gather (λ m member. lock_uses leaf m member) members.now) }
 {
@@ -66,14 +61,14 @@ fn add_locks(leaf: u32, members: &[Member], uses: &mut List<SlotUse>) -> Result<
     Ok(())
 }
 
-fn add_leaf(wiring: &Wiring<'_>, leaf: u32, uses: &mut List<SlotUse>) -> Result<(), NoMemory>
+fn add_leaf(wiring: &Wiring<'_>, leaf: u32, uses: &mut List<SlotUse>) -> Made<()>
     ensures { OnOk result (uses.new ≡ uses.old ++ uses_of wiring.now leaf) }
 {
     add_ends(wiring, wiring.ends(leaf), uses)?;
     add_locks(leaf, wiring.members(leaf), uses)
 }
 
-fn lay_domain(alloc: Global, wiring: &Wiring<'_>, listed: &[u32]) -> Result<List<SlotUse>, NoMemory>
+fn lay_domain(alloc: Global, wiring: &Wiring<'_>, listed: &[u32]) -> Made<List<SlotUse>>
     ensures { IfOk result (λ uses. uses ≡ domain_uses wiring.now.source wiring.now.flat listed.now) }
 {
     let mut uses = List::new(alloc);
@@ -83,7 +78,7 @@ fn lay_domain(alloc: Global, wiring: &Wiring<'_>, listed: &[u32]) -> Result<List
     Ok(uses)
 }
 
-fn lay_domains(alloc: Global, wiring: &Wiring<'_>) -> Result<Slots, NoMemory>
+fn lay_domains(alloc: Global, wiring: &Wiring<'_>) -> Made<Slots>
     ensures { IfOk result (λ slots. slots ≡ slots_of wiring.now.source wiring.now.flat) }
 {
     let mut domains = List::new(alloc);

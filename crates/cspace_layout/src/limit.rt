@@ -2,7 +2,7 @@ ghost use Rattle.cspace_layout.specs.Limit.{keyword_of, keyword_in, keyword_amon
 ghost use Rattle.std.specs.Prelude.{◌≡◌, IfOk};
 
 use adl_ast::{Ended, Item, Source, SourceFile};
-use cam_base::{Code, Fault, NoMemory, Place, Text};
+use cam_base::{Code, Fault, Made, Place, Text};
 use std::alloc::Global;
 
 fn keyword_of(item: &Item) -> Option<Place>
@@ -44,7 +44,7 @@ fn keyword_among(files: &[SourceFile]) -> Option<Place>
 ///
 /// Want of memory.
 #[tactic(auto, using(crate::proofs::Keyword::limit_there, crate::proofs::Keyword::limit_nowhere))]
-pub fn limit_fault(alloc: Global, source: &Source, name: &[u8]) -> Result<Option<Fault>, NoMemory>
+pub fn limit_fault(alloc: Global, source: &Source, name: &[u8]) -> Made<Option<Fault>>
     ensures { IfOk result (λ fault. fault ≡ limit_fault source.now name.now) }
 {
     let Some(place) = keyword_among(source.files.as_slice()) else {

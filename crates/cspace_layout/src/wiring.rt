@@ -11,7 +11,7 @@ use crate::order::leaf_ends;
 use crate::{EndAt, end_of, members_at, setting_of};
 use adl_ast::{Member, Source};
 use adl_meaning::{Connector, Domain, EndSetting, Flat, FlatConnection, FlatEnd, Settled};
-use cam_base::{List, NoMemory};
+use cam_base::{List, Made};
 use std::alloc::Global;
 use std::marker::Model;
 
@@ -52,7 +52,7 @@ impl<'a> Wiring<'a> {
         source: &'a Source,
         flat: &'a Flat,
         settled: &'a Settled,
-    ) -> Result<Wiring<'a>, NoMemory>
+    ) -> Made<Wiring<'a>>
         requires { IsWithin source.now flat.now }
         ensures { IfOk result (λ w. w ≡ wired source.now flat.now settled.now) }
     {

@@ -4,7 +4,7 @@ ghost use Rattle.domain_table.specs.Tables.{domain_called, domain_labels, has_en
 ghost use Rattle.std.specs.Prelude.{◌≡◌, ◌<◌, length, IfOk, IfSome};
 
 use adl_meaning::Flat;
-use cam_base::{List, NoMemory, Text};
+use cam_base::{List, Made, Text};
 use cspace_layout::end_of;
 use std::alloc::Global;
 
@@ -29,7 +29,7 @@ pub(crate) fn has_end(flat: &Flat, domain: u32, connection: u32, end: u32) -> bo
 }
 
 /// The texts of the labels of all domains.
-pub fn domain_labels(alloc: Global, flat: &Flat) -> Result<List<Text>, NoMemory>
+pub fn domain_labels(alloc: Global, flat: &Flat) -> Made<List<Text>>
     ensures { IfOk result (λ labels. labels ≡ domain_labels flat.now) }
 {
     let mut labels = List::new(alloc);
@@ -40,7 +40,7 @@ pub fn domain_labels(alloc: Global, flat: &Flat) -> Result<List<Text>, NoMemory>
 }
 
 /// The number of the domain with this label, `None` exactly where no domain has it.
-pub fn domain_called(alloc: Global, flat: &Flat, label: &[u8]) -> Result<Option<usize>, NoMemory>
+pub fn domain_called(alloc: Global, flat: &Flat, label: &[u8]) -> Made<Option<usize>>
     ensures called { IfOk result (λ domain. domain ≡ domain_called flat.now label.now) }
     ensures below { IfOk result (λ domain. IfSome domain (λ number. number < length flat.now.domains)) }
 {

@@ -6,7 +6,7 @@ ghost use Rattle.std.specs.Option.{option_map};
 ghost use Rattle.std.specs.Prelude.{◌≡◌, ◌++◌, ◌∷◌, [], IfOk, OnOk};
 
 use crate::row::push_row;
-use cam_base::{Boxed, List, NoMemory, Text, hexadecimal};
+use cam_base::{Boxed, List, Made, Text, hexadecimal};
 use cap_model::{Arch, Cap, Fill, Object, Rights, Spec};
 use itoa::Buffer;
 use std::alloc::Global;
@@ -37,7 +37,7 @@ fn table_slots(object: Option<&Object>) -> &[(u64, Cap)]
     }
 }
 
-fn paddr_text(alloc: Global, paddr: Option<u64>) -> Result<List<u8>, NoMemory>
+fn paddr_text(alloc: Global, paddr: Option<u64>) -> Made<List<u8>>
     ensures { IfOk result (λ text. text ≡ paddr_text paddr) }
 {
     let Some(paddr) = paddr else {
@@ -47,7 +47,7 @@ fn paddr_text(alloc: Global, paddr: Option<u64>) -> Result<List<u8>, NoMemory>
     join(alloc, &[b"at ", hexadecimal(paddr, &mut digits)])
 }
 
-fn fill_text(alloc: Global, fill: &Option<Boxed<Fill>>) -> Result<List<u8>, NoMemory>
+fn fill_text(alloc: Global, fill: &Option<Boxed<Fill>>) -> Made<List<u8>>
     ensures { IfOk result (λ text. text ≡ fill_text fill.now) }
 {
     let Some(fill) = fill else {
@@ -62,7 +62,7 @@ fn fill_text(alloc: Global, fill: &Option<Boxed<Fill>>) -> Result<List<u8>, NoMe
 }
 
 /// What stands in a frame.
-fn frame_text(alloc: Global, object: Option<&Object>) -> Result<List<u8>, NoMemory>
+fn frame_text(alloc: Global, object: Option<&Object>) -> Made<List<u8>>
     ensures { IfOk result (λ text. text ≡ frame_text (option_map (λ o. o.now) object.entry)) }
 {
     match object {
@@ -87,7 +87,7 @@ fn push_page(
     spec: &Spec,
     at: u64,
     cap: &Cap,
-) -> Result<(), NoMemory>
+) -> Made<()>
     ensures { OnOk result (rows.new ≡ rows.old ++ page_row spec.now at cap.now ∷ []) }
 {
     let holds = frame_text(alloc, spec.object(cap.object))?;
@@ -106,7 +106,7 @@ fn push_pages(
     steps: &[u64],
     at: u64,
     cap: &Cap,
-) -> Result<(), NoMemory>
+) -> Made<()>
     ensures { OnOk result (rows.new ≡ rows.old ++ page_rows spec.now steps.now at cap.now) }
 {
     match steps {
@@ -127,7 +127,7 @@ fn push_space(
     spec: &Spec,
     steps: &[u64],
     slots: &[(u64, Cap)],
-) -> Result<(), NoMemory>
+) -> Made<()>
     ensures { OnOk result (rows.new ≡ rows.old ++ space_rows spec.now steps.now slots.now) }
 {
     let [step, below @ ..] = steps else {
@@ -151,11 +151,7 @@ fn object_called<'a>(spec: &'a Spec, name: &[u8]) -> Option<&'a Object>
 }
 
 /// The pages of the space whose root has that name.
-pub(crate) fn pages_of(
-    alloc: Global,
-    spec: &Spec,
-    root: &[u8],
-) -> Result<List<List<Text>>, NoMemory>
+pub(crate) fn pages_of(alloc: Global, spec: &Spec, root: &[u8]) -> Made<List<List<Text>>>
     ensures { IfOk result (λ rows. rows ≡ rows_of_space spec.now root.now) }
 {
     let mut rows = List::new(alloc);

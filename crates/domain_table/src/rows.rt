@@ -9,7 +9,7 @@ ghost use Rattle.system_spec.specs.MapText.{named};
 use crate::domain::{has_end, has_leaf};
 use crate::row::push_row;
 use crate::words::{end_text, lock_text, thread_text};
-use cam_base::{List, NoMemory, Text, hexadecimal};
+use cam_base::{List, Made, Text, hexadecimal};
 use cap_model::{Cap, Object, Spec};
 use itoa::Buffer;
 use std::alloc::Global;
@@ -57,7 +57,7 @@ fn push_slot(
     spec: &Spec,
     place: SlotPlace,
     of: &[u8],
-) -> Result<(), NoMemory>
+) -> Made<()>
     ensures { OnOk result (rows.new ≡ rows.old ++ slot_row spec.now place.domain place.slot place.object of.now ∷ []) }
 {
     let cap = cap_in(spec, place.domain, place.slot);
@@ -76,7 +76,7 @@ fn push_thread(
     spec: &Spec,
     tcb: u32,
     what: &[u8],
-) -> Result<(), NoMemory>
+) -> Made<()>
     ensures { OnOk result (rows.new ≡ rows.old ++ registers_row what.now (name_at spec.now tcb) (object_at spec.now tcb)) }
 {
     match spec.object(tcb) {
@@ -99,7 +99,7 @@ pub(crate) fn push_slot_line(
     names: &MapNames<'_>,
     domain: u32,
     line: MapLine,
-) -> Result<(), NoMemory>
+) -> Made<()>
     ensures { OnOk result (rows.new ≡ rows.old ++ slot_line (named names.now) domain line) }
 {
     match line {
@@ -142,7 +142,7 @@ pub(crate) fn push_thread_line(
     names: &MapNames<'_>,
     domain: u32,
     line: MapLine,
-) -> Result<(), NoMemory>
+) -> Made<()>
     ensures { OnOk result (rows.new ≡ rows.old ++ thread_line (named names.now) domain line) }
 {
     match line {
@@ -161,7 +161,7 @@ pub(crate) fn push_window_line(
     names: &MapNames<'_>,
     domain: u32,
     line: MapLine,
-) -> Result<(), NoMemory>
+) -> Made<()>
     ensures { OnOk result (rows.new ≡ rows.old ++ window_line (named names.now) domain line) }
 {
     match line {

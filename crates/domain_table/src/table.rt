@@ -9,26 +9,21 @@ ghost use Rattle.system_spec.specs.MapText.{named};
 use crate::page::pages_of;
 use crate::row::add_rows;
 use crate::rows::{push_slot_line, push_thread_line, push_window_line};
-use cam_base::{List, Name, NoMemory, Text};
+use cam_base::{List, Made, Name, Text};
 use cap_model::Spec;
 use std::alloc::Global;
 use system_spec::{MapLine, MapNames, Series};
 use view_text::join;
 
 /// The name of the root of a domain's space.
-fn root_name(alloc: Global, spec: &Spec, domain: u32) -> Result<Name, NoMemory>
+fn root_name(alloc: Global, spec: &Spec, domain: u32) -> Made<Name>
     ensures { IfOk result (λ name. name ≡ root_name spec.now domain) }
 {
     Series::of_root(spec.arch).name(alloc, domain as u64)
 }
 
 /// The line above the tables of a domain: its label, its CNode and the root of its space.
-pub fn heading(
-    alloc: Global,
-    names: &MapNames<'_>,
-    domain: u32,
-    label: &[u8],
-) -> Result<List<u8>, NoMemory>
+pub fn heading(alloc: Global, names: &MapNames<'_>, domain: u32, label: &[u8]) -> Made<List<u8>>
     ensures { IfOk result (λ text. text ≡ heading (named names.now) domain label.now) }
 {
     let cnode = Series::CNode.name(alloc, domain as u64)?;
@@ -52,7 +47,7 @@ fn slots(
     names: &MapNames<'_>,
     lines: &[MapLine],
     domain: u32,
-) -> Result<List<List<Text>>, NoMemory>
+) -> Made<List<List<Text>>>
     ensures { IfOk result (λ rows. rows ≡ flat_map (slot_line (named names.now) domain) lines.now) }
 {
     let mut rows = List::new(alloc);
@@ -67,7 +62,7 @@ fn threads(
     names: &MapNames<'_>,
     lines: &[MapLine],
     domain: u32,
-) -> Result<List<List<Text>>, NoMemory>
+) -> Made<List<List<Text>>>
     ensures { IfOk result (λ rows. rows ≡ flat_map (thread_line (named names.now) domain) lines.now) }
 {
     let mut rows = List::new(alloc);
@@ -82,7 +77,7 @@ fn windows(
     names: &MapNames<'_>,
     lines: &[MapLine],
     domain: u32,
-) -> Result<List<List<Text>>, NoMemory>
+) -> Made<List<List<Text>>>
     ensures { IfOk result (λ rows. rows ≡ flat_map (window_line (named names.now) domain) lines.now) }
 {
     let mut rows = List::new(alloc);
@@ -92,7 +87,7 @@ fn windows(
     Ok(rows)
 }
 
-fn pages(alloc: Global, spec: &Spec, domain: u32) -> Result<List<List<Text>>, NoMemory>
+fn pages(alloc: Global, spec: &Spec, domain: u32) -> Made<List<List<Text>>>
     ensures { IfOk result (λ rows. rows ≡ rows_of_space spec.now (root_name spec.now domain)) }
 {
     let root = root_name(alloc, spec, domain)?;
@@ -114,7 +109,7 @@ pub fn tables_in(
     names: &MapNames<'_>,
     lines: &[MapLine],
     domain: u32,
-) -> Result<DomainTables, NoMemory>
+) -> Made<DomainTables>
     ensures { IfOk result (λ tables. tables ≡ tables_in (named names.now) lines.now domain) }
 {
     Ok(DomainTables {
@@ -126,14 +121,14 @@ pub fn tables_in(
 }
 
 #[tactic(auto, unfolding(crate::specs::Tables::table_text))]
-fn add_table(text: &mut List<u8>, head: &[u8], rows: &[List<Text>]) -> Result<(), NoMemory>
+fn add_table(text: &mut List<u8>, head: &[u8], rows: &[List<Text>]) -> Made<()>
     ensures { OnOk result (text.new ≡ text.old ++ table_text head.now rows.now) }
 {
     text.extend(head)?;
     add_rows(text, rows)
 }
 
-fn add_slots(text: &mut List<u8>, rows: &[List<Text>]) -> Result<(), NoMemory>
+fn add_slots(text: &mut List<u8>, rows: &[List<Text>]) -> Made<()>
     ensures { OnOk result (text.new ≡ text.old ++ table_text slot_head rows.now) }
 {
     add_table(
@@ -143,7 +138,7 @@ fn add_slots(text: &mut List<u8>, rows: &[List<Text>]) -> Result<(), NoMemory>
     )
 }
 
-fn add_threads(text: &mut List<u8>, rows: &[List<Text>]) -> Result<(), NoMemory>
+fn add_threads(text: &mut List<u8>, rows: &[List<Text>]) -> Made<()>
     ensures { OnOk result (text.new ≡ text.old ++ table_text thread_head rows.now) }
 {
     add_table(
@@ -153,7 +148,7 @@ fn add_threads(text: &mut List<u8>, rows: &[List<Text>]) -> Result<(), NoMemory>
     )
 }
 
-fn add_windows(text: &mut List<u8>, rows: &[List<Text>]) -> Result<(), NoMemory>
+fn add_windows(text: &mut List<u8>, rows: &[List<Text>]) -> Made<()>
     ensures { OnOk result (text.new ≡ text.old ++ table_text window_head rows.now) }
 {
     add_table(
@@ -163,7 +158,7 @@ fn add_windows(text: &mut List<u8>, rows: &[List<Text>]) -> Result<(), NoMemory>
     )
 }
 
-fn add_pages(text: &mut List<u8>, rows: &[List<Text>]) -> Result<(), NoMemory>
+fn add_pages(text: &mut List<u8>, rows: &[List<Text>]) -> Made<()>
     ensures { OnOk result (text.new ≡ text.old ++ table_text page_head rows.now) }
 {
     add_table(
@@ -173,7 +168,7 @@ fn add_pages(text: &mut List<u8>, rows: &[List<Text>]) -> Result<(), NoMemory>
     )
 }
 
-fn add_tables(text: &mut List<u8>, tables: &DomainTables) -> Result<(), NoMemory>
+fn add_tables(text: &mut List<u8>, tables: &DomainTables) -> Made<()>
     ensures { OnOk result (text.new ≡ text.old ++ tables_text tables.now) }
 {
     add_slots(text, tables.slots.as_slice())?;
@@ -189,7 +184,7 @@ pub fn tables_of(
     lines: &[MapLine],
     domain: u32,
     label: &[u8],
-) -> Result<List<u8>, NoMemory>
+) -> Made<List<u8>>
     ensures { IfOk result (λ text. text ≡ tables_of (named names.now) lines.now domain label.now) }
 {
     let tables = tables_in(alloc, names, lines, domain)?;

@@ -6,14 +6,14 @@ ghost use Rattle.cam_base.specs.Paths.{joined};
 ghost use Rattle.system_spec.specs.MapText.{connection_path, named};
 
 use adl_meaning::Flat;
-use cam_base::{List, NoMemory, Text};
+use cam_base::{List, Made, Text};
 use cspace_layout::{EndAt, end_of};
 use std::alloc::Global;
 use system_spec::{MapNames, member_name};
 use view_text::join;
 
 /// The text of the path of a leaf.
-pub fn leaf_text(alloc: Global, flat: &Flat, leaf: u32) -> Result<Text, NoMemory>
+pub fn leaf_text(alloc: Global, flat: &Flat, leaf: u32) -> Made<Text>
     ensures { IfOk result (λ text. text ≡ leaf_text flat.now leaf) }
 {
     match flat.leaves.as_slice().get(leaf as usize) {
@@ -22,7 +22,7 @@ pub fn leaf_text(alloc: Global, flat: &Flat, leaf: u32) -> Result<Text, NoMemory
     }
 }
 
-fn connection_text(alloc: Global, flat: &Flat, connection: u32) -> Result<Text, NoMemory>
+fn connection_text(alloc: Global, flat: &Flat, connection: u32) -> Made<Text>
     ensures { IfOk result (λ text. text ≡ joined (connection_path flat.now connection)) }
 {
     match flat.connections.as_slice().get(connection as usize) {
@@ -37,7 +37,7 @@ pub(crate) fn end_text(
     names: &MapNames<'_>,
     connection: u32,
     end: u32,
-) -> Result<List<u8>, NoMemory>
+) -> Made<List<u8>>
     ensures { IfOk result (λ text. text ≡ end_text (named names.now) connection end) }
 {
     let Some((_, end)) = end_of(names.flat, connection, end) else {
@@ -58,7 +58,7 @@ pub(crate) fn lock_text(
     names: &MapNames<'_>,
     leaf: u32,
     member: u32,
-) -> Result<List<u8>, NoMemory>
+) -> Made<List<u8>>
     ensures { IfOk result (λ text. text ≡ lock_text (named names.now) leaf member) }
 {
     let path = leaf_text(alloc, names.flat, leaf)?;
@@ -74,7 +74,7 @@ pub(crate) fn thread_text(
     names: &MapNames<'_>,
     leaf: u32,
     end: Option<EndAt>,
-) -> Result<List<u8>, NoMemory>
+) -> Made<List<u8>>
     ensures { IfOk result (λ text. text ≡ thread_text (named names.now) leaf end) }
 {
     match end {

@@ -9,7 +9,7 @@ ghost use Rattle.std.specs.Prelude.{◌≡◌, ◌+◌, ◌<◌, ◌^◌, length
 use crate::{ExplainError, Reason, explain, reason_text, together};
 use adl_ast::Source;
 use adl_meaning::{Flat, Settled};
-use cam_base::{NoMemory, Text};
+use cam_base::{Made, NoMemory, Text};
 use cap_model::Authority;
 use std::alloc::Global;
 
@@ -55,7 +55,7 @@ fn assigned(
     flat: &Flat,
     question: &Question<'_>,
     reason: Reason,
-) -> Result<Answer, NoMemory>
+) -> Made<Answer>
     ensures { IfOk result (λ answer. answer ≡ Told (explanation source.now flat.now question.now.from.now
         question.now.authority.now question.now.to.now reason)) }
 {
@@ -82,7 +82,7 @@ pub fn answer_of(
     flat: &Flat,
     settled: &Settled,
     question: &Question<'_>,
-) -> Result<Answer, NoMemory>
+) -> Made<Answer>
     requires within { IsWithin source.now flat.now }
     requires few { length flat.now.domains + length flat.now.connections + length flat.now.leaves < 2 ^ 32 }
     ensures { IfOk result (IsAnswer (tables_of source.now flat.now settled.now) question.now.from.now

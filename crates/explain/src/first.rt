@@ -11,11 +11,11 @@ use crate::{ExplainError, Reason, Rule};
 use adl_ast::Source;
 use adl_meaning::{Flat, Settled};
 use arch_policy::{Labelling, Tables, labels_of, signal_table};
-use cam_base::{NoMemory, Text};
+use cam_base::{Made, Text};
 use cap_model::{Authority, Edge};
 use std::alloc::Global;
 
-fn direct_reason(search: &Search<'_>, alloc: Global) -> Result<Option<Reason>, NoMemory>
+fn direct_reason(search: &Search<'_>, alloc: Global) -> Made<Option<Reason>>
     requires { CanSearch (told search.now.tables) search.now.signals.now }
     ensures { IfOk result (IsFirstOf (DirectReason (told search.now.tables) search.now.edge)
         (λ d. told_of (told search.now.tables) search.now.edge (by_direct d))) }
@@ -31,7 +31,7 @@ fn direct_reason(search: &Search<'_>, alloc: Global) -> Result<Option<Reason>, N
     }))
 }
 
-fn call_reason(search: &Search<'_>, alloc: Global) -> Result<Option<Reason>, NoMemory>
+fn call_reason(search: &Search<'_>, alloc: Global) -> Made<Option<Reason>>
     requires { CanSearch (told search.now.tables) search.now.signals.now }
     ensures { IfOk result (IsFirstOf (CallReason (told search.now.tables) search.now.edge)
         (λ c. told_of (told search.now.tables) search.now.edge (by_call c))) }
@@ -50,7 +50,7 @@ fn call_reason(search: &Search<'_>, alloc: Global) -> Result<Option<Reason>, NoM
     }))
 }
 
-fn bind_reason(search: &Search<'_>, alloc: Global) -> Result<Option<Reason>, NoMemory>
+fn bind_reason(search: &Search<'_>, alloc: Global) -> Made<Option<Reason>>
     requires { CanSearch (told search.now.tables) search.now.signals.now }
     ensures { IfOk result (IsFirstOf (BindReason (told search.now.tables) search.now.edge)
         (λ b. told_of (told search.now.tables) search.now.edge (by_bind b))) }
@@ -69,7 +69,7 @@ fn bind_reason(search: &Search<'_>, alloc: Global) -> Result<Option<Reason>, NoM
     }))
 }
 
-fn lock_reason(search: &Search<'_>, alloc: Global) -> Result<Option<Reason>, NoMemory>
+fn lock_reason(search: &Search<'_>, alloc: Global) -> Made<Option<Reason>>
     requires { CanSearch (told search.now.tables) search.now.signals.now }
     ensures { IfOk result (IsFirstOf (LockReason (told search.now.tables) search.now.edge)
         (λ k. told_of (told search.now.tables) search.now.edge (by_lock k))) }
@@ -89,7 +89,7 @@ fn lock_reason(search: &Search<'_>, alloc: Global) -> Result<Option<Reason>, NoM
 }
 
 /// The first reason of the edge, in the order of the stages.
-fn first_reason(search: &Search<'_>, alloc: Global) -> Result<Option<Reason>, NoMemory>
+fn first_reason(search: &Search<'_>, alloc: Global) -> Made<Option<Reason>>
     requires { CanSearch (told search.now.tables) search.now.signals.now }
     ensures { IfOk result (IsFirstOf (Why (told search.now.tables) search.now.edge)
         (told_of (told search.now.tables) search.now.edge)) }
@@ -108,7 +108,7 @@ fn first_reason(search: &Search<'_>, alloc: Global) -> Result<Option<Reason>, No
 }
 
 /// The first reason of an edge between different labels.
-fn reason_with(alloc: Global, tables: &Tables<'_>, edge: Edge) -> Result<Option<Reason>, NoMemory>
+fn reason_with(alloc: Global, tables: &Tables<'_>, edge: Edge) -> Made<Option<Reason>>
     requires { IsWithin tables.now.source.now tables.now.flat.now }
     ensures { IfOk result (IsFirstReason (told tables.now) edge) }
 {

@@ -7,7 +7,7 @@ ghost use Rattle.std.specs.Prelude.{◌≡◌, [], IfOk};
 use crate::together;
 use adl_ast::{Id, Member, Role, Source};
 use adl_meaning::{Flat, FlatConnection, FlatEnd};
-use cam_base::{NoMemory, Place, Text};
+use cam_base::{Made, Place, Text};
 use cspace_layout::{end_of, members_at};
 use itoa::Buffer;
 use std::alloc::Global;
@@ -40,7 +40,7 @@ pub struct Teller<'a> {
 
 impl<'a> Teller<'a> {
     /// The line of the connector's rule by which an end is given an authority, empty where there is no such end.
-    pub fn rule_line(self, alloc: Global, end: (u32, u32)) -> Result<Text, NoMemory>
+    pub fn rule_line(self, alloc: Global, end: (u32, u32)) -> Made<Text>
         ensures { IfOk result (λ line. line ≡ rule_line self.entry.flat.now end) }
     {
         match end_of(self.flat, end.0, end.1) {
@@ -61,7 +61,7 @@ impl<'a> Teller<'a> {
         }
     }
 
-    fn place_text(self, alloc: Global, place: Place) -> Result<Text, NoMemory>
+    fn place_text(self, alloc: Global, place: Place) -> Made<Text>
         ensures { IfOk result (λ text. text ≡ place_text self.entry.source.now place) }
     {
         let (mut front, mut back) = (Buffer::new(), Buffer::new());
@@ -71,7 +71,7 @@ impl<'a> Teller<'a> {
         together(alloc, &[file, b":", first, b"-", end])
     }
 
-    fn leaf_path(self, alloc: Global, leaf: u32) -> Result<Text, NoMemory>
+    fn leaf_path(self, alloc: Global, leaf: u32) -> Made<Text>
         ensures { IfOk result (λ text. text ≡ leaf_path self.entry.flat.now leaf) }
     {
         match self.flat.leaves.as_slice().get(leaf as usize) {
@@ -97,7 +97,7 @@ impl<'a> Teller<'a> {
         }
     }
 
-    fn member_path(self, alloc: Global, leaf: u32, member: u32) -> Result<Text, NoMemory>
+    fn member_path(self, alloc: Global, leaf: u32, member: u32) -> Made<Text>
         ensures { IfOk result (λ text. text ≡ member_path self.entry.source.now self.entry.flat.now leaf member) }
     {
         let path = self.leaf_path(alloc, leaf)?;
@@ -105,12 +105,7 @@ impl<'a> Teller<'a> {
         together(alloc, &[path.as_bytes(), b".", name])
     }
 
-    fn line_of_end(
-        self,
-        alloc: Global,
-        connection: &FlatConnection,
-        end: FlatEnd,
-    ) -> Result<Text, NoMemory>
+    fn line_of_end(self, alloc: Global, connection: &FlatConnection, end: FlatEnd) -> Made<Text>
         ensures { IfOk result (λ line. line ≡ line_of_end self.entry.source.now self.entry.flat.now connection.now end) }
     {
         let member = self.member_path(alloc, end.leaf, end.member)?;
@@ -131,7 +126,7 @@ impl<'a> Teller<'a> {
     }
 
     /// The line of an end by the numbers of its connection and of itself, empty where there is no such end.
-    pub fn end_line(self, alloc: Global, end: (u32, u32)) -> Result<Text, NoMemory>
+    pub fn end_line(self, alloc: Global, end: (u32, u32)) -> Made<Text>
         ensures { IfOk result (λ line. line ≡ end_line self.entry.source.now self.entry.flat.now end) }
     {
         let Some(connection) = self.flat.connections.as_slice().get(end.0 as usize) else {
@@ -143,7 +138,7 @@ impl<'a> Teller<'a> {
         }
     }
 
-    fn line_of_lock(self, alloc: Global, lock: (u32, u32), place: Place) -> Result<Text, NoMemory>
+    fn line_of_lock(self, alloc: Global, lock: (u32, u32), place: Place) -> Made<Text>
         ensures { IfOk result (λ line. line ≡ line_of_lock self.entry.source.now self.entry.flat.now lock place) }
     {
         let member = self.member_path(alloc, lock.0, lock.1)?;
@@ -155,7 +150,7 @@ impl<'a> Teller<'a> {
     }
 
     /// The line of a lock by the numbers of its leaf and of the member, empty where there is no such member.
-    pub fn lock_line(self, alloc: Global, lock: (u32, u32)) -> Result<Text, NoMemory>
+    pub fn lock_line(self, alloc: Global, lock: (u32, u32)) -> Made<Text>
         ensures { IfOk result (λ line. line ≡ lock_line self.entry.source.now self.entry.flat.now lock) }
     {
         match self.word_of(lock.0, lock.1) {

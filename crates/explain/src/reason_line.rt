@@ -8,11 +8,11 @@ use crate::lines::Teller;
 use crate::{Reason, Rule, together};
 use adl_ast::Source;
 use adl_meaning::Flat;
-use cam_base::{NoMemory, Text};
+use cam_base::{Made, Text};
 use std::alloc::Global;
 
 impl Teller<'_> {
-    fn rule_text(self, alloc: Global, rule: Rule, end: (u32, u32)) -> Result<Text, NoMemory>
+    fn rule_text(self, alloc: Global, rule: Rule, end: (u32, u32)) -> Made<Text>
         ensures { IfOk result (λ text. text ≡ rule_text self.entry.flat.now rule end) }
     {
         match rule {
@@ -22,7 +22,7 @@ impl Teller<'_> {
         }
     }
 
-    fn second_line(self, alloc: Global, end: Option<(u32, u32)>) -> Result<Text, NoMemory>
+    fn second_line(self, alloc: Global, end: Option<(u32, u32)>) -> Made<Text>
         ensures { IfOk result (λ text. text ≡ option_map_or (end_line self.entry.source.now self.entry.flat.now) end []) }
     {
         match end {
@@ -31,7 +31,7 @@ impl Teller<'_> {
         }
     }
 
-    fn last_line(self, alloc: Global, lock: Option<(u32, u32)>) -> Result<Text, NoMemory>
+    fn last_line(self, alloc: Global, lock: Option<(u32, u32)>) -> Made<Text>
         ensures { IfOk result (λ text. text ≡ option_map_or (lock_line self.entry.source.now self.entry.flat.now) lock []) }
     {
         match lock {
@@ -42,12 +42,7 @@ impl Teller<'_> {
 }
 
 /// The lines of a reason: its rule, its ends, its lock.
-pub fn reason_text(
-    alloc: Global,
-    source: &Source,
-    flat: &Flat,
-    reason: Reason,
-) -> Result<Text, NoMemory>
+pub fn reason_text(alloc: Global, source: &Source, flat: &Flat, reason: Reason) -> Made<Text>
     ensures { IfOk result (λ text. text ≡ reason_text source.now flat.now reason) }
 {
     let teller = Teller { source, flat };

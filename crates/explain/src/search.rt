@@ -11,7 +11,7 @@ ghost use Rattle.std.specs.Prelude.{◌≡◌, ◌<◌, ◌^◌, length, slice_g
 use adl_ast::{Member, Role};
 use adl_meaning::{Connector, FlatConnection, FlatEnd, Leaf};
 use arch_policy::{EndHere, Tables, connection_label, domain_label, leaf_label};
-use cam_base::NoMemory;
+use cam_base::Made;
 use cap_model::{Authority, Edge, EdgeTable};
 use cspace_layout::{is_lock, members_at};
 use std::alloc::Global;
@@ -115,7 +115,7 @@ impl<'a> Search<'a> {
         })
     }
 
-    fn fits(&self, alloc: Global, sought: Sought, here: EndHere<'_>) -> Result<bool, NoMemory>
+    fn fits(&self, alloc: Global, sought: Sought, here: EndHere<'_>) -> Made<bool>
         requires ready { CanSearch (told self.now.tables) self.now.signals.now }
         requires tables { told here.tables ≡ told self.now.tables }
         ensures { IfOk result (λ fit. fit ≡ fits (told self.now.tables) self.now.edge sought here.entry.place
@@ -141,7 +141,7 @@ impl<'a> Search<'a> {
         sought: Sought,
         place: u32,
         connection: &'a FlatConnection,
-    ) -> Result<Option<Found>, NoMemory>
+    ) -> Made<Option<Found>>
         requires few { length connection.now.ends < 2 ^ 32 }
         requires ready { CanSearch (told self.now.tables) self.now.signals.now }
         ensures { IfOk result (IsFirstAt (told self.now.tables) self.now.edge sought place connection.now) }
@@ -169,7 +169,7 @@ impl<'a> Search<'a> {
     }
 
     /// The first of all ends that is one of those that are looked for.
-    pub fn first_end(&self, alloc: Global, sought: Sought) -> Result<Option<Found>, NoMemory>
+    pub fn first_end(&self, alloc: Global, sought: Sought) -> Made<Option<Found>>
         requires { CanSearch (told self.now.tables) self.now.signals.now }
         ensures { IfOk result (IsFirstEnd (told self.now.tables) self.now.edge sought) }
     {

@@ -20,7 +20,7 @@ use adl_program::{Program, program_of};
 use adl_settings::settle_program;
 use adl_types::type_fault;
 use arch_policy::{LabelNumbers, policy_of};
-use cam_base::{Fault, NoMemory, Refused, SourceError, Text, Unread};
+use cam_base::{Fault, Made, NoMemory, Refused, SourceError, Text, Unread};
 use cam_io::Files;
 use cap_model::Policy;
 use std::alloc::Global;
@@ -176,7 +176,7 @@ pub fn in_file(alloc: Global, source: &Source, refused: Refused<Fault>) -> Sourc
 }
 
 /// The name of the file of this number.
-fn name_of_file(alloc: Global, source: &Source, number: u32) -> Result<Text, NoMemory>
+fn name_of_file(alloc: Global, source: &Source, number: u32) -> Made<Text>
     ensures { IfOk result (λ name. name ≡ name_of_file source.now number) }
 {
     match source.files.as_slice().get(number as usize) {

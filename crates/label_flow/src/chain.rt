@@ -9,13 +9,9 @@ ghost use Rattle.std.specs.Prelude.{◌≡◌, ◌<◌, length, IfOk};
 use crate::edges::{count_of, listed};
 use crate::exits::all_exits;
 use crate::search::{Found, Search, find_all};
-use cam_base::List;
+use cam_base::{List, Made};
 use cap_model::{Edge, EdgeTable};
 use std::alloc::Global;
-use view_text::Made;
-
-/// The edges of a chain.
-pub type Edges = List<Edge>;
 
 /// The chain by which a label was found.
 fn chain_to(alloc: Global, edges: &[Edge], search: &Search, last: Found) -> Made<List<Edge>>
@@ -36,7 +32,13 @@ fn chain_to(alloc: Global, edges: &[Edge], search: &Search, last: Found) -> Made
 }
 
 /// The same of edges whose labels are below a count.
-fn flow_by(alloc: Global, edges: &[Edge], count: usize, from: u32, to: u32) -> Made<Option<Edges>>
+fn flow_by(
+    alloc: Global,
+    edges: &[Edge],
+    count: usize,
+    from: u32,
+    to: u32,
+) -> Made<Option<List<Edge>>>
     requires edges { AreBelow count edges.now }
     requires from { from < count }
     requires to { to < count }
@@ -55,7 +57,7 @@ fn flow_by(alloc: Global, edges: &[Edge], count: usize, from: u32, to: u32) -> M
 
 /// A shortest chain of edges by which something passes from one label to another, or `None` where there is none: then
 /// some set of labels, into which nothing flows, has the second and not the first. Looks at each edge at most twice.
-pub fn flow(alloc: Global, edges: &EdgeTable, from: u32, to: u32) -> Made<Option<Edges>>
+pub fn flow(alloc: Global, edges: &EdgeTable, from: u32, to: u32) -> Made<Option<List<Edge>>>
     ensures { IfOk result (λ found. IsFlow edges.now from to found) }
 {
     let edges = listed(alloc, edges)?;

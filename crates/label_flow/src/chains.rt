@@ -5,11 +5,11 @@ ghost use Rattle.policy_text.specs.EdgeLines.{edge_line, name_of, words_line};
 ghost use Rattle.label_flow.specs.Told.{chain_text};
 ghost use Rattle.std.specs.Prelude.{◌≡◌, ◌++◌, [], IfOk, OnOk};
 
-use cam_base::List;
+use cam_base::{List, Made};
 use cap_model::{Edge, Policy};
 use itoa::Buffer;
 use std::alloc::Global;
-use view_text::{Made, add, join};
+use view_text::{add, join};
 
 /// The name of the label of that number, empty where there is none.
 fn name_of(policy: &Policy, label: u32) -> &[u8]

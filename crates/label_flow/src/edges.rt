@@ -3,9 +3,9 @@
 ghost use Rattle.label_flow.specs.Edges.{AreBelow, turned};
 ghost use Rattle.std.specs.Prelude.{◌≡◌, ◌<◌, ◌≤◌, map, IfOk};
 
+use cam_base::Made;
 use cap_model::{Edge, EdgeTable};
 use std::alloc::Global;
-use view_text::Made;
 
 /// The edges of a table, in order.
 pub fn listed(alloc: Global, table: &EdgeTable) -> Made<Vec<Edge>>

@@ -4,10 +4,10 @@ ghost use Rattle.label_flow.specs.Edges.{AreBelow};
 ghost use Rattle.label_flow.specs.Exits.{more_exits, no_exits, AreExits};
 ghost use Rattle.std.specs.Prelude.{◌≡◌, ◌++◌, ◌∷◌, [], length, IfOk, OnOk};
 
+use cam_base::Made;
 use cap_model::Edge;
 use std::alloc::Global;
 use std::marker::Model;
-use view_text::Made;
 
 /// The places of the edges at a label, among all edges.
 #[derive(Drop)]

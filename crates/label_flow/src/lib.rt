@@ -17,7 +17,7 @@ mod search;
 mod sources;
 mod told;
 
-pub use chain::{Edges, flow};
+pub use chain::flow;
 pub use laws::chains_are_flows;
 pub use lines::flows_text;
 pub use sources::{Sources, Upstream};

@@ -6,10 +6,10 @@ ghost use Rattle.std.specs.List.{flat_map};
 ghost use Rattle.std.specs.Prelude.{◌≡◌, ◌++◌, IfOk, OnOk};
 
 use crate::{Sources, Upstream};
-use cam_base::List;
+use cam_base::{List, Made};
 use cap_model::Policy;
 use std::alloc::Global;
-use view_text::{Label, Made, add, join};
+use view_text::{Label, add, join};
 
 /// The name of a label, where it is a source of another one.
 fn add_source(text: &mut List<u8>, sources: &Sources, to: u32, label: &Label) -> Made<()>

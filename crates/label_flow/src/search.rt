@@ -7,9 +7,9 @@ ghost use Rattle.std.specs.Prelude.{◌≡◌, ◌<◌, ◌+◌, length, slice_g
 
 use crate::exits::Exits;
 use crate::passing::passed_to;
+use cam_base::Made;
 use cap_model::Edge;
 use std::alloc::Global;
-use view_text::Made;
 
 /// A label that was found, by the edge at a place, from what stands at a place before it, and by how many edges in all.
 /// Where these are none, it is the label that the search began with, and the places mean nothing.

@@ -9,10 +9,10 @@ ghost use Rattle.std.specs.Prelude.{◌≡◌, map, length, IfOk};
 use crate::edges::{all_turned, count_of};
 use crate::exits::{Exits, all_exits};
 use crate::search::find_all;
+use cam_base::Made;
 use cap_model::{Edge, EdgeTable};
 use std::alloc::Global;
 use std::marker::Model;
-use view_text::Made;
 
 /// The labels that can come to influence a label: this label itself, and those that have a place.
 #[derive(Drop)]

@@ -4,10 +4,9 @@ ghost use Rattle.std.specs.Prelude.{IfOk};
 
 use crate::chains::chain_text;
 use crate::flow;
-use cam_base::List;
+use cam_base::{List, Made};
 use cap_model::Policy;
 use std::alloc::Global;
-use view_text::Made;
 
 /// What is told of two labels of a policy.
 #[derive(Drop)]

@@ -8,7 +8,7 @@ ghost use Rattle.std.specs.List.{filter_map};
 ghost use Rattle.std.specs.Prelude.{◌≡◌, true, IfErr, IfOk, OnOk};
 
 use crate::closing::{CloseError, Closing, passed_to};
-use cam_base::NoMemory;
+use cam_base::Made;
 use cap_model::{Authority, Edge};
 use std::alloc::Global;
 
@@ -46,7 +46,7 @@ pub fn from_others(
     authority: Authority,
     label: u32,
     edges: &[Edge],
-) -> Result<Vec<Edge>, NoMemory>
+) -> Made<Vec<Edge>>
     ensures { IfOk result (λ made. made.items ≡ filter_map (from_other authority label) edges.now) }
 {
     let made = edges
@@ -56,12 +56,7 @@ pub fn from_others(
     Ok(made)
 }
 
-fn to_others(
-    alloc: Global,
-    authority: Authority,
-    label: u32,
-    edges: &[Edge],
-) -> Result<Vec<Edge>, NoMemory>
+fn to_others(alloc: Global, authority: Authority, label: u32, edges: &[Edge]) -> Made<Vec<Edge>>
     ensures { IfOk result (λ made. made.items ≡ filter_map (to_other authority label) edges.now) }
 {
     let made = edges
@@ -72,7 +67,7 @@ fn to_others(
 }
 
 /// The edge as that of each taker.
-fn passed_to_all(alloc: Global, edge: Edge, gifts: &[Edge]) -> Result<Vec<Edge>, NoMemory>
+fn passed_to_all(alloc: Global, edge: Edge, gifts: &[Edge]) -> Made<Vec<Edge>>
     ensures { IfOk result (λ passed. passed.items ≡ filter_map (λ gift. passed_to gift.to edge) gifts.now) }
 {
     let passed = gifts
@@ -83,7 +78,7 @@ fn passed_to_all(alloc: Global, edge: Edge, gifts: &[Edge]) -> Result<Vec<Edge>,
 }
 
 /// The edge as that of all to whom its label gives.
-fn passed(alloc: Global, closing: &Closing<'_>, edge: Edge) -> Result<Vec<Edge>, NoMemory>
+fn passed(alloc: Global, closing: &Closing<'_>, edge: Edge) -> Made<Vec<Edge>>
     requires sound { IsSound closing.now }
     requires known { has closing.now.queue edge ≡ true }
     ensures { IfOk result (λ edges. ArePassed closing.now edge edges.items) }
@@ -94,7 +89,7 @@ fn passed(alloc: Global, closing: &Closing<'_>, edge: Edge) -> Result<Vec<Edge>,
 }
 
 /// The signals that the edge asks for.
-fn asked(alloc: Global, closing: &Closing<'_>, edge: Edge) -> Result<Vec<Edge>, NoMemory>
+fn asked(alloc: Global, closing: &Closing<'_>, edge: Edge) -> Made<Vec<Edge>>
     requires sound { IsSound closing.now }
     requires known { has closing.now.queue edge ≡ true }
     ensures { IfOk result (λ edges. AreAsked closing.now edge edges.items) }
@@ -115,7 +110,7 @@ fn asked(alloc: Global, closing: &Closing<'_>, edge: Edge) -> Result<Vec<Edge>, 
 }
 
 /// The gifts that the edge asks for, between labels that need not share a leader.
-fn gifts(alloc: Global, closing: &Closing<'_>, edge: Edge) -> Result<Vec<Edge>, NoMemory>
+fn gifts(alloc: Global, closing: &Closing<'_>, edge: Edge) -> Made<Vec<Edge>>
     requires sound { IsSound closing.now }
     requires known { has closing.now.queue edge ≡ true }
     ensures { IfOk result (λ gifts. AreGifts closing.now edge gifts.items) }

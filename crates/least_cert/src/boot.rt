@@ -5,7 +5,7 @@ ghost use Rattle.least_cert.specs.BootEdges.{OfHolder, OfHolders, OfOther, OfOth
 ghost use Rattle.std.specs.List.{filter_map};
 ghost use Rattle.std.specs.Prelude.{◌≡◌, [], IfOk, length};
 
-use cam_base::NoMemory;
+use cam_base::Made;
 use cap_machine::{with_each_slot, with_object};
 use cap_model::{Edge, Labels, Object, Spec};
 use std::alloc::Global;
@@ -18,7 +18,7 @@ pub struct Sources {
 }
 
 /// The edges of the boot state, object by object; an edge may stand several times.
-pub fn gathered(alloc: Global, spec: &Spec, labels: &Labels) -> Result<Sources, NoMemory>
+pub fn gathered(alloc: Global, spec: &Spec, labels: &Labels) -> Made<Sources>
     requires { length labels.now.by_object ≡ length spec.now.entries }
     ensures nodes { IfOk result (λ new. Adds (OfHolders spec.now labels.now.by_object) [] new.nodes.items) }
     ensures others { IfOk result (λ new. Adds (OfOthers spec.now labels.now.by_object) [] new.others.items) }
@@ -41,7 +41,7 @@ fn with_source(
     labels: &Labels,
     from: u32,
     object: &Object,
-) -> Result<Sources, NoMemory>
+) -> Made<Sources>
     ensures nodes { IfOk result (λ new.
         Adds (OfHolder spec.now labels.now.by_object from object.now) sources.nodes.items new.nodes.items) }
     ensures others { IfOk result (λ new.
@@ -71,7 +71,7 @@ fn between_labels(edge: Edge) -> Option<Edge>
 }
 
 /// Those of the edges that lie between different labels.
-pub fn links_of(alloc: Global, edges: &[Edge]) -> Result<Vec<Edge>, NoMemory>
+pub fn links_of(alloc: Global, edges: &[Edge]) -> Made<Vec<Edge>>
     ensures { IfOk result (λ links. links.items ≡ filter_map between_labels edges.now) }
 {
     let links = edges

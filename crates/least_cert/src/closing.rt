@@ -10,7 +10,7 @@ ghost use Rattle.least_cert.specs.LeastCertificate.{CloseRefused};
 ghost use Rattle.std.specs.List.{filter_map};
 ghost use Rattle.std.specs.Prelude.{◌≡◌, ◌<◌, ◌≤◌, ◌^◌, ◌↔◌, ◌++◌, ℕ, map, true, IsTrue, IfErr, IfOk, OnOk, length, slice_get, Some};
 
-use cam_base::NoMemory;
+use cam_base::{Made, NoMemory};
 use cap_model::{Authority, Edge, EdgeSet, EdgeTable, Labels, Spec};
 use std::alloc::Global;
 use std::marker::Model;
@@ -71,7 +71,7 @@ pub fn passed_to(label: u32, edge: Edge) -> Option<Edge>
 }
 
 /// The edges as another label's, those that pass on.
-fn passed_to_one(alloc: Global, label: u32, edges: &[Edge]) -> Result<Vec<Edge>, NoMemory>
+fn passed_to_one(alloc: Global, label: u32, edges: &[Edge]) -> Made<Vec<Edge>>
     ensures { IfOk result (λ passed. passed.items ≡ filter_map (passed_to label) edges.now) }
 {
     let passed = edges
@@ -82,7 +82,7 @@ fn passed_to_one(alloc: Global, label: u32, edges: &[Edge]) -> Result<Vec<Edge>,
 }
 
 /// The edges of both lists.
-pub fn with_more(edges: Vec<Edge>, more: &[Edge]) -> Result<Vec<Edge>, NoMemory>
+pub fn with_more(edges: Vec<Edge>, more: &[Edge]) -> Made<Vec<Edge>>
     ensures { IfOk result (λ new. new.items ≡ edges.items ++ more.now) }
 {
     let mut edges = edges;
@@ -91,7 +91,7 @@ pub fn with_more(edges: Vec<Edge>, more: &[Edge]) -> Result<Vec<Edge>, NoMemory>
 }
 
 /// The leaders, with places for the labels up to one.
-fn widened(leaders: Vec<u32>, label: u32) -> Result<Vec<u32>, NoMemory>
+fn widened(leaders: Vec<u32>, label: u32) -> Made<Vec<u32>>
     requires { length leaders.items ≤ 2 ^ 32 }
     ensures { IfOk result (λ new. Widens label leaders.items new.items) }
 {
@@ -132,7 +132,7 @@ fn led_by(from: u32, to: u32, leader: u32) -> u32
 }
 
 /// The leaders, one in place of another.
-fn with_leader(alloc: Global, leaders: &[u32], from: u32, to: u32) -> Result<Vec<u32>, NoMemory>
+fn with_leader(alloc: Global, leaders: &[u32], from: u32, to: u32) -> Made<Vec<u32>>
     ensures { IfOk result (λ new. new.items ≡ map (led_by from to) leaders.now) }
 {
     let new = leaders
@@ -142,7 +142,7 @@ fn with_leader(alloc: Global, leaders: &[u32], from: u32, to: u32) -> Result<Vec
     Ok(new)
 }
 
-fn copied(alloc: Global, leaders: &[u32]) -> Result<Vec<u32>, NoMemory>
+fn copied(alloc: Global, leaders: &[u32]) -> Made<Vec<u32>>
     ensures { IfOk result (λ new. new.items ≡ leaders.now) }
 {
     let new = leaders.iter().copied().collect(alloc)?;
@@ -150,7 +150,7 @@ fn copied(alloc: Global, leaders: &[u32]) -> Result<Vec<u32>, NoMemory>
 }
 
 /// The same for all labels, also where the one had no place.
-fn relabeled(alloc: Global, leaders: &[u32], from: u32, to: u32) -> Result<Vec<u32>, NoMemory>
+fn relabeled(alloc: Global, leaders: &[u32], from: u32, to: u32) -> Made<Vec<u32>>
     requires { length leaders.now ≤ 2 ^ 32 }
     ensures { IfOk result (λ new. IsRelabeled from to leaders.now new.items) }
 {
@@ -161,7 +161,7 @@ fn relabeled(alloc: Global, leaders: &[u32], from: u32, to: u32) -> Result<Vec<u
 }
 
 /// The edges that stay.
-fn staying(alloc: Global, places: usize, edges: &[Edge]) -> Result<Vec<Edge>, NoMemory>
+fn staying(alloc: Global, places: usize, edges: &[Edge]) -> Made<Vec<Edge>>
     ensures { IfOk result (λ new. new.items ≡ filter_map (stays places) edges.now) }
 {
     let new = edges
@@ -233,7 +233,7 @@ impl<'a> Closing<'a> {
     }
 
     /// The edges with an authority out of a label.
-    pub fn out_with(&self, label: u32, authority: Authority) -> Result<Vec<Edge>, NoMemory>
+    pub fn out_with(&self, label: u32, authority: Authority) -> Made<Vec<Edge>>
         requires { IsSound self.now }
         ensures { IfOk result (λ edges. AreOut self.now.queue label authority edges.items) }
     {
@@ -242,7 +242,7 @@ impl<'a> Closing<'a> {
     }
 
     /// The edges with an authority to a label, each turned.
-    pub fn to_with(&self, label: u32, authority: Authority) -> Result<Vec<Edge>, NoMemory>
+    pub fn to_with(&self, label: u32, authority: Authority) -> Made<Vec<Edge>>
         requires { IsSound self.now }
         ensures { IfOk result (λ edges. AreTo self.now.queue label authority edges.items) }
     {
@@ -251,7 +251,7 @@ impl<'a> Closing<'a> {
     }
 
     /// The gifts of a label.
-    pub fn gifts_of(&self, label: u32) -> Result<Vec<Edge>, NoMemory>
+    pub fn gifts_of(&self, label: u32) -> Made<Vec<Edge>>
         requires { IsSound self.now }
         ensures { IfOk result (λ gifts. AreOut self.now.gives label Grant gifts.items) }
     {
@@ -259,7 +259,7 @@ impl<'a> Closing<'a> {
         Ok(gifts)
     }
 
-    fn put(&mut self, edge: Edge) -> Result<(), NoMemory>
+    fn put(&mut self, edge: Edge) -> Made<()>
         ensures { OnOk result (Puts edge self.old self.new) }
     {
         self.known.insert(edge)?;
@@ -334,7 +334,7 @@ impl<'a> Closing<'a> {
     }
 
     /// What the giver has, as the taker's.
-    fn copies(&self, giver: u32, taker: u32) -> Result<Vec<Edge>, NoMemory>
+    fn copies(&self, giver: u32, taker: u32) -> Made<Vec<Edge>>
         requires { IsSound self.now }
         ensures { IfOk result (λ edges. AreCopies self.now giver taker edges.items) }
     {
@@ -405,7 +405,7 @@ impl<'a> Closing<'a> {
         Ok(())
     }
 
-    fn put_gift(&mut self, gift: Edge) -> Result<(), NoMemory>
+    fn put_gift(&mut self, gift: Edge) -> Made<()>
         ensures { OnOk result (PutsGift gift self.old self.new) }
     {
         self.gives.insert(gift)?;
@@ -465,7 +465,7 @@ impl<'a> Closing<'a> {
         Ok(())
     }
 
-    fn relabel(&mut self, to: u32, from: u32) -> Result<(), NoMemory>
+    fn relabel(&mut self, to: u32, from: u32) -> Made<()>
         requires { length self.old.leaders ≤ 2 ^ 32 }
         ensures { OnOk result (Relabels to from self.old self.new) }
     {
@@ -501,7 +501,7 @@ impl<'a> Closing<'a> {
     }
 
     /// The replies that are known, and the edges of labels that have no place among the leaders.
-    fn staying(&self) -> Result<Vec<Edge>, NoMemory>
+    fn staying(&self) -> Made<Vec<Edge>>
         ensures { IfOk result (λ edges. edges.items ≡ filter_map (stays (length self.now.leaders)) self.now.queue) }
     {
         let edges = staying(self.alloc, self.leaders.len(), self.queue.as_slice())?;
@@ -515,7 +515,7 @@ impl<'a> Closing<'a> {
         self.leaders.len()
     }
 
-    fn with_copies(&self, edges: Vec<Edge>, giver: u32, taker: u32) -> Result<Vec<Edge>, NoMemory>
+    fn with_copies(&self, edges: Vec<Edge>, giver: u32, taker: u32) -> Made<Vec<Edge>>
         requires { IsSound self.now }
         ensures { IfOk result (λ new. AddsEdges (IsCopy self.now giver taker) edges.items new.items) }
     {

@@ -10,7 +10,7 @@ ghost use Rattle.std.specs.Prelude.{◌≡◌, ◌≤◌, ◌<◌, ◌↔◌, �
 
 use crate::asking::from_others;
 use crate::closing::{CloseError, Closing, LIMIT, turned, with_more};
-use cam_base::NoMemory;
+use cam_base::Made;
 use cap_model::{Authority, Edge, EdgeSet, EdgeTable};
 use std::alloc::Global;
 
@@ -71,7 +71,7 @@ fn is_over(edges: &EdgeSet) -> bool
 }
 
 /// The Receive edges among the edges, each turned.
-fn receivers(alloc: Global, edges: &[Edge]) -> Result<EdgeSet, NoMemory>
+fn receivers(alloc: Global, edges: &[Edge]) -> Made<EdgeSet>
     ensures { IfOk result (AreReceivers edges.now) }
 {
     let turned = turned_receivers(alloc, edges)?;
@@ -79,7 +79,7 @@ fn receivers(alloc: Global, edges: &[Edge]) -> Result<EdgeSet, NoMemory>
     Ok(receivers)
 }
 
-fn turned_receivers(alloc: Global, edges: &[Edge]) -> Result<Vec<Edge>, NoMemory>
+fn turned_receivers(alloc: Global, edges: &[Edge]) -> Made<Vec<Edge>>
     ensures { IfOk result (λ turned. turned.items ≡ filter_map receiver edges.now) }
 {
     let turned = edges
@@ -99,12 +99,7 @@ fn receiver(edge: Edge) -> Option<Edge>
 }
 
 /// The replies with those that the edge asks for.
-fn with_answers(
-    alloc: Global,
-    replies: EdgeSet,
-    receivers: &EdgeSet,
-    edge: Edge,
-) -> Result<EdgeSet, NoMemory>
+fn with_answers(alloc: Global, replies: EdgeSet, receivers: &EdgeSet, edge: Edge) -> Made<EdgeSet>
     requires { (e : Edge) → has receivers.now e ≡ true → IsLess e }
     ensures { IfOk result (λ new. Adds (IsAnswer receivers.now edge) replies new) }
 {
@@ -120,7 +115,7 @@ fn with_answers(
 }
 
 /// The set with edges more.
-fn with_all(set: EdgeSet, edges: &[Edge]) -> Result<EdgeSet, NoMemory>
+fn with_all(set: EdgeSet, edges: &[Edge]) -> Made<EdgeSet>
     ensures { IfOk result (λ new. (e : Edge) → has new e ≡ (has set e || has edges.now e)) }
 {
     let mut set = set;

@@ -9,7 +9,7 @@ ghost use Rattle.name_tables.specs.ByName.{found};
 ghost use Rattle.std.specs.Option.{option_copied, option_or};
 ghost use Rattle.std.specs.Prelude.{◌≡◌, ◌<◌, ◌%◌, ◌∷◌, ◌++◌, ℕ, [], None, List as Seq, is_some, map, IfOk, OnErr, OnOk};
 
-use cam_base::NoMemory;
+use cam_base::Made;
 use std::alloc::Global;
 use std::collections::BTreeMap;
 use std::hash::{FoldHasher, Hasher};
@@ -64,7 +64,7 @@ impl<'x, V: Drop> Names<'x, V> {
     }
 
     /// Puts a value under its name, where the name has none yet, and answers whether it has one.
-    fn put(&mut self, number: u64, name: &'x [u8], value: V) -> Result<bool, NoMemory>
+    fn put(&mut self, number: u64, name: &'x [u8], value: V) -> Made<bool>
         requires digested { number ≡ digest name.now }
         ensures met { IfOk result (λ met. met ≡ is_some (found self.old name.entry.now)) }
         ensures found { OnOk result ((n : Seq ℕ) → found self.new n ≡ option_or (found self.old n)
@@ -154,7 +154,7 @@ impl<'x, V: Drop> Few<'x, V> {
     }
 
     /// Puts a name at the end.
-    fn push(&mut self, name: &'x [u8], value: V) -> Result<(), NoMemory>
+    fn push(&mut self, name: &'x [u8], value: V) -> Made<()>
         ensures ok { OnOk result (self.new ≡ self.old ++ (name.entry.now, value) ∷ []) }
         ensures err { OnErr result (self.new ≡ self.old) }
     {
@@ -202,7 +202,7 @@ fn place(number: u64, count: usize) -> usize
 
 impl<'x, V: Drop> SpreadNames<'x, V> {
     /// An empty table for so many names.
-    pub fn with_room(alloc: Global, names: usize) -> Result<SpreadNames<'x, V>, NoMemory>
+    pub fn with_room(alloc: Global, names: usize) -> Made<SpreadNames<'x, V>>
         ensures { IfOk result (λ t. (n : Seq ℕ) → spread_found t n ≡ None) }
     {
         let count = names.saturating_add(1);
@@ -229,7 +229,7 @@ impl<'x, V: Drop> SpreadNames<'x, V> {
     }
 
     /// Puts a value under its name, where the name has none yet, and answers whether it has one.
-    pub fn add(&mut self, name: &'x [u8], value: V) -> Result<bool, NoMemory>
+    pub fn add(&mut self, name: &'x [u8], value: V) -> Made<bool>
         ensures met { IfOk result (λ met. met ≡ is_some (spread_found self.old name.entry.now)) }
         ensures found { OnOk result ((n : Seq ℕ) → spread_found self.new n ≡ option_or (spread_found self.old n)
             (found ((name.entry.now, value) ∷ []) n)) }

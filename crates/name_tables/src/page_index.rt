@@ -8,7 +8,7 @@ ghost use Rattle.std.specs.Prelude.{◌≡◌, IfOk};
 
 use crate::reach::Reach;
 use crate::region::Region;
-use cam_base::NoMemory;
+use cam_base::Made;
 use std::alloc::Global;
 use std::marker::Model;
 
@@ -32,7 +32,7 @@ impl Model for PageIndex {
     ghost invariant = { λ s. IsIndex s.regions.items s.reaches.items };
 }
 
-fn in_order(alloc: Global, all: &[Region]) -> Result<Vec<Region>, NoMemory>
+fn in_order(alloc: Global, all: &[Region]) -> Made<Vec<Region>>
     ensures order { IfOk result (λ v. IsInOrder v.items) }
     ensures permutation { IfOk result (λ v. IsPermutation all.now v.items) }
 {
@@ -41,7 +41,7 @@ fn in_order(alloc: Global, all: &[Region]) -> Result<Vec<Region>, NoMemory>
     Ok(regions)
 }
 
-fn reaches(alloc: Global, regions: &[Region]) -> Result<Vec<Reach>, NoMemory>
+fn reaches(alloc: Global, regions: &[Region]) -> Made<Vec<Reach>>
     ensures { IfOk result (λ v. AreReaches regions.now v.items) }
 {
     let mut reach = Reach::none();
@@ -56,7 +56,7 @@ fn reaches(alloc: Global, regions: &[Region]) -> Result<Vec<Reach>, NoMemory>
 
 impl PageIndex {
     /// The index of regions in any order.
-    pub fn new(alloc: Global, all: &[Region]) -> Result<PageIndex, NoMemory>
+    pub fn new(alloc: Global, all: &[Region]) -> Made<PageIndex>
         ensures { IfOk result (λ index. IsPermutation all.now index) }
     {
         let regions = in_order(alloc, all)?;

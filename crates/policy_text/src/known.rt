@@ -12,7 +12,7 @@ ghost use Rattle.std.specs.Prelude.{◌≡◌, ◌<◌, ◌^◌, true, false, �
 
 use crate::number::Digits;
 use crate::words::Words;
-use cam_base::{NoMemory, Text, read_number};
+use cam_base::{Made, Text, read_number};
 use std::alloc::Global;
 use std::collections::BTreeSet;
 
@@ -86,7 +86,7 @@ pub fn near_labels(labels: &[(u32, Text)]) -> u64
 }
 
 /// The numbers of labels.
-pub fn numbers_of(alloc: Global, labels: &[(u32, Text)]) -> Result<BTreeSet<u64>, NoMemory>
+pub fn numbers_of(alloc: Global, labels: &[(u32, Text)]) -> Made<BTreeSet<u64>>
     ensures each { IfOk result (λ set. (n : ℕ) → contains nat_cmp set n ≡ is_some (label_name labels.now n)) }
     ensures small { IfOk result IsSmall }
 {

@@ -6,7 +6,7 @@ ghost use Rattle.name_tables.specs.Naming.{spread_found};
 ghost use Rattle.std.specs.Prelude.{◌≡◌, List as Items, ℕ, Some, length, map, IfErr, IfOk};
 
 use crate::head::Read;
-use cam_base::{List, Name, NoMemory, Refused, Text, TextCode, TextFault};
+use cam_base::{List, Made, Name, NoMemory, Refused, Text, TextCode, TextFault};
 use cap_model::{Entry, Labels, Policy, Spec};
 use name_tables::SpreadNames;
 use std::alloc::Global;
@@ -15,7 +15,7 @@ use std::alloc::Global;
 type Table<'a> = SpreadNames<'a, u32>;
 
 /// The labels that object lines give, by name. The first line of an object counts.
-fn labels_of(alloc: Global, objects: &[(Name, u32)]) -> Result<Table<'_>, NoMemory>
+fn labels_of(alloc: Global, objects: &[(Name, u32)]) -> Made<Table<'_>>
     ensures { IfOk result (λ table. (name : Items ℕ) → spread_found table name ≡ object_label objects.now name) }
 {
     let mut table = SpreadNames::with_room(alloc, objects.len())?;

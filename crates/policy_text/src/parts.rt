@@ -7,7 +7,7 @@ ghost use Rattle.std.specs.Prelude.{[], IfOk, OnOk};
 
 use crate::entry::{Entry, EntryLine};
 use crate::number::Digits;
-use cam_base::{List, Name, NoMemory, Text, is_name};
+use cam_base::{List, Made, Name, Text, is_name};
 use cap_model::{Authority, Edge, EdgeTable, Policy};
 use std::alloc::Global;
 use std::collections::BTreeMap;
@@ -33,7 +33,7 @@ impl Parts {
     }
 
     /// What the lines say.
-    pub fn of(alloc: Global, lines: &[EntryLine]) -> Result<Parts, NoMemory>
+    pub fn of(alloc: Global, lines: &[EntryLine]) -> Made<Parts>
         ensures { IfOk result (λ parts. IsBuilt parts (told_lines lines.now)) }
     {
         let mut parts = Parts::none(alloc);
@@ -43,7 +43,7 @@ impl Parts {
         Ok(parts)
     }
 
-    fn add(&mut self, alloc: Global, entry: Entry) -> Result<(), NoMemory>
+    fn add(&mut self, alloc: Global, entry: Entry) -> Made<()>
         ensures { OnOk result (Builds (meant entry.entry) self.old self.new) }
     {
         match entry {
@@ -57,7 +57,7 @@ impl Parts {
         }
     }
 
-    fn add_label(&mut self, alloc: Global, number: Digits, name: &[u8]) -> Result<(), NoMemory>
+    fn add_label(&mut self, alloc: Global, number: Digits, name: &[u8]) -> Made<()>
         ensures { OnOk result (Builds (label number.entry.text.now name.now) self.old self.new) }
     {
         let text = Text::new(alloc, name)?;
@@ -65,7 +65,7 @@ impl Parts {
         Ok(())
     }
 
-    fn add_object(&mut self, alloc: Global, word: &[u8], number: Digits) -> Result<(), NoMemory>
+    fn add_object(&mut self, alloc: Global, word: &[u8], number: Digits) -> Made<()>
         ensures { OnOk result (Builds (object word.now number.entry.text.now) self.old self.new) }
     {
         if !is_name(word) {
@@ -75,7 +75,7 @@ impl Parts {
         self.objects.push((name, number.value))
     }
 
-    fn add_edge(&mut self, from: Digits, authority: Authority, to: Digits) -> Result<(), NoMemory>
+    fn add_edge(&mut self, from: Digits, authority: Authority, to: Digits) -> Made<()>
         ensures { OnOk result (Builds (edge from.entry.text.now authority to.entry.text.now) self.old self.new) }
     {
         self.edges.push(Edge {
@@ -87,7 +87,7 @@ impl Parts {
     }
 
     /// The policy of the parts.
-    pub fn into_policy(self, alloc: Global) -> Result<Policy, NoMemory>
+    pub fn into_policy(self, alloc: Global) -> Made<Policy>
         ensures { IfOk result (IsPolicyOf self) }
     {
         let Parts {

@@ -19,7 +19,7 @@ use crate::number::Digits;
 use crate::parts::Parts;
 use crate::seen::{Expected, MAX_EDGES, Seen};
 use crate::words::Words;
-use cam_base::{Line, NoMemory, TextCode, refusal};
+use cam_base::{Line, Made, TextCode, refusal};
 use cap_model::{EdgeTable, Policy};
 use std::alloc::Global;
 
@@ -79,7 +79,7 @@ pub struct Noted<'a> {
 
 impl<'a> Noted<'a> {
     /// Takes in a line.
-    fn add(&mut self, told: EntryLine<'a>) -> Result<(), NoMemory>
+    fn add(&mut self, told: EntryLine<'a>) -> Made<()>
         ensures { OnOk result (Notes (told_line told.entry) self.old self.new) }
     {
         self.lines.push(told)?;
@@ -94,7 +94,7 @@ impl<'a> Noted<'a> {
     }
 
     /// Takes in the number of a label line.
-    fn add_number(&mut self, number: Digits<'a>) -> Result<(), NoMemory>
+    fn add_number(&mut self, number: Digits<'a>) -> Made<()>
         ensures added { OnOk result (IsAdded number.entry.text.now self.old.numbers self.new.numbers) }
         ensures near { OnOk result (IsNear self.old.near.items self.old.numbers → IsNear self.new.near.items self.new.numbers) }
         ensures edges { self.new.edges ≡ self.old.edges }

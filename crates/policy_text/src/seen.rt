@@ -16,7 +16,7 @@ use crate::head::Read;
 use crate::known::Known;
 use crate::number::{Digits, is_past};
 use crate::words::Words;
-use cam_base::{NoMemory, TextCode, refusal};
+use cam_base::{Made, TextCode, refusal};
 use std::alloc::Global;
 
 /// The most labels of a text.
@@ -53,7 +53,7 @@ pub struct Seen<'a> {
 }
 
 /// The edges of no lines, where edges are kept.
-fn no_edges<'a>(alloc: Global, few: bool) -> Result<Option<Words<'a>>, NoMemory>
+fn no_edges<'a>(alloc: Global, few: bool) -> Made<Option<Words<'a>>>
     ensures edges { IfOk result (λ edges. IfSome edges (HasEdges [])) }
     ensures few { IfOk result (λ edges. IfNone edges (few ≡ true)) }
 {
@@ -66,7 +66,7 @@ fn no_edges<'a>(alloc: Global, few: bool) -> Result<Option<Words<'a>>, NoMemory>
 
 impl<'a> Seen<'a> {
     /// Nothing is said.
-    pub fn nothing(alloc: Global, expected: Expected) -> Result<Seen<'a>, NoMemory>
+    pub fn nothing(alloc: Global, expected: Expected) -> Made<Seen<'a>>
         ensures seen { IfOk result (λ seen. IsSeen seen []) }
         ensures few { IfOk result (λ seen. IfNone seen.edges (expected.few_edges ≡ true)) }
     {
@@ -171,7 +171,7 @@ impl<'a> Seen<'a> {
     }
 
     /// Takes in the entry of a line with which nothing is wrong.
-    fn add(&mut self, text: &'a [u8], entry: Entry<'a>) -> Result<(), NoMemory>
+    fn add(&mut self, text: &'a [u8], entry: Entry<'a>) -> Made<()>
         ensures takes { OnOk result (Takes (meant entry.entry) text.entry.now self.old self.new) }
         ensures few { is_none self.new.edges ≡ is_none self.old.edges }
     {

@@ -3,7 +3,7 @@
 ghost use Rattle.policy_text.specs.WordSets.{has, IsAdded};
 ghost use Rattle.std.specs.Prelude.{◌≡◌, ◌+◌, ◌||◌, false, List, ℕ, IfOk, OnOk};
 
-use cam_base::NoMemory;
+use cam_base::{Made, NoMemory};
 use name_tables::SpreadNames;
 use std::alloc::Global;
 
@@ -16,7 +16,7 @@ pub struct Words<'a> {
 
 impl<'a> Words<'a> {
     /// The set without words, with room for so many.
-    pub fn with_room(alloc: Global, room: usize) -> Result<Words<'a>, NoMemory>
+    pub fn with_room(alloc: Global, room: usize) -> Made<Words<'a>>
         ensures none { IfOk result (λ set. (word : List ℕ) → has set word ≡ false) }
         ensures len { IfOk result (λ set. set.len ≡ 0) }
     {
@@ -34,7 +34,7 @@ impl<'a> Words<'a> {
     }
 
     /// Puts the word into the set.
-    pub fn add(&mut self, word: &'a [u8]) -> Result<(), NoMemory>
+    pub fn add(&mut self, word: &'a [u8]) -> Made<()>
         ensures { OnOk result (IsAdded word.entry.now self.old self.new) }
     {
         let more = match self.len.checked_add(1) {

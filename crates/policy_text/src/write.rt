@@ -7,12 +7,12 @@ ghost use Rattle.std.specs.List.{flat_map};
 ghost use Rattle.std.specs.Prelude.{◌≡◌, decimal};
 
 use cam_base::{Name, Text, decimal};
-use cam_io::{Failed, Outputs, Writer};
+use cam_io::{Outputs, Writer, Written};
 use cap_model::{Edge, EdgeTable, Policy};
 use itoa::Buffer;
 
 /// Writes the text of a policy to an open channel: `specs/PolicyLines.antt`. After a failure the channel has a front of it.
-pub fn write_policy<O: Outputs>(policy: &Policy, out: &mut O, channel: u8) -> Result<(), Failed>
+pub fn write_policy<O: Outputs>(policy: &Policy, out: &mut O, channel: u8) -> Written
     requires { IsOpen (O.sink out.old) channel }
     ensures { Writes result channel (policy_text policy.now)
         (O.sink out.old) (O.sink out.new) (O.faults out.old) (O.faults out.new) }
@@ -26,7 +26,7 @@ pub fn write_policy<O: Outputs>(policy: &Policy, out: &mut O, channel: u8) -> Re
 }
 
 /// Writes the text of a certificate to an open channel: `specs/PolicyLines.antt`. After a failure the channel has a front of it.
-pub fn write_cert<O: Outputs>(cert: &EdgeTable, out: &mut O, channel: u8) -> Result<(), Failed>
+pub fn write_cert<O: Outputs>(cert: &EdgeTable, out: &mut O, channel: u8) -> Written
     requires { IsOpen (O.sink out.old) channel }
     ensures { Writes result channel (cert_text cert.now) (O.sink out.old) (O.sink out.new) (O.faults out.old) (O.faults out.new) }
 {

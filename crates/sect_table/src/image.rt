@@ -1,8 +1,5 @@
-use cam_base::{List, Name, NoMemory};
+use cam_base::{List, Name};
 use cap_model::Arch;
-
-/// What is made, unless memory runs out.
-pub type Made<T> = Result<T, NoMemory>;
 
 /// A section of a program: whole pages of its address space.
 #[derive(Drop)]

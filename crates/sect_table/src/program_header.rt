@@ -11,8 +11,7 @@ use crate::Section;
 use crate::class::Class;
 use crate::fault::{ElfCode, ElfFault};
 use crate::field::{ends_within, field};
-use crate::image::Made;
-use cam_base::{List, Name};
+use cam_base::{List, Made, Name};
 use itoa::Buffer;
 use std::alloc::Global;
 

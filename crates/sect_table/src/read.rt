@@ -11,11 +11,10 @@ use crate::class::Class;
 use crate::fault::{ElfCode, ElfFault};
 use crate::file_header::FileHeader;
 use crate::first_fault::{headers_fault, read_class, table_fault};
-use crate::image::Made;
 use crate::program_header::ProgramHeader;
 use crate::program_headers::ProgramHeaders;
 use crate::{Image, MAX_SECTIONS, Section};
-use cam_base::{List, Name, Refused};
+use cam_base::{List, Made, Name, Refused};
 use std::alloc::Global;
 
 /// Adds the zeros behind the file bytes of a program header.

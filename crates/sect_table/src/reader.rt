@@ -8,9 +8,9 @@ ghost use Rattle.cam_base.specs.Fields.{spaced_fields};
 ghost use Rattle.cam_base.specs.LinesLeft.{line_of, lines_left};
 
 use crate::header::read_header;
-use crate::image::{Header, Image, Made, Section};
+use crate::image::{Header, Image, Section};
 use crate::section::read_section;
-use cam_base::{Code, Fault, Line, Lines, List, Name, Place, Refused, Text, spaced_fields};
+use cam_base::{Code, Fault, Line, Lines, List, Made, Name, Place, Refused, Text, spaced_fields};
 use std::alloc::Global;
 
 /// The most sections of a table.

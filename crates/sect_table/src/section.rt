@@ -5,8 +5,8 @@ ghost use Rattle.cam_base.specs.Names.{is_name};
 ghost use Rattle.std.specs.Prelude.{◌≡◌, ◌∷◌, [], IfOk, IsTrue};
 ghost use Rattle.cam_base.specs.LineTexts.{texts};
 
-use crate::image::{Made, Section};
-use cam_base::{Name, is_name, read_number};
+use crate::image::Section;
+use cam_base::{Made, Name, is_name, read_number};
 use std::alloc::Global;
 
 /// The address and size of a section, whether it may be written, and its place in the file.

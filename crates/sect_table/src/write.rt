@@ -8,12 +8,12 @@ ghost use Rattle.std.specs.Prelude.{◌≡◌};
 
 use crate::{Image, Section};
 use cam_base::hexadecimal;
-use cam_io::{Failed, Outputs, Writer};
+use cam_io::{Outputs, Writer, Written};
 use cap_model::Arch;
 
 /// Writes the section table of an image to an open channel. `specs/Texts.antt` has its text. After a failure, which
 /// comes only where the outputs' count rose, the channel has a front of it. Takes no memory.
-pub fn write_sections<O: Outputs>(image: &Image, out: &mut O, channel: u8) -> Result<(), Failed>
+pub fn write_sections<O: Outputs>(image: &Image, out: &mut O, channel: u8) -> Written
     requires { IsOpen (O.sink out.old) channel }
     ensures { Writes result channel (table_text image.now) (O.sink out.old) (O.sink out.new) (O.faults out.old)
         (O.faults out.new) }

@@ -5,7 +5,7 @@ ghost use Rattle.cam_io.specs.Reading.{InAll, KeepsFiles, LearnsOnly};
 ghost use Rattle.source_commands.specs.Explained.{IsExplained, told};
 ghost use Rattle.std.specs.Prelude.{◌≡◌};
 
-use cam_base::{NoMemory, SourceError, Unread};
+use cam_base::{Made, NoMemory, SourceError, Unread};
 use cam_io::Files;
 use explain::{Answer, Question, answer_of};
 use front_end::front;
@@ -36,7 +36,7 @@ pub fn explain<F: Files>(
     }
 }
 
-fn told(answer: Result<Answer, NoMemory>) -> Result<Answer, SourceError>
+fn told(answer: Made<Answer>) -> Result<Answer, SourceError>
     ensures { result ≡ told answer }
 {
     match answer {

@@ -8,7 +8,7 @@ ghost use Rattle.source_commands.specs.Listed.{IsListed, listing_text};
 ghost use Rattle.std.specs.Prelude.{◌≡◌};
 
 use cam_base::SourceError;
-use cam_io::{Failed, Files, Outputs, Writer};
+use cam_io::{Files, Outputs, Writer, Written};
 use cap_model::{EdgeTable, Policy};
 use front_end::front;
 use policy_text::{Names, write_edges};
@@ -60,7 +60,7 @@ pub fn list<F: Files>(alloc: Global, files: &mut F, root: &str) -> Result<Listin
 }
 
 /// Writes a line for each edge to an open channel, in their order. Takes no memory.
-pub fn write_listing<O: Outputs>(listing: &Listing, out: &mut O, channel: u8) -> Result<(), Failed>
+pub fn write_listing<O: Outputs>(listing: &Listing, out: &mut O, channel: u8) -> Written
     requires { IsOpen (O.sink out.old) channel }
     ensures { Writes result channel (listing_text listing.now) (O.sink out.old) (O.sink out.new) (O.faults out.old)
         (O.faults out.new) }

@@ -8,7 +8,7 @@ ghost use Rattle.std.specs.List.Sorted.{IsPermutation};
 ghost use Rattle.std.specs.Prelude.{◌≡◌, ◌<◌, ℕ, false, length, map, slice_index_or, IfOk};
 
 use crate::sections::{Placed, page_count};
-use cam_base::NoMemory;
+use cam_base::Made;
 use name_tables::{PageIndex, Region};
 use std::alloc::Global;
 
@@ -23,7 +23,7 @@ fn region_of(placed: &Placed<'_>) -> Region
     }
 }
 
-fn index_of(alloc: Global, sections: &[Placed<'_>]) -> Result<PageIndex, NoMemory>
+fn index_of(alloc: Global, sections: &[Placed<'_>]) -> Made<PageIndex>
     ensures { IfOk result (λ index. IsPermutation (map region_of (sections_told sections.now)) index) }
 {
     let mut regions = Vec::with_capacity(alloc, sections.len())?;
@@ -34,11 +34,7 @@ fn index_of(alloc: Global, sections: &[Placed<'_>]) -> Result<PageIndex, NoMemor
 }
 
 /// Which images have a section that has a page of another one, of so many images.
-pub fn clashing(
-    alloc: Global,
-    sections: &[Placed<'_>],
-    images: usize,
-) -> Result<Vec<bool>, NoMemory>
+pub fn clashing(alloc: Global, sections: &[Placed<'_>], images: usize) -> Made<Vec<bool>>
     requires { (x : Told) → IsIn x (sections_told sections.now) → x.image < images }
     ensures count { IfOk result (λ v. length v.items ≡ images) }
     ensures marks { IfOk result (λ v. (m : ℕ) → slice_index_or v.items m false ≡ clashes (sections_told sections.now) m) }

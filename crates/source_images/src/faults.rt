@@ -11,7 +11,7 @@ use crate::clashes::clashing;
 use crate::images::{Images, sections_end};
 use crate::sections::{is_inside, sections_of};
 use adl_meaning::{Earliest, Flat};
-use cam_base::{Code, Fault, NoMemory, Place};
+use cam_base::{Code, Fault, Made, Place};
 use sect_table::Image;
 use std::alloc::Global;
 
@@ -88,7 +88,7 @@ fn note_domain<'a>(
     images: &'a Images,
     leaves: &[u32],
     first: &mut Earliest<'a>,
-) -> Result<(), NoMemory>
+) -> Made<()>
     requires numbered { AreNumbered flat.now images.now }
     requires leaves { (leaf : ℕ) → IsIn leaf leaves.now → leaf < length flat.now.leaves }
     ensures { OnOk result (first.new ≡ noted first.old (domain_faults flat.now images.now leaves.now)) }
@@ -100,11 +100,7 @@ fn note_domain<'a>(
 }
 
 /// The first fault of address spaces, none exactly where none stands: `specs/SpaceFaults.antt`.
-pub fn first_space_fault(
-    alloc: Global,
-    flat: &Flat,
-    images: &Images,
-) -> Result<Option<Fault>, NoMemory>
+pub fn first_space_fault(alloc: Global, flat: &Flat, images: &Images) -> Made<Option<Fault>>
     requires { AreNumbered flat.now images.now }
     ensures { IfOk result (λ f. f ≡ first_space_fault flat.now images.now) }
 {

@@ -5,7 +5,7 @@ ghost use Rattle.source_images.specs.Told.{merged, merged_with, none_merged, wit
 ghost use Rattle.std.specs.Prelude.{◌≡◌, IfOk, OnOk};
 
 use crate::reading::Reading;
-use cam_base::{Code, Fault, List, NoMemory, Place, Text};
+use cam_base::{Code, Fault, List, Made, Place, Text};
 use cap_model::Arch;
 use sect_table::Image;
 use std::alloc::Global;
@@ -42,7 +42,7 @@ impl Merged {
     }
 
     /// Adds an image, whose first line stands at that place.
-    fn add_image(&mut self, alloc: Global, image: Image, place: Place) -> Result<(), NoMemory>
+    fn add_image(&mut self, alloc: Global, image: Image, place: Place) -> Made<()>
         ensures { OnOk result (self.new ≡ with_image self.old image place) }
     {
         if is_other(self.arch, image.arch) {
@@ -58,7 +58,7 @@ impl Merged {
     }
 
     /// Adds what was read of a table, unless a fault was found.
-    fn add(&mut self, alloc: Global, reading: Reading) -> Result<(), NoMemory>
+    fn add(&mut self, alloc: Global, reading: Reading) -> Made<()>
         ensures { OnOk result (self.new ≡ merged_with self.old reading) }
     {
         if self.fault.is_some() {
@@ -76,7 +76,7 @@ impl Merged {
 }
 
 /// What comes of all that is read.
-pub fn merge(alloc: Global, readings: List<Reading>) -> Result<Merged, NoMemory>
+pub fn merge(alloc: Global, readings: List<Reading>) -> Made<Merged>
     ensures { IfOk result (λ m. m ≡ merged readings) }
 {
     let mut merged = Merged::none(alloc);

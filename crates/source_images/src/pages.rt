@@ -10,7 +10,7 @@ ghost use Rattle.std.specs.Prelude.{◌≡◌, ◌<◌, ◌-◌, ◌^◌, ◌++�
 
 use crate::images::Images;
 use crate::sections::{Placed, page_count, sections_of};
-use cam_base::{Boxed, List, Name, NoMemory, Text};
+use cam_base::{Boxed, List, Made, Name, Text};
 use cap_model::Fill;
 use sect_table::Section;
 use std::alloc::Global;
@@ -25,12 +25,7 @@ pub struct SectionPage {
 }
 
 /// What page `number` of a section is filled with, from the file of that name.
-fn fill_of(
-    alloc: Global,
-    file: &Name,
-    section: &Section,
-    number: u64,
-) -> Result<Option<Boxed<Fill>>, NoMemory>
+fn fill_of(alloc: Global, file: &Name, section: &Section, number: u64) -> Made<Option<Boxed<Fill>>>
     requires sound { IsTrue (is_sound section.now) }
     requires number { number < page_count section.now }
     ensures { IfOk result (λ r. r ≡ fill_of file.now section.now number) }
@@ -49,12 +44,7 @@ fn fill_of(
 }
 
 /// Page `number` of a section.
-fn page_at(
-    alloc: Global,
-    file: &Name,
-    section: &Section,
-    number: u64,
-) -> Result<SectionPage, NoMemory>
+fn page_at(alloc: Global, file: &Name, section: &Section, number: u64) -> Made<SectionPage>
     requires sound { IsTrue (is_sound section.now) }
     requires number { number < page_count section.now }
     ensures { IfOk result (λ page. page ≡ page_at file.now section.now number) }
@@ -71,7 +61,7 @@ fn push_pages(
     file: &Name,
     section: &Section,
     pages: &mut List<SectionPage>,
-) -> Result<(), NoMemory>
+) -> Made<()>
     requires { IsTrue (is_sound section.now) }
     ensures { OnOk result (pages.new ≡ pages.old ++ map (page_at file.now section.now)
         (range_with_len 0 (page_count section.now))) }
@@ -82,11 +72,7 @@ fn push_pages(
     Ok(())
 }
 
-fn by_address<'a>(
-    alloc: Global,
-    images: &'a Images,
-    leaves: &[u32],
-) -> Result<Vec<Placed<'a>>, NoMemory>
+fn by_address<'a>(alloc: Global, images: &'a Images, leaves: &[u32]) -> Made<Vec<Placed<'a>>>
     requires { AreApart images.now leaves.now }
     ensures { IfOk result (λ v. sections_told v.items ≡ by_address (sections_of images.now leaves.now)) }
 {
@@ -96,11 +82,7 @@ fn by_address<'a>(
 }
 
 /// The pages of the programs that leaves run, by address: `specs/ByAddress.antt`.
-pub fn section_pages(
-    alloc: Global,
-    images: &Images,
-    leaves: &[u32],
-) -> Result<List<SectionPage>, NoMemory>
+pub fn section_pages(alloc: Global, images: &Images, leaves: &[u32]) -> Made<List<SectionPage>>
     requires { AreApart images.now leaves.now }
     ensures { IfOk result (λ pages. pages ≡ section_pages images.now leaves.now) }
 {
@@ -114,7 +96,7 @@ pub fn section_pages(
 }
 
 /// How many pages the programs have that leaves run, at most the greatest number of 64 bits.
-pub fn section_page_count(alloc: Global, images: &Images, leaves: &[u32]) -> Result<u64, NoMemory>
+pub fn section_page_count(alloc: Global, images: &Images, leaves: &[u32]) -> Made<u64>
     requires { AreCounted images.now }
     ensures { IfOk result (λ n. n ≡ min (section_page_count images.now leaves.now) (2 ^ 64 - 1)) }
 {

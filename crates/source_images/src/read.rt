@@ -18,7 +18,7 @@ use crate::tables::{Table, folder_of, tables_of};
 use crate::types::{numbers_of, types_of};
 use adl_ast::Source;
 use adl_meaning::{Flat, is_before};
-use cam_base::{Fault, List, NoMemory, SourceError, Text, Unread};
+use cam_base::{Fault, List, Made, SourceError, Text, Unread};
 use cam_io::Files;
 use name_tables::NameTable;
 use std::alloc::Global;
@@ -41,12 +41,7 @@ fn first_of(missing: Option<Fault>, line: Option<Fault>) -> Option<Fault>
 }
 
 /// The name of the file of this number.
-fn file_name(
-    alloc: Global,
-    source: &Source,
-    tables: &[Table<'_>],
-    file: u32,
-) -> Result<Text, NoMemory>
+fn file_name(alloc: Global, source: &Source, tables: &[Table<'_>], file: u32) -> Made<Text>
     ensures { IfOk result (λ name. name ≡ file_name source.now (tables_told tables.now) file) }
 {
     let file = file as usize;

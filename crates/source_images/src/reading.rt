@@ -11,7 +11,7 @@ ghost use Rattle.std.specs.Prelude.{◌≡◌, ◌+◌, ◌<◌, ◌≤◌, ◌^
 ghost use Rattle.cam_base.specs.Lines.{lines};
 
 use crate::tables::Table;
-use cam_base::{Fault, Lines, List, NoMemory, Place, Refused, SourceError, Text, Unread};
+use cam_base::{Fault, Lines, List, Made, NoMemory, Place, Refused, SourceError, Text, Unread};
 use cam_io::{FileBytes, Files, WholeError, see_whole};
 use sect_table::{Image, read_sections};
 use std::alloc::Global;
@@ -50,12 +50,7 @@ fn first_place(file: u32, bytes: &[u8]) -> Place
 }
 
 /// What is read of these bytes, as the table of a type.
-fn reading_of(
-    alloc: Global,
-    file: u32,
-    table: &Table<'_>,
-    bytes: &[u8],
-) -> Result<Reading, NoMemory>
+fn reading_of(alloc: Global, file: u32, table: &Table<'_>, bytes: &[u8]) -> Made<Reading>
     ensures { IfOk result (λ r. r ≡ reading_of file (table_told table.now) (given bytes.now)) }
 {
     match read_sections(alloc, file, table.name, bytes) {

@@ -6,7 +6,7 @@ ghost use Rattle.source_images.specs.SectionPages.{page_count, is_inside, sectio
 ghost use Rattle.std.specs.Prelude.{◌≡◌, ◌<◌, ◌^◌, ◌++◌, length, true, IfOk, OnOk};
 
 use crate::images::Images;
-use cam_base::NoMemory;
+use cam_base::Made;
 use sect_table::{Image, Section};
 use std::alloc::Global;
 
@@ -45,11 +45,7 @@ fn is_run(images: &Images, leaves: &[u32], number: u32) -> bool
         .any(|leaf| images.number_of(*leaf) == Some(number))
 }
 
-fn push_sections<'a>(
-    number: u32,
-    image: &'a Image,
-    found: &mut Vec<Placed<'a>>,
-) -> Result<(), NoMemory>
+fn push_sections<'a>(number: u32, image: &'a Image, found: &mut Vec<Placed<'a>>) -> Made<()>
     requires { length image.now.sections < 2 ^ 32 }
     ensures { OnOk result (sections_told found.new.items ≡ sections_told found.old.items ++ sections_if true number image.now) }
 {
@@ -64,11 +60,7 @@ fn push_sections<'a>(
 }
 
 /// The sections of the programs that leaves run, those of each program once.
-pub fn sections_of<'a>(
-    alloc: Global,
-    images: &'a Images,
-    leaves: &[u32],
-) -> Result<Vec<Placed<'a>>, NoMemory>
+pub fn sections_of<'a>(alloc: Global, images: &'a Images, leaves: &[u32]) -> Made<Vec<Placed<'a>>>
     requires { AreCounted images.now }
     ensures { IfOk result (λ v. sections_told v.items ≡ sections_of images.now leaves.now) }
 {

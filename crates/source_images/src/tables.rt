@@ -5,7 +5,7 @@ ghost use Rattle.source_images.specs.Told.{names_told, table_at, tables_told};
 ghost use Rattle.std.specs.Prelude.{◌≡◌, map, IfOk, string_bytes};
 ghost use Rattle.std.specs.Str.{IsUtf8};
 
-use cam_base::{Name, NoMemory};
+use cam_base::{Made, Name};
 use std::alloc::Global;
 use std::str::from_utf8;
 
@@ -39,7 +39,7 @@ pub fn folder_of(name: &str) -> &str
 }
 
 /// The name of the table of a type, in this folder.
-fn table_name(alloc: Global, folder: &str, name: &Name) -> Result<String, NoMemory>
+fn table_name(alloc: Global, folder: &str, name: &Name) -> Made<String>
     ensures { IfOk result (λ file. string_bytes file ≡ table_name folder.now name.now) }
 {
     let mut file = String::from_str(alloc, folder)?;
@@ -49,11 +49,7 @@ fn table_name(alloc: Global, folder: &str, name: &Name) -> Result<String, NoMemo
 }
 
 /// The tables of types, in this folder.
-pub fn tables_of<'a>(
-    alloc: Global,
-    folder: &str,
-    names: &[&'a Name],
-) -> Result<Vec<Table<'a>>, NoMemory>
+pub fn tables_of<'a>(alloc: Global, folder: &str, names: &[&'a Name]) -> Made<Vec<Table<'a>>>
     ensures { IfOk result (λ tables. tables_told tables.items ≡ map (table_at folder.now) (names_told names.now)) }
 {
     let mut tables = Vec::new(alloc);

@@ -9,7 +9,7 @@ ghost use Rattle.std.specs.Str.{bytes_eq};
 
 use adl_ast::{Item, Source};
 use adl_meaning::{Flat, Leaf};
-use cam_base::{List, Name, NoMemory};
+use cam_base::{List, Made, Name};
 use name_tables::NameTable;
 use std::alloc::Global;
 
@@ -38,7 +38,7 @@ fn type_of<'a>(source: &'a Source, leaf: &Leaf) -> Option<&'a Name>
 
 impl<'a> Types<'a> {
     /// Adds a type, unless it is there.
-    fn add(&mut self, name: &'a Name) -> Result<(), NoMemory>
+    fn add(&mut self, name: &'a Name) -> Made<()>
         requires few { length self.old.names.items < 2 ^ 32 }
         requires told { (n : Items ℕ) → found self.old.numbers n ≡ position (bytes_eq n) (names_told self.old.names.items) }
         ensures told { OnOk result ((n : Items ℕ)
@@ -56,7 +56,7 @@ impl<'a> Types<'a> {
 }
 
 /// The types of a system's software.
-pub fn types_of<'a>(alloc: Global, source: &'a Source, flat: &Flat) -> Result<Types<'a>, NoMemory>
+pub fn types_of<'a>(alloc: Global, source: &'a Source, flat: &Flat) -> Made<Types<'a>>
     requires { length flat.now.leaves < 2 ^ 32 }
     ensures told { IfOk result (λ t. (n : Items ℕ) → found t.numbers n
         ≡ position (bytes_eq n) (types source.entry.now flat.now)) }
@@ -88,7 +88,7 @@ pub fn numbers_of(
     source: &Source,
     flat: &Flat,
     numbers: &NameTable<'_, u32>,
-) -> Result<List<Option<u32>>, NoMemory>
+) -> Made<List<Option<u32>>>
     requires { (n : Items ℕ) → found numbers.now n ≡ position (bytes_eq n) (types source.now flat.now) }
     ensures { IfOk result (λ list. list ≡ map (type_number source.now flat.now) flat.now.leaves) }
 {

@@ -7,7 +7,7 @@ ghost use Rattle.std.specs.Str.{bytes_eq};
 ghost use Rattle.step_text.specs.Found.{found_in, named};
 ghost use Rattle.step_text.specs.Threads.{thread_named, is_thread};
 
-use cam_base::NoMemory;
+use cam_base::Made;
 use cap_model::{Entry, Object, Spec};
 use indexmap::IndexMap;
 use std::alloc::Global;
@@ -20,7 +20,7 @@ pub struct Threads<'a> {
 
 impl<'a> Threads<'a> {
     /// The threads of the spec. The first counts where two have one name.
-    pub fn of(alloc: Global, spec: &'a Spec) -> Result<Threads<'a>, NoMemory>
+    pub fn of(alloc: Global, spec: &'a Spec) -> Made<Threads<'a>>
         requires { length spec.now.entries < 2 ^ 32 }
         ensures { IfOk result (λ threads. found_in threads ≡ thread_named spec.entry.now) }
     {
@@ -35,7 +35,7 @@ impl<'a> Threads<'a> {
     }
 
     /// Adds the object, if it is a thread and no thread of that name is there.
-    fn add(&mut self, entry: &'a Entry, place: u32) -> Result<(), NoMemory>
+    fn add(&mut self, entry: &'a Entry, place: u32) -> Made<()>
         ensures { OnOk result ((name : List ℕ) → found_in self.new name
             ≡ option_or (found_in self.old name)
             (if is_thread entry.entry.now.object && bytes_eq entry.entry.now.name name then Some place else None)) }
@@ -47,7 +47,7 @@ impl<'a> Threads<'a> {
     }
 
     /// Adds the name, unless it is there.
-    fn add_name(&mut self, name: &'a [u8], place: u32) -> Result<(), NoMemory>
+    fn add_name(&mut self, name: &'a [u8], place: u32) -> Made<()>
         ensures { OnOk result ((other : List ℕ) → found_in self.new other
             ≡ option_or (found_in self.old other) (if bytes_eq name.entry.now other then Some place else None)) }
     {

@@ -8,17 +8,12 @@ use crate::line::{
     write_call, write_copy, write_grant, write_number, write_numbers, write_reply, write_thread,
 };
 use cam_base::List;
-use cam_io::{Failed, Outputs, Writer};
+use cam_io::{Outputs, Writer, Written};
 use cap_machine::Step;
 use cap_model::Spec;
 
 /// Writes steps to an open channel, a line for each. After a failure the channel has a front of the text. Takes no memory.
-pub fn write_steps<O: Outputs>(
-    spec: &Spec,
-    steps: &List<Step>,
-    out: &mut O,
-    channel: u8,
-) -> Result<(), Failed>
+pub fn write_steps<O: Outputs>(spec: &Spec, steps: &List<Step>, out: &mut O, channel: u8) -> Written
     requires { IsOpen (O.sink out.old) channel }
     ensures { Writes result channel (steps_text spec.now steps.now) (O.sink out.old) (O.sink out.new) (O.faults out.old)
         (O.faults out.new) }

@@ -15,7 +15,7 @@ use crate::places::Places;
 use crate::tables::Tables;
 use adl_meaning::Connector;
 use arch_policy::number_at;
-use cam_base::{List, NoMemory};
+use cam_base::{List, Made};
 use cap_model::{Cap, Rights};
 use cspace_layout::SlotUse;
 use std::alloc::Global;
@@ -100,7 +100,7 @@ pub fn caps_of(
     domain: u32,
     first_lock: u32,
     uses: &[SlotUse],
-) -> Result<List<(u64, Cap)>, NoMemory>
+) -> Made<List<(u64, Cap)>>
     requires places { ArePlaces (told tables.now) places.now }
     requires uses { uses.now ≡ uses_at (told tables.now) domain }
     requires named { AreNamed (length tables.now.flat.now.connections) uses.now }

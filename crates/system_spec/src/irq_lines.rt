@@ -10,7 +10,7 @@ ghost use Rattle.system_spec.specs.declared.part.What.TheVariants.{IrqOf};
 
 use crate::tables::{Tables, device_place};
 use adl_meaning::{Connector, FlatConnection, Settled};
-use cam_base::{List, NoMemory};
+use cam_base::{List, Made};
 use std::alloc::Global;
 
 /// The settled number of the interrupt of a connection.
@@ -36,7 +36,7 @@ fn push_line(
     connection: &FlatConnection,
     at: u32,
     lines: &mut List<(u64, u32)>,
-) -> Result<(), NoMemory>
+) -> Made<()>
     requires { at ≡ place (told tables.now) (IrqOf number) }
     ensures { OnOk result (lines.new ≡ lines.old ++ line (told tables.now) number connection.now) }
 {
@@ -47,7 +47,7 @@ fn push_line(
 }
 
 /// The interrupt lines in the order of connections.
-fn gathered(alloc: Global, tables: &Tables<'_>, first: u32) -> Result<List<(u64, u32)>, NoMemory>
+fn gathered(alloc: Global, tables: &Tables<'_>, first: u32) -> Made<List<(u64, u32)>>
     requires few { AreFew (told tables.now) }
     requires first { first ≡ first_of (told tables.now) 5 }
     ensures { IfOk result (λ list. list ≡ gather (line (told tables.now)) tables.now.flat.now.connections) }
@@ -65,11 +65,7 @@ fn gathered(alloc: Global, tables: &Tables<'_>, first: u32) -> Result<List<(u64,
 /// # Errors
 ///
 /// Want of memory.
-pub(crate) fn irq_lines(
-    alloc: Global,
-    tables: &Tables<'_>,
-    first: u32,
-) -> Result<List<(u64, u32)>, NoMemory>
+pub(crate) fn irq_lines(alloc: Global, tables: &Tables<'_>, first: u32) -> Made<List<(u64, u32)>>
     requires few { AreFew (told tables.now) }
     requires first { first ≡ first_of (told tables.now) 5 }
     ensures { IfOk result (λ list. list ≡ lines (told tables.now)) }

@@ -13,7 +13,7 @@ use crate::levels::push_tables_at;
 use crate::listing::{first_of, sections};
 use crate::places::{Places, places_of};
 use crate::tables::{Tables, uses_at};
-use cam_base::{List, NoMemory};
+use cam_base::{List, Made};
 use cap_model::Object;
 use cspace_layout::SlotUse;
 use std::alloc::Global;
@@ -59,7 +59,7 @@ fn lock_count(uses: &[SlotUse]) -> u32
 }
 
 /// The place of the first lock of each domain, where the first of all stands at this place.
-fn first_locks(alloc: Global, tables: &Tables<'_>, first: u32) -> Result<List<u32>, NoMemory>
+fn first_locks(alloc: Global, tables: &Tables<'_>, first: u32) -> Made<List<u32>>
     requires buildable { IsBuildable (told tables.now) }
     requires first { first ≡ first_of (told tables.now) 4 }
     ensures { IfOk result (λ places. places ≡ first_locks (told tables.now)) }
@@ -74,12 +74,7 @@ fn first_locks(alloc: Global, tables: &Tables<'_>, first: u32) -> Result<List<u3
 }
 
 /// The page tables of all domains, where the first of them and frame 0 stand at these places.
-fn all_spaces(
-    alloc: Global,
-    tables: &Tables<'_>,
-    first: u32,
-    frames: u32,
-) -> Result<SpaceTables, NoMemory>
+fn all_spaces(alloc: Global, tables: &Tables<'_>, first: u32, frames: u32) -> Made<SpaceTables>
     requires buildable { IsBuildable (told tables.now) }
     requires first { first ≡ first_of (told tables.now) 6 }
     requires frames { frames ≡ first_of (told tables.now) 7 }
@@ -103,7 +98,7 @@ fn landmarks_of(
     alloc: Global,
     tables: &Tables<'_>,
     sections: &[List<Part>],
-) -> Result<(Landmarks, List<Object>), NoMemory>
+) -> Made<(Landmarks, List<Object>)>
     requires buildable { IsBuildable (told tables.now) }
     requires sections { sections.now ≡ but_frames (told tables.now) }
     ensures marks { IfOk result (λ made. AreLandmarks (told tables.now) made.0) }
@@ -128,7 +123,7 @@ fn landmarks_of(
 }
 
 /// The plan of a system, of which its spec, its labels and its map are made.
-pub fn plan_of(alloc: Global, tables: &Tables<'_>) -> Result<Plan, NoMemory>
+pub fn plan_of(alloc: Global, tables: &Tables<'_>) -> Made<Plan>
     requires { IsBuildable (told tables.now) }
     ensures { IfOk result (λ plan. IsPlan (told tables.now) plan) }
 {

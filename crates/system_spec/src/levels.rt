@@ -9,7 +9,7 @@ ghost use Rattle.system_spec.specs.Tables.{pages_at, told};
 use crate::tables::{Tables, pages_at};
 use crate::{PageTable, Part, Series, What};
 use arch_policy::Owner;
-use cam_base::{List, NoMemory};
+use cam_base::{List, Made};
 use cap_model::{Cap, Level, Object, Rights};
 use page_tables::{Mapping, levels_of, push_tables_of};
 use std::alloc::Global;
@@ -35,7 +35,7 @@ fn mapping(frames: u32, page: Page) -> Mapping
 }
 
 /// The pages as mappings.
-fn mappings(alloc: Global, frames: u32, pages: &[Page]) -> Result<Vec<Mapping>, NoMemory>
+fn mappings(alloc: Global, frames: u32, pages: &[Page]) -> Made<Vec<Mapping>>
     requires { AreShown frames pages.now }
     ensures { IfOk result (λ mappings. mappings.items ≡ map (page_mapping frames) pages.now) }
 {
@@ -55,7 +55,7 @@ pub fn push_tables_at(
     frames: u32,
     domain: u32,
     objects: &mut List<Object>,
-) -> Result<(), NoMemory>
+) -> Made<()>
     requires shown { AreShown frames (pages_at (told tables.now) domain) }
     requires few { first + table_count (told tables.now) frames domain < 2 ^ 32 }
     ensures { OnOk result (objects.new ≡ objects.old ++ tables_at (told tables.now) first frames domain) }
@@ -65,11 +65,7 @@ pub fn push_tables_at(
 }
 
 /// Puts the page tables of a domain, which have these levels, behind the others.
-fn push_page_tables(
-    domain: u32,
-    levels: &[Level],
-    all: &mut List<PageTable>,
-) -> Result<(), NoMemory>
+fn push_page_tables(domain: u32, levels: &[Level], all: &mut List<PageTable>) -> Made<()>
     requires { length levels.now < 2 ^ 32 }
     ensures { OnOk result (all.new ≡ all.old ++ gather (λ j level. page_table domain j level ∷ []) levels.now) }
 {
@@ -84,7 +80,7 @@ fn push_page_tables(
 }
 
 /// The page tables of all domains.
-pub fn all_tables(alloc: Global, tables: &Tables<'_>) -> Result<List<PageTable>, NoMemory>
+pub fn all_tables(alloc: Global, tables: &Tables<'_>) -> Made<List<PageTable>>
     requires { AreFew (told tables.now) }
     ensures { IfOk result (λ all. all ≡ all_tables (told tables.now)) }
 {
@@ -131,7 +127,7 @@ fn one_more(counts: LevelCounts, level: Level) -> LevelCounts
 }
 
 /// The parts of the page tables, each level numbered for itself.
-pub fn table_parts(alloc: Global, tables: &[PageTable]) -> Result<List<Part>, NoMemory>
+pub fn table_parts(alloc: Global, tables: &[PageTable]) -> Made<List<Part>>
     requires { length tables.now < 2 ^ 32 }
     ensures { IfOk result (λ parts. parts ≡ table_parts tables.now) }
 {

@@ -13,13 +13,13 @@ use crate::tables::{Tables, frame_owner, irq_owner, threads_at, uses_at};
 use crate::{Owned, Part, Series, What};
 use adl_meaning::{Connector, Domain, FlatConnection};
 use arch_policy::Owner;
-use cam_base::{List, NoMemory};
+use cam_base::{List, Made};
 use cspace_layout::SlotUse;
 use std::alloc::Global;
 use vspace_layout::{FrameInfo, ThreadPlace};
 
 /// These, numbered from 0.
-fn numbered(alloc: Global, series: Series, items: &[Owned]) -> Result<List<Part>, NoMemory>
+fn numbered(alloc: Global, series: Series, items: &[Owned]) -> Made<List<Part>>
     requires { length items.now < 2 ^ 32 }
     ensures { IfOk result (λ parts. parts ≡ numbered series items.now) }
 {
@@ -36,7 +36,7 @@ fn numbered(alloc: Global, series: Series, items: &[Owned]) -> Result<List<Part>
 }
 
 /// A CNode for each domain.
-fn cnodes(alloc: Global, domains: &[Domain]) -> Result<List<Owned>, NoMemory>
+fn cnodes(alloc: Global, domains: &[Domain]) -> Made<List<Owned>>
     requires { length domains.now < 2 ^ 32 }
     ensures { IfOk result (λ items. items ≡ cnodes domains.now) }
 {
@@ -51,11 +51,7 @@ fn cnodes(alloc: Global, domains: &[Domain]) -> Result<List<Owned>, NoMemory>
 }
 
 /// Puts the threads of a domain behind the others.
-fn push_threads(
-    domain: u32,
-    threads: &[ThreadPlace],
-    items: &mut List<Owned>,
-) -> Result<(), NoMemory>
+fn push_threads(domain: u32, threads: &[ThreadPlace], items: &mut List<Owned>) -> Made<()>
     requires { length threads.now < 2 ^ 32 }
     ensures { OnOk result (items.new ≡ items.old ++ threads_of domain threads.now) }
 {
@@ -69,7 +65,7 @@ fn push_threads(
 }
 
 /// The threads of all domains.
-fn tcbs(alloc: Global, tables: &Tables<'_>) -> Result<List<Owned>, NoMemory>
+fn tcbs(alloc: Global, tables: &Tables<'_>) -> Made<List<Owned>>
     requires { AreFew (told tables.now) }
     ensures { IfOk result (λ items. items ≡ tcbs (told tables.now)) }
 {
@@ -80,12 +76,7 @@ fn tcbs(alloc: Global, tables: &Tables<'_>) -> Result<List<Owned>, NoMemory>
     Ok(items)
 }
 
-fn push_lock(
-    domain: u32,
-    place: u32,
-    used: SlotUse,
-    items: &mut List<Owned>,
-) -> Result<(), NoMemory>
+fn push_lock(domain: u32, place: u32, used: SlotUse, items: &mut List<Owned>) -> Made<()>
     ensures { OnOk result (items.new ≡ items.old ++ lock domain place used) }
 {
     match used {
@@ -98,7 +89,7 @@ fn push_lock(
 }
 
 /// Puts the locks of a domain behind the others.
-fn push_locks(domain: u32, uses: &[SlotUse], items: &mut List<Owned>) -> Result<(), NoMemory>
+fn push_locks(domain: u32, uses: &[SlotUse], items: &mut List<Owned>) -> Made<()>
     requires { length uses.now < 2 ^ 32 }
     ensures { OnOk result (items.new ≡ items.old ++ gather (lock domain) uses.now) }
 {
@@ -109,7 +100,7 @@ fn push_locks(domain: u32, uses: &[SlotUse], items: &mut List<Owned>) -> Result<
 }
 
 /// The locks of all domains.
-fn locks(alloc: Global, tables: &Tables<'_>) -> Result<List<Owned>, NoMemory>
+fn locks(alloc: Global, tables: &Tables<'_>) -> Made<List<Owned>>
     requires { AreFew (told tables.now) }
     ensures { IfOk result (λ items. items ≡ locks (told tables.now)) }
 {
@@ -120,11 +111,7 @@ fn locks(alloc: Global, tables: &Tables<'_>) -> Result<List<Owned>, NoMemory>
     Ok(items)
 }
 
-fn push_endpoint(
-    connection: u32,
-    connector: Connector,
-    parts: &mut List<Part>,
-) -> Result<(), NoMemory>
+fn push_endpoint(connection: u32, connector: Connector, parts: &mut List<Part>) -> Made<()>
     ensures { OnOk result (parts.new ≡ parts.old ++ endpoint_by connection connector) }
 {
     match connector {
@@ -139,7 +126,7 @@ fn push_endpoint(
 }
 
 /// The endpoints of all connections.
-fn endpoints(alloc: Global, connections: &[FlatConnection]) -> Result<List<Part>, NoMemory>
+fn endpoints(alloc: Global, connections: &[FlatConnection]) -> Made<List<Part>>
     requires { length connections.now < 2 ^ 32 }
     ensures { IfOk result (λ parts. parts ≡ gather endpoint connections.now) }
 {
@@ -150,11 +137,7 @@ fn endpoints(alloc: Global, connections: &[FlatConnection]) -> Result<List<Part>
     Ok(parts)
 }
 
-fn push_notification(
-    connection: u32,
-    connector: Connector,
-    parts: &mut List<Part>,
-) -> Result<(), NoMemory>
+fn push_notification(connection: u32, connector: Connector, parts: &mut List<Part>) -> Made<()>
     ensures { OnOk result (parts.new ≡ parts.old ++ notification_by connection connector) }
 {
     match connector {
@@ -169,7 +152,7 @@ fn push_notification(
 }
 
 /// The notifications of all connections.
-fn notifications(alloc: Global, connections: &[FlatConnection]) -> Result<List<Part>, NoMemory>
+fn notifications(alloc: Global, connections: &[FlatConnection]) -> Made<List<Part>>
     requires { length connections.now < 2 ^ 32 }
     ensures { IfOk result (λ parts. parts ≡ gather notification connections.now) }
 {
@@ -180,11 +163,7 @@ fn notifications(alloc: Global, connections: &[FlatConnection]) -> Result<List<P
     Ok(parts)
 }
 
-fn push_irq(
-    number: u32,
-    connection: &FlatConnection,
-    items: &mut List<Owned>,
-) -> Result<(), NoMemory>
+fn push_irq(number: u32, connection: &FlatConnection, items: &mut List<Owned>) -> Made<()>
     ensures { OnOk result (items.new ≡ items.old ++ irq number connection.now) }
 {
     match connection.connector {
@@ -197,7 +176,7 @@ fn push_irq(
 }
 
 /// The interrupts of all connections.
-fn irqs(alloc: Global, connections: &[FlatConnection]) -> Result<List<Owned>, NoMemory>
+fn irqs(alloc: Global, connections: &[FlatConnection]) -> Made<List<Owned>>
     requires { length connections.now < 2 ^ 32 }
     ensures { IfOk result (λ items. items ≡ gather irq connections.now) }
 {
@@ -221,11 +200,7 @@ pub fn frame_part(number: u32, frame: &FrameInfo) -> Part
 }
 
 /// Puts the sections of CNodes and threads behind the others.
-fn push_holders(
-    alloc: Global,
-    tables: &Tables<'_>,
-    sections: &mut List<List<Part>>,
-) -> Result<(), NoMemory>
+fn push_holders(alloc: Global, tables: &Tables<'_>, sections: &mut List<List<Part>>) -> Made<()>
     requires { AreFew (told tables.now) }
     ensures { OnOk result (sections.new ≡ sections.old ++ holders (told tables.now)) }
 {
@@ -236,11 +211,7 @@ fn push_holders(
 }
 
 /// Puts the sections of endpoints, notifications, locks and interrupts behind the others.
-fn push_joints(
-    alloc: Global,
-    tables: &Tables<'_>,
-    sections: &mut List<List<Part>>,
-) -> Result<(), NoMemory>
+fn push_joints(alloc: Global, tables: &Tables<'_>, sections: &mut List<List<Part>>) -> Made<()>
     requires { AreFew (told tables.now) }
     ensures { OnOk result (sections.new ≡ sections.old ++ joints (told tables.now)) }
 {
@@ -254,11 +225,7 @@ fn push_joints(
 }
 
 /// Puts the section of page tables behind the others.
-fn push_tables(
-    alloc: Global,
-    tables: &Tables<'_>,
-    sections: &mut List<List<Part>>,
-) -> Result<(), NoMemory>
+fn push_tables(alloc: Global, tables: &Tables<'_>, sections: &mut List<List<Part>>) -> Made<()>
     requires { AreFew (told tables.now) }
     ensures { OnOk result (sections.new ≡ sections.old ++ table_parts (all_tables (told tables.now)) ∷ []) }
 {
@@ -267,7 +234,7 @@ fn push_tables(
 }
 
 /// The sections of the parts of a system but for frames, in order: `specs/Parts.antt`. Takes time linear in what the tables list.
-pub fn sections(alloc: Global, tables: &Tables<'_>) -> Result<List<List<Part>>, NoMemory>
+pub fn sections(alloc: Global, tables: &Tables<'_>) -> Made<List<List<Part>>>
     requires { AreFew (told tables.now) }
     ensures { IfOk result (λ list. list ≡ but_frames (told tables.now)) }
 {

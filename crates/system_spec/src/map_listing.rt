@@ -14,13 +14,13 @@ use crate::caps::{lock_number, use_object};
 use crate::landmarks::Plan;
 use crate::places::Places;
 use crate::tables::{Tables, threads_at, uses_at, windows_at};
-use cam_base::{List, NoMemory};
+use cam_base::{List, Made};
 use cspace_layout::SlotUse;
 use std::alloc::Global;
 use vspace_layout::{ThreadPlace, Window};
 
 /// Puts the lines of domains behind the others.
-fn push_domains(tables: &Tables<'_>, lines: &mut List<MapLine>) -> Result<(), NoMemory>
+fn push_domains(tables: &Tables<'_>, lines: &mut List<MapLine>) -> Made<()>
     requires { AreFew (told tables.now) }
     ensures { OnOk result (lines.new ≡ lines.old ++ domain_lines (told tables.now)) }
 {
@@ -31,11 +31,7 @@ fn push_domains(tables: &Tables<'_>, lines: &mut List<MapLine>) -> Result<(), No
 }
 
 /// Puts the lines of threads behind the others, where the first of these threads stands at this place.
-fn push_threads_from(
-    first: u32,
-    threads: &[ThreadPlace],
-    lines: &mut List<MapLine>,
-) -> Result<(), NoMemory>
+fn push_threads_from(first: u32, threads: &[ThreadPlace], lines: &mut List<MapLine>) -> Made<()>
     requires { first + length threads.now < 2 ^ 32 }
     ensures { OnOk result (lines.new ≡ lines.old ++ thread_lines_from first threads.now) }
 {
@@ -50,7 +46,7 @@ fn push_threads_from(
 }
 
 /// Puts the lines of all threads behind the others, where the first thread stands at this place.
-fn push_threads(tables: &Tables<'_>, first: u32, lines: &mut List<MapLine>) -> Result<(), NoMemory>
+fn push_threads(tables: &Tables<'_>, first: u32, lines: &mut List<MapLine>) -> Made<()>
     requires few { AreFew (told tables.now) }
     requires first { first ≡ first_of (told tables.now) 1 }
     ensures { OnOk result (lines.new ≡ lines.old ++ thread_lines (told tables.now)) }
@@ -94,7 +90,7 @@ fn push_slots_of(
     first_lock: u32,
     uses: &[SlotUse],
     lines: &mut List<MapLine>,
-) -> Result<u32, NoMemory>
+) -> Made<u32>
     requires buildable { IsBuildable (told tables.now) }
     requires places { ArePlaces (told tables.now) places.now }
     requires uses { uses.now ≡ uses_at (told tables.now) domain }
@@ -118,7 +114,7 @@ fn push_slots(
     places: &Places,
     first_lock: u32,
     lines: &mut List<MapLine>,
-) -> Result<(), NoMemory>
+) -> Made<()>
     requires buildable { IsBuildable (told tables.now) }
     requires places { ArePlaces (told tables.now) places.now }
     requires first { first_lock ≡ first_of (told tables.now) 4 }
@@ -133,7 +129,7 @@ fn push_slots(
 }
 
 /// Puts the lines of windows behind the others.
-fn push_windows_of(windows: &[Window], lines: &mut List<MapLine>) -> Result<(), NoMemory>
+fn push_windows_of(windows: &[Window], lines: &mut List<MapLine>) -> Made<()>
     requires { AreSized windows.now }
     ensures { OnOk result (lines.new ≡ lines.old ++ gather (λ j w. window_line w ∷ []) windows.now) }
 {
@@ -150,7 +146,7 @@ fn push_windows_of(windows: &[Window], lines: &mut List<MapLine>) -> Result<(), 
 }
 
 /// Puts the lines of all windows behind the others.
-fn push_windows(tables: &Tables<'_>, lines: &mut List<MapLine>) -> Result<(), NoMemory>
+fn push_windows(tables: &Tables<'_>, lines: &mut List<MapLine>) -> Made<()>
     requires few { AreFew (told tables.now) }
     requires windows { IsWindowed (told tables.now) }
     ensures { OnOk result (lines.new ≡ lines.old ++ window_lines (told tables.now)) }
@@ -162,7 +158,7 @@ fn push_windows(tables: &Tables<'_>, lines: &mut List<MapLine>) -> Result<(), No
 }
 
 /// The lines of the map of a system with this plan.
-pub fn lines_of(alloc: Global, tables: &Tables<'_>, plan: &Plan) -> Result<List<MapLine>, NoMemory>
+pub fn lines_of(alloc: Global, tables: &Tables<'_>, plan: &Plan) -> Made<List<MapLine>>
     requires buildable { IsBuildable (told tables.now) }
     requires windows { IsWindowed (told tables.now) }
     requires plan { IsPlan (told tables.now) plan.now }

@@ -14,16 +14,11 @@ use crate::landmarks::Landmarks;
 use crate::tables::{Tables, uses_at};
 use crate::tcbs::thread_object;
 use arch_policy::number_at;
-use cam_base::{Boxed, NoMemory};
+use cam_base::{Boxed, Made};
 use cap_model::{Fill, Object};
 use std::alloc::Global;
 
-fn cnode(
-    alloc: Global,
-    tables: &Tables<'_>,
-    marks: &Landmarks,
-    domain: u32,
-) -> Result<Object, NoMemory>
+fn cnode(alloc: Global, tables: &Tables<'_>, marks: &Landmarks, domain: u32) -> Made<Object>
     requires buildable { IsBuildable (told tables.now) }
     requires marks { AreLandmarks (told tables.now) marks.now }
     requires there { domain < length tables.now.flat.now.domains }
@@ -38,7 +33,7 @@ fn cnode(
     })
 }
 
-fn copied_fill(alloc: Global, fill: &Option<Boxed<Fill>>) -> Result<Option<Boxed<Fill>>, NoMemory>
+fn copied_fill(alloc: Global, fill: &Option<Boxed<Fill>>) -> Made<Option<Boxed<Fill>>>
     ensures { IfOk result (λ made. made ≡ fill.now) }
 {
     let Some(fill) = fill else {
@@ -54,7 +49,7 @@ fn copied_fill(alloc: Global, fill: &Option<Boxed<Fill>>) -> Result<Option<Boxed
     Ok(Some(Boxed::new(alloc, copy)?))
 }
 
-fn frame_at(alloc: Global, tables: &Tables<'_>, number: u32) -> Result<Object, NoMemory>
+fn frame_at(alloc: Global, tables: &Tables<'_>, number: u32) -> Made<Object>
     ensures { IfOk result (λ made. made ≡ object (told tables.now) (FrameOf number)) }
 {
     match tables.spaces.frames.as_slice().get(number as usize) {
@@ -67,12 +62,7 @@ fn frame_at(alloc: Global, tables: &Tables<'_>, number: u32) -> Result<Object, N
 }
 
 /// The object of a part that is no page table: `specs/Objects.antt`.
-pub fn object(
-    alloc: Global,
-    tables: &Tables<'_>,
-    marks: &Landmarks,
-    what: What,
-) -> Result<Object, NoMemory>
+pub fn object(alloc: Global, tables: &Tables<'_>, marks: &Landmarks, what: What) -> Made<Object>
     requires buildable { IsBuildable (told tables.now) }
     requires marks { AreLandmarks (told tables.now) marks.now }
     requires there { IsThere (told tables.now) what }

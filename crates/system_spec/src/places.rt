@@ -9,7 +9,7 @@ ghost use Rattle.system_spec.specs.Tables.{told};
 
 use crate::tables::Tables;
 use adl_meaning::{Connector, FlatConnection};
-use cam_base::{List, NoMemory};
+use cam_base::{List, Made};
 use std::alloc::Global;
 
 /// The places of the endpoint, the notification and the interrupt of each connection, where it has one.
@@ -54,7 +54,7 @@ fn places_from(
     standing: Standing,
     first: u32,
     connections: &[FlatConnection],
-) -> Result<List<u32>, NoMemory>
+) -> Made<List<u32>>
     requires { first + length (gather (mark standing) connections.now) < 2 ^ 32 }
     ensures { IfOk result (λ places. places ≡ places_from standing first connections.now) }
 {
@@ -74,7 +74,7 @@ pub fn places_of(
     endpoint: u32,
     notification: u32,
     irq: u32,
-) -> Result<Places, NoMemory>
+) -> Made<Places>
     requires few { AreFew (told tables.now) }
     requires endpoint { endpoint ≡ first_of (told tables.now) 2 }
     requires notification { notification ≡ first_of (told tables.now) 3 }

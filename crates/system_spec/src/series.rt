@@ -2,7 +2,7 @@ ghost use Rattle.cam_base.specs.Names.{is_name};
 ghost use Rattle.std.specs.Prelude.{◌≡◌, ◌≤◌, true, length, IfOk};
 ghost use Rattle.system_spec.specs.Names.{level_series, name_of, prefix, root_series};
 
-use cam_base::{Name, NoMemory};
+use cam_base::{Made, Name};
 use cap_model::{Arch, Level};
 use itoa::Buffer;
 use std::alloc::Global;
@@ -69,7 +69,7 @@ impl Series {
 
     /// The name of an object of the series: `specs/Names.antt`.
     #[tactic(auto, using(cam_base::proofs::Naming::naming))]
-    pub fn name(self, alloc: Global, number: u64) -> Result<Name, NoMemory>
+    pub fn name(self, alloc: Global, number: u64) -> Made<Name>
         ensures { IfOk result (λ name. name ≡ name_of self number) }
     {
         let mut digits = Buffer::new();

@@ -16,7 +16,7 @@ use crate::caps::lock_rights;
 use crate::landmarks::Landmarks;
 use crate::tables::{Tables, leaf_entry, leaf_name, pages_at, priority, threads_at};
 use arch_policy::number_at;
-use cam_base::{Boxed, NoMemory, Text};
+use cam_base::{Boxed, Made, Text};
 use cap_model::{Cap, Object, Tcb};
 use std::alloc::Global;
 use vspace_layout::{Page, ThreadPlace};
@@ -55,7 +55,7 @@ fn tcb(
     marks: &Landmarks,
     domain: u32,
     thread: &ThreadPlace,
-) -> Result<Tcb, NoMemory>
+) -> Made<Tcb>
     requires buildable { IsBuildable (told tables.now) }
     requires marks { AreLandmarks (told tables.now) marks.now }
     requires there { domain < length tables.now.flat.now.domains }
@@ -80,7 +80,7 @@ pub fn thread_object(
     marks: &Landmarks,
     domain: u32,
     number: u32,
-) -> Result<Object, NoMemory>
+) -> Made<Object>
     requires buildable { IsBuildable (told tables.now) }
     requires marks { AreLandmarks (told tables.now) marks.now }
     requires there { domain < length tables.now.flat.now.domains }

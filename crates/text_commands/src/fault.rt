@@ -1,14 +1,11 @@
 use crate::{InputCode, Outcome};
-use cam_base::{NoMemory, Text, Unread};
+use cam_base::{Text, Unread};
 
 /// What inputs give, or why they give nothing.
 pub type Given<T> = Result<T, InputError>;
 
 /// What a command finds.
 pub type Found = Given<Outcome>;
-
-/// What is made, unless memory runs out.
-pub type Made<T> = Result<T, NoMemory>;
 
 /// A fault of an input, from its first byte to the byte past its last, with what it names or an empty name.
 #[derive(Drop)]

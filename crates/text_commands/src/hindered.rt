@@ -5,11 +5,10 @@ ghost use Rattle.text_commands.specs.Decisions.{hindered, tell_audit, tell_close
 ghost use Rattle.text_commands.specs.Inputs.{IsErrorFor, IsErrorOf};
 ghost use Rattle.cam_base.specs.declared.error.Unread.TheVariants.{NoMemory as InputNoMemory};
 
-use crate::fault::Made;
 use crate::input::in_file;
 use crate::{Hindrance, InputCode, InputError, InputFault};
 use boot_plan::PlanRefusal;
-use cam_base::{NoMemory, Text, Unread, hexadecimal};
+use cam_base::{Made, NoMemory, Text, Unread, hexadecimal};
 use cap_audit::AuditRefusal;
 use cap_model::Spec;
 use itoa::Buffer;

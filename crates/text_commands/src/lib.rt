@@ -27,6 +27,6 @@ pub use kept::KeptSpec;
 pub use laws::{
     answers_are_one, audits_are_replayed, certificates_are_read_back, tables_are_read_back,
 };
-pub use lines::{Written, write_code, write_fault, write_place};
+pub use lines::{write_code, write_fault, write_place};
 pub use outcome::Outcome;
 pub use replay::Replayed;

@@ -7,16 +7,13 @@ ghost use Rattle.std.specs.List.{flat_map};
 ghost use Rattle.text_commands.specs.Lines.{code_text, fault_line, have_line, illegal_text, number_text, place_text, refusal_text, report_text, run_text, space_before, why_of};
 
 use crate::InputFault;
-use cam_io::{Failed, Outputs, Writer};
+use cam_io::{Outputs, Writer, Written};
 use cap_audit::AuditReport;
 use cap_machine::Why;
 use cap_model::{Edge, EdgeTable, Spec};
 use itoa::Buffer;
 use policy_text::{Names, write_edge, write_edges};
 use step_text::write_step_lines;
-
-/// Whether lines were written whole.
-pub type Written = Result<(), Failed>;
 
 fn space_before(name: &[u8]) -> &[u8]
     ensures { result.now ≡ space_before name.now }

@@ -4,9 +4,9 @@ ghost use Rattle.text_commands.specs.Outcomes.{is_well, text_of};
 
 use crate::Replayed;
 use crate::kept::KeptSpec;
-use crate::lines::{Written, write_illegal, write_refusal, write_report, write_run};
+use crate::lines::{write_illegal, write_refusal, write_report, write_run};
 use boot_plan::{BootPlan, write_plan};
-use cam_io::{Outputs, write_all};
+use cam_io::{Outputs, Written, write_all};
 use cap_audit::AuditReport;
 use cap_model::{EdgeTable, Spec};
 use cert_check::Verdict;

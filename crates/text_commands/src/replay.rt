@@ -4,8 +4,7 @@ ghost use Rattle.cap_model.specs.Kept.{IsKept};
 ghost use Rattle.std.specs.Prelude.{◌≡◌, ◌<◌, ◌-◌, ◌^◌, IfOk, length};
 ghost use Rattle.text_commands.specs.Replays.{IsReplayed};
 
-use crate::fault::Made;
-use cam_base::NoMemory;
+use cam_base::{Made, NoMemory};
 use cap_machine::{Step, StepError, Why, authorities, boot};
 use cap_model::{EdgeTable, Labels, Spec};
 use std::alloc::Global;

@@ -3,9 +3,9 @@ ghost use Rattle.std.specs.List.{flat_map};
 ghost use Rattle.std.specs.Prelude.{◌≡◌, ◌++◌, IfOk, OnOk};
 ghost use Rattle.view_text.specs.Graphs.{arrow_line, arrow_lines, graph_of, node_line, note_at, quoted, quoted_byte};
 
+use crate::Label;
 use crate::texts::add;
-use crate::{Label, Made};
-use cam_base::{List, Text};
+use cam_base::{List, Made, Text};
 use cap_model::{Edge, EdgeTable, Policy};
 use itoa::Buffer;
 use std::alloc::Global;

@@ -2,9 +2,9 @@ ghost use Rattle.std.specs.List.{flat_map};
 ghost use Rattle.std.specs.Prelude.{◌≡◌, ◌++◌, map, codes, OnOk};
 ghost use Rattle.view_text.specs.Html.{escaped, escaped_byte, table_of, table_row, tagged, whole_table};
 
+use crate::Row;
 use crate::texts::add;
-use crate::{Made, Row};
-use cam_base::{List, Text};
+use cam_base::{List, Made, Text};
 
 fn add_escaped_byte(text: &mut List<u8>, byte: u8) -> Made<()>
     ensures { OnOk result (text.new ≡ text.old ++ escaped_byte byte) }

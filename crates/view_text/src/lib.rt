@@ -24,7 +24,7 @@ pub use lint::lint_line;
 pub use picture::picture_of;
 pub use shape::{Shape, shape_at};
 pub use spot::{Range, read_spot};
-pub use texts::{Label, Made, Row, add, join};
+pub use texts::{Label, Row, add, join};
 pub use view::view_of;
 
 /// The most bytes of a file that is shown.

@@ -1,11 +1,10 @@
 ghost use Rattle.std.specs.Prelude.{◌≡◌, ◌≤◌, IfOk, length};
 ghost use Rattle.view_text.specs.Spots.{error_line, limit, lint_line};
 
-use crate::Made;
 use crate::place::{Place, place_behind};
 use crate::texts::join;
 use crate::view::front;
-use cam_base::List;
+use cam_base::{List, Made};
 use itoa::Buffer;
 use std::alloc::Global;
 

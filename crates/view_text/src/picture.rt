@@ -6,11 +6,11 @@ ghost use Rattle.std.specs.List.{flat_map};
 ghost use Rattle.std.specs.Prelude.{◌≡◌, ◌++◌, IfOk, OnOk, find};
 ghost use Rattle.view_text.specs.Pictures.{arrow_of, both_drawn, held_line, held_lines, is_first, node_of, pair_line, picture_of, shape_at, shaped_line};
 
+use crate::Label;
 use crate::graph::quoted;
 use crate::shape::{Shape, shape_at};
 use crate::texts::add;
-use crate::{Label, Made};
-use cam_base::List;
+use cam_base::{List, Made};
 use cap_model::{Authority, Edge, EdgeTable, Policy};
 use itoa::Buffer;
 use std::alloc::Global;

@@ -1,11 +1,8 @@
 ghost use Rattle.cam_base.specs.Texts.{together};
 ghost use Rattle.std.specs.Prelude.{◌≡◌, ◌++◌, map, IfOk, OnOk};
 
-use cam_base::{List, NoMemory, Text};
+use cam_base::{List, Made, Text};
 use std::alloc::Global;
-
-/// What is made, unless memory runs out.
-pub type Made<T> = Result<T, NoMemory>;
 
 /// The number and the name of a label.
 pub type Label = (u32, Text);

@@ -2,10 +2,10 @@ ghost use Rattle.std.specs.List.{before_first, position};
 ghost use Rattle.std.specs.Prelude.{◌≡◌, ◌==◌, ◌≤◌, ◌-◌, ◌++◌, IfOk, OnOk, length, map, take, true};
 ghost use Rattle.view_text.specs.Spots.{drawn, head_line, limit, marks, stands_in, view_of, with_line};
 
+use crate::Range;
 use crate::place::{Place, place_behind};
 use crate::texts::{add, join};
-use crate::{Made, Range};
-use cam_base::List;
+use cam_base::{List, Made};
 use itoa::Buffer;
 use std::alloc::Global;
 

@@ -6,9 +6,8 @@ ghost use Rattle.view_tool.specs.Words.{channel_of, status_of, text_of};
 ghost use Rattle.view_tool.specs.declared.answer.Answer.TheVariants as answers;
 ghost use Rattle.std.specs.Prelude.{◌≡◌, IfOk, OnErr};
 
-use cam_base::{List, NoMemory};
-use cam_io::{Failed, Outputs, Writer, write_all};
-use view_text::Made;
+use cam_base::{List, Made, NoMemory};
+use cam_io::{Outputs, Writer, Written, write_all};
 
 /// What is found, before anything is written.
 #[derive(Drop)]
@@ -89,7 +88,7 @@ impl Answer {
     }
 
     /// Writes what is found. Takes no memory.
-    pub fn write<O: Outputs>(&self, out: &mut O) -> Result<(), Failed>
+    pub fn write<O: Outputs>(&self, out: &mut O) -> Written
         ensures { Writes result (channel_of self.now) (text_of self.now) (O.sink out.old) (O.sink out.new) (O.faults out.old)
             (O.faults out.new) }
     {
@@ -103,7 +102,7 @@ impl Answer {
     }
 }
 
-fn write_usage<O: Outputs>(out: &mut O) -> Result<(), Failed>
+fn write_usage<O: Outputs>(out: &mut O) -> Written
     ensures { Writes result 1 usage (O.sink out.old) (O.sink out.new) (O.faults out.old) (O.faults out.new) }
 {
     let mut to = Writer::new(out, 1);

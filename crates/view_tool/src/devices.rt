@@ -6,12 +6,12 @@ ghost use Rattle.std.specs.Prelude.{◌≡◌, ◌++◌, slice_get, IfOk, OnOk};
 ghost use Rattle.system_spec.specs.MapText.{named};
 
 use adl_meaning::{Connector, EndSetting, Flat, FlatConnection, FlatEnd, Settled};
-use cam_base::{List, hexadecimal};
+use cam_base::{List, Made, hexadecimal};
 use domain_table::{leaf_text, member_name, push_row};
 use itoa::Buffer;
 use std::alloc::Global;
 use system_spec::MapNames;
-use view_text::{Made, Row, join};
+use view_text::{Row, join};
 
 fn is_at_device(flat: &Flat, end: FlatEnd) -> bool
     ensures { result ≡ is_at_device flat.now end }

@@ -7,10 +7,10 @@ ghost use Rattle.view_tool.specs.declared.answer.Answer.TheVariants as answers;
 ghost use Rattle.std.specs.Prelude.{◌≡◌, IfOk};
 
 use crate::answer::Answer;
-use cam_base::{Fault, List, NoMemory, SourceError, TextFault, Unread};
+use cam_base::{Fault, List, Made, SourceError, TextFault, Unread};
 use itoa::Buffer;
 use std::alloc::Global;
-use view_text::{Made, join};
+use view_text::join;
 
 fn space_before(name: &[u8]) -> &[u8]
     ensures { result.now ≡ space_before name.now }

@@ -5,10 +5,10 @@ ghost use Rattle.std.specs.List.{flat_map};
 ghost use Rattle.std.specs.Prelude.{◌≡◌, ◌++◌, ◌∷◌, [], codes, IfOk, OnOk};
 ghost use Rattle.view_text.specs.Html.{tagged};
 
-use cam_base::{List, Text};
+use cam_base::{List, Made, Text};
 use cap_model::{Authority, Edge, EdgeTable, Policy};
 use std::alloc::Global;
-use view_text::{Label, Made, add, add_escaped, add_tagged, note_at};
+use view_text::{Label, add, add_escaped, add_tagged, note_at};
 
 /// An edge, and the lines of its first reason.
 #[derive(Drop)]

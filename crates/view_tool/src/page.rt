@@ -9,13 +9,13 @@ use crate::matrix::add_matrix;
 use adl_ast::Source;
 use adl_meaning::{Domain, Settled};
 use arch_compile::Summary;
-use cam_base::{List, Text};
+use cam_base::{List, Made, Text};
 use cap_model::Policy;
 use domain_table::{DomainTables, heading, push_row, tables_in};
 use itoa::Buffer;
 use std::alloc::Global;
 use system_spec::{MapLine, MapNames};
-use view_text::{Made, Row, add, add_table, add_tagged};
+use view_text::{Row, add, add_table, add_tagged};
 
 /// What a page tells of.
 #[derive(Clone, Copy)]

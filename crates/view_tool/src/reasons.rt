@@ -6,11 +6,11 @@ ghost use Rattle.view_tool.specs.Notes.{AreNotes, ArePageNotes, IsNote, Tells, l
 
 use adl_ast::Source;
 use adl_meaning::{Flat, Settled};
-use cam_base::{List, NoMemory, Text};
+use cam_base::{List, Made, NoMemory, Text};
 use cap_model::{Edge, EdgeTable, Policy};
 use explain::{ExplainError, Reason, explain, reason_text};
 use std::alloc::Global;
-use view_text::{Label, Made};
+use view_text::Label;
 
 /// The most edges of which a page has the reasons.
 const MOST_NOTES: usize = 2000;

@@ -4,11 +4,11 @@ ghost use Rattle.view_tool.specs.Shapes.{device_labels, differ, domain_at, has_o
 ghost use Rattle.std.specs.Prelude.{◌≡◌, ◌++◌, [], IfOk, OnOk};
 
 use adl_meaning::Flat;
-use cam_base::{List, Text};
+use cam_base::{List, Made, Text};
 use cap_model::EdgeTable;
 use domain_table::domain_labels;
 use std::alloc::Global;
-use view_text::{Label, Made, Shape, shape_at};
+use view_text::{Label, Shape, shape_at};
 
 fn device_labels(alloc: Global, flat: &Flat) -> Made<List<Text>>
     ensures { IfOk result (λ texts. texts ≡ device_labels flat.now) }

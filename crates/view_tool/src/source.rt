@@ -11,11 +11,11 @@ use crate::answer::Answer;
 use crate::lines::refuse_source;
 use crate::reasons::{Grounds, notes_of};
 use crate::shapes::{overview, shapes_of};
-use cam_base::{List, NoMemory};
+use cam_base::{List, Made, NoMemory};
 use cam_io::Files;
 use front_end::{FrontEnd, front};
 use std::alloc::Global;
-use view_text::{Made, graph_of, picture_of};
+use view_text::{graph_of, picture_of};
 
 /// Which picture is asked for.
 #[derive(Clone, Copy)]

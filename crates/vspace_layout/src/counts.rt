@@ -11,7 +11,7 @@ ghost use Rattle.vspace_layout.specs.Regions.{pages_in};
 use crate::mapped::{MappedPage, Shown};
 use crate::outline::Outline;
 use crate::region::Region;
-use cam_base::{List, NoMemory};
+use cam_base::{List, Made};
 use cap_model::Arch;
 use cspace_layout::Wiring;
 use page_tables::table_count;
@@ -35,7 +35,7 @@ pub fn all_pages(
     wiring: &Wiring<'_>,
     images: &Images,
     outlines: &[Outline],
-) -> Result<u64, NoMemory>
+) -> Made<u64>
     requires { AreCounted images.now }
     ensures { IfOk result (λ n. n ≡ capped (counted_by wiring.now.flat images.now outlines.now)) }
 {

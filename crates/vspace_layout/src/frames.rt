@@ -10,17 +10,12 @@ ghost use Rattle.vspace_layout.specs.Frames.{own_frame};
 use crate::mapped::{MappedPage, Shown};
 use crate::owner::Owner;
 use crate::spaces::{FrameInfo, Page};
-use cam_base::{List, NoMemory};
+use cam_base::{List, Made};
 use std::alloc::Global;
 
 /// The number of the frame that a page shows, where `firsts` has the number of the first frame of each connection's memory. A
 /// frame of the domain's own is added.
-fn frame_of(
-    domain: u32,
-    shown: Shown,
-    firsts: &[u64],
-    frames: &mut List<FrameInfo>,
-) -> Result<u32, NoMemory>
+fn frame_of(domain: u32, shown: Shown, firsts: &[u64], frames: &mut List<FrameInfo>) -> Made<u32>
     requires few { length frames.old < 2 ^ 32 }
     requires memory { IsNumbered firsts.now shown }
     ensures number { IfOk result (λ n. n ≡ number_of firsts.now (length frames.old) shown) }
@@ -47,7 +42,7 @@ fn number_pages(
     mapped: List<MappedPage>,
     firsts: &[u64],
     frames: &mut List<FrameInfo>,
-) -> Result<List<Page>, NoMemory>
+) -> Made<List<Page>>
     requires few { length frames.old + length mapped < 2 ^ 32 }
     requires memory { (n : ℕ) (page : Told) → slice_get mapped n ≡ Some page → IsNumbered firsts.now page.shown }
     ensures pages { IfOk result (λ pages. pages ≡ pages_numbered domain firsts.now (length frames.old) mapped) }
@@ -72,7 +67,7 @@ pub fn number_all(
     mapped: Vec<List<MappedPage>>,
     firsts: &[u64],
     frames: &mut List<FrameInfo>,
-) -> Result<Vec<List<Page>>, NoMemory>
+) -> Made<Vec<List<Page>>>
     requires domains { length mapped.items < 2 ^ 32 }
     requires few { length frames.old + sum (map length mapped.items) < 2 ^ 32 }
     requires memory { AreAllNumbered firsts.now mapped.items }

@@ -24,7 +24,7 @@ use crate::spaces::{FrameInfo, Page, Space, Spaces};
 use crate::starts::{starts_of, thread_places, window_places};
 use adl_ast::Source;
 use adl_meaning::{Flat, Settled};
-use cam_base::{Fault, List, NoMemory, Refused};
+use cam_base::{Fault, List, Made, Refused};
 use cspace_layout::{Wiring, limit_fault};
 use source_images::{Images, first_space_fault, section_pages, sections_end};
 use std::alloc::Global;
@@ -39,7 +39,7 @@ fn mapped_of(
     images: &Images,
     leaves: &[u32],
     regions: &[Region],
-) -> Result<List<MappedPage>, NoMemory>
+) -> Made<List<MappedPage>>
     requires apart { AreApart images.now leaves.now }
     requires few { AreFew regions.now }
     ensures { IfOk result (λ pages. pages ≡ mapped_of wiring.now.settled images.now leaves.now regions.now) }
@@ -60,7 +60,7 @@ fn all_mapped(
     wiring: &Wiring<'_>,
     images: &Images,
     outlines: &[Outline],
-) -> Result<Vec<List<MappedPage>>, NoMemory>
+) -> Made<Vec<List<MappedPage>>>
     requires apart { AreAllApart wiring.now.flat images.now }
     requires outlined { AreOutlined wiring.now.flat wiring.now.settled outlines.now }
     ensures { IfOk result (λ all. all.items ≡ mapped_by wiring.now.flat wiring.now.settled images.now outlines.now) }
@@ -80,7 +80,7 @@ fn space_of(
     base: u64,
     outline: &Outline,
     pages: List<Page>,
-) -> Result<Space, NoMemory>
+) -> Made<Space>
     requires base { base ≤ 2 ^ 40 }
     requires few { AreFew outline.now.regions }
     requires regions { outline.now.regions
@@ -105,7 +105,7 @@ fn spaces_with(
     base: u64,
     outlines: &[Outline],
     all: Vec<List<Page>>,
-) -> Result<List<Space>, NoMemory>
+) -> Made<List<Space>>
     requires base { base ≤ 2 ^ 40 }
     requires outlined { AreOutlined wiring.now.flat wiring.now.settled outlines.now }
     requires each { length all.items ≡ length outlines.now }
@@ -120,7 +120,7 @@ fn spaces_with(
     Ok(spaces)
 }
 
-fn joined(own: List<FrameInfo>, memory: List<FrameInfo>) -> Result<List<FrameInfo>, NoMemory>
+fn joined(own: List<FrameInfo>, memory: List<FrameInfo>) -> Made<List<FrameInfo>>
     ensures { IfOk result (λ frames. frames ≡ own ++ memory) }
 {
     let mut frames = own.into_vec();
@@ -135,7 +135,7 @@ fn lay(
     base: u64,
     outlines: &[Outline],
     mapped: Vec<List<MappedPage>>,
-) -> Result<Spaces, NoMemory>
+) -> Made<Spaces>
     requires base { base ≤ 2 ^ 40 }
     requires mapped { AreFit wiring.now.flat wiring.now.settled mapped.items }
     requires outlined { AreOutlined wiring.now.flat wiring.now.settled outlines.now }
@@ -154,12 +154,7 @@ fn lay(
 }
 
 /// The fault of the limit of that name, where the count passes it.
-fn limit_over(
-    alloc: Global,
-    source: &Source,
-    count: u64,
-    name: &[u8],
-) -> Result<Option<Fault>, NoMemory>
+fn limit_over(alloc: Global, source: &Source, count: u64, name: &[u8]) -> Made<Option<Fault>>
     ensures { IfOk result (λ fault. fault ≡ limit_over source.now count name.now) }
 {
     if count > LIMIT {

@@ -6,7 +6,7 @@ ghost use Rattle.vspace_layout.specs.MappedPages.{pages_from, region_page, secti
 ghost use Rattle.vspace_layout.specs.Outlines.{RegionsFit, starting};
 
 use crate::region::{Content, Region};
-use cam_base::{Boxed, List, NoMemory};
+use cam_base::{Boxed, List, Made};
 use cap_model::Fill;
 use cspace_layout::Wiring;
 use page_tables::Addressed;
@@ -49,10 +49,7 @@ fn section_page(page: SectionPage) -> MappedPage
 }
 
 /// Maps the pages of sections.
-pub fn push_sections(
-    sections: List<SectionPage>,
-    pages: &mut Vec<MappedPage>,
-) -> Result<(), NoMemory>
+pub fn push_sections(sections: List<SectionPage>, pages: &mut Vec<MappedPage>) -> Made<()>
     ensures { OnOk result (pages.new.items ≡ pages.old.items ++ map section_page sections) }
 {
     for page in sections.into_vec() {
@@ -90,7 +87,7 @@ fn push_region(
     start: u64,
     region: Region,
     pages: &mut Vec<MappedPage>,
-) -> Result<(), NoMemory>
+) -> Made<()>
     requires { start + 4096 * region.pages < 2 ^ 64 }
     ensures { OnOk result (pages.new.items ≡ pages.old.items ++ pages_from wiring.now.settled start region) }
 {
@@ -109,7 +106,7 @@ pub fn push_regions(
     starts: &[u64],
     regions: &[Region],
     pages: &mut Vec<MappedPage>,
-) -> Result<(), NoMemory>
+) -> Made<()>
     requires each { length starts.now ≡ length regions.now }
     requires fit { RegionsFit starts.now regions.now }
     ensures { OnOk result (pages.new.items ≡ pages.old.items ++ gather (starting wiring.now.settled starts.now) regions.now) }

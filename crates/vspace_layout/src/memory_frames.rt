@@ -14,7 +14,7 @@ use crate::owner::Owner;
 use crate::ports::first_numbers;
 use crate::spaces::FrameInfo;
 use adl_meaning::{Connector, FlatConnection};
-use cam_base::{List, NoMemory};
+use cam_base::{List, Made};
 use cspace_layout::Wiring;
 use std::alloc::Global;
 
@@ -27,7 +27,7 @@ pub struct MemoryFrames {
 
 // ---- shared memory
 
-fn push_pages(number: u32, pages: u64, frames: &mut List<FrameInfo>) -> Result<(), NoMemory>
+fn push_pages(number: u32, pages: u64, frames: &mut List<FrameInfo>) -> Made<()>
     ensures { OnOk result (frames.new ≡ frames.old ++ connection_frames number pages) }
 {
     for _page in 0..pages {
@@ -45,7 +45,7 @@ fn push_shared(
     number: u32,
     connection: &FlatConnection,
     frames: &mut List<FrameInfo>,
-) -> Result<(), NoMemory>
+) -> Made<()>
     ensures { OnOk result (frames.new ≡ frames.old ++ shared_frames wiring.now.settled number connection.now) }
 {
     match connection.connector {
@@ -61,7 +61,7 @@ fn push_all_shared(
     alloc: Global,
     wiring: &Wiring<'_>,
     frames: &mut List<FrameInfo>,
-) -> Result<Vec<u64>, NoMemory>
+) -> Made<Vec<u64>>
     requires { length wiring.now.flat.connections ≤ 4096 }
     ensures frames { OnOk result (frames.new ≡ frames.old ++ shared_part wiring.now.flat wiring.now.settled) }
     ensures places { IfOk result (λ v. v.items
@@ -77,12 +77,7 @@ fn push_all_shared(
 
 // ---- registers
 
-fn push_device_pages(
-    leaf: u32,
-    paddr: u64,
-    pages: u64,
-    frames: &mut List<FrameInfo>,
-) -> Result<(), NoMemory>
+fn push_device_pages(leaf: u32, paddr: u64, pages: u64, frames: &mut List<FrameInfo>) -> Made<()>
     requires { paddr + 4096 * pages ≤ 2 ^ 48 }
     ensures { OnOk result (frames.new ≡ frames.old ++ device_frames leaf paddr pages) }
 {
@@ -103,7 +98,7 @@ fn push_registers(
     number: u32,
     connection: &FlatConnection,
     frames: &mut List<FrameInfo>,
-) -> Result<(), NoMemory>
+) -> Made<()>
     requires { memory_paddr wiring.now.settled number connection.now
         + 4096 * memory_pages wiring.now.settled number connection.now ≤ 2 ^ 48 }
     ensures { OnOk result (frames.new ≡ frames.old ++ frames_by wiring.now.settled first number connection.now) }
@@ -125,7 +120,7 @@ fn push_all_registers(
     wiring: &Wiring<'_>,
     firsts: &[Option<u32>],
     frames: &mut List<FrameInfo>,
-) -> Result<Vec<u64>, NoMemory>
+) -> Made<Vec<u64>>
     requires few { length wiring.now.flat.connections ≤ 4096 }
     requires fit { AddressesFit wiring.now.flat wiring.now.settled }
     requires firsts { firsts.now ≡ first_numbers wiring.now.flat.connections }
@@ -162,7 +157,7 @@ fn firsts_from(
     shared: &[u64],
     registered: &[u64],
     numbers: &[Option<u32>],
-) -> Result<Vec<u64>, NoMemory>
+) -> Made<Vec<u64>>
     requires { AreFirsts own shared.now registered.now numbers.now }
     ensures { IfOk result (λ firsts. firsts.items ≡ firsts_from own shared.now registered.now numbers.now) }
 {
@@ -174,7 +169,7 @@ fn firsts_from(
 }
 
 /// The frames of the memory of all connections, where so many frames stand before them.
-pub fn memory_frames(alloc: Global, own: u64, wiring: &Wiring<'_>) -> Result<MemoryFrames, NoMemory>
+pub fn memory_frames(alloc: Global, own: u64, wiring: &Wiring<'_>) -> Made<MemoryFrames>
     requires own { own + length (memory_part wiring.now.flat wiring.now.settled) < 2 ^ 64 }
     requires few { length wiring.now.flat.connections ≤ 4096 }
     requires fit { AddressesFit wiring.now.flat wiring.now.settled }

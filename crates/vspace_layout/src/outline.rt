@@ -5,7 +5,7 @@ ghost use Rattle.vspace_layout.specs.Outlines.{outlines};
 
 use crate::region::{Region, regions_of, windows_of};
 use crate::thread::{ThreadOf, threads_of};
-use cam_base::{List, NoMemory};
+use cam_base::{List, Made};
 use cspace_layout::{EndAt, Wiring};
 use std::alloc::Global;
 
@@ -18,7 +18,7 @@ pub struct Outline {
 }
 
 /// The outlines of all domains.
-pub fn outlines_of(alloc: Global, wiring: &Wiring<'_>) -> Result<Vec<Outline>, NoMemory>
+pub fn outlines_of(alloc: Global, wiring: &Wiring<'_>) -> Made<Vec<Outline>>
     ensures { IfOk result (λ all. all.items ≡ outlines wiring.now) }
 {
     let mut all = Vec::with_capacity(alloc, wiring.domains().len())?;

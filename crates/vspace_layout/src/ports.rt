@@ -6,7 +6,7 @@ ghost use Rattle.vspace_layout.specs.FrameNumbers.{first_at, first_noted, first_
 
 use crate::memory::registers;
 use adl_meaning::FlatConnection;
-use cam_base::NoMemory;
+use cam_base::Made;
 use indexmap::IndexMap;
 use std::alloc::Global;
 
@@ -34,7 +34,7 @@ impl Ports {
     }
 
     /// Notes a connection, and tells which was the first to its registers; none where it leads to none.
-    fn note(&mut self, connection: &FlatConnection, number: u32) -> Result<Option<u32>, NoMemory>
+    fn note(&mut self, connection: &FlatConnection, number: u32) -> Made<Option<u32>>
         ensures first { IfOk result (λ first. first ≡ first_noted self.new connection.now) }
         ensures ports { OnOk result ((k : PortKey) → first_at self.new k
             ≡ option_or (first_at self.old k) (if leads_by k connection.now then Some number else None)) }
@@ -58,10 +58,7 @@ impl Ports {
 
 /// For each connection the number of the first one to its registers; none where it leads to none. Time linear in the
 /// connections.
-pub fn first_numbers(
-    alloc: Global,
-    connections: &[FlatConnection],
-) -> Result<Vec<Option<u32>>, NoMemory>
+pub fn first_numbers(alloc: Global, connections: &[FlatConnection]) -> Made<Vec<Option<u32>>>
     requires { length connections.now ≤ 4096 }
     ensures { IfOk result (λ firsts. firsts.items ≡ first_numbers connections.now) }
 {

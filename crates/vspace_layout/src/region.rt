@@ -9,7 +9,7 @@ use crate::memory::memory_pages;
 use crate::thread::ThreadOf;
 use adl_ast::Role;
 use adl_meaning::Connector;
-use cam_base::{List, NoMemory};
+use cam_base::{List, Made};
 use cspace_layout::{EndAt, Wiring};
 use std::alloc::Global;
 
@@ -44,7 +44,7 @@ fn sees_memory(wiring: &Wiring<'_>, end: EndAt) -> bool
     }
 }
 
-fn push_windows(wiring: &Wiring<'_>, leaf: u32, windows: &mut List<EndAt>) -> Result<(), NoMemory>
+fn push_windows(wiring: &Wiring<'_>, leaf: u32, windows: &mut List<EndAt>) -> Made<()>
     ensures { OnOk result (windows.new ≡ windows.old ++ leaf_windows wiring.now.flat (all_ends wiring.now) leaf) }
 {
     for end in wiring.ends(leaf) {
@@ -56,11 +56,7 @@ fn push_windows(wiring: &Wiring<'_>, leaf: u32, windows: &mut List<EndAt>) -> Re
 }
 
 /// The ends that see memory, of a domain with these leaves.
-pub fn windows_of(
-    alloc: Global,
-    wiring: &Wiring<'_>,
-    leaves: &[u32],
-) -> Result<List<EndAt>, NoMemory>
+pub fn windows_of(alloc: Global, wiring: &Wiring<'_>, leaves: &[u32]) -> Made<List<EndAt>>
     ensures { IfOk result (λ windows. windows ≡ domain_windows wiring.now.flat (all_ends wiring.now) leaves.now) }
 {
     let mut windows = List::new(alloc);
@@ -98,7 +94,7 @@ pub fn regions_of(
     wiring: &Wiring<'_>,
     threads: &[ThreadOf],
     windows: &[EndAt],
-) -> Result<List<Region>, NoMemory>
+) -> Made<List<Region>>
     ensures { IfOk result (λ regions. regions ≡ regions_in wiring.now.flat wiring.now.settled threads.now windows.now) }
 {
     let mut regions = List::new(alloc);

@@ -7,12 +7,12 @@ ghost use Rattle.vspace_layout.specs.Regions.{pages_in};
 use crate::region::{Region, stack_pages, window_pages};
 use crate::spaces::{ThreadPlace, Window};
 use crate::thread::ThreadOf;
-use cam_base::{List, NoMemory};
+use cam_base::{List, Made};
 use cspace_layout::{EndAt, Wiring};
 use std::alloc::Global;
 
 /// Where each region begins, if the first page behind the base stays free.
-pub fn starts_of(alloc: Global, base: u64, regions: &[Region]) -> Result<List<u64>, NoMemory>
+pub fn starts_of(alloc: Global, base: u64, regions: &[Region]) -> Made<List<u64>>
     requires { base + 4096 * (length regions.now + pages_in regions.now) < 2 ^ 64 }
     ensures { IfOk result (λ starts. starts ≡ starts_in base regions.now) }
 {
@@ -32,7 +32,7 @@ pub fn thread_places(
     wiring: &Wiring<'_>,
     starts: &[u64],
     threads: &[ThreadOf],
-) -> Result<List<ThreadPlace>, NoMemory>
+) -> Made<List<ThreadPlace>>
     requires each { 2 * length threads.now ≤ length starts.now }
     requires fit { StacksFit wiring.now.settled starts.now threads.now }
     ensures { IfOk result (λ places. places ≡ thread_places wiring.now.settled starts.now threads.now) }
@@ -56,7 +56,7 @@ pub fn window_places(
     starts: &[u64],
     first: usize,
     windows: &[EndAt],
-) -> Result<List<Window>, NoMemory>
+) -> Made<List<Window>>
     requires { first + length windows.now ≤ length starts.now }
     ensures { IfOk result (λ places. places ≡ window_places wiring.now.flat wiring.now.settled starts.now first windows.now) }
 {

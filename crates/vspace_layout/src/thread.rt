@@ -6,7 +6,7 @@ ghost use Rattle.vspace_layout.specs.Threads.{domain_threads, leaf_threads, serv
 
 use adl_ast::Role;
 use adl_meaning::Connector;
-use cam_base::{List, NoMemory};
+use cam_base::{List, Made};
 use cspace_layout::{EndAt, Wiring};
 use std::alloc::Global;
 
@@ -27,11 +27,7 @@ fn serves(wiring: &Wiring<'_>, end: EndAt) -> bool
     }
 }
 
-fn push_threads(
-    wiring: &Wiring<'_>,
-    leaf: u32,
-    threads: &mut List<ThreadOf>,
-) -> Result<(), NoMemory>
+fn push_threads(wiring: &Wiring<'_>, leaf: u32, threads: &mut List<ThreadOf>) -> Made<()>
     ensures { OnOk result (threads.new ≡ threads.old ++ leaf_threads wiring.now.flat (all_ends wiring.now) leaf) }
 {
     threads.push(ThreadOf { leaf, end: None })?;
@@ -47,11 +43,7 @@ fn push_threads(
 }
 
 /// The threads of a domain with these leaves.
-pub fn threads_of(
-    alloc: Global,
-    wiring: &Wiring<'_>,
-    leaves: &[u32],
-) -> Result<List<ThreadOf>, NoMemory>
+pub fn threads_of(alloc: Global, wiring: &Wiring<'_>, leaves: &[u32]) -> Made<List<ThreadOf>>
     ensures { IfOk result (λ threads. threads ≡ domain_threads wiring.now.flat (all_ends wiring.now) leaves.now) }
 {
     let mut threads = List::new(alloc);
