@@ -1,6 +1,6 @@
 -- What is made of tables is what is made of a source.
 use Rattle.arch_compile.proofs.Common.{Flat, Images, IsAssigned, IsBuildable, IsLaid, IsMade, IsMadeOf, IsMeant, IsPolicyOf, IsSorted, IsWindowed, Layout, List, Policy, Settled, Source, Spec, Tables, ap, arith, entry, flat_of, given, label_numbers}
-use Rattle.arch_compile.proofs.Common.{labels_of, length, length-map, parts, policy_tables, slots_of, source_tables, spaces_of, spec_of, subst, sym, system_tables, tables_from, with_objects, ◌<◌, ◌^◌, ◌∙◌, ◌≡◌}
+use Rattle.arch_compile.proofs.Common.{length, length-map, parts, policy_tables, slots_of, source_tables, spaces_of, spec_of, subst, sym, system_tables, tables_from, with_objects, ◌<◌, ◌^◌, ◌∙◌, ◌≡◌}
 use Rattle.arch_compile.specs.declared.making.Made.{Made}
 use Rattle.arch_policy.specs.declared.numbers.LabelNumbers.{LabelNumbers}
 use Rattle.cspace_layout.specs.declared.plan.Slots.{Slots}

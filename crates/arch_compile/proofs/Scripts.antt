@@ -1,5 +1,5 @@
 -- Scripts one behind another.
-use Rattle.arch_compile.proofs.Common.{Bool, Err, IsErr, List, Ok, Result, Rose, [], ap, arith, false, fresh_begun, inl, inr, refl, rose_after, subst, sym, true, ℕ, ◌++◌, ◌==◌, ◌∙◌, ◌∷◌, ◌≡◌, ◌≤◌}
+use Rattle.arch_compile.proofs.Common.{Bool, Err, List, Ok, Result, [], ap, arith, false, fresh_begun, inr, refl, rose_after, subst, sym, true, ℕ, ◌++◌, ◌==◌, ◌∙◌, ◌∷◌, ◌≡◌, ◌≤◌}
 use Rattle.cam_io.specs.Scripts.{Act, Acts, Begin, CutShort, Write, after}
 use Rattle.cam_io.specs.Sinks.{Sink, appended, with_begun}
 use Rattle.cam_io.proofs.Appends.{begun_appended}
@@ -9,27 +9,10 @@ after_both [] ys s = refl
 after_both (Begin c name ∷ xs) ys s = after_both xs ys (with_begun s c name)
 after_both (Write c bytes ∷ xs) ys s = after_both xs ys (appended s c bytes)
 
-cut_before : (xs ys : List Act) (s t : Sink) → CutShort s xs t → CutShort s (xs ++ ys) t
-cut_before [] ys s t h = absurd h
-cut_before (Begin c name ∷ xs) ys s t (inl e) = inl e
-cut_before (Begin c name ∷ xs) ys s t (inr h) = inr (cut_before xs ys (with_begun s c name) t h)
-cut_before (Write c bytes ∷ xs) ys s t (inl e) = inl e
-cut_before (Write c bytes ∷ xs) ys s t (inr h) = inr (cut_before xs ys (appended s c bytes) t h)
-
 cut_behind : (xs ys : List Act) (s t : Sink) → CutShort (after s xs) ys t → CutShort s (xs ++ ys) t
 cut_behind [] ys s t h = h
 cut_behind (Begin c name ∷ xs) ys s t h = inr (cut_behind xs ys (with_begun s c name) t h)
 cut_behind (Write c bytes ∷ xs) ys s t h = inr (cut_behind xs ys (appended s c bytes) t h)
-
--- where the first script fails
-pub acts_failed : {E : Type 0} {e : E} {xs : List Act} {s t : Sink} {m n : ℕ} (ys : List Act) → Acts {E = E} xs (Err e) s t m n
-    → Acts {E = E} (xs ++ ys) (Err e) s t m n
-acts_failed {xs = xs} {s = s} {t = t} ys a = record {
-  ok = tt;
-  err = cut_before xs ys s t a.err;
-  later = a.later;
-  failed = a.failed;
-}
 
 -- where the first script is done
 pub acts_then : {E : Type 0} {r : Result (Unit {0}) E} {xs ys : List Act} {s t u : Sink} {m n k : ℕ}

@@ -1,7 +1,7 @@
 -- The text of the map of what is compiled.
 use Rattle.std.specs.Prelude.{ℕ, List}
 use Rattle.arch_compile.specs.declared.building.Build.{Build}
-use Rattle.system_spec.specs.MapText.{Named, map_text}
+use Rattle.system_spec.specs.MapText.{map_text}
 
 -- by the names of its source
 abbrev pub build_map : Build → List ℕ

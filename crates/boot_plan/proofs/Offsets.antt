@@ -1,5 +1,5 @@
 -- Offsets of blocks that are laid end to end, the greatest first.
-use Rattle.boot_plan.proofs.Common.{AllFit, AreStarts, Block, Bool, DevicePage, FitsAt, List, Need, Nothing, Untyped, [], arith, block_bytes, cases_lt, cond, exact_bytes, false, get_or-set_other, get_or-set_same, had, is_usual, leb, length}
+use Rattle.boot_plan.proofs.Common.{AllFit, AreStarts, Block, Bool, DevicePage, List, Need, Nothing, Untyped, [], arith, block_bytes, cases_lt, cond, exact_bytes, false, get_or-set_other, get_or-set_same, had, is_usual, leb, length}
 use Rattle.boot_plan.proofs.Common.{nat_tests, needed, needed_at, refl, slice_index, slice_set, starts_behind, subst, sum_by-cons, sym, true, ℕ, ⊎_elim, ◌+◌, ◌<◌, ◌==◌, ◌^◌, ◌∙◌, ◌∷◌, ◌≡◌, ◌≢◌, ◌≤◌}
 use Rattle.std.proofs.Math.ListN.{length-set}
 use Rattle.boot_plan.proofs.Multiples.{Multiple, multiple_add, multiple_coarse, multiple_none, multiple_one}
@@ -153,13 +153,6 @@ pub small_block : (b : ℕ) → is_usual (Block b) ≡ true → b ≤ 20
 small_block b h = grind (arith, nat_tests)
 
 -- ---- blocks that end within regions
-
-pub fits_first : (rooms : List Untyped) (starts : List ℕ) (n : Need) (ns : List Need) → is_usual n ≡ true
-    → AllFit rooms starts (n ∷ ns) → FitsAt rooms starts n
-fits_first rooms starts Nothing ns u f = tt
-fits_first rooms starts (DevicePage paddr) ns u f = tt
-fits_first rooms starts (Block b) ns u f =
-    omega (arith, f.each b (small_block b u), exact_same b, sum_by-cons (exact_bytes b) (Block b) ns)
 
 pub fits_rest : (rooms : List Untyped) (starts : List ℕ) (n : Need) (ns : List Need) → is_usual n ≡ true
     → AllFit rooms starts (n ∷ ns) → AllFit rooms (starts_behind starts n) ns

@@ -1,6 +1,6 @@
 -- Words that end in a digit.
-use Rattle.capdl_text.proofs.Common.{Bool, List, None, Option, Some, [], and_parts, ap, arith, bytes_eq, bytes_eq-Decides, cases_Bool, codes, cond, false, has_letter, inl, inr, is_digit, is_right, kind_word, length, list_all, list_any, nat_tests}
-use Rattle.capdl_text.proofs.Common.{not, option_map, option_map_or, option_or, part_word, refl, rights_word, slice_get, slot_word, suc, sym, table_word, true, true≢false, unwrap_or, zero, ℕ, ◌==◌, ◌||◌, ◌∙◌, ◌∷◌, ◌≡◌}
+use Rattle.capdl_text.proofs.Common.{Bool, List, None, Option, Some, [], and_parts, ap, arith, bytes_eq, bytes_eq-Decides, cases_Bool, codes, cond, false, has_letter, inl, inr, is_digit, is_right, kind_word, length, list_all, nat_tests}
+use Rattle.capdl_text.proofs.Common.{not, option_map_or, option_or, part_word, refl, rights_word, slice_get, slot_word, suc, sym, table_word, true, true≢false, unwrap_or, zero, ℕ, ◌==◌, ◌||◌, ◌∙◌, ◌∷◌, ◌≡◌}
 use Rattle.std.specs.Prelude.{◌-◌}
 use Rattle.std.proofs.Math.Bool.{and-false, or-false}
 use Rattle.capdl_text.specs.NumberedWords.{ends_in_digit, is_numbered_left_out, numbered_word}

@@ -158,9 +158,6 @@ upto_ends (b ∷ bs) rest longer e = by_test (b == 34) (b == 10) (upto_ends bs r
     by_test false true more qe le p = none_is_not rest p
     by_test false false more qe le p = rw (qe, le) (more p)
 
-quote_not_letter : is_letter 34 ≡ false
-quote_not_letter = refl
-
 text_at : (bs rest : List ℕ) → after_text bs ≡ Some rest → fault_at (34 ∷ bs) ≡ None → IsTokenAt (34 ∷ bs) kinds.Text rest
 unfolding kind_of
 text_at bs rest e clean = record {

@@ -56,8 +56,5 @@ has_label-append xs ys n = list_any-append _ xs ys
 
 -- ---- one line
 
-pub told_none : (kind : Kind) (line : Line) → said kind line ≡ None → told kind (line ∷ []) ≡ []
-told_none kind line e = rw e refl
-
 pub told_one : (kind : Kind) (line : Line) (e : Entry) → said kind line ≡ Some e → told kind (line ∷ []) ≡ (line, e) ∷ []
 told_one kind line e is = rw is refl

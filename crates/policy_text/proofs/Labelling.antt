@@ -1,9 +1,8 @@
 -- A table of the labels of objects that is filled line by line, and the labels of a spec's objects.
 use Rattle.policy_text.proofs.Common.{Bool, IsErrAnd, IsFault, IsLabelling, List, None, Option, Policy, Refused, Result, Some, TextFault, ap, at_drop_more, bytes_eq, cond, drop, false, first_unlabelled, get_or, length, object_label, option_or}
-use Rattle.policy_text.proofs.Common.{option_or-cond, passed_on, refl, subst, sym, true, unlabelled, ℕ, ◌+◌, ◌<◌, ◌∙◌, ◌∷◌, ◌≡◌}
+use Rattle.policy_text.proofs.Common.{option_or-cond, passed_on, refl, subst, sym, true, ℕ, ◌+◌, ◌<◌, ◌∙◌, ◌∷◌, ◌≡◌}
 use mathlib.Core.Path.{fun_ext}
 use Rattle.cap_model.specs.declared.object_labels.Labels.{Labels}
-use Rattle.cap_model.specs.declared.spec.Entry.{Entry}
 use Rattle.cap_model.specs.declared.spec.Spec.{Spec}
 
 first_label : (o : List ℕ × ℕ) (more : List (List ℕ × ℕ)) (name : List ℕ)
@@ -27,20 +26,6 @@ label_more name objects i o f g all lt is before after =
     ∙ ap (λ (p : List ℕ × ℕ). option_or f (object_label (p ∷ drop (i + 1) objects) name)) is
     ∙ ap (option_or f) (sym (at_drop_more (λ os. object_label os name) objects i o lt))
     ∙ before
-
--- an object without a label is the first one, where those in front of it have labels
-first_without : (label : List ℕ → Option ℕ) (entry : Entry) (more : List Entry) → label entry.name ≡ None
-    → first_unlabelled label (entry ∷ more) ≡ Some (unlabelled entry)
-first_without label entry more none = rw none refl
-
-pub unlabelled_at : (label : List ℕ → Option ℕ) (entries : List Entry) (i : ℕ) (entry : Entry) → i < length entries
-    → entry ≡ get_or entries i entry → label entry.name ≡ None
-    → first_unlabelled label (drop i entries) ≡ first_unlabelled label entries
-    → first_unlabelled label entries ≡ Some (unlabelled entry)
-unlabelled_at label entries i entry lt is none so_far =
-    sym so_far ∙ at_drop_more (λ (es : List Entry). first_unlabelled label es) entries i entry lt
-    ∙ ap (λ (e : Entry). first_unlabelled label (e ∷ drop (i + 1) entries)) (sym is) ∙ first_without label entry
-    (drop (i + 1) entries) none
 
 -- the refusal of the first object without a label
 pub labelling_fails : (spec : Spec) (policy : Policy) (label : List ℕ → Option ℕ) (answer : Result Labels (Refused TextFault))

@@ -211,11 +211,6 @@ pub room_for : (before : List Told) (line : Line) (l : List ℕ) (a : Authority)
     → HasFewEdges (before ++ (line, edge l a m) ∷ []) → HasRoom before
 room_for before line l a m few = let more = count_more (λ t. is_edge t.1) before (line, edge l a m) in let f = few in omega arith
 
-pub has_edges : (before : List Told) (o : Option Words) (set : Words) → o ≡ Some set → IfSome o (HasEdges before)
-    → HasEdges before set
-has_edges before None set is h = absurd cc
-has_edges before (Some other) set is h = let same : other ≡ set = cc in subst (HasEdges before) same h
-
 pub adds_some : (text : List ℕ) (o : Option Words) (old new : Words) (r : Result (Unit {0}) NoMemory) → o ≡ Some old
     → OnOk r (IsAdded text old new) → OnOk r (AddsEdge text o (Some new))
 adds_some text o old new r is added = subst (λ (p : Option Words). OnOk r (AddsEdge text p (Some new))) (sym is) added

@@ -134,10 +134,6 @@ objects_right knows before at (o ∷ os) known names differ fresh room =
 
 -- ---- edges
 
-one_few : (a b : Bool) → ◌≤◌ (cond (a && b) 1 0) (cond a 1 0)
-one_few true false = omega arith
-one_few _ _ = omega arith
-
 pub edges_right : (knows : Number → Bool) (before : List Told) (at : ℕ) (es : List Edge)
     → All (λ e. (knows (decimal e.from) ≡ true) × (knows (decimal e.to) ≡ true)) es
     → count_by (λ t. is_edge t.1) before + length es ≤ 262144 → first_wrong knows before (told_at at (map edge_item es)) ≡ None

@@ -1,5 +1,5 @@
 -- A program header more.
-use Rattle.sect_table.proofs.Common.{Class, List, ap, arith, header_length, headers_from, program_header, refl, suc, zero, ℕ, ◌*◌, ◌+◌, ◌-◌, ◌<◌, ◌∷◌, ◌≡◌}
+use Rattle.sect_table.proofs.Common.{Class, List, arith, header_length, headers_from, program_header, refl, suc, zero, ℕ, ◌*◌, ◌+◌, ◌-◌, ◌<◌, ◌∷◌, ◌≡◌}
 
 pub one_more : (left l : ℕ) → 0 < left → left * l ≡ l + (left - 1) * l
 one_more zero l h = absurd (omega arith)

@@ -1,5 +1,5 @@
 -- What is read of a file, part by part.
-use Rattle.sect_table.proofs.Common.{Class, Elf, ElfFault, Err, Image, List, None, Ok, Option, ProgramHeader, Refused, Result, Some, ap, class_in, fault_behind, first_fault, headers, headers_fault, image_of, length, limit_fault}
+use Rattle.sect_table.proofs.Common.{Class, Elf, ElfFault, Err, Image, List, None, Ok, Option, ProgramHeader, Refused, Result, Some, class_in, fault_behind, first_fault, headers, headers_fault, image_of, length, limit_fault}
 use Rattle.sect_table.proofs.Common.{option_or, refl, subst, sym, table_fault, ℕ, ◌∙◌, ◌≡◌}
 use Rattle.std.specs.Result.{IsErrAnd}
 use Rattle.cam_base.specs.declared.error.Refused.TheVariants as refused

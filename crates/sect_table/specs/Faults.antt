@@ -15,7 +15,7 @@ use Rattle.std.specs.List.{slice_index, starts_with}
 use Rattle.std.specs.Option.{option_or, ok_or}
 use Rattle.sect_table.specs.Classes.{class_of, fields_end, header_length, length_at}
 use Rattle.sect_table.specs.ElfHeaders.{file_header, headers}
-use Rattle.sect_table.specs.ElfSections.{file_end, is_used, memory_end, page_up, sections_of_all}
+use Rattle.sect_table.specs.ElfSections.{is_used, memory_end, page_up, sections_of_all}
 use Rattle.sect_table.specs.declared.class.Class.{Class}
 use Rattle.sect_table.specs.declared.fault.ElfCode.{ElfCode}
 use Rattle.sect_table.specs.declared.fault.ElfCode.TheVariants as code

@@ -1,5 +1,5 @@
 -- What a source is assigned is what listing answers.
-use Rattle.source_commands.proofs.Common.{Contents, Edge, FrontEnd, IsAssigned, IsFrontOf, IsListing, IsListingOf, IsPolicyOf, IsSorted, List, Listing, Source, [], ap, arith, flat_of, from_ones, gather, get_or, label_lines, label_texts, length}
+use Rattle.source_commands.proofs.Common.{Contents, Edge, FrontEnd, IsAssigned, IsFrontOf, IsListing, IsListingOf, IsPolicyOf, IsSorted, List, Listing, Source, [], ap, arith, flat_of, from_ones, gather, get_or, label_texts}
 use Rattle.source_commands.proofs.Common.{slice_get-get_or, source_tables, subst, sym, ℕ, ◌<◌, ◌∙◌, ◌∷◌, ◌≡◌}
 use Rattle.cap_model.specs.Policies.{NumbersDiffer}
 use Rattle.cap_model.specs.declared.policy.Policy.{Policy}

@@ -1,6 +1,6 @@
 -- In given contents there is one listing and one explanation, aside from failed reads and want of memory.
 use Rattle.source_commands.proofs.Common.{Answer, Assigned, AtMost, Authority, SourceError, ComesFirst, Contents, Edge, Err, Explains, IsAnswer, IsAnswered, IsAsked, IsExplained, IsListed, IsListing, IsListingOf, IsReasoned, List, Listing, None}
-use Rattle.source_commands.proofs.Common.{NotAssigned, Ok, Option, Reason, Result, Some, Source, Tables, ap, arith, authority_of, by_bind, by_call, by_direct, by_lock, explanation, false, first_list_fault, has, label_texts, numbers, refl, same_Some}
+use Rattle.source_commands.proofs.Common.{NotAssigned, Ok, Option, Reason, Result, Some, Source, Tables, ap, arith, by_bind, by_call, by_direct, by_lock, explanation, false, first_list_fault, has, label_texts, numbers, refl, same_Some}
 use Rattle.source_commands.proofs.Common.{source_tables, subst, sym, tell, told_of, ℕ, ◌∙◌, ◌≡◌}
 use Rattle.cap_model.proofs.TableMembers.{one_table}
 use Rattle.explain.specs.declared.reason.Reason.{Reason as Told}

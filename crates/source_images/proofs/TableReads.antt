@@ -125,12 +125,6 @@ pub tables_failed : (contents : Contents) (file : ℕ) (tables : List Table) (n 
 tables_failed contents file tables n t e r lt is h same = subst (AreTablesRead contents file (tables_told tables)) (sym same)
     (err_told contents file tables n t e lt is h)
 
-pub tables_all : (contents : Contents) (file : ℕ) (tables : List Table) (readings : List Reading)
-    → AreRead contents file (tables_told tables) (length tables) readings
-    → AreTablesRead contents file (tables_told tables) (Ok readings)
-tables_all contents file tables readings a = all_read contents file (tables_told tables) readings
-    (subst (λ n. AreRead contents file (tables_told tables) n readings) (sym (length-map tables table_told)) a)
-
 pub same_length : (tables : List Table) (names : List (Bor Name)) (folder : List ℕ)
     → tables_told tables ≡ map (table_at folder) (names_told names) → length tables ≡ length names
 same_length tables names folder e = search (rules, length-map)

@@ -1,5 +1,5 @@
 -- A table of threads that is filled object by object.
-use Rattle.step_text.proofs.Common.{Bool, Entry, List, None, Option, Some, Spec, ap, at_drop_all, at_drop_more, bytes_eq, cond, drop, false, get_or, is_thread, length, option_or, option_or-cond, option_or-none, position, position_from, refl, sym}
+use Rattle.step_text.proofs.Common.{Bool, Entry, List, None, Option, Some, Spec, ap, at_drop_all, bytes_eq, cond, drop, false, is_thread, length, option_or, option_or-none, position, position_from, refl, sym}
 use Rattle.step_text.proofs.Common.{thread_named, true, true≢false, ℕ, ◌&&◌, ◌+◌, ◌<◌, ◌∙◌, ◌∷◌, ◌≡◌, ◌≤◌}
 use Rattle.std.proofs.Common.{is_some}
 use mathlib.Core.Path.{fun_ext}
@@ -22,19 +22,6 @@ inserted f g key x absent updates name = go (bytes_eq key name) refl
     go : (a : Bool) → bytes_eq key name ≡ a → g name ≡ option_or (f name) (cond (bytes_eq key name) (Some x) None)
     go true e = updates name ∙ rw e (none_or (f name) (ap (λ k. is_some (f k)) (sym ((bytes_eq-Decides key name).0 e)) ∙ absent))
     go false e = updates name ∙ rw e (option_or-none (f name))
-
--- one object more: f is what the table found before it, and g what it finds after
-pub added_more : (name : List ℕ) (entries : List Entry) (i : ℕ) (entry : Entry) (f g : Option ℕ) (all : Option ℕ)
-    → i < length entries → entry ≡ get_or entries i entry
-    → option_or f (position_from (is_named name) i (drop i entries)) ≡ all
-    → g ≡ option_or f (cond (is_named name entry) (Some i) None)
-    → option_or g (position_from (is_named name) (i + 1) (drop (i + 1) entries)) ≡ all
-added_more name entries i entry f g all lt is before after =
-    ap (λ o. option_or o (position_from (is_named name) (i + 1) (drop (i + 1) entries))) after
-    ∙ option_or-cond f (is_named name entry) i (position_from (is_named name) (i + 1) (drop (i + 1) entries))
-    ∙ ap (λ (e : Entry). option_or f (position_from (is_named name) i (e ∷ drop (i + 1) entries))) is
-    ∙ ap (option_or f) (sym (at_drop_more (position_from (is_named name) i) entries i entry lt))
-    ∙ before
 
 -- all objects: what the table finds is the first thread of the name
 pub added_all : (spec : Spec) (entries : List Entry) (found : List ℕ → Option ℕ) (i : ℕ) → entries ≡ spec.entries

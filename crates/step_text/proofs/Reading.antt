@@ -1,8 +1,7 @@
 -- One line more.
 use Rattle.std.proofs.Common.{rules}
-use Rattle.step_text.proofs.Common.{Err, IsRead, IsRefusal, Line, List, None, Option, Some, Spec, Step, Wrong, [], ap, append_assoc, arith, at_line, bytes_limit, false, fault_of, fields, filter_map, first_fault_of, length, lines}
-use Rattle.step_text.proofs.Common.{nat_tests, option_map, option_or, spelled, step_of, sym, take, thread_named, wrong, ℕ, ◌++◌, ◌+◌, ◌∙◌, ◌∷◌, ◌≡◌, ◌≤◌}
-use Rattle.std.proofs.Common.{nat_lt}
+use Rattle.step_text.proofs.Common.{Err, IsRead, IsRefusal, Line, List, None, Option, Some, Spec, Step, Wrong, [], ap, arith, bytes_limit, false, fault_of, fields, first_fault_of, length, lines}
+use Rattle.step_text.proofs.Common.{nat_tests, option_or, spelled, step_of, take, thread_named, wrong, ℕ, ◌++◌, ◌+◌, ◌∙◌, ◌∷◌, ◌≡◌, ◌≤◌}
 use Rattle.cam_base.specs.declared.error.Refused.{Refused}
 use Rattle.cam_base.specs.declared.error.Refused.TheVariants as refused
 use Rattle.cam_base.specs.declared.text_fault.TextFault.{TextFault}
@@ -22,13 +21,6 @@ pub fault_here : (place : List ℕ → Option ℕ) (before : ℕ) (line : Line) 
     → first_fault_of place before left ≡ Some fault
 fault_here place before line left more fault is here = ap (first_fault_of place before) is
     ∙ ap (λ fault. option_or fault (first_fault_of place (before + 1) more)) here
-
--- a step more
-pub step_more : (place : List ℕ → Option ℕ) (steps : List Step) (step : Step) (line : Line) (left more : List Line)
-    → left ≡ line ∷ more → step_of place line ≡ Some step
-    → (steps ++ step ∷ []) ++ filter_map (step_of place) more ≡ steps ++ filter_map (step_of place) left
-step_more place steps step line left more is spelled =
-    rw is (rw spelled (append_assoc steps (step ∷ []) (filter_map (step_of place) more)))
 
 -- a line whose first eight fields spell a step
 pub line_step : (place : List ℕ → Option ℕ) (before : ℕ) (line : Line) (first : List (List ℕ)) (step : Step)

@@ -2,7 +2,7 @@
 -- name hold something, so lie below the next number of a CNode, which grows by one a step at most.
 use Rattle.std.proofs.Common.{rules}
 use Rattle.step_text.proofs.Common.{All, All-cons, All-nil, AllByRecursion, Bool, Decides-eqb, Decides-ltb, Entry, IsNamed, IsNumber, IsReadable, List, None, Option, Some, Spec, Step, [], all_at, and_parts, ap, arith, bytes_eq, cond, false, get_or}
-use Rattle.step_text.proofs.Common.{inl, inr, is_letter, is_name, is_thread, is_word_byte, kind_is, length, list_all, map, name_at, nat_lt, not, object_at, position, position_or_len, refl, set, slice_get, subst, suc, sym, thread_named, true, zero, ℕ}
+use Rattle.step_text.proofs.Common.{inl, inr, is_name, is_thread, is_word_byte, kind_is, length, list_all, nat_lt, not, position_or_len, refl, set, slice_get, subst, suc, sym, thread_named, true, zero, ℕ}
 use Rattle.step_text.proofs.Common.{◌&&◌, ◌++◌, ◌+◌, ◌<◌, ◌==◌, ◌^◌, ◌∙◌, ◌∷◌, ◌≡◌, ◌≤◌, ◌⊎◌}
 use Rattle.std.proofs.lemmas.Option.{get_or_from_slice_get, slice_get_within}
 use Rattle.std.specs.Map.{keys_of, lookup}
@@ -10,9 +10,9 @@ use Rattle.cap_machine.proofs.Applied.{nexts_fit, read_written}
 use Rattle.cap_machine.proofs.Booting.{all_bootable, boot_fits, boot_nexts_fit}
 use Rattle.cap_machine.proofs.Fitting.{step_fits}
 use Rattle.cap_machine.proofs.NodeSlots.{below_filter, below_last, boot_below}
-use Rattle.cap_machine.proofs.Table.{Goes, in_table}
+use Rattle.cap_machine.proofs.Table.{in_table}
 use Rattle.cap_machine.specs.Decide.{changed}
-use Rattle.cap_machine.specs.Effects.{grown, grown_at, without, without_at}
+use Rattle.cap_machine.specs.Effects.{grown_at, without_at}
 use Rattle.cap_machine.specs.Progress.{Bootable, NextsFit}
 use Rattle.cap_machine.specs.Runs.{Run}
 use Rattle.cap_machine.specs.StepTable.{Acts, StepTo}
@@ -24,7 +24,7 @@ use Rattle.cap_model.proofs.Found.{found}
 use Rattle.cap_model.specs.FitsSpec.{FitsSpec}
 use Rattle.cap_model.specs.Kept.{IsKept}
 use Rattle.cap_model.specs.Kinds.{is_at, kind_at, kind_of_object}
-use Rattle.cap_model.specs.State.{Node, State, boot, boot_node, content_at, content_in, no_node, no_thread, node_at, thread_at}
+use Rattle.cap_model.specs.State.{Node, State, boot, boot_node, content_in, no_node, no_thread, node_at, thread_at}
 use Rattle.cap_model.specs.declared.kind.Kind.{Kind}
 use Rattle.cap_model.specs.declared.kind.Kind.TheVariants as kinds
 use Rattle.cap_model.specs.declared.object.Object.{Object}

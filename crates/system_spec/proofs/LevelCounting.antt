@@ -1,7 +1,7 @@
 -- Page tables are counted level by level
-use Rattle.system_spec.proofs.Common.{Directory, Global, Level, List, PageTable, Table, Upper, ap, arith, count_by, counted, counts, counts_in, false, get_or, is_of, length, length-take-le, one_more, refl, subst, sym, take, true, ℕ, ◌+◌, ◌<◌, ◌∙◌}
+use Rattle.system_spec.proofs.Common.{Directory, Global, Level, List, PageTable, Table, Upper, ap, arith, count_by, counted, counts, counts_in, false, get_or, is_of, length, one_more, refl, subst, sym, take, true, ℕ, ◌+◌, ◌<◌, ◌∙◌}
 use Rattle.system_spec.proofs.Common.{◌≡◌, ◌≤◌}
-use Rattle.std.proofs.lemmas.List.Sums.{count_by-le-length, count_by_more_no, count_by_more_yes}
+use Rattle.std.proofs.lemmas.List.Sums.{count_by_more_no, count_by_more_yes}
 
 pub counted_in : (xs : List PageTable) (l : Level) → counted (counts_in xs) l ≡ count_by (is_of l) xs
 counted_in xs Global = refl
@@ -33,8 +33,3 @@ counts_more xs i x l h is at = by_level l at
         (yes Directory (test Directory Directory e)) (no Table (test Table Directory e))
     by_level Table e = same _ _ _ _ _ _ _ _ (no Global (test Global Table e)) (no Upper (test Upper Table e))
         (no Directory (test Directory Table e)) (yes Table (test Table Table e))
-
--- no more than there are tables
-pub counted_below : (xs : List PageTable) (i : ℕ) (l : Level) → i < length xs → count_by (is_of l) (take i xs) ≤ i
-counted_below xs i l h = let c = count_by-le-length (is_of l) (take i xs) in let n = length-take-le i xs (omega (arith, h)) in
-    omega (arith, c, n)

@@ -1,5 +1,5 @@
 -- Places of the threads and the locks that lines of the map name
-use Rattle.system_spec.proofs.Common.{AreFew, List, LockOf, OfDomain, Part, SlotUse, Tables, ThreadOf, ThreadPlace, ap, arith, before, domain_locks, domain_tcbs, domain_threads, first_of, gather, gather_ones, length, lock, locks, numbered, owned}
+use Rattle.system_spec.proofs.Common.{AreFew, List, LockOf, OfDomain, Part, SlotUse, Tables, ThreadOf, ThreadPlace, ap, arith, before, domain_locks, domain_tcbs, domain_threads, first_of, gather, gather_ones, length, lock, locks, owned}
 use Rattle.system_spec.proofs.Common.{place, refl, subst, sym, take, take_all, taken_le, tcbs, thread_lines_from, threads_at, together, uses_at, ℕ, ◌+◌, ◌<◌, ◌^◌, ◌∙◌, ◌≡◌, ◌≤◌}
 use Rattle.system_spec.specs.declared.series.Series.TheVariants as series
 use Rattle.system_spec.proofs.Domains.{grown, taken_none}
@@ -64,9 +64,6 @@ few_in t xs same few =
     let all = (ends t few).frames in
     let here : length (together (but_frames t)) < 2 ^ 32 = omega (arith, all) in
     subst (λ (z : List (List Part)). length (together z) < 2 ^ 32) (sym same) here
-
-pub at_most_seven : (t : Tables) (xs : List (List Part)) (n : ℕ) → xs ≡ but_frames t → n ≤ 7 → n ≤ length xs
-at_most_seven t xs n same le = subst (λ (z : List (List Part)). n ≤ length z) (sym same) le
 
 pub first_is : (t : Tables) (xs : List (List Part)) (n first : ℕ) → xs ≡ but_frames t → first ≡ length (together (take n xs))
     → first ≡ length (together (take n (but_frames t)))

@@ -1,6 +1,6 @@
 -- What is written of a least certificate is read back under its policy, and the checker says yes to it where it does to any.
-use Rattle.text_commands.proofs.Common.{All, Bool, Certified, Checked, Contents, Decides-eqb, Edge, Entry, Err, Holds, InputError, IsCert, IsCertRead, IsCertText, IsCertificate, IsCertificateOf, IsCertified, IsChecked, IsLabelling, IsPolicy}
-use Rattle.text_commands.proofs.Common.{IsPolicyRead, IsPolicyText, IsSorted, IsSystem, Judged, Labels, List, No, None, Ok, Option, Policy, Result, Some, Spec, Verdict, Yes, [], ap, arith, edge, false, find, has, inl, inr, is_some, kept_text}
+use Rattle.text_commands.proofs.Common.{All, Bool, Certified, Checked, Contents, Decides-eqb, Edge, Entry, Err, Holds, IsCert, IsCertText, IsCertificate, IsCertified, IsChecked, IsLabelling, IsPolicy}
+use Rattle.text_commands.proofs.Common.{IsPolicyRead, IsPolicyText, IsSystem, Judged, Labels, List, None, Ok, Option, Policy, Result, Some, Spec, Yes, [], ap, arith, false, find, has, inl, inr, is_some, kept_text}
 use Rattle.text_commands.proofs.Common.{least_valid, length, length-map, map, object_label, option_map, refl, subst, sym, tell_text, true, ℕ, ◌<◌, ◌==◌, ◌^◌, ◌||◌, ◌∙◌, ◌∷◌, ◌≡◌, ◌≤◌}
 use Rattle.std.proofs.lemmas.List.Elements.{All-head, All-tail}
 use Rattle.std.specs.Str.{bytes_eq}

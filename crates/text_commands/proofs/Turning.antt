@@ -4,9 +4,6 @@ use Rattle.cam_io.proofs.Counts.{rose_after}
 use Rattle.cam_io.specs.Causes.{NoneFell}
 use Rattle.cam_io.specs.Reading.{KeepsFiles}
 
-none_fell : (a b c : List ℕ → ℕ) → NoneFell a b → NoneFell b c → NoneFell a c
-none_fell a b c x y = λ name. let l = x name in let m = y name in omega arith
-
 -- the error of an input that is too long
 pub too_long : (contents : Contents) (before now : List ℕ → ℕ) (name : List ℕ) (e : InputError)
     → IsErrorOf (of_file TooLong name) name e → IsTooLong contents name

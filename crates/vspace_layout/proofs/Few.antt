@@ -1,7 +1,7 @@
 -- Where no limit on pages is passed, regions and frames are few
 use Rattle.vspace_layout.proofs.Common.{AreFew, Bool, CanLay, Domain, FlatConnection, FlatEnd, Given, List, MappedPage, Memory, None, OfConnection, Option, Own, Shown, Some, [], ap, arith, cond, device_frame, false, frame, frames, frames_at, gather}
 use Rattle.vspace_layout.proofs.Common.{is_first, is_shared, length, length-gather, length-map-range_with_len, length_append, map, mapped_pages, memory_paddr, memory_pages, option_map_or, own_frame, own_frames, own_part, page_counts, pages_in}
-use Rattle.vspace_layout.proofs.Common.{range_with_len, refl, region_part, regions, register_frames, register_part, registers, same_Some, shared_frames, shared_part, slice_get, suc, sum, sum_by-cons, threads_of, true, windows_of, zero, ℕ, ◌*◌, ◌<◌}
+use Rattle.vspace_layout.proofs.Common.{range_with_len, refl, regions, register_frames, register_part, registers, same_Some, shared_frames, shared_part, slice_get, suc, sum, sum_by-cons, threads_of, true, windows_of, zero, ℕ, ◌*◌, ◌<◌}
 use Rattle.vspace_layout.proofs.Common.{◌^◌, ◌∷◌, ◌≡◌, ◌≤◌}
 use Rattle.vspace_layout.proofs.Counting.{length-region_part}
 use Rattle.vspace_layout.proofs.Fitting.{few_regions}

@@ -1,58 +1,23 @@
 -- What tables of first connections find.
 use Rattle.std.proofs.Common.{rules}
-use Rattle.vspace_layout.proofs.Common.{Bool, FlatConnection, FlatEnd, List, None, Option, PortKey, Some, [], add-one, and_parts, ap, at_drop_more, cond, drop, eq-eqb, eqb-true, false, first_number, get_or, key_of, leads_by, leads_to, length, map}
+use Rattle.vspace_layout.proofs.Common.{Bool, FlatConnection, FlatEnd, List, None, Option, PortKey, Some, [], add-one, ap, at_drop_more, cond, drop, eq-eqb, false, first_number, get_or, key_of, leads_by, leads_to, length, map}
 use Rattle.vspace_layout.proofs.Common.{option_and_then, option_map_or, option_or, position, position_from, position_from-zero, refl, registers, same_Some, same_key, slice_get, suc, sym, take, true, zero, ℕ, ◌&&◌, ◌++◌, ◌+◌, ◌<◌, ◌==◌, ◌∙◌, ◌∷◌, ◌≡◌}
 use Rattle.std.specs.Map.{lookup}
 use Rattle.cam_base.proofs.Options.{option_or-none, option_or-cond}
 
 -- ---- keys
 
-same_key-true : (k l : PortKey) → same_key k l ≡ true → k ≡ l
-same_key-true k l e = search (rules, and_parts, eqb-true)
-
 pub same_key-refl : (k : PortKey) → same_key k k ≡ true
 same_key-refl k = ap (λ b. b && (k.member == k.member)) (eq-eqb k.leaf k.leaf refl) ∙ eq-eqb k.member k.member refl
 
 -- ---- one key
-
--- a key that wasn't there
-pub put_port : (old new : List (PortKey × ℕ)) (key : PortKey) (n : ℕ) → lookup (same_key key) old ≡ None
-    → ((k : PortKey) → lookup (same_key k) new ≡ cond (same_key key k) (Some n) (lookup (same_key k) old))
-    → (k : PortKey) → lookup (same_key k) new ≡ option_or (lookup (same_key k) old) (cond (same_key key k) (Some n) None)
-put_port old new key n absent put k = put k ∙ by_test (same_key key k) refl
-  where
-    by_test : (b : Bool) → same_key key k ≡ b → cond b (Some n) (lookup (same_key k) old) ≡ option_or (lookup (same_key k) old)
-        (cond b (Some n) None)
-    by_test true e =
-        ap (λ o. option_or o (Some n)) (sym (ap (λ l. lookup (same_key l) old) (sym (same_key-true key k e)) ∙ absent))
-    by_test false e = option_or-none (lookup (same_key k) old)
 
 pub put_here : (old new : List (PortKey × ℕ)) (key : PortKey) (n : ℕ)
     → ((k : PortKey) → lookup (same_key k) new ≡ cond (same_key key k) (Some n) (lookup (same_key k) old))
     → lookup (same_key key) new ≡ Some n
 put_here old new key n put = put key ∙ ap (λ b. cond b (Some n) (lookup (same_key key) old)) (same_key-refl key)
 
--- a key that was there
-pub kept_port : (old : List (PortKey × ℕ)) (key : PortKey) (n m : ℕ) → lookup (same_key key) old ≡ Some m
-    → (k : PortKey) → lookup (same_key k) old ≡ option_or (lookup (same_key k) old) (cond (same_key key k) (Some n) None)
-kept_port old key n m there k = by_test (same_key key k) refl
-  where
-    by_some : (o : Option ℕ) → o ≡ Some m → o ≡ option_or o (Some n)
-    by_some o e = e ∙ sym (ap (λ z. option_or z (Some n)) e)
-
-    by_test : (b : Bool) → same_key key k ≡ b → lookup (same_key k) old ≡ option_or (lookup (same_key k) old)
-        (cond b (Some n) None)
-    by_test true e = by_some (lookup (same_key k) old) (ap (λ l. lookup (same_key l) old) (sym (same_key-true key k e)) ∙ there)
-    by_test false e = option_or-none (lookup (same_key k) old)
-
 -- ---- one connection
-
--- from an end to its connection
-pub noted_end : (c : FlatConnection) (x : FlatEnd) (n : ℕ) (f g : PortKey → Option ℕ) → registers c ≡ Some x
-    → ((k : PortKey) → g k ≡ option_or (f k) (cond (same_key (key_of x) k) (Some n) None))
-    → (k : PortKey) → g k ≡ option_or (f k) (cond (leads_by k c) (Some n) None)
-noted_end c x n f g e put k =
-    put k ∙ ap (λ o. option_or (f k) (cond (option_map_or (λ y. same_key (key_of y) k) o false) (Some n) None)) (sym e)
 
 noted_none : (c : FlatConnection) (n : ℕ) (f : PortKey → Option ℕ) → registers c ≡ None → (k : PortKey)
     → f k ≡ option_or (f k) (cond (leads_by k c) (Some n) None)

@@ -1,7 +1,7 @@
 use Rattle.std.proofs.Common.{rules}
 use Rattle.cam_io.proofs.Saying.{said_all}
 use Rattle.arch_compile.proofs.Common.{acts_one, arith, refl}
-use Rattle.arch_compile.proofs.Scripts.{acts_failed, acts_then, still_fresh}
+use Rattle.arch_compile.proofs.Scripts.{acts_then, still_fresh}
 use Rattle.arch_compile.proofs.write.write_texts.Goals as goal
 
 pub write_rules-requires : goal.write_rules-requires

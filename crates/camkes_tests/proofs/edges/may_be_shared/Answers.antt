@@ -1,7 +1,6 @@
 use Rattle.std.proofs.Common.{◌≡◌, ◌<◌, ◌≤◌, ◌+◌, ◌-◌, ℕ, List, length, slice_index_or, arith, ◌⊎◌, inl, inr, refl}
 use Rattle.std.proofs.Math.Nat.{eq-or-lt_of_le}
 use Rattle.std.proofs.lemmas.List.{get_or_default}
-use Rattle.authorities.specs.Authorities.{number_of}
 use Rattle.cap_model.specs.Shared.{PairBefore}
 use Rattle.authorities.specs.declared.authority.Authority.{Authority}
 use Rattle.camkes_tests.proofs.edges.may_be_shared.Goals as goal

@@ -1,5 +1,5 @@
-use Rattle.label_flow.proofs.Common.{AreLines, IsLine, List, [], ap, get_or, subst, sym, take, take_more, ℕ, ◌++◌, ◌+◌, ◌∙◌, ◌∷◌, ◌≡◌}
-use Rattle.label_flow.proofs.Growing.{one_more, line_more}
+use Rattle.label_flow.proofs.Common.{List, [], ap, ℕ, ◌++◌, ◌+◌, ◌∙◌, ◌∷◌, ◌≡◌}
+use Rattle.label_flow.proofs.Growing.{line_more}
 use Rattle.label_flow.proofs.lines.flows_text.Goals as goal
 
 pub loop-label-preserved : goal.loop-label-preserved

@@ -1,4 +1,4 @@
-use Rattle.system_spec.proofs.Common.{AreFew, Connector, Direct, FlatConnection, Interrupt, List, Mmio, Notification, Owner, Rpc, SharedMemory, Tables, [], ap, arith, before, first_of, gather, gather_turn, irq, irq_by, irq_owner, length, line}
+use Rattle.system_spec.proofs.Common.{AreFew, Connector, FlatConnection, Interrupt, List, Owner, Tables, [], ap, arith, before, first_of, gather, gather_turn, irq, irq_by, irq_owner, length, line}
 use Rattle.system_spec.proofs.Common.{line_by, refl, take, taken_le, told, ℕ, ◌+◌, ◌<◌, ◌^◌, ◌∙◌, ◌≡◌}
 use Rattle.system_spec.proofs.Bounds.{ends}
 use Rattle.system_spec.proofs.Placing.{as_long}

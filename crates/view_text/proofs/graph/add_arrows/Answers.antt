@@ -1,4 +1,4 @@
-use Rattle.view_text.proofs.Common.{Receive, ap, arith, arrow_line, gather, gather_turn, get_or_from_slice_get, note_at, refl, slice_get-get_or, sym, take_all, ◌++◌, ◌∙◌, ◌≡◌}
+use Rattle.view_text.proofs.Common.{Receive, ap, arith, arrow_line, gather_turn, get_or_from_slice_get, note_at, refl, slice_get-get_or, sym, ◌++◌, ◌∙◌, ◌≡◌}
 use Rattle.view_text.proofs.graph.add_arrows.Goals as goal
 use Rattle.view_text.proofs.graph.add_arrows.Goals.{in-Some+in_ok-add_arrow, in_default}
 
