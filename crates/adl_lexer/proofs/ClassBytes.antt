@@ -1,4 +1,5 @@
 -- Which bytes a class has.
+use Rattle.std.proofs.Common.{rules}
 use Rattle.adl_lexer.proofs.Common.{Bool, List, [], among, among-left, and_parts, ap, arith, cases_Bool, class_in, cond, digits, eqb-true, false, if_false, if_true, inl, inr, is_digit, is_hex_digit, is_letter, is_word_byte, le-leb, leb, leb-true}
 use Rattle.adl_lexer.proofs.Common.{left_out_class, left_out_rows, letters, list_all, mark_class, mark_rows, not, not-true, or_cases, or_right, refl, sign_class, sign_rows, sym, true, true_is_not_false, word_bytes, ℕ, ◌&&◌, ◌==◌, ◌||◌, ◌∙◌, ◌∷◌, ◌≡◌}
 use Rattle.adl_lexer.proofs.Common.{◌≤◌}
@@ -46,53 +47,19 @@ leb_up b m n h le = le-leb b n (let p = leb-true b m h in omega (arith, p, le))
 
 -- a hexadecimal digit that is no digit is a letter
 hex_is_letter : (b : ℕ) → is_digit b ≡ false → is_hex_digit b ≡ true → is_letter b ≡ true
-hex_is_letter b d h = elim (or_cases (is_digit b) ((leb 97 b && leb b 102) || (leb 65 b && leb b 70)) h) [
-  | inl e ↦ true_is_not_false (is_digit b) e d
-  | inr e ↦ elim (or_cases (leb 97 b && leb b 102) (leb 65 b && leb b 70) e) [
-    | inl f ↦ let p = and_parts (leb 97 b) (leb b 102) f in rw (p.0, leb_up b 102 122 p.1 (omega arith)) refl
-    | inr f ↦
-        let p = and_parts (leb 65 b) (leb b 70) f in
-        let q : (leb 65 b && leb b 90) ≡ true = rw (p.0, leb_up b 70 90 p.1 (omega arith)) refl in
-        or_middle (leb 97 b && leb b 122) (leb 65 b && leb b 90) (leb 95 b && leb b 95) q
-  ]
-]
-  where
-    or_middle : (x y z : Bool) → y ≡ true → (x || y || z) ≡ true
-    or_middle true y z h = refl
-    or_middle false true z h = refl
-    or_middle false false z h = absurd cc
+hex_is_letter b d h = search (rules, or_cases, true_is_not_false, and_parts, leb_up)
 
 -- a byte that is no digit and no letter has no class of a word's
 no_word_class : (b : ℕ) → is_digit b ≡ false → is_letter b ≡ false → among word_bytes (class_of b) ≡ false
 unfolding class_of
-no_word_class b d n = elim (cases_Bool (is_hex_digit b)) [
-  | inl h ↦ true_is_not_false (is_letter b) (hex_is_letter b d h) n
-  | inr h ↦
-      let c : class_of b ≡ sign_class b =
-      if_false (is_digit b) (cond (b == 48) 3 4)
-      (cond (is_hex_digit b) 1 (cond (is_letter b) (cond (b == 120 || b == 88) 2 0) (sign_class b))) d
-      ∙ if_false (is_hex_digit b) 1 (cond (is_letter b) (cond (b == 120 || b == 88) 2 0) (sign_class b)) h
-      ∙ if_false (is_letter b) (cond (b == 120 || b == 88) 2 0) (sign_class b) n in
-      ap (among word_bytes) c ∙ not-true (among word_bytes (sign_class b)) (sign_has (λ c. not (among word_bytes c)) b refl
-      refl refl refl)
-]
+no_word_class b d n = search (rules, cases_Bool, true_is_not_false, hex_is_letter, if_false, not-true, sign_has)
 
 digit_no_letter : (b : ℕ) → is_digit b ≡ true → among letters (class_of b) ≡ false
 unfolding class_of
-digit_no_letter b d =
-    ap (among letters) (if_true (is_digit b) (cond (b == 48) 3 4)
-    (cond (is_hex_digit b) 1 (cond (is_letter b) (cond (b == 120 || b == 88) 2 0) (sign_class b))) d)
-    ∙ not-true (among letters (cond (b == 48) 3 4)) (if_has (λ c. not (among letters c)) (b == 48) 3 4 refl refl)
+digit_no_letter b d = search (rules, if_true, not-true, if_has)
 
 pub word_byte_of : (b : ℕ) → among word_bytes (class_of b) ≡ true → is_word_byte b ≡ true
-word_byte_of b h = elim (cases_Bool (is_digit b)) [
-  | inl d ↦ or_right (is_letter b) (is_digit b) d
-  | inr d ↦ elim (cases_Bool (is_letter b)) [
-    | inl n ↦ rw n refl
-    | inr n ↦ true_is_not_false (among word_bytes (class_of b)) h
-        (no_word_class b d n)
-  ]
-]
+word_byte_of b h = search (rules, cases_Bool, or_right, true_is_not_false, no_word_class)
 
 pub letter_of : (b : ℕ) → among letters (class_of b) ≡ true → is_letter b ≡ true
 letter_of b h = elim (cases_Bool (is_digit b)) [

@@ -1,4 +1,5 @@
 -- Which classes bytes can have.
+use Rattle.std.proofs.Common.{rules}
 use Rattle.adl_lexer.proofs.Common.{Bool, List, [], among, and_parts, ap, arith, blanks, cases_Bool, class_in, cond, digits, eqb-true, false, get_or, hex_digits, if_false, if_true, inl, inr, is_digit, is_hex_digit, is_letter, left_out_class}
 use Rattle.adl_lexer.proofs.Common.{left_out_rows, letters, line_bytes, list_all, map, mark_class, mark_rows, not, not-true, range_with_len, refl, sign_class, sign_rows, subst, sym, true, true_is_not_false, ℕ, ◌&&◌, ◌<◌, ◌==◌, ◌||◌, ◌∙◌, ◌∷◌, ◌≡◌}
 use Rattle.adl_lexer.proofs.Common.{◌⊎◌}
@@ -73,10 +74,7 @@ digit_class b h = rw h (if_has (among digits) (b == 48) 3 4 refl refl)
 
 pub hex_class : (b : ℕ) → is_hex_digit b ≡ true → among hex_digits (class_of b) ≡ true
 unfolding class_of
-hex_class b h = elim (cases_Bool (is_digit b)) [
-  | inl d ↦ rw d (if_has (among hex_digits) (b == 48) 3 4 refl refl)
-  | inr d ↦ let e : class_of b ≡ 1 = if_false (is_digit b) _ _ d ∙ if_true (is_hex_digit b) _ _ h in rw e refl
-]
+hex_class b h = search (rules, cases_Bool, if_has, if_false, if_true)
 
 four_is_not_three : {C : Type 0} (c d : ℕ) → c ≡ 4 → d ≡ 3 → c ≡ d → C
 four_is_not_three c d p q e = absurd (omega (arith, p, q, e))
@@ -84,31 +82,15 @@ four_is_not_three c d p q e = absurd (omega (arith, p, q, e))
 -- the digit of the class of 0 is 0
 pub zero_class : (b : ℕ) → class_of b ≡ 3 → b ≡ 48
 unfolding class_of
-zero_class b h = elim (cases_Bool (is_digit b)) [
-  | inl d ↦ elim (cases_Bool (b == 48)) [
-    | inl e ↦ eqb-true b 48 e
-    | inr e ↦ four_is_not_three (class_of b) (class_of b) (if_true (is_digit b) (cond (b == 48) 3 4) (no_digit b) d
-        ∙ if_false (b == 48) 3 4 e) h refl
-  ]
-  | inr d ↦ true_is_not_false (among digits (class_of b)) (rw h refl) (digit_alone b d)
-]
+zero_class b h = search (rules, cases_Bool, eqb-true, four_is_not_three, if_true, if_false, true_is_not_false, digit_alone)
 
 pub not_zero_class : (b : ℕ) → class_of b ≡ 4 → (b == 48) ≡ false
 unfolding class_of
-not_zero_class b h = elim (cases_Bool (b == 48)) [
-  | inl e ↦ let same : b ≡ 48 = eqb-true b 48 e in let p : class_of 48 ≡ 4 = subst (λ (z : ℕ). class_of z ≡ 4) same h in absurd cc
-  | inr e ↦ e
-]
+not_zero_class b h = search (rules, cases_Bool, eqb-true)
 
 pub cross_class : (b : ℕ) → (b == 120 || b == 88) ≡ true → class_of b ≡ 2
 unfolding class_of
-cross_class b h = elim (cases_Bool (b == 120)) [
-  | inl e ↦ rw (eqb-true b 120 e) refl
-  | inr e ↦ elim (cases_Bool (b == 88)) [
-    | inl f ↦ rw (eqb-true b 88 f) refl
-    | inr f ↦ true_is_not_false (b == 120 || b == 88) h (rw (e, f) refl)
-  ]
-]
+cross_class b h = search (rules, cases_Bool, eqb-true, true_is_not_false)
 
 -- the one class among one
 pub one_of : (c d : ℕ) → among (d ∷ []) c ≡ true → c ≡ d
@@ -116,30 +98,13 @@ one_of c d h = elim (cases_Bool (c == d)) [ inl e ↦ eqb-true c d e | inr e ↦
 
 -- the classes of digits
 pub digit_cases : (c : ℕ) → among digits c ≡ true → (c ≡ 3) ⊎ (c ≡ 4)
-digit_cases c h = elim (cases_Bool (c == 3)) [
-  | inl e ↦ inl (eqb-true c 3 e)
-  | inr e ↦
-      inr (one_of c 4 (sym (if_false (c == 3) true (among (4 ∷ []) c) e) ∙ h))
-]
+digit_cases c h = search (rules, cases_Bool, eqb-true, one_of, if_false)
 
 pub blank_cases : (c : ℕ) → among blanks c ≡ true → (c ≡ 5) ⊎ (c ≡ 6)
-blank_cases c h = elim (cases_Bool (c == 5)) [
-  | inl e ↦ inl (eqb-true c 5 e)
-  | inr e ↦
-      inr (one_of c 6 (sym (if_false (c == 5) true (among (6 ∷ []) c) e) ∙ h))
-]
+blank_cases c h = search (rules, cases_Bool, eqb-true, one_of, if_false)
 
 pub letter_cases : (c : ℕ) → among letters c ≡ true → (c ≡ 0) ⊎ ((c ≡ 1) ⊎ (c ≡ 2))
-letter_cases c h = elim (cases_Bool (c == 0)) [
-  | inl e ↦ inl (eqb-true c 0 e)
-  | inr e ↦ elim (cases_Bool (c == 1)) [
-    | inl f ↦ inr (inl (eqb-true c 1 f))
-    | inr f ↦
-        inr
-        (inr (one_of c 2 (sym (if_false (c == 1) true (among (2 ∷ []) c) f)
-        ∙ sym (if_false (c == 0) true (among (1 ∷ 2 ∷ []) c) e) ∙ h)))
-  ]
-]
+letter_cases c h = search (rules, cases_Bool, eqb-true, one_of, if_false)
 
 -- every code of one list is in the other
 abbrev pub within : List ℕ → List ℕ → Bool
@@ -157,7 +122,4 @@ not_within (d ∷ cs) ds c w h =
     ]
 
 pub line_byte : (b : ℕ) → among line_bytes (class_of b) ≡ not (class_of b == 6)
-line_byte b = elim (cases_Bool (class_of b == 6)) [
-  | inl e ↦ rw (eqb-true (class_of b) 6 e) refl
-  | inr e ↦ sym (if_false (class_of b == 6) true (among line_bytes (class_of b)) e) ∙ in_line b ∙ ap not (sym e)
-]
+line_byte b = search (rules, cases_Bool, eqb-true, if_false, in_line)

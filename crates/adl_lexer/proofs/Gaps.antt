@@ -1,4 +1,5 @@
 -- Blanks and comments.
+use Rattle.std.proofs.Common.{rules}
 use Rattle.adl_lexer.proofs.Common.{Bool, Code, IsGap, List, None, Some, [], after_close, after_comment, after_line, among, arith, blanks, cases_Bool, class_of, cond, eqb-true, false, if_false, if_true, inl, inr, length, more, none, none_is_not}
 use Rattle.adl_lexer.proofs.Common.{refl, same_Some, slash, slash_fault, sym, true, ℕ, ◌<◌, ◌==◌, ◌∙◌, ◌∷◌, ◌≡◌, ◌≤◌}
 use Rattle.adl_lexer.specs.Gaps.{one_gap}
@@ -10,14 +11,7 @@ use Rattle.cam_base.proofs.Comments.{after_close_le}
 -- a gap begins with no byte of a token
 pub gap_class : (b : ℕ) (cs ds : List ℕ) → one_gap (b ∷ cs) ≡ Some ds → among token_first (class_of b) ≡ false
 unfolding one_gap
-gap_class b cs ds e = elim (cases_Bool (among blanks (class_of b))) [
-  | inl h ↦ elim (blank_cases (class_of b) h) [ inl c ↦ rw c refl | inr c ↦ rw c refl ]
-  | inr h ↦ elim (cases_Bool (class_of b == slash)) [
-    | inl g ↦ rw (eqb-true (class_of b) slash g) refl
-    | inr g ↦ none_is_not ds (sym (if_false (class_of b == slash) (after_comment cs) None g)
-        ∙ sym (if_false (among blanks (class_of b)) (Some cs) (cond (class_of b == slash) (after_comment cs) None) h) ∙ e)
-  ]
-]
+gap_class b cs ds e = search (rules, cases_Bool, blank_cases, eqb-true, none_is_not, if_false)
 
 after_line_le : (bs : List ℕ) → length (after_line bs) ≤ length bs
 after_line_le [] = omega arith
@@ -29,17 +23,8 @@ after_line_le (b ∷ bs) = elim (cases_Bool (b == 10)) [
 
 after_comment_le : (bs cs : List ℕ) → after_comment bs ≡ Some cs → length cs ≤ length bs
 after_comment_le [] cs e = none_is_not cs e
-after_comment_le (b ∷ bs) cs e = elim (cases_Bool (b == 47)) [
-  | inl h ↦ let same =
-      same_Some (after_line bs) cs
-      (sym (if_true (b == 47) (Some (after_line bs)) (cond (b == 42) (after_close bs) None) h) ∙ e) in
-      let le = after_line_le bs in rw (← same) (omega arith)
-  | inr h ↦ go (b == 42) (sym (if_false (b == 47) (Some (after_line bs)) (cond (b == 42) (after_close bs) None) h) ∙ e)
-]
-  where
-    go : (is : Bool) → cond is (after_close bs) None ≡ Some cs → length cs ≤ length (b ∷ bs)
-    go true q = let le = after_close_le bs cs q in omega arith
-    go false q = none_is_not cs q
+after_comment_le (b ∷ bs) cs e =
+    search (rules, cases_Bool, same_Some, if_true, after_line_le, if_false, after_close_le, none_is_not)
 
 -- a gap has bytes
 pub gap_eats : (bs cs : List ℕ) → one_gap bs ≡ Some cs → length cs < length bs
@@ -64,19 +49,4 @@ none_fault f e = absurd cc
 pub fault_no_gap : (bs cs : List ℕ) (f : Code × List ℕ) → fault_at bs ≡ Some f → one_gap bs ≡ Some cs → ⊥
 unfolding fault_at one_gap
 fault_no_gap [] cs f h e = none_is_not cs e
-fault_no_gap (b ∷ bs) cs f h e = elim (cases_Bool (among blanks (class_of b))) [
-  | inl g ↦ elim (blank_cases (class_of b) g) [
-    | inl c ↦ none_fault f (sym (let p : fault_at (b ∷ bs) ≡ None = rw c refl in p) ∙ h)
-    | inr c ↦ none_fault f (sym (let p : fault_at (b ∷ bs) ≡ None = rw c refl in p) ∙ h)
-  ]
-  | inr g ↦ elim (cases_Bool (class_of b == slash)) [
-    | inl k ↦
-        let c = eqb-true (class_of b) slash k in
-        let gap : after_comment bs ≡ Some cs = sym (let p : one_gap (b ∷ bs) ≡ after_comment bs = rw c refl in p) ∙ e in
-        let p : fault_at (b ∷ bs) ≡ slash_fault (b ∷ bs) = rw c refl in
-        let q : slash_fault (b ∷ bs) ≡ None = rw gap refl in
-        none_fault f (sym (p ∙ q) ∙ h)
-    | inr k ↦ none_is_not cs (sym (if_false (class_of b == slash) (after_comment bs) None k)
-        ∙ sym (if_false (among blanks (class_of b)) (Some bs) (cond (class_of b == slash) (after_comment bs) None) g) ∙ e)
-  ]
-]
+fault_no_gap (b ∷ bs) cs f h e = search (rules, cases_Bool, blank_cases, none_fault, eqb-true, none_is_not, if_false)

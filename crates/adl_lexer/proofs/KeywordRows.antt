@@ -1,4 +1,5 @@
 -- The row of a table that has a word is the keyword that the word is.
+use Rattle.std.proofs.Common.{rules}
 use Rattle.adl_lexer.proofs.Common.{All-cons, All-nil, Bool, Contains, Contains-append_left, Contains-append_right, Contains-push, IsRowOf, Keyword, List, None, Some, [], ap, bytes_eq, bytes_eq-Decides, cases_Bool, false, inl, inr, keyword_of}
 use Rattle.adl_lexer.proofs.Common.{list_any, spelling, subst, sym, true, true_is_not_false, ℕ, ◌||◌, ◌∙◌, ◌∷◌, ◌≡◌, ◌≢◌}
 use Rattle.adl_lexer.proofs.KeywordWords.{is_found, keyword_is, no_keyword}
@@ -14,10 +15,7 @@ stands : (rows : List Keyword) (word : List ℕ) (k : Keyword) → keyword_of wo
     → Contains rows k
 stands [] word k e h = absurd cc
 stands (j ∷ rows) word k e h = elim (cases_Bool (has_word word j)) [
-  | inl own ↦
-      let f : Some k ≡ Some j = sym e ∙ is_found word j own in
-      let same : k ≡ j = cc in
-      subst (λ (i : Keyword). Contains (i ∷ rows) k) same (Contains-append_left (k ∷ []) rows k (Contains-push [] k))
+  | inl own ↦ search (rules, is_found)
   | inr other ↦
       Contains-append_right (j ∷ []) rows k (stands rows word k e (sym (ap (λ b. b || list_any (has_word word) rows) other) ∙ h))
 ]

@@ -1,4 +1,5 @@
 -- A word is one keyword at most: the words of two keywords differ.
+use Rattle.std.proofs.Common.{rules}
 use Rattle.adl_lexer.proofs.Common.{Keyword, List, None, Option, Some, [], all_keywords, ap, bytes_eq, bytes_eq-Decides, cases_Bool, false, if_false, if_true, inl, inr, named_by, refl, spelling, subst, sym, true, true_is_not_false, ℕ, ◌↔◌, ◌∙◌, ◌∷◌}
 use Rattle.adl_lexer.proofs.Common.{◌≡◌}
 use Rattle.cam_base.specs.declared.token.Keyword.TheVariants as keys
@@ -109,11 +110,7 @@ its_candidate word k e = ap candidate ((keyword_is word k).0 e) ∙ own_candidat
 
 -- a word without a candidate is no keyword
 pub is_no_candidate : (word : List ℕ) → candidate word ≡ None → keyword_of word ≡ None
-is_no_candidate word c = go (keyword_of word) refl
-  where
-    go : (o : Option Keyword) → keyword_of word ≡ o → o ≡ None
-    go None e = refl
-    go (Some k) e = let f : Some k ≡ None = sym (its_candidate word k e) ∙ c in absurd cc
+is_no_candidate word c = search (rules, its_candidate)
 
 -- a word that isn't that of its candidate is no keyword
 pub is_other_word : (word : List ℕ) (k : Keyword) → candidate word ≡ Some k → bytes_eq (spelling k) word ≡ false

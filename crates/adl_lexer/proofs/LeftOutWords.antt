@@ -1,4 +1,5 @@
 -- The one word left out that a word can be, by its length.
+use Rattle.std.proofs.Common.{rules}
 use Rattle.adl_lexer.proofs.Common.{Bool, List, ap, arith, bytes_eq, codes, false, is_left_out_word, length, ℕ, ◌||◌, ◌∙◌, ◌≡◌}
 use Rattle.std.proofs.Math.Bool.{or-false}
 use Rattle.cam_base.proofs.Bytes.{other_length}
@@ -15,22 +16,13 @@ not_enum : (word : List ℕ) → (length word ≡ 4 → ⊥) → (bytes_eq word 
 not_enum word n = ap (λ (b : Bool). b || false) (other_length word (codes "enum") n)
 
 pub of_nine : (word : List ℕ) → length word ≡ 9 → is_left_out_word word ≡ bytes_eq word (codes "connector")
-of_nine word h =
-    ap (λ (b : Bool). bytes_eq word (codes "connector") || b) (not_struct word (bytes_eq word (codes "enum") || false)
-    (λ e. absurd (omega (arith, h, e))) ∙ not_enum word (λ e. absurd (omega (arith, h, e))))
-    ∙ or-false (bytes_eq word (codes "connector"))
+of_nine word h = search (rules, not_struct, not_enum, or-false)
 
 pub of_six : (word : List ℕ) → length word ≡ 6 → is_left_out_word word ≡ bytes_eq word (codes "struct")
-of_six word h =
-    not_connector word (λ e. absurd (omega (arith, h, e)))
-    ∙ ap (λ (b : Bool). bytes_eq word (codes "struct") || b) (not_enum word (λ e. absurd (omega (arith, h, e))))
-    ∙ or-false (bytes_eq word (codes "struct"))
+of_six word h = search (rules, not_connector, not_enum, or-false)
 
 pub of_four : (word : List ℕ) → length word ≡ 4 → is_left_out_word word ≡ bytes_eq word (codes "enum")
-of_four word h =
-    not_connector word (λ e. absurd (omega (arith, h, e)))
-    ∙ not_struct word (bytes_eq word (codes "enum") || false) (λ e. absurd (omega (arith, h, e)))
-    ∙ or-false (bytes_eq word (codes "enum"))
+of_four word h = search (rules, not_connector, not_struct, or-false)
 
 pub of_another : (word : List ℕ) → (length word ≡ 9 → ⊥) → (length word ≡ 6 → ⊥) → (length word ≡ 4 → ⊥)
     → is_left_out_word word ≡ false

@@ -1,4 +1,5 @@
 -- A byte at fault for beginning nothing begins no token.
+use Rattle.std.proofs.Common.{rules}
 use Rattle.adl_lexer.proofs.Common.{Bool, Code, Err, Exact, Found, Kind, List, None, Ok, Option, Result, Some, Spells, Stop, [], after_angle, after_byte, after_run, after_text, among, angle_bytes, angle_first, ap, apart_none, blanks, can_be_empty}
 use Rattle.adl_lexer.proofs.Common.{cases_Bool, class_of, digits, false, flat, further, greater, if_true, inl, inr, is_digit, is_fraction, is_left_out_word, left_out, less, less_fault, letters, line_bytes, list_all, mark_bytes, minus, minus_fault}
 use Rattle.adl_lexer.proofs.Common.{nat_lt, number_fault_by, number_value, or_else, quote, reads, refl, run, sign_fault, slash, spelled_starts, starts, subst, sym, text_fault, token_form, too_deep, true, true_is_not_false, unless, word_bytes}
@@ -58,37 +59,19 @@ unless_no_byte (Some rest) c text h = refl
 
 word_no_byte : (word : List ℕ) → is_byte (word_fault word) ≡ false
 unfolding is_byte is_code
-word_no_byte word = elim (cases_Bool (nat_lt 127 (length word))) [
-  | inl h ↦ rw h refl
-  | inr h ↦ elim (cases_Bool (is_left_out_word word)) [ inl g ↦ rw (h, g) refl | inr g ↦ rw (h, g) refl ]
-]
+word_no_byte word = search (rules, cases_Bool)
 
 number_no_byte : (o : Option ℕ) (text rest : List ℕ) → is_byte (number_fault_by o text rest) ≡ false
 unfolding is_byte is_code
 number_no_byte None text rest = refl
-number_no_byte (Some n) text rest = elim (cases_Bool (list_all is_digit text && is_fraction rest)) [
-  | inl h ↦ rw h refl
-  | inr h ↦ rw h refl
-]
+number_no_byte (Some n) text rest = search (rules, cases_Bool)
 
 not_that : (c d : ℕ) → among (d ∷ []) c ≡ false → (c == d) ≡ false
 not_that c d h = elim (cases_Bool (c == d)) [ inl e ↦ true_is_not_false (among (d ∷ []) c) (rw e refl) h | inr e ↦ e ]
 
 mark_no_byte : (b : ℕ) (bs : List ℕ) → among mark_bytes (class_of b) ≡ true → is_byte (fault_at (b ∷ bs)) ≡ false
 unfolding fault_at is_byte is_code
-mark_no_byte b bs h =
-    let c = class_of b in
-    let h1 = apart_none mark_bytes letters c refl h in
-    let h2 = apart_none mark_bytes digits c refl h in
-    let h3 = apart_none mark_bytes blanks c refl h in
-    let h4 = not_that c slash (apart_none mark_bytes (slash ∷ []) c refl h) in
-    let h5 = not_that c less (apart_none mark_bytes (less ∷ []) c refl h) in
-    let h6 = not_that c minus (apart_none mark_bytes (minus ∷ []) c refl h) in
-    let h7 = not_that c quote (apart_none mark_bytes (quote ∷ []) c refl h) in
-    let h8 = not_that c left_out (apart_none mark_bytes (left_out ∷ []) c refl h) in
-    let fault : fault_at (b ∷ bs) ≡ sign_fault (b ∷ bs) = rw (h1, h2, h3, h4, h5, h6, h7) refl in
-    let none : sign_fault (b ∷ bs) ≡ None = rw (h8, h) refl in
-    ap is_byte (fault ∙ none)
+mark_no_byte b bs h = search (rules, apart_none, not_that, is_byte)
 
 -- ---- angle brackets
 
@@ -111,8 +94,7 @@ no_angle b (c ∷ bs) h g e = elim (cases_Bool (among angle_first (class_of c)))
         → after_byte greater (after_run angle_bytes bs) ≡ None → is_stopped (reads less_line (b ∷ c ∷ bs)) ≡ true
     ends [] p f n = rw (h, not_one_byte minus (c ∷ bs) g, f, run_is angle_bytes bs, p) refl
     ends (d ∷ r) p f n =
-        let last : among (greater ∷ []) (class_of d) ≡ false =
-        not_one_byte greater (d ∷ r) (sym (ap (after_byte greater) p) ∙ n) in
+        let last : among (greater ∷ []) (class_of d) ≡ false = search (rules, not_one_byte) in
         rw (h, not_one_byte minus (c ∷ bs) g, f, run_is angle_bytes bs, p, last) refl
 
 less_exact : Exact class_of flat [] too_deep less_line

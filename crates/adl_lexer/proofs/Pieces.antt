@@ -1,4 +1,5 @@
 -- What stands at the front, by the class of the first byte.
+use Rattle.std.proofs.Common.{rules}
 use Rattle.adl_lexer.proofs.Common.{Fits, Found, IsPiece, Kind, List, None, Option, Piece, Result, Some, Stop, after_comment, after_run, among, arrow_line, blanks, class_of, digits, false, if_true, inl, inr, less, less_fault, less_line, letters}
 use Rattle.adl_lexer.proofs.Common.{mark_line, minus, minus_fault, ne_eqb, number_fault, number_line, quote, reads, refl, run, sign_fault, slash, slash_fault, subst, sym, text_fault, text_line, token_form, true, word_bytes, word_fault, word_line, ℕ}
 use Rattle.adl_lexer.proofs.Common.{◌==◌, ◌∙◌, ◌∷◌, ◌≡◌}
@@ -18,24 +19,13 @@ module _ (b : ℕ) (rest : List ℕ) where
   word_front : (p : Piece) → among letters (class_of b) ≡ true
       → Fits (reads word_line (b ∷ rest)) (word_fault (run word_bytes (b ∷ rest))) None p → IsPiece (b ∷ rest) p
   unfolding fault_at one_gap
-  word_front p h fit = elim (letter_cases (class_of b) h) [
-    | inl c ↦ fits_as p (rw c refl) (rw c refl) (rw c refl) fit
-    | inr d ↦ elim d [
-      | inl c ↦ fits_as p (rw c refl) (rw c refl) (rw c refl) fit
-      | inr c ↦
-          fits_as p (rw c refl) (rw c refl) (rw c refl) fit
-    ]
-  ]
+  word_front p h fit = search (rules, letter_cases, fits_as)
 
   number_front : (p : Piece) → among digits (class_of b) ≡ true
       → Fits (reads number_line (b ∷ rest)) (number_fault (run word_bytes (b ∷ rest)) (after_run word_bytes (b ∷ rest))) None p
       → IsPiece (b ∷ rest) p
   unfolding fault_at one_gap
-  number_front p h fit = elim (digit_cases (class_of b) h) [
-    | inl c ↦ fits_as p (rw c refl) (rw c refl) (rw c refl) fit
-    | inr c ↦
-        fits_as p (rw c refl) (rw c refl) (rw c refl) fit
-  ]
+  number_front p h fit = search (rules, digit_cases, fits_as)
 
   slash_front : (p : Piece) → class_of b ≡ slash → Fits (reads token_form (b ∷ rest)) (slash_fault (b ∷ rest))
       (after_comment rest) p → IsPiece (b ∷ rest) p
@@ -73,10 +63,7 @@ module _ (b : ℕ) (bs rest : List ℕ) (p : Piece) (cut : bs ≡ b ∷ rest) wh
 
   pub number_piece : among digits (class_of b) ≡ true
       → Fits (reads number_line bs) (number_fault (run word_bytes bs) (after_run word_bytes bs)) None p → IsPiece bs p
-  number_piece h fit = subst (λ (w : List ℕ). IsPiece w p) (sym cut)
-      (number_front b rest p h
-      (subst (λ (w : List ℕ). Fits (reads number_line w) (number_fault (run word_bytes w) (after_run word_bytes w))
-      None p) cut fit))
+  number_piece h fit = search (rules, number_front)
 
   pub slash_piece : class_of b ≡ slash → Fits (reads token_form bs) (slash_fault bs) (after_comment rest) p → IsPiece bs p
   slash_piece h fit = subst (λ (w : List ℕ). IsPiece w p) (sym cut)
@@ -97,9 +84,7 @@ module _ (b : ℕ) (bs rest : List ℕ) (p : Piece) (cut : bs ≡ b ∷ rest) wh
   pub sign_piece : among letters (class_of b) ≡ false → among digits (class_of b) ≡ false → among blanks (class_of b) ≡ false
       → (class_of b ≡ slash → ⊥) → (class_of b ≡ less → ⊥) → (class_of b ≡ minus → ⊥) → (class_of b ≡ quote → ⊥)
       → Fits (reads mark_line bs) (sign_fault bs) None p → IsPiece bs p
-  sign_piece h1 h2 h3 h4 h5 h6 h7 fit = subst (λ (w : List ℕ). IsPiece w p) (sym cut)
-      (sign_front b rest p h1 h2 h3 (ne_eqb (class_of b) slash h4) (ne_eqb (class_of b) less h5) (ne_eqb (class_of b) minus h6)
-      (ne_eqb (class_of b) quote h7) (subst (λ (w : List ℕ). Fits (reads mark_line w) (sign_fault w) None p) cut fit))
+  sign_piece h1 h2 h3 h4 h5 h6 h7 fit = search (rules, sign_front, ne_eqb)
 
 -- a blank is passed
 pub blank_piece : (b : ℕ) (bs rest : List ℕ) → bs ≡ b ∷ rest → among blanks (class_of b) ≡ true → one_gap bs ≡ Some rest

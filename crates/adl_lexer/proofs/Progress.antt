@@ -1,4 +1,5 @@
 -- At each byte stands a blank, a comment, a token or a fault.
+use Rattle.std.proofs.Common.{rules}
 use Rattle.adl_lexer.proofs.Common.{Bool, Code, Found, IsTokenAt, Kind, List, None, Ok, Option, Some, [], after_angle, after_byte, after_comment, after_run, after_text, among, ap, arrow_line, blanks, cases_Bool, class_of, cond, digits, eqb-true}
 use Rattle.adl_lexer.proofs.Common.{false, greater, if_false, if_true, inl, inr, is_star, left_out, less, less_fault, less_line, letters, line_bytes, mark_bytes, minus, minus_fault, number_fault_by, number_value, or_else, quote, reads, refl, run}
 use Rattle.adl_lexer.proofs.Common.{sign_fault, slash, slash_fault, sym, text_fault, text_line, token_form, true, unless, word_bytes, ℕ, ◌==◌, ◌∙◌, ◌∷◌, ◌≡◌, ◌⊎◌}
@@ -71,19 +72,10 @@ module _ (b : ℕ) (bs : List ℕ) (clean : fault_at (b ∷ bs) ≡ None) where
 
   slash_progress : class_of b ≡ slash → one_gap (b ∷ bs) ≡ None → HasToken (b ∷ bs)
   unfolding fault_at one_gap
-  slash_progress c gap =
-      let fault : fault_at (b ∷ bs) ≡ slash_fault (b ∷ bs) = rw c refl in
-      let none_left : one_gap (b ∷ bs) ≡ after_comment bs = rw c refl in
-      let r = has_rest (after_comment bs) (cond (is_star bs) code.Unclosed code.LeftOut) (cond (is_star bs) (b ∷ bs) (b ∷ []))
-      (sym fault ∙ clean) in
-      some_is_not r.0 (sym r.1 ∙ sym none_left ∙ gap)
+  slash_progress c gap = search (rules, has_rest, some_is_not)
 
 first_or_later : (c : ℕ) (cs : List ℕ) (x : ℕ) → among (c ∷ cs) x ≡ true → (x ≡ c) ⊎ (among cs x ≡ true)
-first_or_later c cs x h = elim (cases_Bool (x == c)) [
-  | inl e ↦ inl (eqb-true x c e)
-  | inr e ↦
-      inr (sym (if_false (x == c) true (among cs x) e) ∙ h)
-]
+first_or_later c cs x h = search (rules, cases_Bool, eqb-true, if_false)
 
 mark_read : (b : ℕ) (bs : List ℕ) → among mark_bytes (class_of b) ≡ true → (k : Kind) × (reads mark_line (b ∷ bs) ≡ Ok (k, bs))
 unfolding mark_line
@@ -132,13 +124,7 @@ mark_read b bs h =
     ]
 
 faultless_sign : (b : ℕ) (bs : List ℕ) → sign_fault (b ∷ bs) ≡ None → among mark_bytes (class_of b) ≡ true
-faultless_sign b bs e = go (class_of b == left_out) (among mark_bytes (class_of b)) e
-  where
-    go : (is_left_out is_mark : Bool) → cond {A = Found} is_left_out (Some (code.LeftOut, b ∷ []))
-        (cond {A = Found} is_mark None (Some (code.Byte, b ∷ []))) ≡ None → is_mark ≡ true
-    go true is_mark q = some_is_not (code.LeftOut, b ∷ []) q
-    go false true q = refl
-    go false false q = some_is_not (code.Byte, b ∷ []) q
+faultless_sign b bs e = search (rules, some_is_not)
 
 module _ (b : ℕ) (bs : List ℕ) (gap : one_gap (b ∷ bs) ≡ None) (clean : fault_at (b ∷ bs) ≡ None) where
   sign_progress : among letters (class_of b) ≡ false → among digits (class_of b) ≡ false → among blanks (class_of b) ≡ false
@@ -153,9 +139,7 @@ module _ (b : ℕ) (bs : List ℕ) (gap : one_gap (b ∷ bs) ≡ None) (clean : 
 
   blank_progress : among blanks (class_of b) ≡ true → HasToken (b ∷ bs)
   unfolding one_gap
-  blank_progress h =
-      some_is_not bs (sym (if_true (among blanks (class_of b)) (Some bs) (cond (class_of b == slash) (after_comment bs) None) h)
-      ∙ gap)
+  blank_progress h = search (rules, some_is_not, if_true)
 
   -- where no blank and no comment begins and no fault stands, a token does
   pub progress : HasToken (b ∷ bs)
@@ -172,20 +156,7 @@ module _ (b : ℕ) (bs : List ℕ) (gap : one_gap (b ∷ bs) ≡ None) (clean : 
                         elim (cases_Bool (class_of b == slash)) [
                           | inl h ↦ slash_progress b bs clean (eqb-true (class_of b) slash h) gap
                           | inr h4 ↦
-                              elim (cases_Bool (class_of b == less)) [
-                                | inl h ↦ less_progress b bs clean (eqb-true (class_of b) less h)
-                                | inr h5 ↦
-                                    elim (cases_Bool (class_of b == minus)) [
-                                      | inl h ↦ minus_progress b bs clean (eqb-true (class_of b) minus h)
-                                      | inr h6 ↦
-                                          elim (cases_Bool (class_of b == quote)) [
-                                            | inl h ↦
-                                                text_progress b bs clean (eqb-true (class_of b) quote h)
-                                            | inr h7 ↦
-                                                sign_progress h1 h2 h3 h4 h5 h6 h7
-                                          ]
-                                    ]
-                              ]
+                              search (rules, cases_Bool, less_progress, eqb-true, minus_progress, text_progress, sign_progress)
                         ]
                   ]
             ]

@@ -1,4 +1,5 @@
 -- What reading a token gives, by its kind.
+use Rattle.std.proofs.Common.{rules}
 use Rattle.adl_lexer.proofs.Common.{Bool, Exact, List, None, Ok, Reader, Some, [], after_angle, after_byte, after_run, after_text, among, among-left, among-right, and_more, and_parts, angle_bytes, angle_first, ap, arith, backslash, can_be_empty}
 use Rattle.adl_lexer.proofs.Common.{cases_Bool, class_of, consumes, cross, digits, eqb-true, false, fits, flat, greater, hex_digits, if_false, if_true, inl, inr, is_decimal, is_digit, is_hex_digit, is_hexadecimal, kind_of_value, length, less}
 use Rattle.adl_lexer.proofs.Common.{letters, line_bytes, line_feed, list_all, many, many_more, many_none, minus, no_nil, none_is_not, number_value, plain_bytes, quote, reads, refl, run, same_Some, starts, subst, sym, too_deep, true, word_bytes}
@@ -28,21 +29,11 @@ word_read (b ∷ bs) h = rw (h, letter_is_word (class_of b) h, run_is word_bytes
 -- one byte of a class comes next
 one_byte : (c : ℕ) (bs rest : List ℕ) → after_byte c bs ≡ Some rest → (b : ℕ) × (bs ≡ b ∷ rest) × (class_of b ≡ c)
 one_byte c [] rest e = none_is_not rest e
-one_byte c (b ∷ bs) rest e = elim (cases_Bool (class_of b == c)) [
-  | inl f ↦ (
-    b,
-    ap (λ (w : List ℕ). b ∷ w) (same_Some bs rest (sym (if_true (class_of b == c) (Some bs) None f) ∙ e)),
-    eqb-true (class_of b) c f,
-  )
-  | inr f ↦ none_is_not rest (sym (if_false (class_of b == c) (Some bs) None f) ∙ e)
-]
+one_byte c (b ∷ bs) rest e = search (rules, cases_Bool, same_Some, if_true, eqb-true, none_is_not, if_false)
 
 pub not_one_byte : (c : ℕ) (bs : List ℕ) → after_byte c bs ≡ None → starts class_of (c ∷ []) bs ≡ false
 not_one_byte c [] e = refl
-not_one_byte c (b ∷ bs) e = elim (cases_Bool (class_of b == c)) [
-  | inl f ↦ none_is_not bs (sym e ∙ if_true (class_of b == c) (Some bs) None f)
-  | inr f ↦ rw f refl
-]
+not_one_byte c (b ∷ bs) e = search (rules, cases_Bool, none_is_not, if_true)
 
 -- an angle name is read whole
 pub angle_read : (b : ℕ) (bs rest : List ℕ) → class_of b ≡ less → after_byte minus bs ≡ None → after_angle bs ≡ Some rest
@@ -54,9 +45,7 @@ angle_read b (c ∷ bs) rest h g e = elim (cases_Bool (among angle_first (class_
       let end = one_byte greater (after_run angle_bytes bs) rest
       (sym (if_true (among angle_first (class_of c)) (after_byte greater (after_run angle_bytes bs)) None f) ∙ e) in
       rw (h, not_one_byte minus (c ∷ bs) g, f, run_is angle_bytes bs, end.1, end.2) refl
-  | inr f ↦
-      none_is_not rest (sym (if_false (among angle_first (class_of c)) (after_byte greater (after_run angle_bytes bs)) None f)
-      ∙ e)
+  | inr f ↦ search (rules, none_is_not, if_false)
 ]
 
 pub back_read : (b : ℕ) (bs rest : List ℕ) → class_of b ≡ less → after_byte minus bs ≡ Some rest
@@ -103,9 +92,7 @@ no_item b bs h = many_none class_of (backslash ∷ plain_bytes) (reads text_item
 
 is_plain : (b : ℕ) → (class_of b == quote) ≡ false → (class_of b == line_feed) ≡ false → (class_of b == backslash) ≡ false
     → among plain_bytes (class_of b) ≡ true
-is_plain b h g f =
-    sym (if_false (class_of b == backslash) true (among plain_bytes (class_of b)) f)
-    ∙ sym (if_false (class_of b == quote) true (among (backslash ∷ plain_bytes) (class_of b)) h) ∙ line_goes_on b g
+is_plain b h g f = search (rules, if_false, line_goes_on)
 
 abbrev IsBody : List ℕ → List ℕ → Type 0
 IsBody bs rest = (xs : List (Unit {0})) × (q : ℕ) × (items bs ≡ Ok (xs, q ∷ rest)) × (class_of q ≡ quote)
@@ -182,8 +169,7 @@ all_run : (cs : List ℕ) (is : ℕ → Bool) → ((b : ℕ) → is b ≡ true �
 all_run cs is up w [] h = (refl, refl)
 all_run cs is up w (b ∷ bs) h = elim (cases_Bool (among word_bytes (class_of b))) [
   | inl f ↦
-      let g : list_all is (b ∷ run word_bytes bs) ≡ true = subst (λ (r : List ℕ). list_all is r ≡ true)
-      (if_true (among word_bytes (class_of b)) (b ∷ run word_bytes bs) [] f) h in
+      let g : list_all is (b ∷ run word_bytes bs) ≡ true = search (rules, if_true) in
       let p = and_parts (is b) (list_all is (run word_bytes bs)) g in
       let r = all_run cs is up w bs p.1 in
       rw (f, up b p.0, r.0, r.1) (refl, refl)
@@ -192,27 +178,17 @@ all_run cs is up w (b ∷ bs) h = elim (cases_Bool (among word_bytes (class_of b
 
 run_none : (cs bs : List ℕ) → run cs bs ≡ [] → (starts class_of cs bs ≡ false) × (after_run cs bs ≡ bs)
 run_none cs [] e = (refl, refl)
-run_none cs (b ∷ bs) e = elim (cases_Bool (among cs (class_of b))) [
-  | inl h ↦ no_nil b (run cs bs) (sym (if_true (among cs (class_of b)) (b ∷ run cs bs) [] h) ∙ e)
-  | inr h ↦ (h, rw h refl)
-]
+run_none cs (b ∷ bs) e = search (rules, cases_Bool, no_nil, if_true)
 
 run_some : (cs bs : List ℕ) (x : ℕ) (r : List ℕ) → run cs bs ≡ x ∷ r → (more : List ℕ) × (bs ≡ x ∷ more) × (run cs more ≡ r)
     × (after_run cs bs ≡ after_run cs more)
 run_some cs [] x r e = no_nil x r (sym e)
-run_some cs (b ∷ bs) x r e = elim (cases_Bool (among cs (class_of b))) [
-  | inl h ↦
-      let all : b ∷ run cs bs ≡ x ∷ r = sym (if_true (among cs (class_of b)) (b ∷ run cs bs) [] h) ∙ e in
-      (bs, ap (λ (z : ℕ). z ∷ bs) (head_is b x (run cs bs) r all), tail_is b x (run cs bs) r all, rw h refl)
-  | inr h ↦ no_nil x r (sym e ∙ if_false (among cs (class_of b)) (b ∷ run cs bs) [] h)
-]
+run_some cs (b ∷ bs) x r e = search (rules, cases_Bool, if_true, head_is, tail_is, no_nil, if_false)
 
 -- the value of a number that doesn't begin with 0 is that of digits
 decimal_digits : (b : ℕ) (r : List ℕ) (n : ℕ) → (b == 48) ≡ false → number_value (b ∷ r) ≡ Some n → list_all is_digit r ≡ true
 decimal_digits b [] n h e = refl
-decimal_digits b (x ∷ r) n h e =
-    let p : number_value (b ∷ x ∷ r) ≡ fits (is_digit b && list_all is_digit (x ∷ r)) (digits_value 10 (b ∷ x ∷ r)) = rw h refl in
-    (and_parts (is_digit b) (list_all is_digit (x ∷ r)) (fits_true _ _ n (sym p ∙ e))).1
+decimal_digits b (x ∷ r) n h e = search (rules, and_parts, fits_true)
 
 module _ (b : ℕ) (n : ℕ) (zero : class_of b ≡ 3) where
   hex_whole : (x : ℕ) (r cs : List ℕ) → run word_bytes cs ≡ x ∷ r → class_of x ≡ 2 → is_hexadecimal r ≡ true
@@ -247,16 +223,9 @@ module _ (b : ℕ) (n : ℕ) (zero : class_of b ≡ 3) where
       let e' : number_value (48 ∷ x ∷ r) ≡ Some n = subst (λ (y : ℕ). number_value (y ∷ x ∷ r) ≡ Some n) z e in
       elim (cases_Bool (x == 120 || x == 88)) [
         | inl h ↦
-            let f : fits (is_hexadecimal r) (digits_value 16 r) ≡ Some n =
-            sym (if_true (x == 120 || x == 88) (fits (is_hexadecimal r) (digits_value 16 r)) _ h) ∙ e' in
+            let f : fits (is_hexadecimal r) (digits_value 16 r) ≡ Some n = search (rules, if_true) in
             hex_whole x r cs p (cross_class x h) (fits_true (is_hexadecimal r) (digits_value 16 r) n f) e
-        | inr h ↦
-            let f : fits (is_decimal (48 ∷ x ∷ r)) (digits_value 10 (48 ∷ x ∷ r)) ≡ Some n =
-            sym (if_false (x == 120 || x == 88) (fits (is_hexadecimal r) (digits_value 16 r))
-            (fits (is_decimal (48 ∷ x ∷ r)) (digits_value 10 (48 ∷ x ∷ r))) h) ∙ e' in
-            let none_left : length (x ∷ r) ≡ 0 =
-            eqb-true (length (x ∷ r)) 0 (fits_true (is_decimal (48 ∷ x ∷ r)) (digits_value 10 (48 ∷ x ∷ r)) n f) in
-            absurd (omega (arith, none_left))
+        | inr h ↦ search (rules, if_false, eqb-true, fits_true)
       ]
 
 digits_whole : (b : ℕ) (cs : List ℕ) (n : ℕ) → class_of b ≡ 4 → number_value (b ∷ run word_bytes cs) ≡ Some n
@@ -272,12 +241,4 @@ digits_whole b cs n h e =
 pub number_read : (bs : List ℕ) (n : ℕ) → starts class_of digits bs ≡ true → number_value (run word_bytes bs) ≡ Some n
     → reads number_line bs ≡ Ok (kinds.Number n, after_run word_bytes bs)
 number_read [] n h e = absurd cc
-number_read (b ∷ cs) n h e =
-    let w : among word_bytes (class_of b) ≡ true = among-right letters digits (class_of b) h in
-    let text : run word_bytes (b ∷ cs) ≡ b ∷ run word_bytes cs = rw w refl in
-    let after : after_run word_bytes (b ∷ cs) ≡ after_run word_bytes cs = rw w refl in
-    let e' : number_value (b ∷ run word_bytes cs) ≡ Some n = subst (λ (t : List ℕ). number_value t ≡ Some n) text e in
-    elim (digit_cases (class_of b) h) [
-      | inl z ↦ zero_whole b n z (run word_bytes cs) cs refl e' ∙ ap (λ (w : List ℕ). Ok (kinds.Number n, w)) (sym after)
-      | inr d ↦ digits_whole b cs n d e' ∙ ap (λ (w : List ℕ). Ok (kinds.Number n, w)) (sym after)
-    ]
+number_read (b ∷ cs) n h e = search (rules, among-right, digit_cases, zero_whole, digits_whole)

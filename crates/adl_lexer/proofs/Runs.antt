@@ -1,13 +1,12 @@
 -- Runs of bytes.
+use Rattle.std.proofs.Common.{rules}
 use Rattle.adl_lexer.proofs.Common.{IsRead-one, List, Ok, [], after_run, among, and_more, ap, arith, cases_Bool, class_of, consumes, false, inl, inr, length, length-append, line_bytes, many, many_more, many_none, not, one, refl, run, starts, subst}
 use Rattle.adl_lexer.proofs.Common.{take, take-front, true, ℕ, ◌++◌, ◌-◌, ◌==◌, ◌∙◌, ◌∷◌, ◌≡◌, ◌≤◌}
 use Rattle.adl_lexer.proofs.Classes.{line_byte}
 
 run_step : (cs : List ℕ) (b : ℕ) (bs : List ℕ) → among cs (class_of b) ≡ true
     → many class_of cs (one class_of cs) (b ∷ bs) ≡ and_more (many class_of cs (one class_of cs)) (Ok (b, bs))
-run_step cs b bs h =
-    many_more class_of cs (one class_of cs) (λ ts x e. consumes (IsRead-one class_of cs) ts x refl e) (b ∷ bs) h
-    ∙ ap (and_more (many class_of cs (one class_of cs))) (let p : one class_of cs (b ∷ bs) ≡ Ok (b, bs) = rw h refl in p)
+run_step cs b bs h = search (rules, many_more, consumes, and_more)
 
 -- reading any number of them gives the run
 pub run_is : (cs bs : List ℕ) → many class_of cs (one class_of cs) bs ≡ Ok (run cs bs, after_run cs bs)

@@ -1,4 +1,5 @@
 -- What a search for one byte passes over in a comment.
+use Rattle.std.proofs.Common.{rules}
 use Rattle.adl_lexer.proofs.Common.{List, None, Option, Some, [], add-one, after_close, after_first, after_line, after_slash, ap, arith, cases_Bool, drop, if◌then◌else◌, inl, inr, length, refl, suc, sym, zero, ℕ, ◌+◌, ◌<◌, ◌==◌, ◌∙◌, ◌∷◌, ◌≡◌}
 use Rattle.memchr.specs.Find.{IsFirstByte, Nowhere, Passes, is_byte}
 
@@ -65,10 +66,7 @@ behind_star (b ∷ bs) = if b == 47 then Some bs else after_close (b ∷ bs)
 
 close_found : (bs cs : List ℕ) → after_first 42 bs ≡ Some cs → after_close bs ≡ behind_star cs
 close_found [] cs e = cc
-close_found (a ∷ []) cs e = elim (cases_Bool (a == 42)) [
-  | inl is ↦ let same : Some [] ≡ Some cs = (rw is at e) in let one : [] ≡ cs = cc in ap behind_star one
-  | inr other ↦ let same : None ≡ Some cs = (rw other at e) in cc
-]
+close_found (a ∷ []) cs e = search (rules, cases_Bool)
 close_found (a ∷ c ∷ bs) cs e = elim (cases_Bool (a == 42)) [
   | inl is ↦ let same : Some (c ∷ bs) ≡ Some cs = (rw is at e) in let one : (c ∷ bs) ≡ cs = cc in rw is (ap behind_star one)
   | inr other ↦ rw other (close_found (c ∷ bs) cs (rw other at e))
@@ -76,17 +74,11 @@ close_found (a ∷ c ∷ bs) cs e = elim (cases_Bool (a == 42)) [
 
 slash_closes : (cs ds : List ℕ) → after_slash cs ≡ Some ds → behind_star cs ≡ Some ds
 slash_closes [] ds e = cc
-slash_closes (b ∷ bs) ds e = elim (cases_Bool (b == 47)) [
-  | inl is ↦ rw is (rw is at e)
-  | inr other ↦ let same : None ≡ Some ds = (rw other at e) in cc
-]
+slash_closes (b ∷ bs) ds e = search (rules, cases_Bool)
 
 other_goes_on : (cs : List ℕ) → after_slash cs ≡ None → behind_star cs ≡ after_close cs
 other_goes_on [] e = refl
-other_goes_on (b ∷ bs) e = elim (cases_Bool (b == 47)) [
-  | inl is ↦ let same : Some bs ≡ None = (rw is at e) in cc
-  | inr other ↦ rw other refl
-]
+other_goes_on (b ∷ bs) e = search (rules, cases_Bool)
 
 -- a slash behind the next star closes a comment
 pub closes : (bs cs ds : List ℕ) → after_first 42 bs ≡ Some cs → after_slash cs ≡ Some ds → after_close bs ≡ Some ds

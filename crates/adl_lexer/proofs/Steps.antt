@@ -1,4 +1,5 @@
 -- One step of the lexer, and what it leaves of the tokens and the faults.
+use Rattle.std.proofs.Common.{rules}
 use Rattle.adl_lexer.proofs.Common.{IsGap, IsTokenAt, Kind, LexesFrom, List, None, Ok, Reached, Some, Spells, Token, [], after_run, among, ap, append-nil, append_assoc, arith, blanks, can_be_empty, cases_Bool, class_of, fault_at, flat, here, if_true}
 use Rattle.adl_lexer.proofs.Common.{inl, inr, left, length, length-append, longer_front, more, none, ok_is, past, place_of, reads, refl, spelled_starts, subst, sym, token_form, true, true_is_not_false, ℕ, ◌++◌, ◌<◌, ◌∙◌, ◌∷◌, ◌≡◌, ◌≤◌, ◌⊎◌}
 use Rattle.adl_lexer.specs.Gaps.{one_gap}
@@ -23,8 +24,7 @@ token_at bs k rest e clean =
       longest = λ longer after l p q.
           let all : bs ≡ (s.0 ++ longer) ++ after = s.1 ∙ ap (λ (w : List ℕ). s.0 ++ w) p ∙ sym (append_assoc s.0 longer after) in
           let n = token_exact.passes (s.0 ++ longer) after (token_exact.begun l (s.0 ++ longer) q) in
-          let n' : left (reads token_form bs) ≤ length after = subst (λ (w : List ℕ). left (reads token_form w) ≤ length after)
-          (sym all) n in
+          let n' : left (reads token_form bs) ≤ length after = search (rules) in
           let n'' : length rest ≤ length after = (rw e at n') in
           no_longer longer after (rw p at n'');
       clean = clean;

@@ -1,4 +1,5 @@
 -- What stands behind a gap or token is the end of the bytes, and a place cuts out its text.
+use Rattle.std.proofs.Common.{rules}
 use Rattle.adl_lexer.proofs.Common.{All, All-cons, All-nil, Bool, IsGap, IsTextOf, LexesFrom, List, None, Some, Token, [], after_close, after_comment, after_line, among, ap, append_assoc, arith, blanks, cases_Bool, class_of, cond, drop, false}
 use Rattle.adl_lexer.proofs.Common.{if_false, if_true, inl, inr, length, length-append, more, none, none_is_not, place_of, refl, same_Some, slash, subst, sym, take, text_at, true, ℕ, ◌&&◌, ◌++◌, ◌-◌, ◌==◌, ◌∙◌, ◌∷◌, ◌≡◌}
 use Rattle.std.proofs.Math.Seq.{take-append_seam, drop-append_seam}
@@ -50,13 +51,7 @@ after_comment_ends (b ∷ bs) cs e = go (b == 47) (b == 42) e
 gap_ends : (bs cs : List ℕ) → one_gap bs ≡ Some cs → EndsIn bs cs
 unfolding one_gap
 gap_ends [] cs e = none_is_not cs e
-gap_ends (b ∷ bs) cs e = go (among blanks (class_of b)) (class_of b == slash) e
-  where
-    go : (is_blank is_slash : Bool) → cond is_blank (Some bs) (cond is_slash (after_comment bs) None) ≡ Some cs
-        → EndsIn (b ∷ bs) cs
-    go true is_slash q = ends_in_some (b ∷ bs) bs cs (b ∷ [], refl) q
-    go false true q = ends_later b bs cs (after_comment_ends bs cs q)
-    go false false q = none_is_not cs q
+gap_ends (b ∷ bs) cs e = search (rules, ends_in_some, ends_later, after_comment_ends, none_is_not)
 
 gaps_end : (bs rest : List ℕ) → IsGap bs rest → EndsIn bs rest
 gaps_end bs rest none = ([], refl)
@@ -71,16 +66,7 @@ front_dropped a rest n e = rw e (drop-append_seam a rest)
 -- a place cuts out the bytes between
 cut_out : (file : ℕ) (bytes here text rest : List ℕ) → EndsIn bytes here → here ≡ text ++ rest
     → text_at bytes (place_of file (length bytes) here rest) ≡ text
-cut_out file bytes here text rest e p =
-    let all = ap length e.1 in
-    let part = ap length p in
-    let first : length bytes - length here ≡ length e.0 = omega (arith, all, length-append e.0 here) in
-    let long : (length bytes - length rest) - (length bytes - length here) ≡ length text =
-    omega (arith, all, part, length-append e.0 here, length-append text rest) in
-    let dropped : drop (length bytes - length here) bytes ≡ here = ap (drop (length bytes - length here)) e.1
-    ∙ front_dropped e.0 here (length bytes - length here) first in
-    ap (take ((length bytes - length rest) - (length bytes - length here))) (dropped ∙ p)
-    ∙ front_taken text rest ((length bytes - length rest) - (length bytes - length here)) long
+cut_out file bytes here text rest e p = search (rules, length-append, front_dropped, front_taken)
 
 pub texts_of_kinds : (file : ℕ) (bytes bs : List ℕ) (ts : List Token) → EndsIn bytes bs → LexesFrom file (length bytes) bs ts
     → All (λ t. IsTextOf t.kind (text_at bytes t.place)) ts

@@ -1,4 +1,5 @@
 -- The bytes of tokens.
+use Rattle.std.proofs.Common.{rules}
 use Rattle.adl_lexer.proofs.Common.{Each, IsTextOf, IsTokenAt, Keyword, Kind, List, None, Ok, Option, Some, Spells, [], after_angle, after_byte, after_run, after_text, among, angle_bytes, angle_first, ap, append_cancel_right, arith, backslash}
 use Rattle.adl_lexer.proofs.Common.{can_be_empty, cases_Bool, class_of, cond, digits, eqb-true, false, flat, greater, if_true, inl, inr, is_left_out_word, is_name, is_word_byte, keyword_of, kind_or_word, le-leb, length, less, letters, line_bytes}
 use Rattle.adl_lexer.proofs.Common.{line_feed, list_all, ltb-false, mark, mark_text, minus, nat_lt, number_fault, number_fault_by, number_value, plain_bytes, quote, reads, refl, run, spelled_starts, starts, subst, sym, token_form, true}
@@ -23,10 +24,7 @@ pub word_start : (bs : List ℕ) → starts class_of letters bs ≡ true → (re
     × (fault_at bs ≡ word_fault (run word_bytes bs))
 unfolding fault_at
 word_start [] h = absurd cc
-word_start (b ∷ bs) h = elim (letter_cases (class_of b) h) [
-  | inl c ↦ (rw c refl, rw c refl)
-  | inr d ↦ elim d [ inl c ↦ (rw c refl, rw c refl) | inr c ↦ (rw c refl, rw c refl) ]
-]
+word_start (b ∷ bs) h = search (rules, letter_cases)
 
 pub number_start : (bs : List ℕ) → starts class_of digits bs ≡ true → (reads token_form bs ≡ reads number_line bs)
     × (fault_at bs ≡ number_fault (run word_bytes bs) (after_run word_bytes bs))
@@ -42,13 +40,7 @@ pub some_is_not : {A C : Type 0} (x : A) → Some x ≡ None → C
 some_is_not x e = absurd cc
 
 short_word : (word : List ℕ) → word_fault word ≡ None → nat_lt 127 (length word) ≡ false
-short_word word e = elim (cases_Bool (nat_lt 127 (length word))) [
-  | inl h ↦
-      some_is_not (code.Limit, word)
-      (sym (if_true (nat_lt 127 (length word)) (Some (code.Limit, word)) (cond (is_left_out_word word) (Some (code.LeftOut, word))
-      None) h) ∙ e)
-  | inr h ↦ h
-]
+short_word word e = search (rules, cases_Bool, some_is_not, if_true)
 
 -- bytes one by one are the list of them
 each_is : (P : ℕ → Type 0) (xs a : List ℕ) → Each (λ x ts. P x × (ts ≡ x ∷ [])) xs a → a ≡ xs
@@ -62,9 +54,7 @@ each_word_byte (x ∷ xs) a e = rw (word_byte_of x e.3.0, each_word_byte xs e.1 
 
 name_of_word : (x : ℕ) (xs : List ℕ) → among letters (class_of x) ≡ true → list_all is_word_byte xs ≡ true
     → word_fault (x ∷ xs) ≡ None → is_name (x ∷ xs) ≡ true
-name_of_word x xs h g f =
-    let le : length (x ∷ xs) ≤ 127 = ltb-false 127 (length (x ∷ xs)) (short_word (x ∷ xs) f) in
-    rw (le-leb (length xs) 126 (omega (arith, le)), letter_of x h, g) refl
+name_of_word x xs h g f = search (rules, ltb-false, short_word, le-leb, letter_of)
 
 word_kind_text : (o : Option Keyword) (text : List ℕ) → keyword_of text ≡ o → is_name text ≡ true → IsTextOf (kind_or_word o) text
 word_kind_text None text e n = (n, e)
@@ -85,16 +75,10 @@ greater_is = byte_of 10 62 refl refl refl refl refl refl refl refl refl
 -- ---- the ends of texts and angle names
 
 no_plain : (k c : ℕ) → among plain_bytes k ≡ false → among plain_bytes c ≡ true → (c == k) ≡ false
-no_plain k c n h = elim (cases_Bool (c == k)) [
-  | inl e ↦ true_is_not_false (among plain_bytes c) h (ap (among plain_bytes) (eqb-true c k e) ∙ n)
-  | inr e ↦ e
-]
+no_plain k c n h = search (rules, cases_Bool, true_is_not_false, eqb-true)
 
 no_line : (c : ℕ) → among line_bytes c ≡ true → (c == line_feed) ≡ false
-no_line c h = elim (cases_Bool (c == line_feed)) [
-  | inl e ↦ true_is_not_false (among line_bytes c) h (ap (among line_bytes) (eqb-true c line_feed e))
-  | inr e ↦ e
-]
+no_line c h = search (rules, cases_Bool, true_is_not_false, eqb-true)
 
 escaped_step : (b c : ℕ) (bs : List ℕ) → class_of b ≡ backslash → (class_of c == line_feed) ≡ false → after_text bs ≡ Some []
     → after_text (b ∷ c ∷ bs) ≡ Some []
@@ -118,16 +102,7 @@ unfolding text_item
 text_closed [] a q h e = rw (e, h) refl
 text_closed (x ∷ xs) a q h e =
     let more = text_closed xs e.1 q h e.4 in
-    subst (λ (w : List ℕ). after_text (w ++ q ∷ []) ≡ Some []) (sym e.2)
-    (elim e.3 [
-      | inl s ↦
-          let y = s.0 in
-          let p = s.2 in
-          let item : e.0 ≡ y.0 ∷ y.1 ∷ [] = p.2 ∙ ap (λ (w : List ℕ). w ++ p.1) p.3.1 ∙ ap (λ (w : List ℕ). y.0 ∷ w) p.4.1 in
-          subst (λ (w : List ℕ). after_text ((w ++ e.1) ++ q ∷ []) ≡ Some []) (sym item)
-          (escaped_step y.0 y.1 (e.1 ++ q ∷ []) (one_of (class_of y.0) backslash p.3.0) (no_line (class_of y.1) p.4.0) more)
-      | inr s ↦ subst (λ (w : List ℕ). after_text ((w ++ e.1) ++ q ∷ []) ≡ Some []) (sym s.2.1) (plain_front s.0 q e.1 s.2.0 more)
-    ])
+    search (rules, escaped_step, one_of, no_line, plain_front)
 
 -- an angle name ends with the bracket behind its bytes
 angle_closed : (xs a : List ℕ) (g : ℕ) → class_of g ≡ greater
@@ -157,8 +132,7 @@ module _ (bs : List ℕ) (k : Kind) (rest : List ℕ) (t : IsTokenAt bs k rest) 
       let p = s.2 in
       let text : t.text ≡ x.0 ∷ x.1 = p.2 ∙ ap (λ (w : List ℕ). w ++ p.1) p.3.1 ∙ ap (λ (w : List ℕ). x.0 ∷ w)
       (each_is (λ y. among word_bytes (class_of y) ≡ true) x.1 p.1 p.4) in
-      let begins : starts class_of letters bs ≡ true = subst (λ (w : List ℕ). starts class_of letters w ≡ true)
-      (sym (t.parts ∙ ap (λ (w : List ℕ). w ++ rest) text)) p.3.0 in
+      let begins : starts class_of letters bs ≡ true = search (rules) in
       let w = word_start bs begins in
       let all = as_run (word_kind (run word_bytes bs)) (w.0 ∙ word_read bs begins) in
       let fault : word_fault (x.0 ∷ x.1) ≡ None = ap word_fault (sym text ∙ all.1) ∙ sym w.1 ∙ t.clean in
@@ -168,11 +142,7 @@ module _ (bs : List ℕ) (k : Kind) (rest : List ℕ) (t : IsTokenAt bs k rest) 
 
   number_begins : Spells class_of flat number_line k t.text → starts class_of digits bs ≡ true
   unfolding number_line
-  number_begins s = go t.text s t.parts
-    where
-      go : (text : List ℕ) → Spells class_of flat number_line k text → bs ≡ text ++ rest → starts class_of digits bs ≡ true
-      go [] s p = true_is_not_false (can_be_empty number_line) (number_exact.null k s) number_full
-      go (b ∷ text) s p = ap (starts class_of digits) p ∙ spelled_starts number_exact k b text s
+  number_begins s = search (rules, true_is_not_false, number_exact, number_full, spelled_starts)
 
   number_text : starts class_of digits bs ≡ true → IsTextOf k t.text
   number_text begins = go (number_value (run word_bytes bs)) refl
@@ -194,8 +164,7 @@ module _ (bs : List ℕ) (k : Kind) (rest : List ℕ) (t : IsTokenAt bs k rest) 
       let p = s.2 in
       let q = p.4 in
       let opened : x.0 ≡ 34 = quote_is x.0 (one_of (class_of x.0) quote p.3.0) in
-      let text : t.text ≡ x.0 ∷ q.0 ++ x.1.1 ∷ [] = p.2 ∙ ap (λ (w : List ℕ). w ++ p.1) p.3.1 ∙ ap (λ (w : List ℕ). x.0 ∷ w)
-      (q.2 ∙ ap (λ (w : List ℕ). q.0 ++ w) q.4.1) in
+      let text : t.text ≡ x.0 ∷ q.0 ++ x.1.1 ∷ [] = search (rules) in
       subst (λ (l : Kind). IsTextOf l t.text) (sym s.1) (
         q.0 ++ x.1.1 ∷ [],
         text ∙ ap (λ (z : ℕ). z ∷ q.0 ++ x.1.1 ∷ []) opened,
@@ -205,13 +174,7 @@ module _ (bs : List ℕ) (k : Kind) (rest : List ℕ) (t : IsTokenAt bs k rest) 
 
   arrow_text : Spells class_of flat arrow_line k t.text → IsTextOf k t.text
   unfolding arrow_line
-  arrow_text s =
-      let x = s.0 in
-      let p = s.2 in
-      let text : t.text ≡ x.0 ∷ x.1 ∷ [] = p.2 ∙ ap (λ (w : List ℕ). w ++ p.1) p.3.1 ∙ ap (λ (w : List ℕ). x.0 ∷ w) p.4.1 in
-      subst (λ (l : Kind). IsTextOf l t.text) (sym s.1)
-      (text ∙ ap (λ (z : ℕ). z ∷ x.1 ∷ []) (minus_is x.0 (one_of (class_of x.0) minus p.3.0)) ∙ ap (λ (z : ℕ). 45 ∷ z ∷ [])
-      (greater_is x.1 (one_of (class_of x.1) greater p.4.0)))
+  arrow_text s = search (rules, minus_is, one_of, greater_is)
 
   less_text : Spells class_of flat less_line k t.text → IsTextOf k t.text
   unfolding less_line
@@ -221,15 +184,12 @@ module _ (bs : List ℕ) (k : Kind) (rest : List ℕ) (t : IsTokenAt bs k rest) 
       let opened : x.0 ≡ 60 = less_is x.0 (one_of (class_of x.0) less p.3.0) in
       let text : t.text ≡ 60 ∷ p.1 = p.2 ∙ ap (λ (w : List ℕ). w ++ p.1) p.3.1 ∙ ap (λ (z : ℕ). z ∷ p.1) opened in
       elim p.4 [
-        | inl b ↦
-            subst (λ (l : Kind). IsTextOf l t.text) (sym (s.1 ∙ b.1)) (text ∙ ap (λ (w : List ℕ). 60 ∷ w) b.2.1
-            ∙ ap (λ (z : ℕ). 60 ∷ z ∷ []) (minus_is b.0 (one_of (class_of b.0) minus b.2.0)))
+        | inl b ↦ search (rules, minus_is, one_of)
         | inr a ↦
             let q = a.2 in
             let r = q.4 in
             let body : List ℕ = r.0 ++ a.0.1.1 ∷ [] in
-            let rest_is : p.1 ≡ a.0.0 ∷ body = q.2 ∙ ap (λ (w : List ℕ). w ++ q.1) q.3.1 ∙ ap (λ (w : List ℕ). a.0.0 ∷ w)
-            (r.2 ∙ ap (λ (w : List ℕ). r.0 ++ w) r.4.1) in
+            let rest_is : p.1 ≡ a.0.0 ∷ body = search (rules) in
             subst (λ (l : Kind). IsTextOf l t.text) (sym (s.1 ∙ a.1)) (
               a.0.0 ∷ body,
               text ∙ ap (λ (w : List ℕ). 60 ∷ w) rest_is,
@@ -240,9 +200,7 @@ module _ (bs : List ℕ) (k : Kind) (rest : List ℕ) (t : IsTokenAt bs k rest) 
 
   one_mark : (m : Mark) (c v : ℕ) → ((b : ℕ) → class_of b ≡ c → b ≡ v) → mark_text m ≡ v ∷ []
       → Spells class_of flat (mark c m) k t.text → IsTextOf k t.text
-  one_mark m c v is e s =
-      subst (λ (l : Kind). IsTextOf l t.text) (sym s.1) (s.2.1 ∙ ap (λ (z : ℕ). z ∷ []) (is s.0 (one_of (class_of s.0) c s.2.0))
-      ∙ sym e)
+  one_mark m c v is e s = search (rules, one_of)
 
   mark_line_text : Spells class_of flat mark_line k t.text → IsTextOf k t.text
   unfolding mark_line
@@ -269,12 +227,4 @@ module _ (bs : List ℕ) (k : Kind) (rest : List ℕ) (t : IsTokenAt bs k rest) 
 
   -- a token's bytes are those of its kind
   pub text_of_kind : IsTextOf k t.text
-  text_of_kind = go t.kind
-    where
-      go : Spells class_of flat token_form k t.text → IsTextOf k t.text
-      go (inl s) = word_text s
-      go (inr (inl s)) = number_text (number_begins s)
-      go (inr (inr (inl s))) = text_text s
-      go (inr (inr (inr (inl s)))) = less_text s
-      go (inr (inr (inr (inr (inl s))))) = arrow_text s
-      go (inr (inr (inr (inr (inr s))))) = mark_line_text s
+  text_of_kind = search (rules, word_text, number_text, number_begins, text_text, less_text, arrow_text, mark_line_text)

@@ -1,9 +1,8 @@
 -- What `apply` owes beside the change: room for later numbers, and no want of memory where none is taken.
 use Rattle.std.proofs.Common.{rules}
-use Rattle.cap_machine.proofs.Common.{Capability, Change, Content, List, Mapped, NextsFit, Node, Option, SavedReply, State, Step, TakesMemory, ThreadState, Turned, [], ap, arith, changed, get_or, grown, grown_at, inl, inr, no_node, parts, refl, set}
+use Rattle.cap_machine.proofs.Common.{Capability, Change, Content, List, Mapped, NextsFit, Node, Option, SavedReply, State, ThreadState, Turned, [], ap, arith, changed, get_or, grown, grown_at, inl, inr, no_node, parts, refl, set}
 use Rattle.cap_machine.proofs.Common.{suc, without, without_at, zero, ℕ, ◌+◌, ◌∷◌, ◌≡◌, ◌≤◌, ◌⊎◌}
-use Rattle.cap_machine.specs.declared.change.Change.TheVariants.{Add, Map, ReplyAdd, Drop, Save, Release, ReleaseAdd}
-use Rattle.cap_machine.specs.Refused.{MayTakeMemory}
+use Rattle.cap_machine.specs.declared.change.Change.TheVariants.{Add, ReplyAdd, Drop, Save, Release, ReleaseAdd}
 
 -- what is read after a write is what was there, or, at the place itself, what was written
 pub read_written : {A : Type 0} (xs : List A) (i k : ℕ) (v d : A) → (get_or (set xs i v) k d ≡ get_or xs k d)
@@ -36,15 +35,6 @@ nexts_fit s n (Release node i caller) fit = drops s.nodes (n + 1) node i (later 
 nexts_fit s n (ReleaseAdd node i caller to x) fit = drops (grown_at s.nodes to (Capability x)) (n + 1) node i
     (grows s.nodes n to (Capability x) fit)
 nexts_fit s n _ fit = later s.nodes n fit
-
--- want of memory comes only where memory is taken
-pub may_take : (step : Step) (y : Change) → (TakesMemory y → MayTakeMemory step) → ((TakesMemory y → ⊥) → ⊥) → MayTakeMemory step
-may_take step (Add node x) takes must = takes tt
-may_take step (ReplyAdd t caller node x) takes must = takes tt
-may_take step (Map more) takes must = takes tt
-may_take step (Save t node pending) takes must = takes tt
-may_take step (ReleaseAdd node i caller to x) takes must = takes tt
-may_take step _ takes must = absurd (must (λ e. e))
 
 -- the state that a change was made to is the changed state
 pub turned : (s : State) (y : Change) (nodes : List Node) (threads : List ThreadState) (irqs : List (Option ℕ))

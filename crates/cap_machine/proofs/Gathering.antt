@@ -40,17 +40,8 @@ module _ {A : Type 0} (P : ℕ → A → Edge → Type 0) (items : List A) where
       })
       a b grown
 
-pub adds_three : (P Q R : Edge → Type 0) (a b c d : List Edge) → Adds P a b → Adds Q b c → Adds R c d
-    → Adds (λ e. P e ⊎ (Q e ⊎ R e)) a d
-adds_three P Q R a b c d f g h = adds_then P (λ e. Q e ⊎ R e) a b d f (adds_then Q R b c d g h)
-
 -- one item more, read at its place
 pub first_more_at : {A : Type 0} (P : ℕ → A → Edge → Type 0) (items : List A) (n : ℕ) (d : A) (a b c : List Edge)
     → n < length items → Adds (OfFirst P items n) a b → Adds (P n (get_or items n d)) b c → Adds (OfFirst P items (n + 1)) a c
 first_more_at P items n d a b c l before now = first_more P items n (get_or items n d) a b c
     (slice_get-get_or items n d l) before now
-
-pub adds_five : (P Q R S T : Edge → Type 0) (a b c d e f : List Edge) → Adds P a b → Adds Q b c → Adds R c d → Adds S d e
-    → Adds T e f → Adds (λ x. P x ⊎ (Q x ⊎ (R x ⊎ (S x ⊎ T x)))) a f
-adds_five P Q R S T a b c d e f g h i j k = adds_then P (λ x. Q x ⊎ (R x ⊎ (S x ⊎ T x))) a b f g
-    (adds_then Q (λ x. R x ⊎ (S x ⊎ T x)) b c f h (adds_three R S T c d e f i j k))

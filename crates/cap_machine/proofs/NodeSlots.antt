@@ -2,16 +2,12 @@
 use Rattle.cap_machine.proofs.Common.{AllByRecursion, Bool, Cap, Capability, Content, Less, List, [], and_parts, ap, arith, boot_slot, false, filter, get_or, insert_entry, is_eq, length, list_all, map, map_more, nat_cmp, nat_lt, not, refl, rise, suc}
 use Rattle.cap_machine.proofs.Common.{sym, take, true, zero, ℕ, ◌++◌, ◌+◌, ◌<◌, ◌==◌, ◌∷◌, ◌≡◌, ◌≤◌}
 use Rattle.std.specs.List.Sorted.{IsStrictlySortedBy}
-use Rattle.std.specs.Map.{keys_of, lookup, remove_entry}
+use Rattle.std.specs.Map.{keys_of, remove_entry}
 use Rattle.std.specs.BTreeMap.{is_at}
 use Rattle.cam_base.proofs.Orders.{nat_cmp-greater}
 
 test_same : (i n : ℕ) → is_eq (nat_cmp i n) ≡ (n == i)
 test_same i n = grind arith
-
-pub lookup-number : {X : Type 0} (es : List (ℕ × X)) (i : ℕ) → lookup (is_at (nat_cmp i)) es ≡ lookup (λ n. n == i) es
-lookup-number [] i = refl
-lookup-number (e ∷ es) i = rw (test_same i e.0, lookup-number es i) refl
 
 -- what stands at a greater number than all others comes last
 pub insert_last : {X : Type 0} (es : List (ℕ × X)) (k : ℕ) (v : X) → AllByRecursion (λ n. n < k) (keys_of es)

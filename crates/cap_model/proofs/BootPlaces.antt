@@ -1,7 +1,7 @@
 -- What the boot state has at a place: what it has for the object there, or nothing. What stands in a CNode is found at its
 -- number, and nothing is pending or saved.
 use Rattle.std.proofs.Common.{rules}
-use Rattle.cap_model.proofs.Common.{Cap, Contains, Entry, IsKept, List, None, Object, Option, Some, Spec, [], and_parts, ap, arith, false, fits, get_or, get_or_from_slice_get, inl, inr, keeps, keeps_slots, leb, map, nat_lt, option_map, refl, rise}
+use Rattle.cap_model.proofs.Common.{Cap, Contains, Entry, IsKept, List, None, Object, Option, Some, Spec, [], and_parts, ap, arith, false, fits, get_or, get_or_from_slice_get, inl, inr, keeps, keeps_slots, leb, map, nat_lt, refl, rise}
 use Rattle.cap_model.proofs.Common.{slice_get, slice_get-get_or, slice_get-map, slice_get_within, subst, suc, sym, true, zero, ℕ, ◌&&◌, ◌==◌, ◌^◌, ◌∙◌, ◌∷◌, ◌≡◌, ◌⊎◌}
 use Rattle.std.specs.Map.{lookup}
 use Rattle.cap_model.specs.State.{Node, boot, boot_node, boot_slot, boot_thread, content_at, content_in, no_node, no_thread, node_at, thread_at}
@@ -42,11 +42,7 @@ boot_contains slots k slot h = at_contains (map boot_slot slots) (boot_slot slot
 -- and a slot of the boot state is one of the spec
 pub slot_of : (slots : List (ℕ × Cap)) (k i : ℕ) (content : Content) → slice_get (map boot_slot slots) k ≡ Some (i, content)
     → (slot : ℕ × Cap) × (slice_get slots k ≡ Some slot) × (Capability slot.1 ≡ content) × (slot.0 ≡ i)
-slot_of slots k i content h = go (slice_get slots k) refl where
-  go : (o : Option (ℕ × Cap)) → slice_get slots k ≡ o → (slot : ℕ × Cap) × (slice_get slots k ≡ Some slot)
-      × (Capability slot.1 ≡ content) × (slot.0 ≡ i)
-  go None there = search (rules, slice_get, slice_get-map)
-  go (Some slot) there = search (rules, slice_get, slice_get-map)
+slot_of slots k i content h = search (rules, slice_get, slice_get-map)
 
 -- the numbers rise, so that the slot of a number is the only one
 found_at : (slots : List (ℕ × Cap)) (k : ℕ) (slot : ℕ × Cap) → rise slots ≡ true → slice_get slots k ≡ Some slot
@@ -79,10 +75,8 @@ pub number_found : (spec : Spec) (c i : ℕ) (content : Content) → IsKept spec
     → content_in (boot spec) c i ≡ Some content
 number_found spec c i content kept there = elim (at_entry boot_node spec.entries c no_node) [
   | inl found ↦
-      let here : Contains (boot_node found.0.object).slots (i, content) = subst (λ (n : Node). Contains n.slots (i, content))
-      found.2 there in
-      let fine : keeps spec found.0.object ≡ true = all_at (λ (e : Entry). keeps spec e.object) spec.entries c found.0
-      kept.objects found.1 in
+      let here : Contains (boot_node found.0.object).slots (i, content) = search (rules) in
+      let fine : keeps spec found.0.object ≡ true = search (rules, all_at) in
       ap (λ (n : Node). content_at n i) found.2 ∙ in_node spec found.0.object i content fine here
   | inr none ↦ absurd (none_without c i content (subst (λ (n : Node). Contains n.slots (i, content)) none there))
 ]

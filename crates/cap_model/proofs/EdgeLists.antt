@@ -1,5 +1,6 @@
 -- Edges in order differ, and are no more than a list that has each of them.
-use Rattle.cap_model.proofs.Common.{Before, Bool, Edge, IsDistinct, IsDistinct-from_apart, IsEquivalence, IsSorted, List, [], ap, arith, false, get_or, has, length, list_any, refl, same_edge, slice_get-get_or, subst, sym, true, ◌∙◌, ◌∷◌, ◌≡◌, ◌≤◌}
+use Rattle.std.proofs.Common.{rules}
+use Rattle.cap_model.proofs.Common.{Before, Bool, Edge, IsDistinct, IsDistinct-from_apart, IsEquivalence, IsSorted, List, [], ap, arith, false, get_or, has, length, list_any, refl, same_edge, slice_get-get_or, sym, true, ◌∙◌, ◌∷◌, ◌≡◌, ◌≤◌}
 use Rattle.std.specs.Prelude.{◌||◌}
 use Rattle.std.specs.Set.{is_member}
 use Rattle.std.proofs.lemmas.Map.Made.{length-le_from_is_member}
@@ -18,10 +19,7 @@ member_has (d ∷ es) e = ap (λ b. b || list_any (same_edge e) es) (same_edge-s
     (member_has es e)
 
 differs : (d e : Edge) → Before d e → same_edge d e ≡ false
-differs d e b = go (same_edge d e) refl where
-  go : (v : Bool) → same_edge d e ≡ v → v ≡ false
-  go true h = absurd (not_before_self d (subst (λ (z : Edge). Before d z) (sym (same_edge_true d e h)) b))
-  go false h = refl
+differs d e b = search (rules, not_before_self, same_edge_true)
 
 -- edges that stand in order differ
 pub distinct : (es : List Edge) → IsSorted es → IsDistinct same_edge es

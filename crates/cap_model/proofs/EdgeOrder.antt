@@ -1,7 +1,7 @@
 -- Edges: when two are one, and the laws of their order.
 use Rattle.std.proofs.Common.{rules}
-use Rattle.cap_model.proofs.Common.{AsyncSend, AtMost, Authority, Before, Call, Control, Edge, Grant, GrantBack, Handle, List, Read, Receive, Reply, Reset, SyncSend, Write, [], and_parts, ap, arith, cases_lt, eqb-true, get_or, inl, inr, number_of}
-use Rattle.cap_model.proofs.Common.{one_truth, refl, same_edge, same_itself, subst, sym, true, ◌&&◌, ◌==◌, ◌∷◌, ◌≡◌, ◌⊎◌}
+use Rattle.cap_model.proofs.Common.{AsyncSend, AtMost, Authority, Before, Call, Control, Edge, Grant, GrantBack, Handle, List, Read, Receive, Reply, Reset, SyncSend, Write, [], and_parts, ap, arith, cases_lt, eqb-true, get_or, inr, number_of}
+use Rattle.cap_model.proofs.Common.{refl, same_edge, same_itself, true, ◌&&◌, ◌==◌, ◌∷◌, ◌≡◌, ◌⊎◌}
 
 -- ---- equality
 
@@ -66,26 +66,7 @@ pub at_most_both : (d e : Edge) → AtMost d e → AtMost e d → d ≡ e
 at_most_both d e p q = grind (arith, edges_same, same_number)
 
 pub before_or_not : (d e : Edge) → Before d e ⊎ AtMost e d
-before_or_not d e = elim (cases_lt d.from e.from) [
-  | inl l ↦ inl (record { by_from = omega arith; by_authority = λ f. absurd (omega arith); by_to = λ f g. absurd (omega arith) })
-  | inr from ↦ elim (cases_lt e.from d.from) [
-    | inl l ↦ inr (record {
-      by_from = omega arith;
-      by_authority = λ f. absurd (omega arith);
-      by_to = λ f g. absurd (omega arith);
-    })
-    | inr same ↦ elim (cases_lt (number_of d.authority) (number_of e.authority)) [
-      | inl l ↦ inl (record { by_from = omega arith; by_authority = λ f. omega arith; by_to = λ f g. absurd (omega arith) })
-      | inr number ↦ elim (cases_lt (number_of e.authority) (number_of d.authority)) [
-        | inl l ↦ inr (record { by_from = omega arith; by_authority = λ f. omega arith; by_to = λ f g. absurd (omega arith) })
-        | inr one ↦ elim (cases_lt d.to e.to) [
-          | inl l ↦ inl (record { by_from = omega arith; by_authority = λ f. omega arith; by_to = λ f g. l })
-          | inr ge ↦ inr (record { by_from = omega arith; by_authority = λ f. omega arith; by_to = λ f g. ge })
-        ]
-      ]
-    ]
-  ]
-]
+before_or_not d e = search (rules, cases_lt)
 
 pub same_edge-sym : (d e : Edge) → same_edge d e ≡ same_edge e d
 same_edge-sym d e = search (rules, same_edge_true, same_edge_self)

@@ -1,14 +1,11 @@
 -- The edges that are left once a row is begun.
-use Rattle.cap_model.proofs.Common.{Authority, Class, List, Row, Some, [], ap, append_assoc, arith, drop, edge_to, edges_of, get_or, length, map, refl, reply_to, slice_get, subst, suc, sym, table_edges, take, take_all, ℕ, ◌++◌, ◌-◌, ◌<◌, ◌∙◌, ◌∷◌}
+use Rattle.std.proofs.Common.{rules}
+use Rattle.cap_model.proofs.Common.{Authority, Class, List, Row, Some, [], ap, append_assoc, arith, drop, edge_to, get_or, length, map, refl, reply_to, slice_get, suc, table_edges, take, take_all, ℕ, ◌++◌, ◌-◌, ◌<◌, ◌∙◌, ◌∷◌}
 use Rattle.cap_model.proofs.Common.{◌≡◌, ◌≤◌}
 
 module _ (rows : List Row) (r : Row) (some : 1 ≤ length rows) (first : r ≡ get_or rows 0 r) where
   pub head_rest : rows ≡ r ∷ take (length rows - 1) (drop 1 rows)
-  head_rest = go rows refl
-    where
-      go : (rs : List Row) → rows ≡ rs → rows ≡ r ∷ take (length rows - 1) (drop 1 rows)
-      go [] e = absurd (let l : length rows ≡ 0 = ap (λ (xs : List Row). length xs) e in omega arith)
-      go (x ∷ xs) e = grind (arith, take_all)
+  head_rest = search (rules, take_all)
 
   pub head_at : slice_get rows 0 ≡ Some r
   head_at = ap (λ (ys : List Row). slice_get ys 0) head_rest
@@ -24,16 +21,7 @@ module _ (rows : List Row) (r : Row) (some : 1 ≤ length rows) (first : r ≡ g
       → map (edge_to r.label) front ++ (map (reply_to r.label) ms ++ (map (edge_to r.label) back
       ++ table_edges classes (take (length rows - 1) (drop 1 rows))))
       ≡ map (edge_to label) before ++ (map (reply_to label) replies ++ (map (edge_to label) behind ++ table_edges classes rows))
-  begun classes c label [] [] front back [] ms there lb lr lh f b m =
-      let rest = take (length rows - 1) (drop 1 rows) in
-      rw (f, b, m) (
-      ap (λ es. map (edge_to r.label) (take c.before c.pairs.items) ++ es)
-      (sym (append_assoc (map (reply_to r.label) r.replies.items) (map (edge_to r.label) (drop c.before c.pairs.items))
-      (table_edges classes rest)))
-      ∙ sym (append_assoc (map (edge_to r.label) (take c.before c.pairs.items)) (map (reply_to r.label) r.replies.items
-      ++ map (edge_to r.label) (drop c.before c.pairs.items)) (table_edges classes rest))
-      ∙ ap (λ o. edges_of o r ++ table_edges classes rest) (sym there)
-      ∙ ap (λ (ys : List Row). table_edges classes ys) (sym head_rest))
+  begun classes c label [] [] front back [] ms there lb lr lh f b m = search (rules, append_assoc, head_rest)
   begun classes c label (p ∷ ps) behind front back replies ms there lb lr lh f b m = absurd (omega (arith, lb))
   begun classes c label [] (p ∷ ps) front back replies ms there lb lr lh f b m = absurd (omega (arith, lh))
   begun classes c label [] [] front back (n ∷ ns) ms there lb lr lh f b m = absurd (omega (arith, lr))

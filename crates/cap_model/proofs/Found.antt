@@ -1,6 +1,6 @@
 -- An object is found under its own name.
 use Rattle.std.proofs.Common.{rules}
-use Rattle.cap_model.proofs.Common.{Decides-ltb, Entry, IsKept, Spec, and_parts, ap, arith, list_any, names_differ, not-true, or_parts, position_or_len, subst, sym}
+use Rattle.cap_model.proofs.Common.{Entry, IsKept, Spec, and_parts, arith, list_any, names_differ, not-true, or_parts, position_or_len}
 use Rattle.std.specs.Prelude.{not, ◌≡◌, ◌<◌, ℕ, zero, suc, Bool, true, false, List, [], ◌∷◌, map, length, Some, slice_get, nat_lt, refl}
 use Rattle.std.specs.Str.{bytes_eq}
 use Rattle.std.proofs.lemmas.Slice.Eq.{bytes_eq-Decides}
@@ -26,8 +26,7 @@ first_at [] i e apart there = absurd cc
 first_at (x ∷ xs) zero e apart there = search (rules, bytes_eq-Decides)
 first_at (x ∷ xs) (suc i) e apart there =
     let parts = and_parts (not (list_any (λ m. bytes_eq m x.name) (map (λ (y : Entry). y.name) xs))) (names_differ xs) apart in
-    let other : bytes_eq x.name e.name ≡ false =
-    earlier x.name xs i e (not-true (list_any (λ m. bytes_eq m x.name) (map (λ (y : Entry). y.name) xs)) parts.0) there in
+    let other : bytes_eq x.name e.name ≡ false = search (rules, earlier, not-true) in
     let rest : position_or_len (λ (y : Entry). bytes_eq y.name e.name) xs ≡ i = first_at xs i e parts.1 there in
     rw other (omega (arith, rest))
 
@@ -41,6 +40,5 @@ pub found : (spec : Spec) (place : ℕ) (entry : Entry) → IsKept spec → slic
 found spec place entry kept there =
     let first : position_or_len (λ (x : Entry). bytes_eq x.name entry.name) spec.entries ≡ place =
     first_at spec.entries place entry kept.names there in
-    let less : nat_lt place (length spec.entries) ≡ true = (Decides-ltb place (length spec.entries)).1
-    (below spec.entries place entry there) in
+    let less : nat_lt place (length spec.entries) ≡ true = search (rules, below) in
     rw (first, less) refl

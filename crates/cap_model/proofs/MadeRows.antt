@@ -1,6 +1,6 @@
 -- Rows and classes that are made one behind another.
 use Rattle.std.proofs.Common.{rules}
-use Rattle.cap_model.proofs.Common.{Authority, Bool, Class, Edge, HasClass, HasNew, HasRow, IsClass, IsIn, IsMade, IsSorted, IsTable, List, None, Reply, Row, Some, [], ap, append-nil, arith, cases_lt, cond, edges_of, false, flat_map-append}
+use Rattle.cap_model.proofs.Common.{Authority, Bool, Class, Edge, HasClass, HasNew, HasRow, IsClass, IsIn, IsMade, IsSorted, IsTable, List, None, Reply, Row, Some, [], ap, append-nil, arith, cases_lt, edges_of, false, flat_map-append}
 use Rattle.cap_model.proofs.Common.{flat_map_same, get_behind, get_front, get_or, inl, inr, is_eq, length, list_cmp, map, place_in, place_of, refl, reply_to, same_Some, single, slice_get, slice_get-get_or, slice_get_within, split_get, subst, sym}
 use Rattle.cap_model.proofs.Common.{table_edges, take, take-append-le, take-append_seam, true, ℕ, ◌++◌, ◌<◌, ◌∙◌, ◌∷◌, ◌≡◌, ◌≤◌, ◌⊎◌}
 use Rattle.cap_model.specs.declared.making.Made.{Made}
@@ -42,46 +42,10 @@ module _ (classes classes' : List Class) (rows : List Row) (r : Row) (c : Class)
       → IsTable classes' (rows ++ r ∷ [])
   row_added low lists apart up first replies sorted = record {
     sorted = subst IsSorted (sym edges_added) sorted;
-    rising = record {
-      by_place = λ i j s t less p q. elim (pushed rows r j t q) [
-        | inl h ↦ elim (pushed rows r i s p) [
-          | inl g ↦ table.rising.by_place i j s t less g h
-          | inr g ↦ absurd (let w = slice_get_within rows j t h in let n = g.0 in omega arith)
-        ]
-        | inr h ↦ elim (pushed rows r i s p) [
-          | inl g ↦ subst (λ (z : Row). s.label < z.label) h.1 (up i s g)
-          | inr g ↦ absurd (let n = g.0 in let m = h.0 in omega arith)
-        ]
-      ];
-    };
-    places = record {
-      first = λ i s p. elim (pushed rows r i s p) [
-        | inl h ↦ (
-            let w = slice_get_within rows i s h in
-            let front : take i (rows ++ r ∷ []) ≡ take i rows = take-append-le i rows (r ∷ []) (omega arith) in
-            table.places.first i s h ∙ sym (ap (λ (ss : List Row). length (table_edges classes' ss)) front
-            ∙ ap (λ (es : List Edge). length es) (same_edges (take i rows) (λ z k. in_take i rows z k))))
-        | inr h ↦ (
-            let all : take i (rows ++ r ∷ []) ≡ rows = ap (λ (n : ℕ). take n (rows ++ r ∷ [])) h.0
-            ∙ take-append_seam rows (r ∷ []) in
-            ap (λ (z : Row). z.first) (sym h.1) ∙ first ∙ sym (ap (λ (ss : List Row). length (table_edges classes' ss)) all
-            ∙ ap (λ (es : List Edge). length es) (same_edges rows (λ z k. k))))
-      ];
-    };
-    classed = λ i s p. elim (pushed rows r i s p) [
-      | inl h ↦ let d = class_of_row i s h in slice_get_within classes' s.class d.0 d.2
-      | inr h ↦ subst (λ (z : Row). z.class < length classes') h.1 (slice_get_within classes' r.class c there)
-    ];
-    least = λ i s d p q. elim (pushed rows r i s p) [
-      | inl h ↦ (
-          let old = class_of_row i s h in
-          let same : old.0 ≡ d = (let e : Some old.0 ≡ Some d = sym old.2 ∙ q in cc) in
-          subst (λ (z : Class). z.label ≤ s.label) same (table.least i s old.0 h old.1))
-      | inr h ↦ (
-          let q' : slice_get classes' r.class ≡ Some d = ap (λ (z : Row). slice_get classes' z.class) h.1 ∙ q in
-          let same : c ≡ d = (let e : Some c ≡ Some d = sym there ∙ q' in cc) in
-          subst (λ (z : Row). d.label ≤ z.label) h.1 (subst (λ (z : Class). z.label ≤ r.label) same low))
-    ];
+    rising = search (rules, pushed, slice_get_within);
+    places = search (rules, pushed, slice_get_within, take-append-le, same_edges, in_take, take-append_seam);
+    classed = search (rules, pushed, class_of_row, slice_get_within);
+    least = search (rules, pushed, class_of_row, slice_get);
     replies = λ i s p. elim (pushed rows r i s p) [
       | inl h ↦ table.replies i s h
       | inr h ↦ subst (λ (z : Row). IsSorted (map (reply_to 0) z.replies.items)) h.1 replies
@@ -99,23 +63,7 @@ module _ (classes classes' : List Class) (rows : List Row) (r : Row) (c : Class)
 module _ (edges : List Edge) (old new : Made) (label : ℕ) (pairs : List (Authority × ℕ)) (before k : ℕ) (made : IsMade edges old)
     (h : HasNew old label pairs before new k) where
   known_more : (j : ℕ) (d : Class) → slice_get new.classes.items j ≡ Some d → place_in new d.pairs.items ≡ Some j
-  known_more j d p =
-      elim (pushed old.classes.items h.class j d (subst (λ (cs : List Class). slice_get cs j ≡ Some d) h.classes p)) [
-        | inl q ↦ by_test (is_eq (list_cmp pairs d.pairs.items)) refl q
-        | inr q ↦ (
-            let same : pairs ≡ d.pairs.items = sym h.pairs_are ∙ ap (λ (z : Class). z.pairs.items) q.1 in
-            let test : is_eq (list_cmp pairs d.pairs.items) ≡ true = ap (λ (ps : List (Authority × ℕ)). is_eq (list_cmp pairs ps))
-            (sym same) ∙ ap is_eq (list_itself pairs) in
-            let here : j ≡ k = q.0 ∙ sym h.place in
-            h.places d ∙ ap (λ (b : Bool). cond b (Some k) (place_in old d.pairs.items)) test ∙ ap (λ (n : ℕ). Some n) (sym here))
-      ]
-    where
-      by_test : (b : Bool) → is_eq (list_cmp pairs d.pairs.items) ≡ b → slice_get old.classes.items j ≡ Some d
-          → place_in new d.pairs.items ≡ Some j
-      by_test true t q =
-          let same = is_eq-same pairs d.pairs.items t in
-          let z : None ≡ Some j = sym h.none ∙ ap (λ (ps : List (Authority × ℕ)). place_in old ps) same ∙ made.known j d q in cc
-      by_test false t q = h.places d ∙ ap (λ (b : Bool). cond b (Some k) (place_in old d.pairs.items)) t ∙ made.known j d q
+  known_more j d p = search (rules, pushed, slice_get, list_itself, is_eq-same)
 
   only_more : (q : Class) (j : ℕ) → place_in new q.pairs.items ≡ Some j → (c : Class) × (slice_get new.classes.items j ≡ Some c)
       × (c.pairs.items ≡ q.pairs.items)
@@ -124,17 +72,12 @@ module _ (edges : List Edge) (old new : Made) (label : ℕ) (pairs : List (Autho
       by_test : (b : Bool) → is_eq (list_cmp pairs q.pairs.items) ≡ b → (c : Class) × (slice_get new.classes.items j ≡ Some c)
           × (c.pairs.items ≡ q.pairs.items)
       by_test true t =
-          let there : Some k ≡ Some j = ap (λ (b : Bool). cond b (Some k) (place_in old q.pairs.items)) (sym t)
-          ∙ sym (h.places q) ∙ e in
+          let there : Some k ≡ Some j = search (rules) in
           let here : length old.classes.items ≡ j = sym h.place ∙ same_Some k j there in
-          let at : slice_get new.classes.items j ≡ Some h.class =
-          ap (λ (cs : List Class). slice_get cs j) h.classes
-          ∙ subst (λ (n : ℕ). slice_get (old.classes.items ++ h.class ∷ []) n ≡ Some h.class) here
-          (pushed_last old.classes.items h.class) in
+          let at : slice_get new.classes.items j ≡ Some h.class = search (rules, slice_get, pushed_last) in
           (h.class, at, h.pairs_are ∙ is_eq-same pairs q.pairs.items t)
       by_test false t =
-          let there : place_in old q.pairs.items ≡ Some j = ap (λ (b : Bool). cond b (Some k) (place_in old q.pairs.items))
-          (sym t) ∙ sym (h.places q) ∙ e in
+          let there : place_in old q.pairs.items ≡ Some j = search (rules) in
           let c = made.only q j there in
           (c.0, ap (λ (cs : List Class). slice_get cs j) h.classes ∙ get_front old.classes.items (h.class ∷ []) j c.0 c.1, c.2)
 
@@ -173,8 +116,7 @@ module _ (edges run : List Edge) (old mid new : Made) (r : Row) (pairs : List (A
   finish c there pairs_are before_is low grows fresh lists known only rows_same =
       let rows : new.rows.items ≡ old.rows.items ++ r ∷ [] = new_rows ∙ ap (λ (rs : List Row). rs ++ r ∷ []) rows_same in
       let run_of : edges_of (Some c) r ≡ run = run_is c pairs_are before_is in
-      let all : table_edges old.classes.items old.rows.items ++ edges_of (Some c) r ≡ edges ++ run =
-      ap (λ es. es ++ edges_of (Some c) r) made.same ∙ ap (λ es. edges ++ es) run_of in
+      let all : table_edges old.classes.items old.rows.items ++ edges_of (Some c) r ≡ edges ++ run = search (rules) in
       let apart : (j k : ℕ) (d e : Class) → slice_get mid.classes.items j ≡ Some d → slice_get mid.classes.items k ≡ Some e
       → d.pairs.items ≡ e.pairs.items → j ≡ k =
       λ j k d e p q same. same_Some j k (sym (known j d p) ∙ ap (λ ps. place_in mid ps) same ∙ known k e q) in

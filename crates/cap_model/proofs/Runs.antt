@@ -1,6 +1,6 @@
 -- The edges out of one label, in order, as pairs before and behind Reply and as replies.
 use Rattle.std.proofs.Common.{rules}
-use Rattle.cap_model.proofs.Common.{AtMost, Authority, Before, Class, Edge, IsClass, IsPartitionPoint, IsPartitionedBy, IsRun, IsSorted, List, Reply, Row, Some, [], ap, arith, cases_lt, drop, drop-append_seam, edge_to, edges_of, false, get_behind}
+use Rattle.cap_model.proofs.Common.{AtMost, Authority, Class, Edge, IsClass, IsPartitionPoint, IsPartitionedBy, IsRun, IsSorted, List, Reply, Row, Some, [], ap, arith, cases_lt, drop, drop-append_seam, edge_to, edges_of, false, get_behind}
 use Rattle.cap_model.proofs.Common.{get_drop, get_front, get_or, get_or_from_slice_get, inl, inr, length, length-append, length-drop, length-map, length-take-le, map, map-append, map_some, nat_le, nat_lt, number_of, pair_of, refl, reply_to}
 use Rattle.cap_model.proofs.Common.{slice_get, slice_get-get_or, slice_get-map, slice_get_within, split_get, subst, suc, sym, take, take-append-drop, take-append_seam, take_all, true, zero, ℕ, ◌++◌, ◌+◌, ◌-◌, ◌<◌, ◌∙◌, ◌∷◌, ◌≡◌, ◌≤◌, ◌⊎◌}
 use Rattle.cap_model.proofs.EdgeOrder.{edges_same, same_number}
@@ -44,22 +44,7 @@ sorted_ends xs ys zs s = record {
 -- a label in place of all that the edges go out of
 moved : (l n : ℕ) (xs : List Edge) → IsSorted xs → ((i : ℕ) (e : Edge) → slice_get xs i ≡ Some e → e.from ≡ n)
     → IsSorted (map (edge_to l) (map pair_of xs))
-moved l n xs s from = record {
-  by_place = λ i j d e less p q. (
-      let a = there i d p in let b = there j e q in
-      let before : Before a.0 b.0 = s.by_place i j a.0 b.0 less a.1 b.1 in
-      let fa = from i a.0 a.1 in let fb = from j b.0 b.1 in
-      let over : Before (edge_to l (pair_of a.0)) (edge_to l (pair_of b.0)) = record {
-        by_from = omega arith;
-        by_authority = λ f. before.by_authority (fa ∙ sym fb);
-        by_to = λ f m. before.by_to (fa ∙ sym fb) m;
-      } in
-      subst (λ (x : Edge). Before x e) a.2 (subst (λ (y : Edge). Before (edge_to l (pair_of a.0)) y) b.2 over));
-}
-  where
-    there : (i : ℕ) (d : Edge) → slice_get (map (edge_to l) (map pair_of xs)) i ≡ Some d → (a : Edge) × (slice_get xs i ≡ Some a)
-        × (edge_to l (pair_of a) ≡ d)
-    there i d p = search (rules, map_some, slice_get, slice_get-map)
+moved l n xs s from = search (rules, slice_get, map_some, slice_get-map)
 
 edges_back : (l : ℕ) (xs : List Edge) → ((i : ℕ) (e : Edge) → slice_get xs i ≡ Some e → e.from ≡ l)
     → map (edge_to l) (map pair_of xs) ≡ xs
@@ -129,24 +114,9 @@ module _ (label : ℕ) (run : List Edge) (xs ys zs : List Edge) (is_run : IsRun 
       → r.label ≡ label → r.replies.items ≡ map (λ (e : Edge). e.to) ys → edges_of (Some c) r ≡ run
   run_edges c r pairs before label_is replies =
       let long : c.before ≡ length (map pair_of xs) = before ∙ sym (length-map xs pair_of) in
-      let taken : take c.before c.pairs.items ≡ map pair_of xs = ap (λ n. take n c.pairs.items) long
-      ∙ ap (λ ps. take (length (map pair_of xs)) ps) pairs ∙ take-append_seam (map pair_of xs) (map pair_of zs) in
-      let dropped : drop c.before c.pairs.items ≡ map pair_of zs = ap (λ n. drop n c.pairs.items) long
-      ∙ ap (λ ps. drop (length (map pair_of xs)) ps) pairs ∙ drop-append_seam (map pair_of xs) (map pair_of zs) in
-      ap (λ l. map (edge_to l) (take c.before c.pairs.items)
-      ++ (map (reply_to l) r.replies.items ++ map (edge_to l) (drop c.before c.pairs.items))) label_is
-      ∙ ap (λ ps. map (edge_to label) ps
-      ++ (map (reply_to label) r.replies.items ++ map (edge_to label) (drop c.before c.pairs.items))) taken
-      ∙ ap (λ ps. map (edge_to label) (map pair_of xs) ++ (map (reply_to label) r.replies.items ++ map (edge_to label) ps))
-      dropped
-      ∙ ap (λ ms. map (edge_to label) (map pair_of xs) ++ (map (reply_to label) ms ++ map (edge_to label) (map pair_of zs)))
-      replies
-      ∙ ap (λ es. es ++ (map (reply_to label) (map (λ (e : Edge). e.to) ys) ++ map (edge_to label) (map pair_of zs)))
-      (edges_back label xs from_xs)
-      ∙ ap (λ es. xs ++ (es ++ map (edge_to label) (map pair_of zs)))
-      (replies_back label ys (λ i e p. (from_ys i e p, same_number e.authority Reply (middle i e p))))
-      ∙ ap (λ es. xs ++ (ys ++ es)) (edges_back label zs from_zs)
-      ∙ sym parts
+      let taken : take c.before c.pairs.items ≡ map pair_of xs = search (rules, take-append_seam) in
+      let dropped : drop c.before c.pairs.items ≡ map pair_of zs = search (rules, drop-append_seam) in
+      search (rules, edges_back, from_xs, replies_back, from_ys, same_number, middle, from_zs, parts)
 
   pub run_replies : (ms : List ℕ) → ms ≡ map (λ (e : Edge). e.to) ys → IsSorted (map (reply_to 0) ms)
   run_replies ms same =
@@ -268,8 +238,7 @@ module _ (edges : List Edge) (at n : ℕ) (d : Edge) (sorted : IsSorted edges) (
     from = λ i e p. (
         let t = taken_place n (drop at edges) i e p in
         let is = get_or_from_slice_get (drop at edges) i e e t.1 in
-        let h : nat_le e.from d.from ≡ true = subst (λ (x : Edge). nat_le x.from d.from ≡ true) is
-        (point.0 i e (omega arith) t.0) in
+        let h : nat_le e.from d.from ≡ true = search (rules, nat_le) in
         let low : e.from ≤ d.from = grind arith in
         let most : AtMost d e = later_at_most edges at (at + i) d e sorted (omega arith) here (sym (get_drop edges at i) ∙ t.1) in
         let high = most.by_from in
@@ -283,8 +252,7 @@ module _ (edges : List Edge) (at n : ℕ) (d : Edge) (sorted : IsSorted edges) (
         let zero_more : at + 0 ≡ at = omega arith in
         let there : slice_get (drop at edges) 0 ≡ Some d = get_drop edges at 0 ∙ ap (λ k. slice_get edges k) zero_more ∙ here in
         let is = get_or_from_slice_get (drop at edges) 0 d d there in
-        let h : nat_le d.from d.from ≡ false = subst (λ (x : Edge). nat_le x.from d.from ≡ false) is
-        (point.1 0 d le (slice_get_within (drop at edges) 0 d there)) in
+        let h : nat_le d.from d.from ≡ false = search (rules, nat_le, slice_get_within) in
         let above : d.from < d.from = grind arith in
         omega arith)
   ]
@@ -295,8 +263,7 @@ module _ (edges : List Edge) (at n : ℕ) (d : Edge) (sorted : IsSorted edges) (
       let same : at + k ≡ j = omega arith in
       let there : slice_get (drop at edges) k ≡ Some e = get_drop edges at k ∙ ap (λ m. slice_get edges m) same ∙ p in
       let is = get_or_from_slice_get (drop at edges) k e e there in
-      let h : nat_le e.from d.from ≡ false = subst (λ (x : Edge). nat_le x.from d.from ≡ false) is
-      (point.1 k e (omega arith) (slice_get_within (drop at edges) k e there)) in
+      let h : nat_le e.from d.from ≡ false = search (rules, nat_le, slice_get_within) in
       grind arith
 
   pub run_taken : take at edges ++ take n (drop at edges) ≡ take (at + n) edges

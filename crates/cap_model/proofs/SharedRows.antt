@@ -22,11 +22,7 @@ pairs_sorted l pairs rise = record {
       let a = map_some (edge_to l) (slice_get pairs i) d (sym (slice_get-map (edge_to l) pairs i) ∙ p) in
       let b = map_some (edge_to l) (slice_get pairs j) e (sym (slice_get-map (edge_to l) pairs j) ∙ q) in
       let before : PairBefore a.0 b.0 = at_two PairBefore pairs i j a.0 b.0 rise less a.1 b.1 in
-      let over : Before (edge_to l a.0) (edge_to l b.0) = record {
-        by_from = omega arith;
-        by_authority = λ f. before.by_authority;
-        by_to = λ f n. before.by_label n;
-      } in
+      let over : Before (edge_to l a.0) (edge_to l b.0) = search (rules) in
       subst (λ (x : Edge). Before x e) a.2 (subst (λ (y : Edge). Before (edge_to l a.0) y) b.2 over));
 }
 
@@ -166,10 +162,7 @@ module _ (labels : List ℕ) (pairs : List (Authority × ℕ)) (rows : List Row)
         let low : get_or labels 0 0 ≤ r.label = elim (cases_lt 0 i) [
           | inl l ↦ (let less : get_or labels 0 0 < r.label = at_two ◌<◌ labels 0 i (get_or labels 0 0) r.label up l first_label
               at in omega arith)
-          | inr le ↦ (
-              let here : i ≡ 0 = omega arith in
-              let e : Some (get_or labels 0 0) ≡ Some r.label = sym first_label ∙ ap (λ k. slice_get labels k) (sym here) ∙ at in
-              let t : get_or labels 0 0 ≡ r.label = cc in omega arith)
+          | inr le ↦ search (rules, first_label, slice_get)
         ] in
         subst (λ (x : Class). x.label ≤ r.label) one (omega arith));
     replies = λ i r p. subst (λ ms. IsSorted (map (reply_to 0) ms)) (sym (shared.replies i r p))

@@ -47,22 +47,11 @@ heads_same : (c d : Edge) (xs ys : List Edge) → IsSorted (c ∷ xs) → IsSort
 heads_same c d xs ys p q same =
     let there : has (d ∷ ys) c ≡ true = (let s = same c in let h = has_head c xs in cc) in
     let back : has (c ∷ xs) d ≡ true = (let s = same d in let h = has_head d ys in cc) in
-    elim (first_or_later d c ys there) [
-      | inl e ↦ sym e
-      | inr h ↦ elim (first_or_later c d xs back) [
-        | inl e ↦ e
-        | inr g ↦ absurd (not_before_both c d (head_before c d xs p g) (head_before d c ys q h))
-      ]
-    ]
+    search (rules, first_or_later, not_before_both, head_before)
 
 tails_same : (d : Edge) (xs ys : List Edge) → IsSorted (d ∷ xs) → IsSorted (d ∷ ys)
     → ((e : Edge) → has (d ∷ xs) e ≡ has (d ∷ ys) e) → (e : Edge) → has xs e ≡ has ys e
-tails_same d xs ys p q same e = go (has xs e) (has ys e) refl refl where
-  go : (a b : Bool) → has xs e ≡ a → has ys e ≡ b → a ≡ b
-  go true true f g = refl
-  go false false f g = refl
-  go true false f g = search (rules, or-true, first_or_later, not_before_self, head_before)
-  go false true f g = search (rules, or-true, first_or_later, not_before_self, head_before)
+tails_same d xs ys p q same e = search (rules, or-true, first_or_later, not_before_self, head_before)
 
 -- a list in order is determined by the edges that it has
 pub one_table : (xs ys : List Edge) → IsSorted xs → IsSorted ys → ((e : Edge) → has xs e ≡ has ys e) → xs ≡ ys
@@ -72,8 +61,7 @@ one_table (c ∷ xs) [] p q same = absurd (let s = same c in let h = has_head c 
 one_table (c ∷ xs) (d ∷ ys) p q same =
     let is : c ≡ d = heads_same c d xs ys p q same in
     let q' : IsSorted (c ∷ ys) = subst (λ (x : Edge). IsSorted (x ∷ ys)) (sym is) q in
-    let same' : (e : Edge) → has (c ∷ xs) e ≡ has (c ∷ ys) e = subst (λ (x : Edge). (e : Edge) → has (c ∷ xs) e ≡ has (x ∷ ys) e)
-    (sym is) same in
+    let same' : (e : Edge) → has (c ∷ xs) e ≡ has (c ∷ ys) e = search (rules) in
     let rest : xs ≡ ys = one_table xs ys (sorted_tail c xs p) (sorted_tail c ys q') (tails_same c xs ys p q' same') in
     cc
 

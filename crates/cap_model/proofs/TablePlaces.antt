@@ -1,7 +1,7 @@
 -- Binary search in a table.
 use Rattle.std.proofs.Common.{rules}
-use Rattle.cap_model.proofs.Common.{AtMost, Bool, Edge, Equal, Err, Greater, IsBinarySearchResult, IsFirstFrom, IsPartitionPoint, IsPartitionedBy, IsSearchInRange, IsSorted, Less, List, Ok, Ordering, Result, Some, arith, cases_lt, false, get_or}
-use Rattle.cap_model.proofs.Common.{get_or_from_slice_get, has, inl, inr, is_ok, length, nat_lt, ordering_index, refl, slice_get, slice_get-get_or, slice_get_within, subst, sym, true, ℕ, ◌+◌, ◌<◌, ◌≡◌, ◌≤◌}
+use Rattle.cap_model.proofs.Common.{AtMost, Bool, Edge, Equal, Err, Greater, IsBinarySearchResult, IsFirstFrom, IsPartitionPoint, IsSearchInRange, IsSorted, Less, List, Ok, Ordering, Result, Some, arith, cases_lt, false, get_or}
+use Rattle.cap_model.proofs.Common.{get_or_from_slice_get, has, inl, inr, is_ok, length, ordering_index, refl, slice_get, slice_get-get_or, slice_get_within, subst, sym, true, ℕ, ◌+◌, ◌<◌, ◌≡◌, ◌≤◌}
 use Rattle.cap_model.specs.contracts.edge.EdgeOrd.TheImpl.{ghosts as ordered}
 use Rattle.cap_model.proofs.EdgeOrder.{before_chain, not_before_self, not_before_at_most}
 use Rattle.cap_model.proofs.EdgeCompare.{cmp-before, cmp-same, cmp-after}
@@ -36,24 +36,7 @@ is_ok-search edges e (Err i) sorted within found = go (has edges e) refl where
       let k = at_has edges e h in
       let l = slice_get_within edges k.0 e k.1 in
       let here : get_or edges k.0 e ≡ e = get_or_from_slice_get edges k.0 e e k.1 in
-      absurd (elim (cases_lt k.0 i) [
-        | inl below ↦
-            not_before_self e
-            (cmp-before e e (subst (λ (x : Edge). ordered.cmp x e ≡ Less) here (parted.0 k.0 e (omega arith) below)))
-        | inr above ↦
-            not_before_self e (cmp-after e e (subst (λ (x : Edge). ordered.cmp x e ≡ Greater) here (parted.1 k.0 e above l)))
-      ])
-
-pub parted_from : (edges : List Edge) (label : ℕ) → IsSorted edges → IsPartitionedBy (λ e. nat_lt e.from label) edges
-parted_from edges label sorted i j d le l h =
-    let most : AtMost (get_or edges i d) (get_or edges j d) = later_at_most edges i j (get_or edges i d) (get_or edges j d) sorted
-    le (slice_get-get_or edges i d (omega arith)) (slice_get-get_or edges j d l) in
-    let from : (get_or edges i d).from ≤ (get_or edges j d).from = most.by_from in
-    grind arith
-
-pub first_from_parted : (edges : List Edge) (label at : ℕ) → at ≤ length edges
-    → IsPartitionPoint (λ e. nat_lt e.from label ≡ true) (λ e. nat_lt e.from label ≡ false) edges at → IsFirstFrom edges label at
-first_from_parted edges label at bound parted = search (rules, get_or_from_slice_get, nat_lt, slice_get_within)
+      search (rules, cases_lt, not_before_self, cmp-before, parted, cmp-after)
 
 pub firsts_in_order : (edges : List Edge) (e : Edge) (label low high : ℕ) → IsFirstFrom edges label low
     → IsFirstFrom edges (label + 1) high → low ≤ high

@@ -2,7 +2,7 @@
 use Rattle.std.proofs.Common.{rules}
 use Rattle.cap_model.proofs.Common.{Authority, Bool, Class, Edge, FirstsRise, Has, HasPlaces, HasRising, IsClass, IsClassOf, IsFirstFrom, IsIn, IsPartitionPoint, IsPartitionedBy, IsRowFrom, IsRowOf, IsRowPast, IsSorted, IsTable, List, NoRowOf, None}
 use Rattle.cap_model.proofs.Common.{Option, Reply, Row, Some, [], ap, append_assoc, arith, cases_lt, drop, edge, edge_to, edges_of, eqb_tells, false, flat_map, flat_map-append, from_flat_map, from_map, get_behind, get_or, get_or_from_slice_get, has}
-use Rattle.cap_model.proofs.Common.{if◌then◌else◌, in_flat_map, in_map, in_place, inl, inr, length, length-append, map, nat_le, nat_lt, number_of, one_truth, place_of, refl, slice_get, slice_get-get_or, slice_get_past, slice_get_read}
+use Rattle.cap_model.proofs.Common.{if◌then◌else◌, in_flat_map, in_map, in_place, inl, inr, length, length-append, map, nat_le, nat_lt, one_truth, place_of, refl, slice_get, slice_get-get_or, slice_get_past, slice_get_read}
 use Rattle.cap_model.proofs.Common.{slice_get_within, split_get, subst, suc, sym, table_edges, take, take-append-drop, take_all, true, zero, ℕ, ◌++◌, ◌+◌, ◌-◌, ◌<◌, ◌==◌, ◌∙◌, ◌∷◌, ◌≡◌, ◌≢◌, ◌≤◌, ◌⊎◌}
 use Rattle.cap_model.proofs.RowEdges.{others, has_in, in_has, of_label, in_pairs, has_pair, get_in_front}
 use Rattle.cap_model.proofs.EdgeOrder.{same_number}
@@ -68,22 +68,6 @@ row_from rows label at bound point = record {
   above = λ k r l h. let t = behind_point (λ r. nat_lt r.label label) rows at bound point k r l h in grind arith;
 }
 
--- behind the row of a label
-pub row_from-behind : (rows : List Row) (label near : ℕ) (r : Row) → HasRising rows → slice_get rows near ≡ Some r
-    → r.label ≡ label → IsRowFrom rows (label + 1) (near + 1)
-row_from-behind rows label near r rising there is = record {
-  bound = (let w = slice_get_within rows near r there in omega arith);
-  below = λ k s l h. elim (cases_lt k near) [
-    | inl less ↦ let up = rising.by_place k near s r less h there in omega arith
-    | inr ge ↦ (
-        let same : k ≡ near = omega arith in
-        let here : slice_get rows near ≡ Some s = subst (λ n. slice_get rows n ≡ Some s) same h in
-        let one : s ≡ r = cc in
-        let t : s.label ≡ r.label = ap (λ (x : Row). x.label) one in omega arith)
-  ];
-  above = λ k s le h. let up = rising.by_place near k r s (omega arith) there h in omega arith;
-}
-
 pub firsts_parted : (rows : List Row) (place : ℕ) → FirstsRise rows → IsPartitionedBy (λ r. nat_le r.first place) rows
 firsts_parted rows place rise i j d le l h = search (rules, slice_get-get_or)
 
@@ -94,22 +78,6 @@ row_past rows place at bound point = record {
   below = λ k r l h. let t = before_point (λ r. nat_le r.first place) rows at bound point k r l h in grind arith;
   above = λ k r l h. let t = behind_point (λ r. nat_le r.first place) rows at bound point k r l h in grind arith;
 }
-
--- a row of another label at the place where the label's row would stand
-pub no_row : (rows : List Row) (label at : ℕ) → HasRising rows → IsRowFrom rows label at
-    → ((r : Row) → slice_get rows at ≡ Some r → r.label ≡ label → ⊥) → NoRowOf rows label
-no_row rows label at rising from other i r e same = elim (cases_lt i at) [
-  | inl l ↦ let b : r.label < label = from.below i r l e in omega arith
-  | inr ge ↦ elim (cases_lt at i) [
-    | inl l ↦
-        let within = slice_get_within rows i r e in
-        let there = slice_get-get_or rows at r (omega arith) in
-        let up : (get_or rows at r).label < r.label = rising.by_place at i _ r l there e in
-        let a : label ≤ (get_or rows at r).label = from.above at _ (omega arith) there in
-        omega arith
-    | inr le ↦ let here : i ≡ at = omega arith in other r (subst (λ k. slice_get rows k ≡ Some r) here e) same
-  ]
-]
 
 -- ---- the rows of a table
 
@@ -155,11 +123,7 @@ module _ (classes : List Class) (rows : List Row) where
                   let next = places.first (suc i) _ there in
                   let later : place < (get_or rows (suc i) r).first = past.above (suc i) _ (omega arith) there in
                   absurd (omega arith)
-              | inr l ↦
-                  let all : take (suc i) rows ≡ rows = take_all (suc i) rows l in
-                  let same : length (table_edges classes (take (suc i) rows)) ≡ length (table_edges classes rows) =
-                  ap (λ ys. length (table_edges classes ys)) all in
-                  omega arith
+              | inr l ↦ search (rules, take_all)
             ] in
             slice_get_past (edges_of (slice_get classes r.class) r) (place - r.first) ge
             ∙ sym (slice_get_past (table_edges classes rows) place end)
@@ -294,10 +258,8 @@ module _ (classes : List Class) (rows : List Row) (table : IsTable classes rows)
       → c.pairs.items ≡ [] → IsClassOf (table_edges classes rows) label None
   no_pairs label r c row class empty a x other h =
       let e : has (table_edges classes rows) (edge label a x) ≡ has (map (edge_to 0) c.pairs.items) (edge_to 0 (a, x)) =
-      subst (λ l. has (table_edges classes rows) (edge l a x) ≡ has (map (edge_to 0) c.pairs.items) (edge_to 0 (a, x))) row.2
-      (has_pairs row.0 r c a x row.1 class other) in
-      let n : has (map (edge_to 0) c.pairs.items) (edge_to 0 (a, x)) ≡ false =
-      ap (λ ps. has (map (edge_to 0) ps) (edge_to 0 (a, x))) empty in
+      search (rules, has_pairs) in
+      let n : has (map (edge_to 0) c.pairs.items) (edge_to 0 (a, x)) ≡ false = search (rules) in
       let z : true ≡ false = sym h ∙ e ∙ n in cc
 
   pub class_is : (label : ℕ) (r : Row) (c : Class) → IsRowOf rows label r → slice_get classes r.class ≡ Some c
