@@ -1,8 +1,8 @@
 -- What was found makes all edges of an audit.
-use Rattle.cap_audit.proofs.Common.{AreGates, AreHeadRoots, AreKinds, AreReady, AreStandIns, AsyncSend, Audited, Between, Cap, Deed, Edge, Found, Gains, HasRoot, HoldsNoThread, IsAll, IsBegun, IsClosed, IsFound, IsFoundAt, IsHeld, IsKept}
-use Rattle.cap_audit.proofs.Common.{IsMade, IsQueued, IsReport, List, Made, MeetBy, None, OfAllCalls, OfAllDeeds, OfBoot, OfCall, OfCap, OfDeeds, OfFace, OfKinds, OfListening, OfPair, OfRoot, OfRoots, OfSome, Option, Pair, Reply, Some, Spec, Spread}
-use Rattle.cap_audit.proofs.Common.{Step, [], and_parts, ap, arith, at_boot, bare, by_bind, by_map, contains_at, edge, edges_same, get_or, has, held_by, inl, inr, is_at, is_wanted, label_of, length, of_bind, of_call, of_map, of_save, of_spread, refl}
-use Rattle.cap_audit.proofs.Common.{row_at, slice_get, slice_get_within, stand_in, subst, sym, true, ℕ, ◌&&◌, ◌<◌, ◌||◌, ◌∙◌, ◌≡◌, ◌⊎◌}
+use Rattle.cap_audit.proofs.Common.{AreGates, AreHeadRoots, AreKinds, AreReady, AreStandIns, AsyncSend, Audited, Cap, Contains, Deed, Edge, Found, Gains, HasRoot, HoldsNoThread, IsAll, IsBegun, IsClosed, IsFound, IsFoundAt, IsHeld, IsKept, IsMade}
+use Rattle.cap_audit.proofs.Common.{IsQueued, IsReport, List, Made, MeetBy, None, OfAllCalls, OfAllDeeds, OfBoot, OfCap, OfDeeds, OfFace, OfKinds, OfListening, OfPair, OfRoot, OfRoots, OfSome, Option, Pair, Reply, Some, Spec, Spread, Step, []}
+use Rattle.cap_audit.proofs.Common.{and_parts, ap, arith, at_boot, at_contains, bare, by_bind, by_map, confers, contains_at, edge, edges_same, get_or, has, held_by, inl, inr, is_at, is_wanted, label_of, length, of_bind, of_call, of_map, of_save}
+use Rattle.cap_audit.proofs.Common.{of_spread, refl, row_at, slice_get, slice_get_within, stand_in, subst, sym, true, ℕ, ◌&&◌, ◌<◌, ◌||◌, ◌∙◌, ◌≡◌, ◌⊎◌}
 use Rattle.cap_model.specs.declared.kind.Kind.TheVariants as kinds
 use Rattle.cap_audit.proofs.SpreadLeast.{spread_least}
 use Rattle.cap_audit.specs.declared.making.Deed.TheVariants as deeds
@@ -56,64 +56,33 @@ begun spec labels f m found closed kept labelled faces heads kinds is = subst Is
 })
 
 module _ (spec : Spec) (f : Found) (all : IsAll spec f) where
-  pub is_held : (c : ℕ) (cap : Cap) → Spread spec c cap → IsHeld f c cap
-  is_held c cap has =
-      let k = all.every c cap has in
-      let at = contains_at (held_by f k.1.node) k.1.held (all.queued k.0 k.1 k.2) in
-      record {
-        place = at.0;
-        held = k.1.held;
-        there = subst (λ (n : ℕ). slice_get (held_by f n) at.0 ≡ Some k.1.held) k.3 at.1;
-        is = k.4;
-      }
-
   module _ (labels : List ℕ) where
     -- what the Spread confers
     pub of_queue : (c : ℕ) (cap : Cap) (e : Edge) → Spread spec c cap → OfCap spec labels (label_of labels c) cap e
         → OfSome (OfPair spec labels f) f.queue e
     of_queue c cap e has of =
         let k = all.every c cap has in
-        record {
-          at = k.0;
-          less = slice_get_within f.queue k.0 k.1 k.2;
-          by = record {
-            item = k.1;
-            there = k.2;
-            by = record {
-              cap = cap;
-              is = k.4;
-              of_cap = subst (λ (n : ℕ). OfCap spec labels (label_of labels n) cap e)
-                  (sym k.3) of;
-            };
-          };
-        }
+        record { item = k.1; there = at_contains f.queue k.1 k.0 k.2; by = record { cap = cap; is = k.4; of_cap = subst (λ (n : ℕ). OfCap spec labels (label_of labels n) cap e) (sym k.3) of } }
 
     -- what a face confers, all do that it stands for
     pub of_faces : (faces : List ℕ) → AreStandIns f faces → ((c : ℕ) → label_of labels (stand_in faces c) ≡ label_of labels c)
         → (e : Edge) → OfSome (OfPair spec labels f) f.queue e → OfSome (OfFace spec labels f faces) f.queue e
     of_faces faces alike labelled e x =
-        let pair : Pair = x.by.item in
-        let q = alike.held_there pair.node pair.held.value (record {
-          place = x.at;
-          pair = pair;
-          there = x.by.there;
-          at = refl;
-          of = refl;
-        }) in
-        let cap : Cap = x.by.by.cap in
-        let is : slice_get f.values q.pair.held.value ≡ Some cap = subst (λ (v : ℕ). slice_get f.values v ≡ Some cap) (sym q.of)
-        x.by.by.is in
+        let pair : Pair = x.item in
+        let k = contains_at f.queue pair x.there in
+        let q = alike.held_there pair.node pair.held.value (record { place = k.0; pair = pair; there = k.1; at = refl; of = refl })
+        in
         let same : label_of labels pair.node ≡ label_of labels q.pair.node =
         sym (ap (λ (n : ℕ). label_of labels n) q.at ∙ labelled pair.node) in
         record {
-          at = q.place;
-          less = slice_get_within f.queue q.place q.pair q.there;
+          item = q.pair;
+          there = at_contains f.queue q.pair q.place q.there;
           by = record {
-            item = q.pair;
-            there = q.there;
+            itself = subst (λ (n : ℕ). stand_in faces n ≡ n) (sym q.at) (alike.itself pair.node);
             by = record {
-              itself = subst (λ (n : ℕ). stand_in faces n ≡ n) (sym q.at) (alike.itself pair.node);
-              by = record { cap = cap; is = is; of_cap = subst (λ (l : ℕ). OfCap spec labels l cap e) same x.by.by.of_cap };
+              cap = x.by.cap;
+              is = subst (λ (v : ℕ). slice_get f.values v ≡ Some x.by.cap) (sym q.of) x.by.is;
+              of_cap = subst (λ (l : ℕ). OfCap spec labels l x.by.cap e) same x.by.of_cap;
             };
           };
         }
@@ -137,11 +106,9 @@ module _ (spec : Spec) (f : Found) (all : IsAll spec f) where
   is_held_there heads alike c cap has =
       let k = all.every c cap has in
       let q = alike.held_there c k.1.held.value (record { place = k.0; pair = k.1; there = k.2; at = k.3; of = refl }) in
-      let at = contains_at (held_by f q.pair.node) q.pair.held (all.queued q.place q.pair q.there) in
       record {
-        place = at.0;
         held = q.pair.held;
-        there = subst (λ (n : ℕ). slice_get (held_by f n) at.0 ≡ Some q.pair.held) q.at at.1;
+        there = subst (λ (n : ℕ). Contains (held_by f n) q.pair.held) q.at (all.queued q.place q.pair q.there);
         is = subst (λ (v : ℕ). slice_get f.values v ≡ Some cap) (sym q.of) k.4;
       }
 
@@ -211,7 +178,7 @@ module _ (spec : Spec) (f : Found) (all : IsAll spec f) where
 -- the calls, by the endpoints
 module _ (spec : Spec) (labels : List ℕ) (f : Found) (heads : List ℕ) (rosters members : List (List ℕ)) (gates : List (List Pair))
     (r : AreReady spec f heads rosters members gates) where
-  member_at : (t c : ℕ) → HasRoot spec t c → (k : ℕ) × (slice_get (row_at members (stand_in heads c)) k ≡ Some c)
+  member_at : (t c : ℕ) → HasRoot spec t c → Contains (row_at members (stand_in heads c)) c
   member_at t c root =
       let less : c < length spec.entries = root_inside spec t c r.kept root in
       let inside : c < length heads = (let e = r.as_many in omega arith) in
@@ -237,54 +204,39 @@ module _ (spec : Spec) (labels : List ℕ) (f : Found) (heads : List ℕ) (roste
       (sym x.meet.same) x.meet.is in rw is x.meet.reads) in
       let gate = r.are_gates.every p.place p.pair x.to (slice_get_within f.queue p.place p.pair p.there) p.there p_is
       wanted p_itself in
-      let gate_there : slice_get (row_at gates x.from.object) gate.0 ≡ Some gate.1 =
-      subst (λ (n : ℕ). slice_get (row_at gates n) gate.0 ≡ Some gate.1) (sym x.meet.same) gate.2 in
-      let tk = r.are_rosters.every x.c x.t (thread_inside spec x.t x.c x.roots.root) x.roots.root in
-      let uk = r.are_rosters.every x.d x.u (thread_inside spec x.u x.d x.roots.peer_root) x.roots.peer_root in
-      let inner : OfSome (OfCall labels x.u x.d) (row_at rosters x.c) e =
-      record {
-        at = tk.0;
-        less = slice_get_within (row_at rosters x.c) tk.0 x.t tk.1;
-        by = record { item = x.t; there = tk.1; by = (x.roots.other, x.is) };
-      } in
-      let between : Between labels rosters x.c x.d e =
-      record {
-        at = uk.0;
-        less = slice_get_within (row_at rosters x.d) uk.0 x.u uk.1;
-        by = record { item = x.u; there = uk.1; by = inner };
-      } in
-      let ck = member_at x.t x.c x.roots.root in let dk = member_at x.u x.d x.roots.peer_root in
-      let of_callers : OfSome (λ (y : ℕ). Between labels rosters y x.d) (row_at members (stand_in heads x.c)) e =
-      record {
-        at = ck.0;
-        less = slice_get_within (row_at members (stand_in heads x.c)) ck.0 x.c ck.1;
-        by = record { item = x.c; there = ck.1; by = between };
-      } in
       let of_kinds : OfKinds labels rosters members (stand_in heads x.c) (stand_in heads x.d) e =
       record {
-        at = dk.0;
-        less = slice_get_within (row_at members (stand_in heads x.d)) dk.0 x.d dk.1;
-        by = record { item = x.d; there = dk.1; by = of_callers };
+        item = x.d;
+        there = member_at x.u x.d x.roots.peer_root;
+        by = record {
+          item = x.c;
+          there = member_at x.t x.c x.roots.root;
+          by = record {
+            item = x.u;
+            there = r.are_rosters.every x.d x.u (thread_inside spec x.u x.d x.roots.peer_root) x.roots.peer_root;
+            by = record {
+              item = x.t;
+              there = r.are_rosters.every x.c x.t (thread_inside spec x.t x.c x.roots.root) x.roots.root;
+              by = (x.roots.other, x.is);
+            };
+          };
+        };
       } in
-      let here : OfKinds labels rosters members gate.1.node q.pair.node e =
-      subst (λ (n : ℕ). OfKinds labels rosters members n q.pair.node e) (sym (gate.3 ∙ p.at))
+      let here : OfKinds labels rosters members gate.0.node q.pair.node e =
+      subst (λ (n : ℕ). OfKinds labels rosters members n q.pair.node e) (sym (gate.2 ∙ p.at))
       (subst (λ (n : ℕ). OfKinds labels rosters members (stand_in heads x.c) n e) (sym q.at) of_kinds) in
       record {
-        at = q.place;
-        less = slice_get_within f.queue q.place q.pair q.there;
+        item = q.pair;
+        there = at_contains f.queue q.pair q.place q.there;
         by = record {
-          item = q.pair;
-          there = q.there;
+          cap = x.from;
+          is = q_is;
+          itself = q_itself;
+          wanted = listens;
           by = record {
-            cap = x.from;
-            is = q_is;
-            itself = q_itself;
-            wanted = listens;
-            by = record {
-              at = gate.0;
-              less = slice_get_within (row_at gates x.from.object) gate.0 gate.1 gate_there;
-              by = record { item = gate.1; there = gate_there; by = here };
-            };
+            item = gate.0;
+            there = subst (λ (n : ℕ). Contains (row_at gates n) gate.0) (sym x.meet.same) gate.1;
+            by = here;
           };
         };
       }
@@ -292,10 +244,10 @@ module _ (spec : Spec) (labels : List ℕ) (f : Found) (heads : List ℕ) (roste
 -- a door of a gate and one that listens meet
 pub gate_meets : (spec : Spec) (f : Found) (heads : List ℕ) (gates : List (List Pair)) (n : ℕ) → AreGates spec f heads gates n
     → (pair : Pair) (from : Cap) → slice_get f.values pair.held.value ≡ Some from
-    → is_wanted spec wants.Listener from ≡ true → (k : ℕ) (door : Pair) → slice_get (row_at gates from.object) k ≡ Some door
+    → is_wanted spec wants.Listener from ≡ true → (door : Pair) → Contains (row_at gates from.object) door
     → IsQueued f door.node door.held.value × MeetBy spec f door.held.value pair.held.value
-gate_meets spec f heads gates n g pair from is listens k door there =
-    let may = g.may from.object k door there in
+gate_meets spec f heads gates n g pair from is listens door there =
+    let may = g.may from.object door there in
     let calls = and_parts (is_at spec kinds.Endpoint may.cap.object) (may.cap.rights.write
     && (may.cap.rights.grant || may.cap.rights.reply)) may.wanted in (
       record { place = may.place; pair = door; there = may.there; at = refl; of = refl },

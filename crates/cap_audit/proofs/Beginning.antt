@@ -1,15 +1,18 @@
 -- How a search begins.
-use Rattle.cap_audit.proofs.Common.{AreRoots, Bool, Cap, Contains, Doors, Entry, Found, Gathering, HasRoot, HasSlots, HasValue, Held, HoldsAt, InClass, IsCounted, IsFound, IsHub, IsKept, IsSearch, Lanes, List, Marks, None, Object, Option, Pair}
-use Rattle.cap_audit.proofs.Common.{Passage, Path, Queued, Run, Some, Spec, Starts, Step, Way, [], ap, arith, at_contains, at_end, at_object, blank_row, blank_rows, blanks, boot, boot_node, cases_lt, contains_at, empties, entry_at, false, get_or}
-use Rattle.cap_audit.proofs.Common.{get_or-before_last, get_or-last, get_or-set_same, held_by, hub_at, hubs_of, inl, inr, is_at, is_at_below, is_known, kind_is, kind_of_object, length, length-append, length-map, length-set, map, marks_of}
-use Rattle.cap_audit.proofs.Common.{no_node, nobody, object_at, owned, pushed_last, read_written, refl, repeated, root_of, rooted, set, slice_get, slice_get-get_or, slice_get_within, slots_at, slots_of, subst, suc, sym, true, ways_from, with_mark}
+use Rattle.cap_audit.proofs.Common.{AreRoots, Bool, Cap, Contains, Doors, Entry, Found, Gathering, HasRoot, HasSlots, HasValue, Held, HoldsAt, InClass, IsCounted, IsFound, IsHub, IsKept, IsSearch, List, Marks, Member, None, Object, Option, Pair}
+use Rattle.cap_audit.proofs.Common.{Passage, Path, Queued, Run, Side, Some, Spec, Starts, Step, Way, Web, [], ap, arith, at_contains, at_end, at_object, blank_row, blank_rows, boot, boot_node, cases_lt, contains_at, entry_at, false, get_or}
+use Rattle.cap_audit.proofs.Common.{get_or-before_last, get_or-last, get_or-set_same, held_by, hub_of, inl, inr, is_at, is_at_below, is_known, kind_is, kind_of_object, length, length-append, length-map, length-set, map, marks_of, members_at}
+use Rattle.cap_audit.proofs.Common.{no_node, object_at, owned, pushed_last, read_written, refl, replicate, root_of, rooted, row_at, set, side_of, slice_get, slice_get-get_or, slice_get_within, slots_at, slots_of, subst, suc, sym, true, with_mark}
 use Rattle.cap_audit.proofs.Common.{with_rows, with_value, zero, ℕ, ◌++◌, ◌+◌, ◌<◌, ◌∙◌, ◌∷◌, ◌≡◌, ◌≤◌, ◌⊎◌}
 use Rattle.cap_model.specs.declared.kind.Kind.{Kind}
 use Rattle.cap_model.specs.declared.kind.Kind.TheVariants as kinds
 use Rattle.cap_model.specs.declared.object.Object.TheVariants as objects
 use Rattle.cap_audit.specs.Ways.{HaveGone}
 use Rattle.cap_audit.specs.declared.hubs.Passage.TheVariants as passages
-use Rattle.cap_audit.proofs.Bringing.{none_within, at_pushed, pushed_cases, mark_kept, mark_cases, mark_there, mark_lengths, held_kept, held_cases, held_there}
+use Rattle.cap_audit.specs.declared.hubs.Side.TheVariants as sides
+use Rattle.cap_audit.proofs.InRows.{blank_at, more_cases, more_kept, more_there, none_in_blank}
+use Rattle.std.proofs.lemmas.List.{length-replicate}
+use Rattle.cap_audit.proofs.Bringing.{none_within, at_pushed, pushed_cases, mark_kept, mark_cases, mark_there, mark_lengths}
 use Rattle.cap_audit.proofs.Quiet.{slot_at_boot, boot_quiet, quiet_cnode}
 
 pub slots_inside : (spec : Spec) (c k : ℕ) (x : ℕ × Cap) → slice_get (slots_at spec c) k ≡ Some x → c < length spec.entries
@@ -39,36 +42,10 @@ value_there values v less = go (slice_get values v) refl where
   go (Some cap) h = (cap, h)
   go None h = absurd (none_within values v h less)
 
--- blank lists
-
-pub empties_more : (n : ℕ) → empties n ++ [] ∷ [] ≡ empties (n + 1)
-empties_more zero = refl
-empties_more (suc n) = let e : suc n + 1 ≡ suc (n + 1) = omega arith in
-    rw e (ap (λ (rest : List (List Held)). [] ∷ rest) (empties_more n))
-
-pub blanks_more : (n : ℕ) → blanks n ++ false ∷ [] ≡ blanks (n + 1)
-blanks_more zero = refl
-blanks_more (suc n) = let e : suc n + 1 ≡ suc (n + 1) = omega arith in
-    rw e (ap (λ (rest : List Bool). false ∷ rest) (blanks_more n))
-
-empties_length : (n : ℕ) → length (empties n) ≡ n
-empties_length zero = refl
-empties_length (suc n) = ap (λ k. suc k) (empties_length n)
-
-empty_at : (n c : ℕ) → get_or (empties n) c [] ≡ []
-empty_at (suc n) (suc c) = empty_at n c
-empty_at _ _ = refl
-
-blanks_length : (n : ℕ) → length (blanks n) ≡ n
-blanks_length zero = refl
-blanks_length (suc n) = ap (λ k. suc k) (blanks_length n)
-
-blank_at : (n c : ℕ) → get_or (blanks n) c false ≡ false
-blank_at (suc n) (suc c) = blank_at n c
-blank_at _ _ = refl
+-- blank rows
 
 row_blank : (width : ℕ) (object : Object) (v : ℕ) → get_or (blank_row width object) v false ≡ false
-row_blank width (objects.CNode bits slots) v = blank_at width v
+row_blank width (objects.CNode bits slots) v = blank_at false width v
 row_blank width _ v = refl
 
 rows_blank : (width : ℕ) (entries : List Entry) (c v : ℕ) → get_or (get_or (blank_rows width entries) c []) v false ≡ false
@@ -81,13 +58,9 @@ next_at : (entries : List Entry) (c : ℕ) → (get_or (map (λ (e : Entry). boo
 next_at (e ∷ entries) (suc c) = next_at entries c
 next_at _ _ = refl
 
-none_held : (n c : ℕ) (held : Held) → Contains (get_or (empties n) c []) held → ⊥
-none_held n c held there = let x : Contains [] held = subst (λ (row : List Held). Contains row held) (empty_at n c) there in
-    let w = x.1 in omega arith
-
 pub blank_starts : (spec : Spec) → Starts spec (record {
   values = [];
-  held = empties (length spec.entries);
+  held = replicate (length spec.entries) [];
   known = [];
   queue = [];
   steps = [];
@@ -97,10 +70,10 @@ blank_starts spec = record {
   steps = refl;
   nexts = next_at spec.entries;
   row_nexts = length-map spec.entries (λ (e : Entry). (boot_node e.object).next);
-  row_held = empties_length (length spec.entries);
-  own = λ c i cap at. absurd (none_held (length spec.entries) c (record { value = at.value; number = i }) at.held);
+  row_held = length-replicate (length spec.entries) [];
+  own = λ c i cap at. absurd (none_in_blank (length spec.entries) c (record { value = at.value; number = i }) at.held);
   queued = λ k pair h. absurd cc;
-  valued = λ c held there. absurd (none_held (length spec.entries) c held there);
+  valued = λ c held there. absurd (none_in_blank (length spec.entries) c held there);
   slots = λ c k slot h less. absurd (elim less [ inl l ↦ omega arith | inr e ↦ (let x = e.1 in omega arith) ]);
 }
 
@@ -158,7 +131,7 @@ module _ (spec : Spec) (f : Found) (n m : ℕ) (s : Starts spec f n m) (slot : �
   }
 
   own_after : (c i : ℕ) (cap : Cap) → HoldsAt after c i cap → Contains (slots_at spec c) (i, cap)
-  own_after c i cap at = elim (held_cases f.held n held c (record { value = at.value; number = i }) at.held) [
+  own_after c i cap at = elim (more_cases f.held n held c (record { value = at.value; number = i }) at.held) [
     | inl old ↦ s.own c i cap (record { value = at.value; held = old; is = at.is })
     | inr new ↦ (
         let number : slot.0 ≡ i = ap (λ (h : Held). h.number) new.1 in
@@ -175,11 +148,11 @@ module _ (spec : Spec) (f : Found) (n m : ℕ) (s : Starts spec f n m) (slot : �
     row_held = length-set f.held n (held_by f n ++ held ∷ []) ∙ s.row_held;
     own = own_after;
     queued = λ k pair h. elim (pushed_cases f.queue (record { node = n; held = held }) pair k h) [
-      | inl old ↦ held_kept f.held n held pair.node pair.held (s.queued k pair old)
+      | inl old ↦ more_kept f.held n held pair.node pair.held (s.queued k pair old)
       | inr new ↦ subst (λ (p : Pair). Contains (held_by after p.node) p.held) new.1
-          (held_there f.held n held (let e = s.row_held in omega arith))
+          (more_there f.held n held (let e = s.row_held in omega arith))
     ];
-    valued = λ c x there. elim (held_cases f.held n held c x there) [
+    valued = λ c x there. elim (more_cases f.held n held c x there) [
       | inl old ↦ s.valued c x old
       | inr new ↦ (let e : v ≡ x.value = ap (λ (h : Held). h.value) new.1 in
           let below = slice_get_within f.values v slot.1 value in omega arith)
@@ -234,7 +207,7 @@ next_object spec f n m s all = record {
 
 cnode_row : (width : ℕ) (object : Object) → ◌≡◌ {A = Option Kind} (Some (kind_of_object object)) (Some kinds.CNode)
     → length (blank_row width object) ≡ width
-cnode_row width (objects.CNode bits slots) h = blanks_length width
+cnode_row width (objects.CNode bits slots) h = length-replicate width false
 cnode_row width _ h = absurd cc
 
 row_width : (spec : Spec) (width c : ℕ) → is_at spec kinds.CNode c ≡ true
@@ -350,25 +323,12 @@ marks_slots spec f m = record {
 
 pub blank_at_parts : (spec : Spec) (values : List Cap) (shelves : List (List Held)) (known : List (List Bool)) (queue : List Pair)
     (steps : List Step) (nexts : List ℕ) → values ≡ []
-    → shelves ≡ empties (length spec.entries) → known ≡ [] → queue ≡ [] → steps ≡ []
+    → shelves ≡ replicate (length spec.entries) [] → known ≡ [] → queue ≡ [] → steps ≡ []
     → nexts ≡ map (λ (e : Entry). (boot_node e.object).next) spec.entries
     → Starts spec (record { values = values; held = shelves; known = known; queue = queue; steps = steps; nexts = nexts }) 0 0
 blank_at_parts spec values shelves known queue steps nexts a b c d e f = rw (a, b, c, d, e, f) (blank_starts spec)
 
--- repeated items and counted numbers
-
-pub repeated_more : {A : Type 0} (x : A) (n : ℕ) → repeated x n ++ x ∷ [] ≡ repeated x (n + 1)
-repeated_more x zero = refl
-repeated_more {A} x (suc n) = let e : suc n + 1 ≡ suc (n + 1) = omega arith in
-    rw e (ap (λ (rest : List A). x ∷ rest) (repeated_more x n))
-
-pub repeated_length : {A : Type 0} (x : A) (n : ℕ) → length (repeated x n) ≡ n
-repeated_length x zero = refl
-repeated_length x (suc n) = ap (λ k. suc k) (repeated_length x n)
-
-pub repeated_at : {A : Type 0} (x : A) (n c : ℕ) → get_or (repeated x n) c x ≡ x
-repeated_at x (suc n) (suc c) = repeated_at x n c
-repeated_at x _ _ = refl
+-- counted numbers
 
 pub counted_more : (numbers new : List ℕ) (n : ℕ) → IsCounted numbers n → new ≡ numbers ++ n ∷ [] → IsCounted new (n + 1)
 counted_more numbers new n c made = record {
@@ -392,11 +352,11 @@ pub record RootsBelow (spec : Spec) (roots : List (Option ℕ)) (n : ℕ) : Type
   pub true_ones : (c t : ℕ) → get_or roots c None ≡ Some t → HasRoot spec t c
   pub all_ones : (c t : ℕ) → t < n → HasRoot spec t c → get_or roots c None ≡ None → ⊥
 
-pub no_roots_below : (spec : Spec) (roots : List (Option ℕ)) → roots ≡ repeated None (length spec.entries)
+pub no_roots_below : (spec : Spec) (roots : List (Option ℕ)) → roots ≡ replicate (length spec.entries) None
     → RootsBelow spec roots 0
 no_roots_below spec roots is = record {
-  as_many = ap (λ (xs : List (Option ℕ)). length xs) is ∙ repeated_length None (length spec.entries);
-  true_ones = λ c t h. absurd (let none : get_or roots c None ≡ None = rw is (repeated_at None (length spec.entries) c) in
+  as_many = ap (λ (xs : List (Option ℕ)). length xs) is ∙ length-replicate (length spec.entries) None;
+  true_ones = λ c t h. absurd (let none : get_or roots c None ≡ None = rw is (blank_at None (length spec.entries) c) in
       let e : ◌≡◌ {A = Option ℕ} None (Some t) = sym none ∙ h in cc);
   all_ones = λ c t less root none. absurd (omega arith);
 }
@@ -458,57 +418,48 @@ roots_all spec roots r = record {
 
 -- nets and hubs with nothing in them
 
-pub blank_search : (spec : Spec) (f : Found) (net : Lanes) (doors : Doors) → IsFound spec f
-    → net.out ≡ repeated [] (length spec.entries) → IsCounted net.classes (length spec.entries)
-    → doors ≡ record { grants = repeated nobody (length spec.entries); replies = repeated nobody (length spec.entries) }
-    → IsSearch spec f net doors 0
+abbrev pub no_hub : ℕ → Gathering
+no_hub n = record { givers = replicate n []; takers = replicate n [] }
+
+pub blank_search : (spec : Spec) (web : Web) (doors : Doors) → IsFound spec web.findings
+    → web.net.out ≡ replicate (length spec.entries) [] → IsCounted web.net.classes (length spec.entries)
+    → doors.grants ≡ no_hub (length spec.entries) → doors.replies ≡ no_hub (length spec.entries) → IsSearch spec web doors 0
 unfolding HaveGone
-blank_search spec f net doors F out counted empty = record {
-  found = F;
-  ways = record {
-    ways = λ c way there. absurd (no_way c way there);
-    joined = λ c d i. subst (λ (n : ℕ). Path net c n) (same_class c d i) at_end;
-    as_many = ap (λ (o : List (List Way)). length o) out ∙ repeated_length [] (length spec.entries);
-    as_many_classes = counted.as_many;
+blank_search spec web doors F out counted grants replies = record {
+  is = record {
+    found = F;
+    ways = record {
+      ways = λ c way there. absurd (none_in_blank (length spec.entries) c way
+          (subst (λ (o : List (List Way)). Contains (row_at o c) way) out there));
+      joined = λ c d i. subst (λ (n : ℕ). Path web.net c n) (same_class c d i) at_end;
+      as_many = ap (λ (o : List (List Way)). length o) out ∙ length-replicate (length spec.entries) [];
+      as_many_classes = counted.as_many;
+    };
   };
-  hubs = rw empty (record { each = λ passage e. empty_hub passage e; as_many = λ passage. many passage });
+  hubs = λ by. subst (λ (h : Gathering). IsHub spec web by h) (sym (all_blank by)) (blank_hub by);
   gone = λ k pair way less h there. absurd (omega arith);
   covered = λ k pair cap less h v. absurd (omega arith);
 } where
-  no_way : (c : ℕ) (way : Way) → Contains (ways_from net c) way → ⊥
-  no_way c way there =
-      let e : ways_from net c ≡ [] = ap (λ (o : List (List Way)). get_or o c []) out ∙ repeated_at [] (length spec.entries) c in
-      let w = (subst (λ (ws : List Way). Contains ws way) e there).1 in
-      omega arith
-
-  same_class : (c d : ℕ) → InClass net c d → c ≡ d
+  same_class : (c d : ℕ) → InClass web.net c d → c ≡ d
   same_class c d i =
       let many = counted.as_many in
       sym (counted.each c (let l = i.one in omega arith)) ∙ (i.same ∙ counted.each d (let l = i.other in omega arith))
 
-  empty_doors : Doors
-  empty_doors = record { grants = repeated nobody (length spec.entries); replies = repeated nobody (length spec.entries) }
+  all_blank : (by : Passage) → hub_of doors by ≡ no_hub (length spec.entries)
+  all_blank passages.Grant = grants
+  all_blank passages.Reply = replies
 
-  hub_none : (passage : Passage) (e : ℕ)
-      → hub_at (record { grants = repeated nobody (length spec.entries); replies = repeated nobody (length spec.entries) })
-      passage e ≡ nobody
-  hub_none passages.Grant e = repeated_at nobody (length spec.entries) e
-  hub_none passages.Reply e = repeated_at nobody (length spec.entries) e
+  nobody : (side : Side) (e : ℕ) (m : Member) → Contains (members_at (no_hub (length spec.entries)) side e) m → ⊥
+  nobody sides.Giving e m there = none_in_blank (length spec.entries) e m there
+  nobody sides.Taking e m there = none_in_blank (length spec.entries) e m there
 
-  nobody_hub : (passage : Passage) (e : ℕ) → IsHub spec f net passage e nobody
-  nobody_hub passage e = record {
-    givers = λ m there. absurd (let w = there.1 in omega arith);
-    takers = λ m there. absurd (let w = there.1 in omega arith);
-    met = λ x y a b. absurd (let w = a.1 in omega arith);
+  many : (side : Side) → length (side_of (no_hub (length spec.entries)) side) ≡ length spec.entries
+  many sides.Giving = length-replicate (length spec.entries) []
+  many sides.Taking = length-replicate (length spec.entries) []
+
+  blank_hub : (by : Passage) → IsHub spec web by (no_hub (length spec.entries))
+  blank_hub by = record {
+    members = λ side e m there. absurd (nobody side e m there);
+    met = λ side e m o a b. absurd (nobody side e m a);
+    as_many = many;
   }
-
-  empty_hub : (passage : Passage) (e : ℕ) → IsHub spec f net passage e
-      (hub_at (record { grants = repeated nobody (length spec.entries); replies = repeated nobody (length spec.entries) }) passage
-      e)
-  empty_hub passage e = subst (λ (h : Gathering). IsHub spec f net passage e h) (sym (hub_none passage e)) (nobody_hub passage e)
-
-  many : (passage : Passage) → length
-      (hubs_of (record { grants = repeated nobody (length spec.entries); replies = repeated nobody (length spec.entries) })
-      passage) ≡ length spec.entries
-  many passages.Grant = repeated_length nobody (length spec.entries)
-  many passages.Reply = repeated_length nobody (length spec.entries)

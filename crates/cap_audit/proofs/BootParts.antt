@@ -1,6 +1,6 @@
 -- The roots and slots of the boot state are those of the spec.
 use Rattle.cap_audit.proofs.Common.{Cap, Capability, Contains, Content, Entry, HasRoot, List, Node, None, Object, Option, Some, Spec, ThreadState, [], ap, at_contains, at_entry, boot, boot_node, boot_slot, boot_thread, contains_at, entry_at, false}
-use Rattle.cap_audit.proofs.Common.{get_or, inl, inr, map, no_node, no_thread, node_at, object_at, refl, root_of, slice_get, slice_get-map, slot_of, slots_at, slots_of, subst, suc, sym, thread_at, zero, ℕ, ◌∙◌, ◌∷◌, ◌≡◌}
+use Rattle.cap_audit.proofs.Common.{get_or, inl, inr, map, no_node, no_thread, node_at, object_at, refl, root_of, slice_get, slot_of, slots_at, slots_of, subst, suc, sym, thread_at, zero, ℕ, ◌∙◌, ◌∷◌, ◌≡◌}
 use Rattle.cap_model.specs.declared.object.Object.TheVariants.{CNode, Thread}
 
 past_entries : {A : Type 0} (f : Object → A) (entries : List Entry) (o : ℕ) (d : A) → slice_get entries o ≡ None
@@ -48,13 +48,6 @@ boot_content spec c i content there =
     (subst (λ (xs : List (ℕ × Content)). Contains xs (i, content)) (boot_slots spec c) there) in
     let s = slot_of (slots_at spec c) k.0 i content k.1 in
     (s.0.1, at_contains (slots_at spec c) (i, s.0.1) k.0 (s.1 ∙ ap (λ (n : ℕ). Some (n, s.0.1)) s.3), s.2)
-
-pub content_boot : (spec : Spec) (c i : ℕ) (cap : Cap) → Contains (slots_at spec c) (i, cap)
-    → Contains (node_at (boot spec) c).slots (i, Capability cap)
-content_boot spec c i cap there =
-    let k = contains_at (slots_at spec c) (i, cap) there in
-    rw (boot_slots spec c) (at_contains (map boot_slot (slots_at spec c)) (i, Capability cap) k.0
-    (let e = slice_get-map boot_slot (slots_at spec c) k.0 in rw (e, k.1) refl))
 
 pub root_boot : (spec : Spec) (t c : ℕ) → HasRoot spec t c → (thread_at (boot spec) t).root ≡ Some c
 root_boot spec t c h = boot_root spec t ∙ h

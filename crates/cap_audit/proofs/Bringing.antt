@@ -1,11 +1,12 @@
 -- What a search has found stays true when a value is brought along a way.
-use Rattle.cap_audit.proofs.Common.{Bool, Brings, Cap, Capability, Contains, Contains-append_left, Contains-push, Contains-push_cases, Course, Found, Held, HoldsAt, IsFound, IsWay, Leads, List, Node, None, Option, Pair, Some, Spec, Way, [], ap}
-use Rattle.cap_audit.proofs.Common.{arith, boot, cases_eq, content_in, false, get_or, get_or-set_other, get_or-set_same, grown, grown_at, held_by, inl, inr, is_at, is_at_below, is_known, landed, length, length-append, length-set, marks_of, misses}
-use Rattle.cap_audit.proofs.Common.{no_node, node_at, pushed_last, read_written, refl, set, slice_get, steps_of, subst, suc, sym, true, unknowns, zero, ℕ, ◌++◌, ◌+◌, ◌<◌, ◌∙◌, ◌∷◌, ◌≡◌, ◌⊎◌}
+use Rattle.cap_audit.proofs.Common.{Bool, Brings, Cap, Capability, Contains, Course, Found, Held, HoldsAt, IsFound, IsWay, Leads, List, Node, None, Option, Pair, Some, Spec, Way, [], ap, arith, boot, cases_eq, content_in, false, get_or}
+use Rattle.cap_audit.proofs.Common.{get_or-set_other, get_or-set_same, grown, grown_at, held_by, inl, inr, is_at, is_at_below, is_known, landed, length, length-append, length-set, marks_of, misses, no_node, node_at, pushed_last, read_written, refl}
+use Rattle.cap_audit.proofs.Common.{set, slice_get, steps_of, subst, suc, sym, true, unknowns, zero, ℕ, ◌++◌, ◌+◌, ◌<◌, ◌∙◌, ◌∷◌, ◌≡◌, ◌⊎◌}
 use Rattle.cap_model.specs.declared.kind.Kind.TheVariants as kinds
 use Rattle.cap_audit.specs.declared.found.Course.TheVariants as courses
 use Rattle.cap_audit.proofs.Quiet.{run_append, kept_at, Lands, landed_there, lands_onward, quiet_cnode}
 use Rattle.cap_audit.proofs.Sequences.{take_on, put_on, grant_on, reply_on}
+use Rattle.cap_audit.proofs.InRows.{more_cases, more_kept, more_there}
 
 pub none_within : {A : Type 0} (xs : List A) (k : ℕ) → slice_get xs k ≡ None → k < length xs → ⊥
 none_within [] k h less = omega arith
@@ -81,32 +82,6 @@ all_misses [] d row less h = absurd (omega arith)
 all_misses (x ∷ rows) zero row less h = let e : suc (misses row) ≡ misses x = h in omega arith
 all_misses (x ∷ rows) (suc d) row less h = let e = all_misses rows d row (omega arith) h in omega arith
 
--- what one object holds more
-
-module _ (shelves : List (List Held)) (d : ℕ) (x : Held) where
-  abbrev filled : List (List Held)
-  filled = set shelves d (get_or shelves d [] ++ x ∷ [])
-
-  pub held_kept : (c : ℕ) (y : Held) → Contains (get_or shelves c []) y → Contains (get_or filled c []) y
-  held_kept c y h = elim (read_written shelves d c (get_or shelves d [] ++ x ∷ []) []) [
-    | inl e ↦ subst (λ (row : List Held). Contains row y) (sym e) h
-    | inr e ↦ subst (λ (row : List Held). Contains row y) (sym e.1)
-        (Contains-append_left (get_or shelves d []) (x ∷ []) y (subst (λ (n : ℕ). Contains (get_or shelves n []) y) e.0 h))
-  ]
-
-  pub held_cases : (c : ℕ) (y : Held) → Contains (get_or filled c []) y → Contains (get_or shelves c []) y ⊎ ((c ≡ d) × (x ≡ y))
-  held_cases c y h = elim (read_written shelves d c (get_or shelves d [] ++ x ∷ []) []) [
-    | inl e ↦ inl (subst (λ (row : List Held). Contains row y) e h)
-    | inr e ↦ elim (Contains-push_cases (get_or shelves d []) x y (subst (λ (row : List Held). Contains row y) e.1 h)) [
-      | inl old ↦ inl (subst (λ (n : ℕ). Contains (get_or shelves n []) y) (sym e.0) old)
-      | inr new ↦ inr (e.0, new)
-    ]
-  ]
-
-  pub held_there : d < length shelves → Contains (get_or filled d []) x
-  held_there less = subst (λ (row : List Held). Contains row x)
-      (sym (get_or-set_same shelves d (get_or shelves d [] ++ x ∷ []) [] less)) (Contains-push (get_or shelves d []) x)
-
 module _ (spec : Spec) (f : Found) (F : IsFound spec f) where
   -- the end of a way is a CNode
   pub end_cnode : (c d : ℕ) (course : Course) → Leads spec f c d course → is_at spec kinds.CNode d ≡ true
@@ -176,7 +151,7 @@ module _ (spec : Spec) (f : Found) (F : IsFound spec f) where
         ]
 
     there_after : (k i : ℕ) (cap : Cap) → HoldsAt (landed f way held) k i cap → content_in lands.new k i ≡ Some (Capability cap)
-    there_after k i cap at = elim (held_cases f.held way.to here k (record { value = at.value; number = i }) at.held) [
+    there_after k i cap at = elim (more_cases f.held way.to here k (record { value = at.value; number = i }) at.held) [
       | inl old ↦ kept_at F.state.nodes lands.new.nodes k i (Capability cap) (lands_onward spec F.state F.quiet way.to value_is.0
           (steps_of way.course held.number) lands).kept
           (F.there k i cap (record { value = at.value; held = old; is = at.is }))
@@ -193,9 +168,9 @@ module _ (spec : Spec) (f : Found) (F : IsFound spec f) where
     queued_after : (k : ℕ) (pair : Pair) → slice_get (landed f way held).queue k ≡ Some pair
         → Contains (held_by (landed f way held) pair.node) pair.held
     queued_after k pair h = elim (pushed_cases f.queue (record { node = way.to; held = here }) pair k h) [
-      | inl old ↦ held_kept f.held way.to here pair.node pair.held (F.queued k pair old)
+      | inl old ↦ more_kept f.held way.to here pair.node pair.held (F.queued k pair old)
       | inr new ↦ subst (λ (p : Pair). Contains (held_by (landed f way held) p.node) p.held) new.1
-          (held_there f.held way.to here (let e = F.row_held in let l = less in omega arith))
+          (more_there f.held way.to here (let e = F.row_held in let l = less in omega arith))
     ]
 
     known_after : (k v : ℕ) → is_known (landed f way held) k v ≡ true
@@ -226,7 +201,7 @@ module _ (spec : Spec) (f : Found) (F : IsFound spec f) where
     ]
 
     valued_after : (k : ℕ) (y : Held) → Contains (held_by (landed f way held) k) y → y.value < length f.values
-    valued_after k y h = elim (held_cases f.held way.to here k y h) [
+    valued_after k y h = elim (more_cases f.held way.to here k y h) [
       | inl old ↦ F.valued k y old
       | inr new ↦ subst (λ (z : Held). z.value < length f.values) new.1 in_values
     ]
@@ -250,7 +225,7 @@ module _ (spec : Spec) (f : Found) (F : IsFound spec f) where
       };
       grows = record {
         values = refl;
-        held = held_kept f.held way.to here;
+        held = more_kept f.held way.to here;
         known = mark_kept f.known way.to held.value;
         queue = λ k pair h. at_pushed f.queue (record { node = way.to; held = here }) pair k h;
       };

@@ -4,22 +4,23 @@ pub use Rattle.authorities.specs.declared.authority.Authority.TheVariants.{Async
 pub use Rattle.cam_base.proofs.Lists.{from_filter_map, get_or-before_last, get_or-last, to_filter_map}
 pub use Rattle.cap_audit.specs.Audited.{Audited, at_boot, of_bind, of_call, of_map, of_save, of_spread}
 pub use Rattle.cap_audit.specs.Counts.{cap_count, cnode_count}
-pub use Rattle.cap_audit.specs.Covering.{AddedAt, Allows, AreAlike, AreCovered, AreHubs, AreRoots, Attends, Covered, Covers, CoversPair, Doors, FillsAll, GoesOn, HasSlots, IsFoundAt, IsSearch, Links, Opens, StandsAt, hub_at, hubs_of}
-pub use Rattle.cap_audit.specs.Gains.{AtPlace, Below, Gains, IsAll, IsMade, IsSoFar, Made, Notes, OfFace, OfPair, OfSome}
-pub use Rattle.cap_audit.specs.Gates.{AreGates, AreMet, AreParties, ArePlaces, AreReady, AreRosters, Between, Greets, MayCallAt, MeetBy, Meets, OfCall, OfKinds, OfListening, OfParties, call_steps, caller_of, enrolled, gated, with_more}
-pub use Rattle.cap_audit.specs.Hubs.{Comes, Fills, Gathering, Given, Gives, GivesAt, IsHub, IsMember, Taken, Takes, TakesAt, Widened, course_of, nobody}
+pub use Rattle.cap_audit.specs.Covering.{AreAlike, AreCovered, AreHubs, AreRoots, Covered, Covers, CoversPair, Doors, GoesOn, HasSlots, IsFoundAt, IsSearch, Links, Opens, hub_of}
+pub use Rattle.cap_audit.specs.Gains.{Below, Gains, IsAll, IsMade, IsSoFar, Made, Notes, OfFace, OfPair, OfSome}
+pub use Rattle.cap_audit.specs.Gates.{AreGates, AreMet, AreParties, ArePlaces, AreReady, AreRosters, Between, Greets, MayCallAt, MeetBy, Meets, OfCall, OfKinds, OfListening, OfParties, call_steps, caller_of, enrolled, gated}
+pub use Rattle.cap_audit.specs.Hubs.{Allows, Attends, Fills, Gathering, IsHub, IsMember, Joins, Passes, StandsAt, course_of, members_at, opposite, side_of, with_member}
 pub use Rattle.cap_audit.specs.Kinds.{AreFirsts, AreHeadRoots, AreHeads, AreLeft, AreMembers, AreRootMarks, AreRows, AreStandIns, IsLike, IsQueued, StandsFor, root_mark, stand_in}
+pub use Rattle.cap_audit.specs.Nets.{Lanes}
 pub use Rattle.cap_audit.specs.Picks.{IsHeld, OfDeed, OfDeeds, OfRoot, OfRoots, OwnsAll, OwnsBoth, OwnsFrom, deed_step, is_wanted, pick_of, place_in, place_of, wanted_from, wanted_to}
 pub use Rattle.cap_audit.specs.Quiet.{Quiet}
 pub use Rattle.cap_audit.specs.Refusals.{HasNoThread, IsFirstThread, IsThreadSlot}
 pub use Rattle.cap_audit.specs.Reports.{IsReport}
-pub use Rattle.cap_audit.specs.Rows.{row_at}
+pub use Rattle.cap_audit.specs.Rows.{row_at, with_more}
 pub use Rattle.cap_audit.specs.Search.{Brings, Found, Grows, HoldsAt, IsFound, IsWay, Leads, bare, held_by, is_known, landed, marks_of, misses, steps_of, unknowns, whole}
 pub use Rattle.cap_audit.specs.Showing.{AreKinds, IsBegun, OfAllCalls, OfAllDeeds, OfBoot, by_bind, by_map}
 pub use Rattle.cap_audit.specs.Shows.{Shows}
 pub use Rattle.cap_audit.specs.Spread.{HasRoot, HaveRoots, HoldsNoThread, IsClosed, MayCall, MayGrant, Meet, Spread, root_of, slots_at, slots_of}
-pub use Rattle.cap_audit.specs.Start.{HasValue, IsCounted, Marks, Queued, Starts, blank_row, blank_rows, blanks, empties, owned, repeated, rooted, with_mark, with_rows, with_value}
-pub use Rattle.cap_audit.specs.Ways.{AllGo, AreWays, Connects, GoesAlong, InClass, JoinsBack, Lanes, Later, LeadsTo, Merges, Near, Path, Unites, Widens, along, at_end, ways_from, with_way}
+pub use Rattle.cap_audit.specs.Start.{HasValue, IsCounted, Marks, Queued, Starts, blank_row, blank_rows, owned, rooted, with_mark, with_rows, with_value}
+pub use Rattle.cap_audit.specs.Ways.{AllGo, AreWays, Connects, GoesAlong, InClass, IsWeb, JoinsBack, Later, LeadsTo, Merges, Near, Path, Unites, Widened, Widens, along, at_end, ways_from, with_way}
 pub use Rattle.cap_audit.specs.Within.{AddedBy, Binds, Calls, ContentWithin, Holds, IsWithin, Owed, Saved}
 pub use Rattle.cap_audit.specs.declared.found.Course.{Course}
 pub use Rattle.cap_audit.specs.declared.found.Held.{Held}
@@ -28,6 +29,8 @@ pub use Rattle.cap_audit.specs.declared.found.Way.{Way}
 pub use Rattle.cap_audit.specs.declared.gates.Place.{Place}
 pub use Rattle.cap_audit.specs.declared.hubs.Member.{Member}
 pub use Rattle.cap_audit.specs.declared.hubs.Passage.{Passage}
+pub use Rattle.cap_audit.specs.declared.hubs.Side.{Side}
+pub use Rattle.cap_audit.specs.declared.ways.Web.{Web}
 pub use Rattle.cap_audit.specs.declared.making.Deed.{Deed}
 pub use Rattle.cap_audit.specs.declared.picks.Pick.{Pick}
 pub use Rattle.cap_audit.specs.declared.picks.Wanted.{Wanted}
@@ -68,7 +71,7 @@ pub use Rattle.cap_model.specs.declared.state.Content.TheVariants.{Capability, S
 pub use Rattle.cap_model.specs.declared.state.Mapped.{Mapped}
 pub use Rattle.cap_model.specs.declared.state.Pending.{Pending}
 pub use Rattle.cap_model.specs.declared.state.ThreadState.{ThreadState}
-pub use Rattle.std.proofs.Common.{Bool, List, None, Option, Some, [], add-one, ap, append_assoc, arith, drop, drop-cons, false, get_or, if◌then◌else◌, inl, inr, leb, length, map, nat_lt, not, refl, set, slice_get, slice_index, slice_set, subst, suc}
+pub use Rattle.std.proofs.Common.{Bool, List, None, Option, Some, [], add-one, ap, append_assoc, arith, drop, drop-cons, false, get_or, replicate, if◌then◌else◌, inl, inr, leb, length, map, nat_lt, not, refl, set, slice_get, slice_index, slice_set, subst, suc}
 pub use Rattle.std.proofs.Common.{sym, take, true, zero, ℕ, ◌&&◌, ◌*◌, ◌++◌, ◌+◌, ◌-◌, ◌<◌, ◌==◌, ◌^◌, ◌||◌, ◌↔◌, ◌∙◌, ◌∷◌, ◌≡◌, ◌≢◌, ◌≤◌, ◌⊎◌}
 pub use Rattle.std.proofs.Math.Seq.{drop-length, get_or-append_seam}
 pub use Rattle.std.proofs.lemmas.Bool.{and_parts, cases_eq, cases_lt, eq-eqb, eqb-false, eqb-true, ne_eqb}

@@ -1,6 +1,6 @@
 -- How reports in the making grow, step by step.
-use Rattle.cap_audit.proofs.Common.{Adds, AtPlace, Authority, Below, Edge, Gains, Is, IsMade, IsSoFar, List, Made, Notes, OfLink, OfSome, Shows, Some, Step, [], ap, arith, at_has, boot, cases_lt, edge, edges_same, has, has_at, inl, inr, label_of}
-use Rattle.cap_audit.proofs.Common.{length, refl, same_Some, slice_get, slice_get_within, subst, sym, true, ℕ, ◌+◌, ◌<◌, ◌↔◌, ◌∙◌, ◌≡◌, ◌≢◌, ◌≤◌, ◌⊎◌}
+use Rattle.cap_audit.proofs.Common.{Adds, Authority, Below, Edge, Gains, Is, IsMade, IsSoFar, List, Made, Notes, OfLink, OfSome, Shows, Some, Step, [], ap, arith, at_has, boot, cases_lt, contains_at, edge, edges_same, has, has_at, inl, inr}
+use Rattle.cap_audit.proofs.Common.{label_of, length, refl, same_Some, slice_get, slice_get_within, subst, sym, true, ℕ, ◌+◌, ◌<◌, ◌↔◌, ◌∙◌, ◌≡◌, ◌≢◌, ◌≤◌, ◌⊎◌}
 use Rattle.cap_audit.proofs.Growing.{made_more}
 
 pub gains_none : (P : Edge → Type 0) (m : Made) → IsSoFar m → ((e : Edge) → P e → e.from ≢ e.to → has m.edges e ≡ true)
@@ -36,6 +36,12 @@ below_more P n a b c before now =
     ])
     a c (gains_then (Below P n) (P n) a b c before now)
 
+-- the property of the item at a place
+pub record AtPlace {A : Type 0} (P : A → Edge → Type 0) (items : List A) (k : ℕ) (e : Edge) : Type 0 where
+  pub item : A
+  pub there : slice_get items k ≡ Some item
+  pub by : P item e
+
 module _ {A : Type 0} (P : A → Edge → Type 0) (items : List A) where
   pub some_more : (n : ℕ) (item : A) (a b c : Made) → slice_get items n ≡ Some item → Gains (Below (AtPlace P items) n) a b
       → Gains (P item) b c → Gains (Below (AtPlace P items) (n + 1)) a c
@@ -44,12 +50,10 @@ module _ {A : Type 0} (P : A → Edge → Type 0) (items : List A) where
       let is : x.item ≡ item = cc in subst (λ (y : A). P y e) is x.by) b c now)
 
   pub some_all : (n : ℕ) (a b : Made) → length items ≤ n → Gains (Below (AtPlace P items) n) a b → Gains (OfSome P items) a b
-  some_all n a b le grown =
-      gains_by (Below (AtPlace P items) n) (OfSome P items) (λ e x. record {
-        at = x.at;
-        less = (let l = x.less in omega arith);
-        by = x.by;
-      }) a b grown
+  some_all n a b le grown = gains_by (Below (AtPlace P items) n) (OfSome P items) (λ e x. (
+      let k = contains_at items x.item x.there in
+      let l = slice_get_within items k.0 x.item k.1 in
+      record { at = k.0; less = omega arith; by = record { item = x.item; there = k.1; by = x.by } })) a b grown
 
 -- notes, one after the other
 

@@ -1,14 +1,13 @@
 -- Steps that show edges, one sequence after the other, and that a report with all edges of an audit is exact.
-use Rattle.cap_audit.proofs.Common.{Audited, Auth, Authority, Cap, Capability, Content, Edge, Found, Has, HasRoot, HaveRoots, HoldsAt, HoldsNoThread, IsClosed, IsFound, IsFoundAt, IsMade, IsReport, List, MayCall, Meet, Node, None, Reaches, Run}
-use Rattle.cap_audit.proofs.Common.{SavedReply, Shows, Spec, Spread, State, Step, [], ap, append-nil, append_assoc, arith, boot, cases_eq, confers, get_or, get_or-set_other, get_or-set_same, grown, grown_at, inl, inr, is_at, is_space_root, label_of}
-use Rattle.cap_audit.proofs.Common.{length, length-set, no_node, node_at, refl, set, subst, sym, true, whole, without, without_at, ℕ, ◌++◌, ◌+◌, ◌<◌, ◌∙◌, ◌∷◌, ◌≡◌, ◌≢◌, ◌⊎◌}
+use Rattle.cap_audit.proofs.Common.{Audited, Auth, Authority, Cap, Capability, Content, Edge, Found, Has, HasRoot, HaveRoots, HoldsAt, HoldsNoThread, IsMade, IsReport, List, MayCall, Meet, Node, None, Reaches, Run, SavedReply, Shows, Spec, State}
+use Rattle.cap_audit.proofs.Common.{Step, [], ap, append-nil, append_assoc, arith, boot, cases_eq, confers, get_or, get_or-set_other, get_or-set_same, grown, grown_at, inl, inr, is_at, is_space_root, label_of, length, length-set, no_node, node_at}
+use Rattle.cap_audit.proofs.Common.{refl, set, subst, sym, true, whole, without, without_at, ℕ, ◌++◌, ◌+◌, ◌<◌, ◌∙◌, ◌∷◌, ◌≡◌, ◌≢◌, ◌⊎◌}
 use Rattle.authorities.specs.declared.authority.Authority.TheVariants as authorities
 use Rattle.cap_model.specs.declared.kind.Kind.TheVariants as kinds
 use Rattle.cap_machine.specs.declared.step.Step.TheVariants as moves
 use Rattle.cap_audit.proofs.AuditedEdges.{reached_audited}
 use Rattle.cap_audit.proofs.Quiet.{run_append, kept_at, there_by_lookup, quiet_node, quiet_cnode, Onward}
 use Rattle.cap_audit.proofs.Sequences.{map_on, bind_on, save_on}
-use Rattle.cap_audit.proofs.SpreadLeast.{spread_least}
 
 -- a longer list of steps shows what the shorter one does
 pub shows_more : (spec : Spec) (labels : List ℕ) (s : State) (steps more : List Step) (l : ℕ) (a : Authority) (m : ℕ)
@@ -52,18 +51,6 @@ pub shows_reach : (spec : Spec) (labels : List ℕ) (steps : List Step) (l : ℕ
 shows_reach spec labels steps l a m h = (h.front, h.state, h.run, h.auth)
 
 module _ (spec : Spec) (labels : List ℕ) (f : Found) where
-  -- after the search, with edges of the boot state
-  pub made_begin : (edges : List Edge) → IsFound spec f → ((l : ℕ) (a : Authority) (m : ℕ) → Has edges l a m
-      → Auth spec labels (boot spec) l a m) → IsMade spec labels f edges f.steps f.nexts
-  made_begin edges F at_boot = record {
-    state = F.state;
-    run = F.run;
-    quiet = F.quiet;
-    numbers = F.nexts;
-    there = F.there;
-    shown = λ l a m h. record { front = []; back = f.steps; parts = refl; state = boot spec; run = refl; auth = at_boot l a m h };
-  }
-
   module _ (edges : List Edge) (steps : List Step) (nexts : List ℕ) (made : IsMade spec labels f edges steps nexts) where
     -- more edges that the steps show
     pub made_more : (new : List Edge) → ((l : ℕ) (a : Authority) (m : ℕ) → Has new l a m
@@ -206,8 +193,3 @@ report_exact spec labels f edges steps nexts none made differ all = record {
   run = (made.state, made.run);
   shown = made.shown;
 }
-
--- where the rules hold for what is known, all of the Spread is
-pub all_spread : (spec : Spec) (f : Found) → IsClosed spec (IsFoundAt f) → (c : ℕ) (cap : Cap) → Spread spec c cap
-    → IsFoundAt f c cap
-all_spread spec f closed c cap has = spread_least spec (IsFoundAt f) closed c cap has

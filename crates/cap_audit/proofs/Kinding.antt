@@ -1,11 +1,12 @@
 -- Who stands for whom.
 use Rattle.cap_audit.proofs.Common.{AreAlike, AreFirsts, AreHeadRoots, AreHeads, AreKinds, AreLeft, AreMembers, AreRootMarks, AreRoots, AreRows, AreStandIns, Bool, Found, HasRoot, IsFound, IsKept, IsLike, IsQueued, List, None, Option, Some, Spec}
 use Rattle.cap_audit.proofs.Common.{StandsFor, [], ap, arith, bare, cases_eq, cases_lt, eqb-false, eqb-true, false, get_or, get_or-append_seam, get_or-set_other, get_or-set_same, get_or_append_left, get_or_past, if◌then◌else◌, inl, inr, is_known}
-use Rattle.cap_audit.proofs.Common.{label_of, length, length-set, map, refl, repeated, root_mark, row_at, set, set_past, slice_get, stand_in, subst, sym, true, with_more, ℕ, ◌++◌, ◌+◌, ◌<◌, ◌==◌, ◌∙◌, ◌∷◌, ◌≡◌, ◌≤◌, ◌⊎◌}
+use Rattle.cap_audit.proofs.Common.{label_of, length, length-set, map, refl, replicate, root_mark, row_at, set, stand_in, subst, sym, true, with_more, ℕ, ◌++◌, ◌+◌, ◌<◌, ◌==◌, ◌∙◌, ◌∷◌, ◌≡◌, ◌≤◌}
 use Rattle.std.proofs.Common.{length-append}
 use Rattle.std.proofs.Math.ListN.{get_or-map}
-use Rattle.cap_audit.proofs.Beginning.{repeated_length, root_inside}
-use Rattle.cap_audit.proofs.Gating.{more_cases, more_kept, more_last, none_in_blank}
+use Rattle.cap_audit.proofs.Beginning.{root_inside}
+use Rattle.cap_audit.proofs.InRows.{more_cases, more_kept, more_there, none_in_blank}
+use Rattle.std.proofs.lemmas.List.{length-replicate}
 
 -- the first of each kind, one object after the other
 
@@ -15,21 +16,12 @@ firsts_none classes marks firsts is = record {
   each = λ c less. absurd (omega arith);
 }
 
-pub rows_none : (classes firsts : List ℕ) (rows : List (List ℕ)) (n : ℕ) → rows ≡ repeated [] n → AreRows classes firsts rows
-rows_none classes firsts rows n is = record {
-  inside = λ g k r h. absurd (none_in_blank rows n g k r is h);
-  of_class = λ g k r h. absurd (none_in_blank rows n g k r is h);
-  itself = λ g k r h. absurd (none_in_blank rows n g k r is h);
-}
-
--- what stands in a row with one more
-pub row_cases : (rows : List (List ℕ)) (o x c k y : ℕ) → slice_get (row_at (with_more rows o x) c) k ≡ Some y
-    → (slice_get (row_at rows c) k ≡ Some y) ⊎ ((c ≡ o) × (x ≡ y))
-row_cases rows o x c k y h = elim (cases_lt o (length rows)) [
-  | inl less ↦ more_cases rows o x less c k y h
-  | inr ge ↦
-      inl (subst (λ (xs : List (List ℕ)). slice_get (row_at xs c) k ≡ Some y) (set_past rows o (row_at rows o ++ x ∷ []) ge) h)
-]
+pub rows_none : (classes firsts : List ℕ) (rows : List (List ℕ)) (n : ℕ) → rows ≡ replicate n [] → AreRows classes firsts rows
+rows_none classes firsts rows n is = rw is (record {
+  inside = λ g r h. absurd (none_in_blank n g r h);
+  of_class = λ g r h. absurd (none_in_blank n g r h);
+  itself = λ g r h. absurd (none_in_blank n g r h);
+})
 
 module _ (classes marks firsts : List ℕ) (c first : ℕ) (are : AreFirsts classes marks firsts c) where
   abbrev longer : List ℕ
@@ -55,9 +47,9 @@ module _ (classes marks firsts : List ℕ) (c first : ℕ) (are : AreFirsts clas
   module _ (rows : List (List ℕ)) (of : AreRows classes firsts rows) where
     rows_stay : AreRows classes longer rows
     rows_stay = record {
-      inside = λ g k r h. (let l = of.inside g k r h in let e = are.as_many in let n = new_length in omega arith);
+      inside = λ g r h. (let l = of.inside g r h in let e = are.as_many in let n = new_length in omega arith);
       of_class = of.of_class;
-      itself = λ g k r h. stand_old r (let l = of.inside g k r h in let e = are.as_many in omega arith) ∙ of.itself g k r h;
+      itself = λ g r h. stand_old r (let l = of.inside g r h in let e = are.as_many in omega arith) ∙ of.itself g r h;
     }
 
     -- with the new one in its row
@@ -67,16 +59,16 @@ module _ (classes marks firsts : List ℕ) (c first : ℕ) (are : AreFirsts clas
 
       rows_longer : AreRows classes longer (with_more rows (get_or classes c 0) c)
       rows_longer = record {
-        inside = λ g k r h. elim (row_cases rows (get_or classes c 0) c g k r h) [
-          | inl old ↦ rows_stay.inside g k r old
+        inside = λ g r h. elim (more_cases rows (get_or classes c 0) c g r h) [
+          | inl old ↦ rows_stay.inside g r old
           | inr now ↦ (let e : c ≡ r = now.1 in let n = new_length in omega arith)
         ];
-        of_class = λ g k r h. elim (row_cases rows (get_or classes c 0) c g k r h) [
-          | inl old ↦ rows_stay.of_class g k r old
+        of_class = λ g r h. elim (more_cases rows (get_or classes c 0) c g r h) [
+          | inl old ↦ rows_stay.of_class g r old
           | inr now ↦ ap (λ (n : ℕ). get_or classes n 0) (sym now.1) ∙ sym now.0
         ];
-        itself = λ g k r h. elim (row_cases rows (get_or classes c 0) c g k r h) [
-          | inl old ↦ rows_stay.itself g k r old
+        itself = λ g r h. elim (more_cases rows (get_or classes c 0) c g r h) [
+          | inl old ↦ rows_stay.itself g r old
           | inr now ↦ subst (λ (n : ℕ). stand_in longer n ≡ n) now.1 more_itself
         ];
       }
@@ -99,10 +91,10 @@ module _ (classes marks firsts : List ℕ) (c first : ℕ) (are : AreFirsts clas
           itself = subst (λ (n : ℕ). stand_in longer n ≡ first) (sym same) stand_new;
         }
         | inr x ↦ record {
-          inside = rows_stay.inside (get_or classes c 0) x.0 first x.1;
-          of_class = of.of_class (get_or classes c 0) x.0 first x.1;
-          marked = x.2;
-          itself = rows_stay.itself (get_or classes c 0) x.0 first x.1;
+          inside = rows_stay.inside (get_or classes c 0) first x.0;
+          of_class = of.of_class (get_or classes c 0) first x.0;
+          marked = x.1;
+          itself = rows_stay.itself (get_or classes c 0) first x.0;
         }
       ]
 
@@ -195,44 +187,30 @@ mark_of_roots spec roots marks are is = record {
 
 -- objects by who stands for them
 
-pub members_none : (heads : List ℕ) (members : List (List ℕ)) → members ≡ repeated [] (length heads) → AreMembers heads members 0
-members_none heads members is = record {
-  as_many = ap (λ (xs : List (List ℕ)). length xs) is ∙ repeated_length [] (length heads);
-  stands = λ h k c there. absurd (none_in_blank members (length heads) h k c is there);
+pub members_none : (heads : List ℕ) (members : List (List ℕ)) → members ≡ replicate (length heads) [] → AreMembers heads members 0
+members_none heads members is = rw is (record {
+  as_many = length-replicate (length heads) [];
+  stands = λ h c there. absurd (none_in_blank (length heads) h c there);
   every = λ c less inside. absurd (omega arith);
-}
+})
 
 pub members_more : (heads : List ℕ) (members new : List (List ℕ)) (n head : ℕ) → AreMembers heads members n
     → head ≡ stand_in heads n → new ≡ with_more members head n → AreMembers heads new (n + 1)
-members_more heads members new n head before head_is is_head =
-    let is : new ≡ with_more members (stand_in heads n) n = is_head ∙ ap (λ (x : ℕ). with_more members x n) head_is in
-    subst (λ (rows : List (List ℕ)). AreMembers heads rows (n + 1)) (sym is) (record {
-      as_many = length-set members (stand_in heads n) (row_at members (stand_in heads n) ++ n ∷ []) ∙ before.as_many;
-      stands = λ h k c there. elim (row_cases members (stand_in heads n) n h k c there) [
-        | inl old ↦ before.stands h k c old
-        | inr now ↦ ap (λ (x : ℕ). stand_in heads x) (sym now.1) ∙ sym now.0
-      ];
-      every = λ c less inside. (
-          elim (cases_lt c n) [
-            | inl below ↦ (
-                let r = before.every c below inside in
-                elim (cases_lt (stand_in heads n) (length members)) [
-                  | inl within ↦ (r.0, more_kept members (stand_in heads n) n within (stand_in heads c) r.0 c r.1)
-                  | inr ge ↦ (
-                    r.0,
-                    subst (λ (xs : List (List ℕ)). slice_get (row_at xs (stand_in heads c)) r.0 ≡ Some c)
-                        (sym (set_past members (stand_in heads n) (row_at members (stand_in heads n) ++ n ∷ []) ge)) r.1,
-                  )
-                ])
-            | inr ge ↦ (
-                let at : n ≡ c = omega arith in
-                let here : stand_in heads n < length members = (let e = before.as_many in
-                subst (λ (x : ℕ). stand_in heads x < length members) (sym at) (omega arith)) in
-                subst (λ (x : ℕ). (k : ℕ) × (slice_get (row_at (with_more members (stand_in heads n) n) (stand_in heads x))
-                k ≡ Some x)) at
-                (length (row_at members (stand_in heads n)), more_last members (stand_in heads n) n here))
-          ]);
-    })
+members_more heads members new n head before head_is made = rw (made, head_is) (record {
+  as_many = length-set members (stand_in heads n) (row_at members (stand_in heads n) ++ n ∷ []) ∙ before.as_many;
+  stands = λ h c there. elim (more_cases members (stand_in heads n) n h c there) [
+    | inl old ↦ before.stands h c old
+    | inr now ↦ rw (← now.1) (sym now.0)
+  ];
+  every = λ c less inside. elim (cases_lt c n) [
+    | inl below ↦ more_kept members (stand_in heads n) n (stand_in heads c) c (before.every c below inside)
+    | inr ge ↦ (
+        let at : c ≡ n = omega arith in
+        let here : stand_in heads n < length members =
+        (let e = before.as_many in let l = subst (λ (k : ℕ). stand_in heads k < length heads) at inside in omega arith) in
+        rw at (more_there members (stand_in heads n) n here))
+  ];
+})
 
 -- roots that stand for themselves
 

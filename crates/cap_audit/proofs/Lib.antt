@@ -1,4 +1,5 @@
 pub mod Common
+pub mod InRows
 pub mod Acting
 pub mod Assembling
 pub mod Counting

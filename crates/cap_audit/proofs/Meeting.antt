@@ -1,10 +1,9 @@
 -- Those for whom one stands call those for whom another stands.
-use Rattle.cap_audit.proofs.Common.{AreMet, ArePlaces, AreReady, AtPlace, Below, Between, Bool, Contains, Edge, Found, Gains, Greets, Held, IsQueued, IsSoFar, List, Made, MeetBy, Meets, OfKinds, OfSome, Pair, Place, Some, Spec, [], add-one, ap}
-use Rattle.cap_audit.proofs.Common.{at_contains, contains_at, drop, drop-cons, eqb-false, eqb-true, false, filter_map, from_filter_map, get_or, has, held_by, inl, inr, length, place_in, place_of, refl, repeated, row_at, slice_get, slice_get_within}
-use Rattle.cap_audit.proofs.Common.{subst, suc, sym, to_filter_map, true, with_more, zero, ℕ, ◌+◌, ◌<◌, ◌==◌, ◌∙◌, ◌∷◌, ◌≡◌, ◌≢◌, ◌≤◌}
-use Rattle.cap_audit.proofs.Gaining.{below_none, gains_by, gains_none, some_all, some_more}
-use Rattle.cap_audit.proofs.Gating.{none_in_blank}
-use Rattle.cap_audit.proofs.Kinding.{row_cases}
+use Rattle.cap_audit.proofs.Common.{AreMet, ArePlaces, AreReady, Below, Between, Bool, Contains, Edge, Found, Gains, Greets, Held, IsQueued, IsSoFar, List, Made, MeetBy, Meets, OfKinds, OfSome, Pair, Place, Some, Spec, [], add-one, ap, at_contains}
+use Rattle.cap_audit.proofs.Common.{contains_at, drop, drop-cons, eqb-false, eqb-true, false, filter_map, from_filter_map, get_or, has, held_by, inl, inr, length, place_in, place_of, refl, replicate, row_at, slice_get, subst, suc, sym}
+use Rattle.cap_audit.proofs.Common.{to_filter_map, true, with_more, zero, ℕ, ◌+◌, ◌<◌, ◌==◌, ◌∙◌, ◌∷◌, ◌≡◌, ◌≢◌, ◌≤◌}
+use Rattle.cap_audit.proofs.Gaining.{AtPlace, below_none, gains_by, gains_none, some_all, some_more}
+use Rattle.cap_audit.proofs.InRows.{more_cases, none_in_blank}
 
 -- the place of a value
 
@@ -56,29 +55,30 @@ place_there node value (x ∷ xs) (suc j) held h is = go (x.value == value) refl
 
 pub places_are : (f : Found) (nodes : List ℕ) (value : ℕ) (places : List Place) → places ≡ filter_map (place_of f value) nodes
     → ArePlaces f nodes value places
-places_are f nodes value places is = record {
-  stand = λ k at h. (
-      let r = from_filter_map (place_of f value) nodes k at (subst (λ (xs : List Place). slice_get xs k ≡ Some at) is h) in
+places_are f nodes value places is = rw is (record {
+  stand = λ at h. (
+      let j = contains_at (filter_map (place_of f value) nodes) at h in
+      let r = from_filter_map (place_of f value) nodes j.0 at j.1 in
       let s = place_stands r.1 value (held_by f r.1) at r.3 in
       let x : Held = record { value = value; number = at.number } in
       at_contains (held_by f at.node) x s.1.0 (subst (λ (n : ℕ). slice_get (held_by f n) s.1.0 ≡ Some x) (sym s.0) s.1.1));
-  every = λ k c held h there of. (
+  every = λ c held h there of. (
+      let k = contains_at nodes c h in
       let j = contains_at (held_by f c) held there in
       let p = place_there c value (held_by f c) j.0 held j.1 of in
-      let r = to_filter_map (place_of f value) nodes k c p.0 h p.1 in
-      (r.0, p.0, subst (λ (xs : List Place). slice_get xs r.0 ≡ Some p.0) (sym is) r.1, p.2));
-}
+      let r = to_filter_map (place_of f value) nodes k.0 c p.0 k.1 p.1 in
+      (p.0, at_contains (filter_map (place_of f value) nodes) p.0 r.0 r.1, p.2));
+})
 
 module _ (spec : Spec) (f : Found) (heads : List ℕ) (rosters members : List (List ℕ)) (gates : List (List Pair))
     (r : AreReady spec f heads rosters members gates) where
   -- a member holds what its head holds, and so has a place
   member_place : (c v : ℕ) (nodes : List ℕ) (places : List Place) → IsQueued f c v → nodes ≡ row_at members c
-      → ArePlaces f nodes v places → (k y : ℕ)
-      → slice_get (row_at members c) k ≡ Some y → (i : ℕ) × (at : Place) × (slice_get places i ≡ Some at) × (at.node ≡ y)
-  member_place c v nodes places q is are k y there =
+      → ArePlaces f nodes v places → (y : ℕ) → Contains (row_at members c) y → (at : Place) × Contains places at × (at.node ≡ y)
+  member_place c v nodes places q is are y there =
       let here : IsQueued f y v =
-      r.alike.held_here y v (subst (λ (n : ℕ). IsQueued f n v) (sym (r.are_members.stands c k y there)) q) in
-      are.every k y here.pair.held (subst (λ (xs : List ℕ). slice_get xs k ≡ Some y) (sym is) there)
+      r.alike.held_here y v (subst (λ (n : ℕ). IsQueued f n v) (sym (r.are_members.stands c y there)) q) in
+      are.every y here.pair.held (rw is there)
       (subst (λ (n : ℕ). Contains (held_by f n) here.pair.held) here.at (r.all.queued here.place here.pair here.there)) here.of
 
   module _ (c d v w : ℕ) (nodes others : List ℕ) (callers peers : List Place) (q : IsQueued f c v) (p : IsQueued f d w)
@@ -87,42 +87,30 @@ module _ (spec : Spec) (f : Found) (heads : List ℕ) (rosters members : List (L
     pub kinds_by_places : (labels : List ℕ) (e : Edge) → OfKinds labels rosters members c d e
         → OfSome (λ (peer : Place). OfSome (λ (at : Place). Between labels rosters at.node peer.node) callers) peers e
     kinds_by_places labels e x =
-        let b = member_place d w others peers p peer_is are_peers x.at x.by.item x.by.there in
-        let a = member_place c v nodes callers q is are x.by.by.at x.by.by.by.item x.by.by.by.there in
-        let here : Between labels rosters a.1.node b.1.node e = subst (λ (n : ℕ). Between labels rosters n b.1.node e) (sym a.3)
-        (subst (λ (n : ℕ). Between labels rosters x.by.by.by.item n e) (sym b.3) x.by.by.by.by) in
-        record {
-          at = b.0;
-          less = slice_get_within peers b.0 b.1 b.2;
-          by = record {
-            item = b.1;
-            there = b.2;
-            by = record {
-              at = a.0;
-              less = slice_get_within callers a.0 a.1 a.2;
-              by = record { item = a.1; there = a.2; by = here };
-            };
-          };
-        }
+        let b = member_place d w others peers p peer_is are_peers x.item x.there in
+        let a = member_place c v nodes callers q is are x.by.item x.by.there in
+        let here : Between labels rosters a.0.node b.0.node e = subst (λ (n : ℕ). Between labels rosters n b.0.node e) (sym a.2)
+        (subst (λ (n : ℕ). Between labels rosters x.by.item n e) (sym b.2) x.by.by) in
+        record { item = b.0; there = b.1; by = record { item = a.0; there = a.1; by = here } }
 
 pub places_meet : (spec : Spec) (f : Found) (v w : ℕ) (nodes others : List ℕ) (callers peers : List Place)
     → ArePlaces f nodes v callers → ArePlaces f others w peers → MeetBy spec f v w
-    → (j k : ℕ) (peer at : Place) → slice_get peers j ≡ Some peer → slice_get callers k ≡ Some at → Meets spec f at peer
-places_meet spec f v w nodes others callers peers are are_peers m j k peer at there here = record {
+    → (peer at : Place) → Contains peers peer → Contains callers at → Meets spec f at peer
+places_meet spec f v w nodes others callers peers are are_peers m peer at there here = record {
   to = m.to;
   from = m.from;
-  own = record { value = v; held = are.stand k at here; is = m.is };
-  listens = record { value = w; held = are_peers.stand j peer there; is = m.peer_is };
+  own = record { value = v; held = are.stand at here; is = m.is };
+  listens = record { value = w; held = are_peers.stand peer there; is = m.peer_is };
   meet = m.meet;
   may = m.may;
 }
 
 -- who has met
 
-pub none_met : (labels : List ℕ) (rosters members met : List (List ℕ)) (n : ℕ) (edges : List Edge) → met ≡ repeated [] n
+pub none_met : (labels : List ℕ) (rosters members met : List (List ℕ)) (n : ℕ) (edges : List Edge) → met ≡ replicate n []
     → AreMet labels rosters members met edges
 none_met labels rosters members met n edges is =
-    record { shown = λ c k d e there of differ. absurd (none_in_blank met n c k d is there) }
+    rw is (record { shown = λ c d e there of differ. absurd (none_in_blank n c d there) })
 
 module _ (rosters members : List (List ℕ)) (m : Made) (met : List (List ℕ))
     (are : AreMet m.labels rosters members met m.edges) where
@@ -132,18 +120,16 @@ module _ (rosters members : List (List ℕ)) (m : Made) (met : List (List ℕ))
 
   pub greets_known : (c d : ℕ) (row : List ℕ) → IsSoFar m → row ≡ row_at met c → Contains row d
       → Greets rosters members (OfKinds m.labels rosters members c d) m m met
-  greets_known c d row so is known =
-      let k = contains_at row d known in
-      greets_none (OfKinds m.labels rosters members c d) so
-      (λ e of differ. are.shown c k.0 d e (subst (λ (xs : List ℕ). slice_get xs k.0 ≡ Some d) is k.1) of differ)
+  greets_known c d row so is known = greets_none (OfKinds m.labels rosters members c d) so
+      (λ e of differ. are.shown c d e (subst (λ (xs : List ℕ). Contains xs d) is known) of differ)
 
   pub greets_new : (c d : ℕ) (new : Made) (more : List (List ℕ)) → Gains (OfKinds m.labels rosters members c d) m new
       → more ≡ with_more met c d → Greets rosters members (OfKinds m.labels rosters members c d) m new more
   greets_new c d new more g is = record {
     gains = g;
     are = subst (λ (xs : List (List ℕ)). AreMet m.labels rosters members xs new.edges) (sym is) (record {
-      shown = λ x k y e there of differ. elim (row_cases met c d x k y there) [
-        | inl old ↦ g.kept e (are.shown x k y e old of differ)
+      shown = λ x y e there of differ. elim (more_cases met c d x y there) [
+        | inl old ↦ g.kept e (are.shown x y e old of differ)
         | inr now ↦
             g.added e (subst (λ (n : ℕ). OfKinds m.labels rosters members c n e) (sym now.1)
             (subst (λ (n : ℕ). OfKinds m.labels rosters members n y e) now.0 of)) differ

@@ -1,8 +1,9 @@
 -- Ways and paths as more is found, and as ways are added.
-use Rattle.cap_audit.proofs.Common.{AllGo, AreWays, Brings, Cap, Connects, Contains, Contains-append_left, Contains-push, Contains-push_cases, Course, Found, Grows, Held, HoldsAt, InClass, IsFound, IsWay, JoinsBack, Lanes, Later, Leads, LeadsTo}
-use Rattle.cap_audit.proofs.Common.{List, Merges, Near, None, Option, Pair, Path, Some, Spec, Unites, Way, Widens, [], along, ap, arith, at_end, cases_lt, contains_at, get_or, get_or-set_same, get_or_from_slice_get, held_by, inl, inr, is_at_below}
-use Rattle.cap_audit.proofs.Common.{is_known, length, length-set, read_written, refl, slice_get, slice_get_within, subst, sym, true, ways_from, with_way, ℕ, ◌++◌, ◌+◌, ◌<◌, ◌∙◌, ◌∷◌, ◌≡◌, ◌≤◌, ◌⊎◌}
+use Rattle.cap_audit.proofs.Common.{AllGo, AreWays, Brings, Cap, Connects, Contains, Course, Found, Grows, Held, HoldsAt, InClass, IsFound, IsWay, IsWeb, JoinsBack, Lanes, Later, Leads, LeadsTo, List, Merges, Near, None, Option, Pair, Path, Some}
+use Rattle.cap_audit.proofs.Common.{Spec, Unites, Way, Web, Widened, Widens, [], along, ap, arith, at_end, get_or, held_by, inl, inr, is_at_below, is_known, length, length-set, refl, row_at, slice_get, subst, sym, true, ways_from, with_way, ℕ, ◌++◌}
+use Rattle.cap_audit.proofs.Common.{◌<◌, ◌∙◌, ◌∷◌, ◌≡◌}
 use Rattle.cap_audit.proofs.Bringing.{none_within, end_cnode}
+use Rattle.cap_audit.proofs.InRows.{more_kept, more_cases, more_there}
 use Rattle.cap_model.specs.declared.kind.Kind.TheVariants as kinds
 use Rattle.cap_audit.specs.Ways.{HaveGone}
 use Rattle.cap_audit.specs.declared.found.Course.TheVariants as courses
@@ -65,13 +66,6 @@ queue_same f g k pair grows less h = go (slice_get f.queue k) refl where
   go (Some p) e = (let later = grows.queue k p e in let same : p ≡ pair = cc in rw (e, same) refl)
   go None e = absurd (none_within f.queue k e less)
 
-pub gone_on : (f g : Found) (net : Lanes) (done : ℕ) → Grows f g → done ≤ length f.queue → HaveGone f net done
-    → HaveGone g net done
-unfolding HaveGone
-gone_on f g net done grows le gone k pair way less h there =
-    grows.known way.to pair.held.value (gone k pair way less (queue_same f g k pair grows (let a : k < done = less in
-    omega arith) h) there)
-
 pub path_then : (net : Lanes) (c d e : ℕ) → Path net c d → Path net d e → Path net c e
 path_then net c d e p q = extend net c d e p q where
   extend : (net : Lanes) (c d e : ℕ) → Path net c d → Path net d e → Path net c e
@@ -96,70 +90,67 @@ known_along f net v goes c d at_end h = h
 known_along f net v goes c d (along way there p) h = known_along f net v goes way.to d p (goes c way h there)
 
 -- a way more
+module _ (spec : Spec) (web : Web) (c : ℕ) (way : Way) (is : IsWeb spec web) (leads : IsWay spec web.findings c way) (new : Web)
+    (all : AllGo spec web.findings way (held_by web.findings c) new.findings) (less : c < length spec.entries)
+    (made : new.net ≡ with_way web.net c way) where
+  wider : Widens web.net (with_way web.net c way)
+  wider = record { ways = more_kept web.net.out c way }
 
-pub with_way_widens : (net : Lanes) (c : ℕ) (way : Way) → Widens net (with_way net c way)
-with_way_widens net c way = record {
-  ways = λ k w there. elim (read_written net.out c k (get_or net.out c [] ++ way ∷ []) []) [
-    | inl e ↦ subst (λ (ws : List Way). Contains ws w) (sym e) there
-    | inr e ↦ subst (λ (ws : List Way). Contains ws w) (sym e.1) (Contains-append_left (get_or net.out c []) (way ∷ []) w
-        (subst (λ (n : ℕ). Contains (get_or net.out n []) w) e.0 there))
-  ];
-}
-
-way_cases : (net : Lanes) (c : ℕ) (way : Way) (k : ℕ) (w : Way) → Contains (ways_from (with_way net c way) k) w
-    → Contains (ways_from net k) w ⊎ ((k ≡ c) × (way ≡ w))
-way_cases net c way k w there = elim (read_written net.out c k (get_or net.out c [] ++ way ∷ []) []) [
-  | inl e ↦ inl (subst (λ (ws : List Way). Contains ws w) e there)
-  | inr e ↦ elim (Contains-push_cases (get_or net.out c []) way w (subst (λ (ws : List Way). Contains ws w) e.1 there)) [
-    | inl old ↦ inl (subst (λ (n : ℕ). Contains (get_or net.out n []) w) (sym e.0) old)
-    | inr new ↦ inr (e.0, new)
-  ]
-]
-
-way_there : (net : Lanes) (c : ℕ) (way : Way) → c < length net.out → Contains (ways_from (with_way net c way) c) way
-way_there net c way less =
-    subst (λ (ws : List Way). Contains ws way) (sym (get_or-set_same net.out c (get_or net.out c [] ++ way ∷ []) [] less))
-    (Contains-push (get_or net.out c []) way)
-
-module _ (spec : Spec) (f : Found) (net : Lanes) (c : ℕ) (way : Way) (F : IsFound spec f) (A : AreWays spec f net)
-    (leads : IsWay spec f c way) (new : Found)
-    (all : AllGo spec f way (held_by f c) new) (less : c < length spec.entries) where
-  pub way_connects : Connects spec f net c way.to new (with_way net c way)
+  pub way_connects : Connects spec web c way.to new
   unfolding HaveGone
   way_connects = record {
-    later = all.later;
-    ways = record {
-      ways = λ k w there. elim (way_cases net c way k w there) [
-        | inl old ↦ leads_on spec f new all.later.grows k w.to w.course (A.ways k w old)
-        | inr e ↦ subst (λ (x : Way). IsWay spec new k x) e.1 (subst (λ (n : ℕ). IsWay spec new n way) (sym e.0)
-            (leads_on spec f new all.later.grows c way.to way.course leads))
-      ];
-      joined = λ x y in_class. path_on net (with_way net c way) (with_way_widens net c way) x y
-          (A.joined x y (record { one = in_class.one; other = in_class.other; same = in_class.same }));
-      as_many = length-set net.out c (get_or net.out c [] ++ way ∷ []) ∙ A.as_many;
-      as_many_classes = A.as_many_classes;
+    widened = record {
+      later = all.later;
+      ways = rw made (record {
+        ways = λ k w there. elim (more_cases web.net.out c way k w there) [
+          | inl old ↦ leads_on spec web.findings new.findings all.later.grows k w.to w.course (is.ways.ways k w old)
+          | inr e ↦ rw (e.0, ← e.1) (leads_on spec web.findings new.findings all.later.grows c way.to way.course leads)
+        ];
+        joined = λ x y i. path_on web.net (with_way web.net c way) wider x y
+            (is.ways.joined x y (record { one = i.one; other = i.other; same = i.same }));
+        as_many = length-set web.net.out c (row_at web.net.out c ++ way ∷ []) ∙ is.ways.as_many;
+        as_many_classes = is.ways.as_many_classes;
+      });
+      widens = rw made wider;
+      gone = λ done le gone. rw made (λ k pair w below h there. (
+          let old : slice_get web.findings.queue k ≡ Some pair =
+          queue_same web.findings new.findings k pair all.later.grows (omega arith) h in
+          elim (more_cases web.net.out c way pair.node w there) [
+            | inl before ↦ all.later.grows.known w.to pair.held.value (gone k pair w below old before)
+            | inr e ↦ rw (← e.1) (all.there pair.held (subst (λ (n : ℕ). Contains (held_by web.findings n) pair.held) e.0
+                (is.found.queued k pair old)))
+          ]));
     };
-    widens = with_way_widens net c way;
-    path = along way (way_there net c way (let e = A.as_many in omega arith)) at_end;
-    gone = λ done le gone k pair w below h there. (
-        let old : slice_get f.queue k ≡ Some pair = queue_same f new k pair all.later.grows (omega arith) h in
-        elim (way_cases net c way pair.node w there) [
-          | inl before ↦ all.later.grows.known w.to pair.held.value (gone k pair w below old before)
-          | inr e ↦ subst (λ (x : Way). is_known new x.to pair.held.value ≡ true) e.1
-              (all.there pair.held (subst (λ (n : ℕ). Contains (held_by f n) pair.held) e.0 (F.queued k pair old)))
-        ]);
+    path = rw made (along way (more_there web.net.out c way (let e = is.ways.as_many in omega arith)) at_end);
   }
 
--- already joined
-pub joined_connects : (spec : Spec) (f : Found) (net : Lanes) (c d : ℕ) → IsFound spec f → AreWays spec f net → InClass net c d
-    → Connects spec f net c d f net
-joined_connects spec f net c d F A same = record {
-  later = later_same spec f F;
-  ways = A;
-  widens = widens_same net;
-  path = A.joined c d same;
+pub widened_same : (spec : Spec) (web : Web) → IsWeb spec web → Widened spec web web
+widened_same spec web is = record {
+  later = later_same spec web.findings is.found;
+  ways = is.ways;
+  widens = widens_same web.net;
   gone = λ done le gone. gone;
 }
+
+-- ways that are there already
+
+near_path : (spec : Spec) (f : Found) (net : Lanes) (c d : ℕ) → AreWays spec f net → Near net c d → Path net c d
+near_path spec f net c d A (inl same) = subst (λ (n : ℕ). Path net c n) same at_end
+near_path spec f net c d A (inr joined) = A.joined c d joined
+
+pub lead_path : (spec : Spec) (f : Found) (net : Lanes) (c d : ℕ) → AreWays spec f net → LeadsTo net c d → Path net c d
+lead_path spec f net c d A l =
+    path_then net c l.by d (near_path spec f net c l.by A l.from)
+    (along l.has.way l.has.there (near_path spec f net l.has.way.to d A l.has.to))
+
+pub lead_connects : (spec : Spec) (web : Web) (c d : ℕ) → IsWeb spec web → LeadsTo web.net c d → Connects spec web c d web
+lead_connects spec web c d is l = record {
+  widened = widened_same spec web is;
+  path = lead_path spec web.findings web.net c d is.ways l;
+}
+
+pub joined_connects : (spec : Spec) (web : Web) (c d : ℕ) → IsWeb spec web → InClass web.net c d → Connects spec web c d web
+joined_connects spec web c d is same = record { widened = widened_same spec web is; path = is.ways.joined c d same }
 
 -- classes that ways join both ways are made one
 
@@ -204,73 +195,52 @@ module _ (spec : Spec) (f : Found) (net : Lanes) (A : AreWays spec f net) (c d :
     as_many_classes = m.as_many ∙ A.as_many_classes;
   }
 
--- a fact on each item at a place below i + 1
-pub each_more : {A : Type 0} (P : A → Type 0) (xs : List A) (i : ℕ) (d : A) → ((k : ℕ) (x : A) → k < i → slice_get xs k ≡ Some x
-    → P x) → P (get_or xs i d) → (k : ℕ) (x : A) → k < i + 1 → slice_get xs k ≡ Some x → P x
-each_more {A} P xs i d old here k x less h = elim (cases_lt k i) [
-  | inl below ↦ old k x below h
-  | inr ge ↦ (
-      let same : k ≡ i = omega arith in
-      subst (λ (y : A). P y) (get_or_from_slice_get xs k x d h) (subst (λ (n : ℕ). P (get_or xs n d)) (sym same) here))
-]
-
--- a fact on each item
-pub each_of_all : {A : Type 0} (P : A → Type 0) (xs : List A) (i : ℕ) → length xs ≤ i
-    → ((k : ℕ) (x : A) → k < i → slice_get xs k ≡ Some x → P x) → (x : A) → Contains xs x → P x
-each_of_all P xs i le all x there = let k = contains_at xs x there in let within = slice_get_within xs k.0 x k.1 in
-    all k.0 x (omega arith) k.1
-
--- a way that is there
-
-near_path : (spec : Spec) (f : Found) (net : Lanes) (c d : ℕ) → AreWays spec f net → Near net c d → Path net c d
-near_path spec f net c d A (inl same) = subst (λ (n : ℕ). Path net c n) same at_end
-near_path spec f net c d A (inr joined) = A.joined c d joined
-
-pub lead_path : (spec : Spec) (f : Found) (net : Lanes) (c d : ℕ) → AreWays spec f net → LeadsTo net c d → Path net c d
-lead_path spec f net c d A l =
-    path_then net c l.by d (near_path spec f net c l.by A l.from)
-    (along l.has.way l.has.there (near_path spec f net l.has.way.to d A l.has.to))
-
-pub lead_connects : (spec : Spec) (f : Found) (net : Lanes) (c d : ℕ) → IsFound spec f → AreWays spec f net → LeadsTo net c d
-    → Connects spec f net c d f net
-lead_connects spec f net c d F A l = record {
-  later = later_same spec f F;
-  ways = A;
-  widens = widens_same net;
-  path = lead_path spec f net c d A l;
-  gone = λ done le gone. gone;
-}
-
-pub relabelled : (f : Found) (net : Lanes) (classes : List ℕ) (done : ℕ) → HaveGone f net done
-    → HaveGone f (record { out = net.out; classes = classes }) done
-unfolding HaveGone
-relabelled f net classes done gone k pair way less h there = gone k pair way less h there
-
 pub end_below : (spec : Spec) (f : Found) (c : ℕ) (way : Way) → IsFound spec f → IsWay spec f c way → way.to < length spec.entries
 end_below spec f c way F leads = is_at_below spec kinds.CNode way.to (end_cnode spec f F c way.to way.course leads)
 
--- the ends of a new way are one class where a way led back
-module _ (spec : Spec) (f : Found) (net : Lanes) (c d : ℕ) (new : Found) (wide joined : Lanes)
-    (x : Connects spec f net c d new wide) (c_less : c < length spec.entries) (d_less : d < length spec.entries) where
-  joined_both : LeadsTo wide d c → joined.out ≡ wide.out → Unites wide.classes c d joined.classes
-      → Connects spec f net c d new joined
-  joined_both back out u =
-      let many = x.ways.as_many_classes in let to_back = lead_path spec new wide d c x.ways back in
-      let renamed : Lanes = record { out = wide.out; classes = joined.classes } in
-      let same : renamed ≡ joined = ap (λ (o : List (List Way)). record { out = o; classes = joined.classes }) (sym out) in
-      subst (λ (n : Lanes). Connects spec f net c d new n) same
-      (record {
-        later = x.later;
-        ways = elim u [
-          | inl m ↦ merged_ways spec new wide x.ways c d joined.classes m x.path to_back (omega arith) (omega arith)
-          | inr m ↦ merged_ways spec new wide x.ways d c joined.classes m to_back x.path (omega arith) (omega arith)
-        ];
-        widens = record { ways = λ k way there. x.widens.ways k way there };
-        path = path_on wide (record { out = wide.out; classes = joined.classes })
-            (record { ways = λ k way there. there }) c d x.path;
-        gone = λ done le gone. relabelled new wide joined.classes done (x.gone done le gone);
-      })
+-- other classes, with ways that lead as they say
+pub relabelled_widens : (spec : Spec) (web mid new : Web) → Widened spec web mid → new.findings ≡ mid.findings
+    → new.net.out ≡ mid.net.out → AreWays spec mid.findings (record mid.net { classes = new.net.classes }) → Widened spec web new
+unfolding HaveGone
+relabelled_widens spec web mid new w same out ways =
+    let net : Lanes = record mid.net { classes = new.net.classes } in
+    let is : net ≡ new.net = ap (λ (o : List (List Way)). let y : Lanes = record new.net { out = o } in y) (sym out) in
+    record {
+      later = rw same w.later;
+      ways = rw same (subst (λ (n : Lanes). AreWays spec mid.findings n) is ways);
+      widens = subst (λ (n : Lanes). Widens web.net n) is (record { ways = w.widens.ways });
+      gone = λ done le gone. rw same (subst (λ (n : Lanes). HaveGone mid.findings n done) is
+          (λ k pair way less h there. w.gone done le gone k pair way less h there));
+    }
 
-  pub connects_back : JoinsBack wide c d joined → Connects spec f net c d new joined
-  connects_back (inl same) = subst (λ (n : Lanes). Connects spec f net c d new n) (sym same) x
+-- the ends of a new way are one class where a way led back
+module _ (spec : Spec) (web mid new : Web) (c d : ℕ) (x : Connects spec web c d mid) (c_less : c < length spec.entries)
+    (d_less : d < length spec.entries) (same : new.findings ≡ mid.findings) where
+  joined_both : LeadsTo mid.net d c → new.net.out ≡ mid.net.out → Unites mid.net.classes c d new.net.classes
+      → Connects spec web c d new
+  joined_both back out u =
+      let ways = x.widened.ways in
+      let many = ways.as_many_classes in
+      let to_back = lead_path spec mid.findings mid.net d c ways back in
+      let widened = relabelled_widens spec web mid new x.widened same out (elim u [
+        | inl m ↦ merged_ways spec mid.findings mid.net ways c d new.net.classes m x.path to_back (omega arith) (omega arith)
+        | inr m ↦ merged_ways spec mid.findings mid.net ways d c new.net.classes m to_back x.path (omega arith) (omega arith)
+      ]) in
+      record {
+        widened = widened;
+        path = path_on mid.net new.net (record {
+          ways = λ k way there. subst (λ (o : List (List Way)). Contains (row_at o k) way) (sym out) there;
+        }) c d x.path;
+      }
+
+  pub connects_back : JoinsBack mid.net c d new.net → Connects spec web c d new
+  connects_back (inl is) = record {
+    widened = record {
+      later = rw same x.widened.later;
+      ways = rw (same, is) x.widened.ways;
+      widens = rw is x.widened.widens;
+      gone = rw (same, is) x.widened.gone;
+    };
+    path = rw is x.path;
+  }
   connects_back (inr (back, out, u)) = joined_both back out u

@@ -1,6 +1,6 @@
 -- What the picks of a CNode are, and what steps with them make.
-use Rattle.cap_audit.proofs.Common.{Bool, Cap, Contains, Deed, Edge, Found, HasRoot, Held, HoldsAt, IsHeld, List, None, OfDeed, OfDeeds, OfSome, Option, OwnsAll, Pick, Some, Spec, Wanted, ap, at_contains, false, filter_map, from_filter_map, held_by}
-use Rattle.cap_audit.proofs.Common.{is_wanted, pick_of, refl, slice_get, slice_get_within, subst, sym, to_filter_map, true, wanted_from, wanted_to, ℕ, ◌∙◌, ◌≡◌}
+use Rattle.cap_audit.proofs.Common.{Bool, Cap, Contains, Deed, Edge, Found, HasRoot, Held, HoldsAt, IsHeld, List, None, OfDeed, OfDeeds, OfSome, Option, OwnsAll, Pick, Some, Spec, Wanted, ap, at_contains, contains_at, false, filter_map}
+use Rattle.cap_audit.proofs.Common.{from_filter_map, held_by, is_wanted, pick_of, refl, slice_get, subst, sym, to_filter_map, true, wanted_from, wanted_to, ℕ, ◌∙◌, ◌≡◌}
 
 module _ (spec : Spec) (f : Found) (wanted : Wanted) where
   -- a pick is what it was picked from
@@ -43,40 +43,39 @@ module _ (spec : Spec) (f : Found) (wanted : Wanted) where
       }
 
   module _ (c : ℕ) where
-    pub pick_at : (k : ℕ) (pick : Pick) → slice_get (filter_map (pick_of spec f wanted) (held_by f c)) k ≡ Some pick
+    pub pick_at : (pick : Pick) → Contains (filter_map (pick_of spec f wanted) (held_by f c)) pick
         → HoldsAt f c pick.number pick.cap × (is_wanted spec wanted pick.cap ≡ true)
-    pick_at k pick h =
-        let r = from_filter_map (pick_of spec f wanted) (held_by f c) k pick h in
+    pick_at pick h =
+        let k = contains_at (filter_map (pick_of spec f wanted) (held_by f c)) pick h in
+        let r = from_filter_map (pick_of spec f wanted) (held_by f c) k.0 pick k.1 in
         (pick_holds c r.1 pick (at_contains (held_by f c) r.1 r.0 r.2) r.3, (picked_from r.1 pick r.3).2)
 
     pub pick_of_held : (cap : Cap) → IsHeld f c cap → is_wanted spec wanted cap ≡ true
-        → (k : ℕ) × (pick : Pick) × (slice_get (filter_map (pick_of spec f wanted) (held_by f c)) k ≡ Some pick)
-        × (pick.cap ≡ cap)
+        → (pick : Pick) × Contains (filter_map (pick_of spec f wanted) (held_by f c)) pick × (pick.cap ≡ cap)
     pick_of_held cap h fit =
         let made : Pick = record { number = h.held.number; cap = cap } in
-        let r = to_filter_map (pick_of spec f wanted) (held_by f c) h.place h.held made h.there (picked h.held cap h.is fit) in
-        (r.0, made, r.1, refl)
+        let k = contains_at (held_by f c) h.held h.there in
+        let r = to_filter_map (pick_of spec f wanted) (held_by f c) k.0 h.held made k.1 (picked h.held cap h.is fit) in
+        (made, at_contains (filter_map (pick_of spec f wanted) (held_by f c)) made r.0 r.1, refl)
 
 module _ (spec : Spec) (labels : List ℕ) (f : Found) (deed : Deed) (c : ℕ) (froms tos : List Pick)
     (are_froms : froms ≡ filter_map (pick_of spec f (wanted_from deed)) (held_by f c))
     (are_tos : tos ≡ filter_map (pick_of spec f (wanted_to deed)) (held_by f c)) where
-  from_at : (k : ℕ) (from : Pick) → slice_get froms k ≡ Some from → HoldsAt f c from.number from.cap
+  from_at : (from : Pick) → Contains froms from → HoldsAt f c from.number from.cap
       × (is_wanted spec (wanted_from deed) from.cap ≡ true)
-  from_at k from h = pick_at spec f (wanted_from deed) c k from
-      (subst (λ (xs : List Pick). slice_get xs k ≡ Some from) are_froms h)
+  from_at from h = pick_at spec f (wanted_from deed) c from (subst (λ (xs : List Pick). Contains xs from) are_froms h)
 
-  to_at : (k : ℕ) (to : Pick) → slice_get tos k ≡ Some to → HoldsAt f c to.number to.cap
-      × (is_wanted spec (wanted_to deed) to.cap ≡ true)
-  to_at k to h = pick_at spec f (wanted_to deed) c k to (subst (λ (xs : List Pick). slice_get xs k ≡ Some to) are_tos h)
+  to_at : (to : Pick) → Contains tos to → HoldsAt f c to.number to.cap × (is_wanted spec (wanted_to deed) to.cap ≡ true)
+  to_at to h = pick_at spec f (wanted_to deed) c to (subst (λ (xs : List Pick). Contains xs to) are_tos h)
 
   pub owns_all : (t : ℕ) → HasRoot spec t c → OwnsAll spec f t deed froms tos
   owns_all t root = record {
     node = c;
     root = root;
-    own_from = λ k from h. (from_at k from h).0;
-    is_from = λ k from h. (from_at k from h).1;
-    own_to = λ k to h. (to_at k to h).0;
-    is_to = λ k to h. (to_at k to h).1;
+    own_from = λ from h. (from_at from h).0;
+    is_from = λ from h. (from_at from h).1;
+    own_to = λ to h. (to_at to h).0;
+    is_to = λ to h. (to_at to h).1;
   }
 
   -- all that such steps make comes of two picks
@@ -85,22 +84,12 @@ module _ (spec : Spec) (labels : List ℕ) (f : Found) (deed : Deed) (c : ℕ) (
   deeds_of_picks e d =
       let x = pick_of_held spec f (wanted_from deed) c d.from d.has_from d.is_from in
       let y = pick_of_held spec f (wanted_to deed) c d.to d.has_to d.is_to in
-      let here : slice_get froms x.0 ≡ Some x.1 = subst (λ (xs : List Pick). slice_get xs x.0 ≡ Some x.1) (sym are_froms) x.2 in
-      let there : slice_get tos y.0 ≡ Some y.1 = subst (λ (xs : List Pick). slice_get xs y.0 ≡ Some y.1) (sym are_tos) y.2 in
-      let by_from : OfDeed spec labels deed x.1.cap d.to e = subst (λ (z : Cap). OfDeed spec labels deed z d.to e)
-      (sym x.3) d.by in
-      let by_both : OfDeed spec labels deed x.1.cap y.1.cap e = subst (λ (z : Cap). OfDeed spec labels deed x.1.cap z e)
-      (sym y.3) by_from in
+      let by_from : OfDeed spec labels deed x.0.cap d.to e = subst (λ (z : Cap). OfDeed spec labels deed z d.to e)
+      (sym x.2) d.by in
+      let by_both : OfDeed spec labels deed x.0.cap y.0.cap e = subst (λ (z : Cap). OfDeed spec labels deed x.0.cap z e)
+      (sym y.2) by_from in
       record {
-        at = x.0;
-        less = slice_get_within froms x.0 x.1 here;
-        by = record {
-          item = x.1;
-          there = here;
-          by = record {
-            at = y.0;
-            less = slice_get_within tos y.0 y.1 there;
-            by = record { item = y.1; there = there; by = by_both };
-          };
-        };
+        item = x.0;
+        there = subst (λ (xs : List Pick). Contains xs x.0) (sym are_froms) x.1;
+        by = record { item = y.0; there = subst (λ (xs : List Pick). Contains xs y.0) (sym are_tos) y.1; by = by_both };
       }

@@ -187,9 +187,6 @@ module _ (spec : Spec) (s : State) (q : Quiet spec s) where
   module _ (t u c d i j : ℕ) (to from : Cap) (roots : HaveRoots spec t u c d) (meet : Meet spec to from) (may : MayCall to)
       (own : content_in s c i ≡ Some (Capability to))
       (listens : content_in s d j ≡ Some (Capability from)) where
-    pub calling : State
-    calling = called s t u from.rights.grant
-
     abbrev owed_reply : Pending
     owed_reply = record { caller = t; grants = from.rights.grant }
 
@@ -265,10 +262,6 @@ module _ (spec : Spec) (s : State) (q : Quiet spec s) where
           };
           nodes = refl;
         }
-
-    -- the reply is saved and given from there: both edges are shown, and all is as it was but for a number that was used
-    abbrev saving : State
-    saving = saved (called s t u from.rights.grant) u d owed_reply
 
     pub save_on : (labels : List ℕ) → (new : State) × (more : Onward spec s new)
         × (more.steps ≡ steps.Call t i u j ∷ (steps.Save u ∷ (steps.ReplyTo u (node_at s d).next None ∷ [])))

@@ -54,15 +54,11 @@ pub record Below (P : ℕ → Edge → Type 0) (n : ℕ) (e : Edge) : Type 0 whe
   pub less : at < n
   pub by : P at e
 
--- the property of the item at a place
-pub record AtPlace {A : Type 0} (P : A → Edge → Type 0) (items : List A) (k : ℕ) (e : Edge) : Type 0 where
-  pub item : A
-  pub there : slice_get items k ≡ Some item
-  pub by : P item e
-
 -- what an item of the list has
-abbrev pub OfSome : {A : Type 0} (P : A → Edge → Type 0) → List A → Edge → Type 0
-OfSome P items e = Below (AtPlace P items) (length items) e
+pub record OfSome {A : Type 0} (P : A → Edge → Type 0) (items : List A) (e : Edge) : Type 0 where
+  pub item : A
+  pub there : Contains items item
+  pub by : P item e
 
 -- all of the Spread was found, and what the queue says is held
 pub record IsAll (spec : Spec) (f : Found) : Type 0 where

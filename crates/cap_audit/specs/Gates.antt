@@ -1,5 +1,5 @@
 -- Words for the contracts of private functions alone: who may call at an endpoint, and which threads have a root.
-use Rattle.std.specs.Prelude.{◌≡◌, ◌≢◌, ◌<◌, ◌⊎◌, ◌∷◌, ◌++◌, ◌==◌, if◌then◌else◌, ℕ, true, List, [], Option, Some, None, length, slice_get, slice_index, slice_index_or, slice_set}
+use Rattle.std.specs.Prelude.{◌≡◌, ◌≢◌, ◌<◌, ◌⊎◌, ◌∷◌, ◌++◌, ◌==◌, if◌then◌else◌, ℕ, true, List, [], Option, Some, None, length, slice_get, slice_index, slice_index_or}
 use Rattle.cap_audit.specs.Below.{Cap, Contains, Edge, IsKept, Reply, Spec, Step, edge, has, label_of}
 use Rattle.cap_machine.specs.declared.step.Step.TheVariants as steps
 use Rattle.cap_audit.specs.Search.{Found, HoldsAt, held_by}
@@ -8,7 +8,7 @@ use Rattle.cap_audit.specs.declared.found.Held.{Held}
 use Rattle.cap_audit.specs.declared.found.Pair.{Pair}
 use Rattle.cap_audit.specs.Gains.{Gains, IsAll, Made, OfSome}
 use Rattle.cap_audit.specs.Kinds.{AreMembers, AreStandIns}
-use Rattle.cap_audit.specs.Rows.{row_at}
+use Rattle.cap_audit.specs.Rows.{row_at, with_more}
 use Rattle.cap_audit.specs.Picks.{is_wanted, pick_of}
 use Rattle.cap_audit.specs.declared.gates.Place.{Place}
 use Rattle.cap_audit.specs.declared.gates.Party.{Party}
@@ -37,14 +37,11 @@ call_steps nexts caller listener =
     steps.Call caller.thread caller.number listener.thread listener.number
     ∷ (steps.Save listener.thread ∷ (steps.ReplyTo listener.thread (slice_index nexts listener.node) None ∷ []))
 
-abbrev pub with_more : {A : Type 0} → List (List A) → ℕ → A → List (List A)
-with_more rows o x = slice_set rows o (row_at rows o ++ x ∷ [])
-
 -- the threads before n by their roots
 pub record AreRosters (spec : Spec) (rosters : List (List ℕ)) (n : ℕ) : Type 0 where
   pub as_many : length rosters ≡ length spec.entries
-  pub rooted : (c k t : ℕ) → slice_get (row_at rosters c) k ≡ Some t → HasRoot spec t c
-  pub every : (c t : ℕ) → t < n → HasRoot spec t c → (k : ℕ) × (slice_get (row_at rosters c) k ≡ Some t)
+  pub rooted : (c t : ℕ) → Contains (row_at rosters c) t → HasRoot spec t c
+  pub every : (c t : ℕ) → t < n → HasRoot spec t c → Contains (row_at rosters c) t
 
 -- the queue has the door, whose capability is to the endpoint o and may call
 pub record MayCallAt (spec : Spec) (f : Found) (o : ℕ) (door : Pair) : Type 0 where
@@ -58,11 +55,11 @@ pub record MayCallAt (spec : Spec) (f : Found) (o : ℕ) (door : Pair) : Type 0 
 -- those who may call at each endpoint and stand for themselves, by the first n pairs of the queue
 pub record AreGates (spec : Spec) (f : Found) (heads : List ℕ) (gates : List (List Pair)) (n : ℕ) : Type 0 where
   pub as_many : length gates ≡ length spec.entries
-  pub may : (o k : ℕ) (door : Pair) → slice_get (row_at gates o) k ≡ Some door → MayCallAt spec f o door
+  pub may : (o : ℕ) (door : Pair) → Contains (row_at gates o) door → MayCallAt spec f o door
   pub every : (k : ℕ) (pair : Pair) (cap : Cap) → k < n → slice_get f.queue k ≡ Some pair
       → slice_get f.values pair.held.value ≡ Some cap
       → is_wanted spec wants.Caller cap ≡ true → slice_index_or heads pair.node pair.node ≡ pair.node
-      → (i : ℕ) × (door : Pair) × (slice_get (row_at gates cap.object) i ≡ Some door) × (door.node ≡ pair.node)
+      → (door : Pair) × Contains (row_at gates cap.object) door × (door.node ≡ pair.node)
 
 -- at the first place is a capability with which those with that root may call those with the root of the second
 pub record Meets (spec : Spec) (f : Found) (at : Place) (peer : Place) : Type 0 where
@@ -120,7 +117,7 @@ pub record MeetBy (spec : Spec) (f : Found) (value : ℕ) (peer_value : ℕ) : T
 -- of those that have met, all calls are shown
 pub record AreMet (labels : List ℕ) (rosters : List (List ℕ)) (members : List (List ℕ)) (met : List (List ℕ))
     (edges : List Edge) : Type 0 where
-  pub shown : (c k d : ℕ) (e : Edge) → slice_get (row_at met c) k ≡ Some d → OfKinds labels rosters members c d e → e.from ≢ e.to
+  pub shown : (c d : ℕ) (e : Edge) → Contains (row_at met c) d → OfKinds labels rosters members c d e → e.from ≢ e.to
       → has edges e ≡ true
 
 -- the report gains the edges, and more have met
@@ -131,10 +128,9 @@ pub record Greets (rosters : List (List ℕ)) (members : List (List ℕ)) (P : E
 
 -- at these places the nodes have the value
 pub record ArePlaces (f : Found) (nodes : List ℕ) (value : ℕ) (places : List Place) : Type 0 where
-  pub stand : (k : ℕ) (at : Place) → slice_get places k ≡ Some at
-      → Contains (held_by f at.node) (record { value = value; number = at.number })
-  pub every : (k c : ℕ) (held : Held) → slice_get nodes k ≡ Some c → Contains (held_by f c) held → held.value ≡ value
-      → (i : ℕ) × (at : Place) × (slice_get places i ≡ Some at) × (at.node ≡ c)
+  pub stand : (at : Place) → Contains places at → Contains (held_by f at.node) (record { value = value; number = at.number })
+  pub every : (c : ℕ) (held : Held) → Contains nodes c → Contains (held_by f c) held → held.value ≡ value
+      → (at : Place) × Contains places at × (at.node ≡ c)
 
 -- the capability of a pair by which it may call, where its CNode stands for itself
 abbrev pub caller_of : Spec → Found → List ℕ → Pair → Option Pick

@@ -1,6 +1,6 @@
 -- Words for the contracts of private functions alone: which objects stand for others that hold the same.
 use Rattle.std.specs.Prelude.{◌≡◌, ◌<◌, ◌⊎◌, ℕ, List, Option, None, Some, length, slice_get, slice_index, slice_index_or}
-use Rattle.cap_audit.specs.Below.{Spec}
+use Rattle.cap_audit.specs.Below.{Contains, Spec}
 use Rattle.cap_audit.specs.Search.{Found}
 use Rattle.cap_audit.specs.Spread.{HasRoot}
 use Rattle.cap_audit.specs.declared.found.Pair.{Pair}
@@ -23,13 +23,13 @@ pub record AreFirsts (classes : List ℕ) (marks : List ℕ) (firsts : List ℕ)
 
 -- by classes, those that stand for themselves
 pub record AreRows (classes : List ℕ) (firsts : List ℕ) (rows : List (List ℕ)) : Type 0 where
-  pub inside : (g k r : ℕ) → slice_get (row_at rows g) k ≡ Some r → r < length firsts
-  pub of_class : (g k r : ℕ) → slice_get (row_at rows g) k ≡ Some r → slice_index classes r ≡ g
-  pub itself : (g k r : ℕ) → slice_get (row_at rows g) k ≡ Some r → stand_in firsts r ≡ r
+  pub inside : (g r : ℕ) → Contains (row_at rows g) r → r < length firsts
+  pub of_class : (g r : ℕ) → Contains (row_at rows g) r → slice_index classes r ≡ g
+  pub itself : (g r : ℕ) → Contains (row_at rows g) r → stand_in firsts r ≡ r
 
 -- the object, or one of the row with its mark
 abbrev pub IsLike : List ℕ → List ℕ → ℕ → ℕ → Type 0
-IsLike row marks c r = (r ≡ c) ⊎ ((k : ℕ) × (slice_get row k ≡ Some r) × (slice_index marks r ≡ slice_index marks c))
+IsLike row marks c r = (r ≡ c) ⊎ (Contains row r × (slice_index marks r ≡ slice_index marks c))
 
 abbrev pub root_mark : Option ℕ → ℕ
 root_mark None = 0
@@ -58,9 +58,8 @@ pub record AreLeft (heads : List ℕ) (all : List (Option ℕ)) (roots : List (O
 -- the first n objects by who stands for them
 pub record AreMembers (heads : List ℕ) (members : List (List ℕ)) (n : ℕ) : Type 0 where
   pub as_many : length members ≡ length heads
-  pub stands : (h k c : ℕ) → slice_get (row_at members h) k ≡ Some c → stand_in heads c ≡ h
-  pub every : (c : ℕ) → c < n → stand_in heads c < length heads
-      → (k : ℕ) × (slice_get (row_at members (stand_in heads c)) k ≡ Some c)
+  pub stands : (h c : ℕ) → Contains (row_at members h) c → stand_in heads c ≡ h
+  pub every : (c : ℕ) → c < n → stand_in heads c < length heads → Contains (row_at members (stand_in heads c)) c
 
 -- the queue says that c holds the value
 pub record IsQueued (f : Found) (c : ℕ) (value : ℕ) : Type 0 where

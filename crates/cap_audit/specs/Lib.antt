@@ -3,6 +3,7 @@ pub mod Counts
 pub mod Gains
 pub mod Gates
 pub mod Kinds
+pub mod Nets
 pub mod Picks
 pub mod Reports
 pub mod Rows

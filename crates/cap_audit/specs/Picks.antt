@@ -1,6 +1,6 @@
 -- Words for the contracts of private functions alone: the capabilities of a CNode that a kind of step takes.
 use Rattle.std.specs.Prelude.{◌≡◌, ◌&&◌, ◌||◌, ◌==◌, ◌∷◌, [], ℕ, Bool, true, Option, Some, None, if◌then◌else◌, length, slice_get, slice_index_or, List}
-use Rattle.cap_audit.specs.Below.{AsyncSend, Cap, Edge, OfCap, Spec, Step, edge, is_at, is_space_root, label_of}
+use Rattle.cap_audit.specs.Below.{AsyncSend, Cap, Contains, Edge, OfCap, Spec, Step, edge, is_at, is_space_root, label_of}
 use Rattle.cap_machine.specs.declared.step.Step.TheVariants as steps
 use Rattle.cap_model.specs.declared.kind.Kind.TheVariants as kinds
 use Rattle.cap_audit.specs.Search.{Found, HoldsAt, held_by, whole}
@@ -66,9 +66,8 @@ pub record OwnsBoth (spec : Spec) (f : Found) (t : ℕ) (deed : Deed) (from : Pi
 
 -- c holds it
 pub record IsHeld (f : Found) (c : ℕ) (cap : Cap) : Type 0 where
-  pub place : ℕ
   pub held : Held
-  pub there : slice_get (held_by f c) place ≡ Some held
+  pub there : Contains (held_by f c) held
   pub is : slice_get f.values held.value ≡ Some cap
 
 -- the thread's root has the one and all of the others
@@ -77,16 +76,16 @@ pub record OwnsFrom (spec : Spec) (f : Found) (t : ℕ) (deed : Deed) (from : Pi
   pub root : HasRoot spec t node
   pub own_from : HoldsAt f node from.number from.cap
   pub is_from : is_wanted spec (wanted_from deed) from.cap ≡ true
-  pub own_to : (k : ℕ) (to : Pick) → slice_get tos k ≡ Some to → HoldsAt f node to.number to.cap
-  pub is_to : (k : ℕ) (to : Pick) → slice_get tos k ≡ Some to → is_wanted spec (wanted_to deed) to.cap ≡ true
+  pub own_to : (to : Pick) → Contains tos to → HoldsAt f node to.number to.cap
+  pub is_to : (to : Pick) → Contains tos to → is_wanted spec (wanted_to deed) to.cap ≡ true
 
 pub record OwnsAll (spec : Spec) (f : Found) (t : ℕ) (deed : Deed) (froms : List Pick) (tos : List Pick) : Type 0 where
   pub node : ℕ
   pub root : HasRoot spec t node
-  pub own_from : (k : ℕ) (from : Pick) → slice_get froms k ≡ Some from → HoldsAt f node from.number from.cap
-  pub is_from : (k : ℕ) (from : Pick) → slice_get froms k ≡ Some from → is_wanted spec (wanted_from deed) from.cap ≡ true
-  pub own_to : (k : ℕ) (to : Pick) → slice_get tos k ≡ Some to → HoldsAt f node to.number to.cap
-  pub is_to : (k : ℕ) (to : Pick) → slice_get tos k ≡ Some to → is_wanted spec (wanted_to deed) to.cap ≡ true
+  pub own_from : (from : Pick) → Contains froms from → HoldsAt f node from.number from.cap
+  pub is_from : (from : Pick) → Contains froms from → is_wanted spec (wanted_from deed) from.cap ≡ true
+  pub own_to : (to : Pick) → Contains tos to → HoldsAt f node to.number to.cap
+  pub is_to : (to : Pick) → Contains tos to → is_wanted spec (wanted_to deed) to.cap ≡ true
 
 -- what such steps of a thread with the root c make
 pub record OfDeeds (spec : Spec) (labels : List ℕ) (f : Found) (deed : Deed) (c : ℕ) (e : Edge) : Type 0 where

@@ -2,10 +2,11 @@
 --
 -- A value is a capability of a CNode slot, by its place in a list. What is found is that a CNode holds a value, at a
 -- number of the state that the steps lead to.
-use Rattle.std.specs.Prelude.{◌≡◌, ◌<◌, ℕ, ◌+◌, Bool, true, false, if◌then◌else◌, List, [], ◌∷◌, ◌++◌, length, slice_get, slice_index, slice_index_or, slice_set, Some, suc}
+use Rattle.std.specs.Prelude.{◌≡◌, ◌<◌, ℕ, ◌+◌, Bool, true, false, List, [], ◌∷◌, ◌++◌, length, slice_get, slice_index, slice_index_or, slice_set, Some, suc}
 use Rattle.cap_audit.specs.Below.{Cap, Capability, Contains, Rights, Run, Spec, State, Step, boot, content_in, is_at, node_at}
 use Rattle.cap_audit.specs.Quiet.{Quiet}
 use Rattle.cap_audit.specs.Spread.{HasRoot, HaveRoots, Meet, MayGrant, MayCall}
+use Rattle.cap_audit.specs.Rows.{row_at, with_more}
 use Rattle.cap_audit.specs.declared.found.Course.{Course}
 use Rattle.cap_audit.specs.declared.found.Course.TheVariants as courses
 use Rattle.cap_audit.specs.declared.found.Held.{Held}
@@ -28,7 +29,7 @@ abbrev pub bare : Found → Found
 bare f = record f { steps = []; nexts = [] }
 
 abbrev pub held_by : Found → ℕ → List Held
-held_by f c = slice_index_or f.held c []
+held_by f c = row_at f.held c
 
 abbrev pub marks_of : Found → ℕ → List Bool
 marks_of f c = slice_index_or f.known c []
@@ -92,18 +93,13 @@ pub record Grows (f : Found) (new : Found) : Type 0 where
 
 -- the value goes along to the way's end, where it stands at the next number
 abbrev pub landed : Found → Way → Held → Found
-landed f way held = record {
-  values = f.values;
-  held = slice_set f.held way.to (held_by f way.to ++ record { value = held.value; number = slice_index f.nexts way.to } ∷ []);
+landed f way held = record f {
+  held = with_more f.held way.to (record { value = held.value; number = slice_index f.nexts way.to });
   known = slice_set f.known way.to (slice_set (marks_of f way.to) held.value true);
   queue = f.queue ++ record { node = way.to; held = record { value = held.value; number = slice_index f.nexts way.to } } ∷ [];
   steps = f.steps ++ steps_of way.course held.number;
   nexts = slice_set f.nexts way.to (slice_index f.nexts way.to + 1);
 }
-
--- the same where it isn't known there
-abbrev pub brought : Found → Way → Held → Found
-brought f way held = if is_known f way.to held.value then f else landed f way held
 
 -- how many values aren't known
 

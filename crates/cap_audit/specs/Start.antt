@@ -1,24 +1,17 @@
 -- Words for the contracts of private functions alone: how a search begins, with the capabilities of all slots.
-use Rattle.std.specs.Prelude.{◌≡◌, ◌<◌, ◌⊎◌, ℕ, zero, suc, Bool, true, false, List, [], ◌∷◌, ◌++◌, map, length, slice_get, slice_index, slice_set, Option, Some, None}
+use Rattle.std.specs.Prelude.{◌≡◌, ◌<◌, ◌⊎◌, ℕ, Bool, true, false, List, [], ◌∷◌, ◌++◌, map, replicate, length, slice_get, slice_index, slice_set, Option, Some, None}
 use Rattle.cap_audit.specs.Below.{Cap, Contains, Entry, Object, Spec, boot, is_at, node_at}
 use Rattle.cap_audit.specs.Search.{Found, held_by, marks_of, is_known, HoldsAt}
 use Rattle.cap_audit.specs.Spread.{slots_at}
+use Rattle.cap_audit.specs.Rows.{with_more}
 use Rattle.cap_audit.specs.declared.found.Held.{Held}
 use Rattle.cap_audit.specs.declared.found.Pair.{Pair}
 use Rattle.cap_model.specs.declared.kind.Kind.TheVariants as kinds
 use Rattle.cap_model.specs.declared.object.Object.TheVariants as objects
 
-abbrev pub empties : ℕ → List (List Held)
-empties zero = []
-empties (suc n) = [] ∷ empties n
-
-abbrev pub blanks : ℕ → List Bool
-blanks zero = []
-blanks (suc n) = false ∷ blanks n
-
 -- a CNode has a mark for each value
 abbrev pub blank_row : ℕ → Object → List Bool
-blank_row width (objects.CNode bits slots) = blanks width
+blank_row width (objects.CNode bits slots) = replicate width false
 blank_row width _ = []
 
 abbrev pub blank_rows : ℕ → List Entry → List (List Bool)
@@ -26,14 +19,7 @@ blank_rows width entries = map (λ e. blank_row width e.object) entries
 
 -- a value more
 abbrev pub with_value : Found → Cap → Found
-with_value f cap = record {
-  values = f.values ++ cap ∷ [];
-  held = f.held;
-  known = f.known;
-  queue = f.queue;
-  steps = f.steps;
-  nexts = f.nexts;
-}
+with_value f cap = record f { values = f.values ++ cap ∷ [] }
 
 -- the values have this one at the place, and nothing else changed but that it may be a new one
 abbrev pub HasValue : Found → Cap → Found → ℕ → Type 0
@@ -41,17 +27,10 @@ HasValue f cap new place = ((new ≡ f) ⊎ (new ≡ with_value f cap)) × (slic
 
 -- a CNode has a value at a number from the start
 abbrev pub owned : Found → ℕ → Held → Found
-owned f c held = record {
-  values = f.values;
-  held = slice_set f.held c (held_by f c ++ held ∷ []);
-  known = f.known;
-  queue = f.queue ++ record { node = c; held = held } ∷ [];
-  steps = f.steps;
-  nexts = f.nexts;
-}
+owned f c held = record f { held = with_more f.held c held; queue = f.queue ++ record { node = c; held = held } ∷ [] }
 
 abbrev pub with_rows : Found → List (List Bool) → Found
-with_rows f rows = record { values = f.values; held = f.held; known = rows; queue = f.queue; steps = f.steps; nexts = f.nexts }
+with_rows f rows = record f { known = rows }
 
 abbrev pub with_mark : Found → Pair → Found
 with_mark f pair = with_rows f (slice_set f.known pair.node (slice_set (marks_of f pair.node) pair.held.value true))
@@ -84,10 +63,6 @@ pub record Marks (spec : Spec) (f : Found) (done : ℕ) : Type 0 where
   pub known : (c v : ℕ) → is_known f c v ≡ true → (k : ℕ) × (pair : Pair) × (slice_get f.queue k ≡ Some pair) × (pair.node ≡ c)
       × (pair.held.value ≡ v)
   pub marked : (k : ℕ) (pair : Pair) → k < done → slice_get f.queue k ≡ Some pair → is_known f pair.node pair.held.value ≡ true
-
-abbrev pub repeated : {A : Type 0} → A → ℕ → List A
-repeated x zero = []
-repeated x (suc n) = x ∷ repeated x n
 
 -- a list of the numbers below n
 pub record IsCounted (numbers : List ℕ) (n : ℕ) : Type 0 where

@@ -1,19 +1,16 @@
 -- Words for the contracts of private functions alone: ways from one CNode to another, and where they lead together.
-use Rattle.std.specs.Prelude.{◌≡◌, ◌<◌, ◌≤◌, ◌⊎◌, ℕ, ◌+◌, true, List, [], ◌∷◌, ◌++◌, length, slice_get, slice_index, slice_index_or, slice_set, Some}
+use Rattle.std.specs.Prelude.{◌≡◌, ◌<◌, ◌≤◌, ◌⊎◌, ℕ, ◌+◌, true, List, [], ◌∷◌, ◌++◌, length, slice_get, slice_index, Some}
 use Rattle.cap_audit.specs.Below.{Contains, Spec}
+use Rattle.cap_audit.specs.Nets.{Lanes}
 use Rattle.cap_audit.specs.Search.{Found, is_known, IsWay, IsFound, Grows, unknowns}
 use Rattle.cap_audit.specs.declared.found.Held.{Held}
 use Rattle.cap_audit.specs.declared.found.Pair.{Pair}
 use Rattle.cap_audit.specs.declared.found.Way.{Way}
-
--- what contracts see of a net: by the objects' places the ways out, and classes of objects that ways join in both
--- directions
-pub record Lanes : Type 0 where
-  pub out : List (List Way)
-  pub classes : List ℕ
+use Rattle.cap_audit.specs.declared.ways.Web.{Web}
+use Rattle.cap_audit.specs.Rows.{row_at, with_more}
 
 abbrev pub ways_from : Lanes → ℕ → List Way
-ways_from net c = slice_index_or net.out c []
+ways_from net c = row_at net.out c
 
 -- ways lead from c to d, one after the other
 pub data Path (net : Lanes) : ℕ → ℕ → Type 0 where
@@ -57,13 +54,23 @@ pub record AllGo (spec : Spec) (f : Found) (way : Way) (helds : List Held) (new 
   pub later : Later spec f new
   pub there : (held : Held) → Contains helds held → is_known new way.to held.value ≡ true
 
--- ways lead from c to d in the new net, along which all has gone that has gone along ways before
-pub record Connects (spec : Spec) (f : Found) (net : Lanes) (c : ℕ) (d : ℕ) (new : Found) (wide : Lanes) : Type 0 where
-  pub later : Later spec f new
-  pub ways : AreWays spec new wide
-  pub widens : Widens net wide
-  pub path : Path wide c d
-  pub gone : (done : ℕ) → done ≤ length f.queue → HaveGone f net done → HaveGone new wide done
+-- what was found, and ways along which it may go
+pub record IsWeb (spec : Spec) (web : Web) : Type 0 where
+  pub found : IsFound spec web.findings
+  pub ways : AreWays spec web.findings web.net
+
+-- more was found and there are more ways, along which all has gone that has gone along ways before
+pub record Widened (spec : Spec) (web : Web) (new : Web) : Type 0 where
+  pub later : Later spec web.findings new.findings
+  pub ways : AreWays spec new.findings new.net
+  pub widens : Widens web.net new.net
+  pub gone : (done : ℕ) → done ≤ length web.findings.queue → HaveGone web.findings web.net done
+      → HaveGone new.findings new.net done
+
+-- and ways lead from c to d
+pub record Connects (spec : Spec) (web : Web) (c : ℕ) (d : ℕ) (new : Web) : Type 0 where
+  pub widened : Widened spec web new
+  pub path : Path new.net c d
 
 -- the class of d is now the class of c, and no other class changed
 pub record Merges (old : List ℕ) (c : ℕ) (d : ℕ) (new : List ℕ) : Type 0 where
@@ -73,7 +80,7 @@ pub record Merges (old : List ℕ) (c : ℕ) (d : ℕ) (new : List ℕ) : Type 0
 
 -- a way more
 abbrev pub with_way : Lanes → ℕ → Way → Lanes
-with_way net c way = record { out = slice_set net.out c (slice_index_or net.out c [] ++ way ∷ []); classes = net.classes }
+with_way net c way = record net { out = with_more net.out c way }
 
 -- one of the classes is now the other
 abbrev pub Unites : List ℕ → ℕ → ℕ → List ℕ → Type 0

@@ -3,9 +3,9 @@
 ghost use Rattle.cap_audit.specs.Covering.{AreRoots, HasSlots};
 ghost use Rattle.cap_audit.specs.Search.{IsFound};
 ghost use Rattle.cap_audit.specs.Spread.{root_of, slots_of, slots_at};
-ghost use Rattle.cap_audit.specs.Start.{repeated, rooted, HasValue, Marks, Starts};
+ghost use Rattle.cap_audit.specs.Start.{rooted, HasValue, Marks, Starts};
 ghost use Rattle.cap_model.specs.Kept.{IsKept};
-ghost use Rattle.std.specs.Prelude.{◌≡◌, ◌<◌, ◌+◌, Some, None, length, IfOk, OnOk};
+ghost use Rattle.std.specs.Prelude.{◌≡◌, ◌<◌, ◌+◌, Some, None, length, replicate, IfOk, OnOk};
 
 use crate::found::{Findings, Held};
 use cam_base::Made;
@@ -35,7 +35,7 @@ fn put_root(roots: &mut [Option<u32>], root: Option<u32>, t: u32)
 }
 
 fn no_roots(alloc: Global, n: usize) -> Made<Vec<Option<u32>>>
-    ensures { IfOk result (λ roots. roots.items ≡ repeated None n) }
+    ensures { IfOk result (λ roots. roots.items ≡ replicate n None) }
 {
     let mut roots = Vec::new(alloc);
     for _ in 0..n {
@@ -46,7 +46,7 @@ fn no_roots(alloc: Global, n: usize) -> Made<Vec<Option<u32>>>
 
 fn put_roots(roots: &mut [Option<u32>], spec: &Spec)
     requires kept { IsKept spec.now }
-    requires none { roots.old ≡ repeated None (length spec.now.entries) }
+    requires none { roots.old ≡ replicate (length spec.now.entries) None }
     ensures { AreRoots spec.now roots.new }
 {
     let entries = spec.entries.as_slice();

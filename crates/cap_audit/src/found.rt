@@ -1,13 +1,14 @@
 //! What a search has found of the Spread, and the steps that it made.
 
 ghost use Rattle.cap_audit.specs.Search.{bare, held_by, is_known, landed, steps_of, whole, IsFound, IsWay, Brings};
-ghost use Rattle.cap_audit.specs.Start.{Starts, owned, empties, blanks, blank_row, blank_rows, with_rows, with_mark, with_value};
+ghost use Rattle.cap_audit.specs.Start.{Starts, owned, blank_row, blank_rows, with_rows, with_mark, with_value};
 ghost use Rattle.cap_machine.specs.Progress.{Bootable};
 ghost use Rattle.cap_model.specs.Kept.{IsKept};
 ghost use Rattle.cap_model.specs.State.{boot_node};
 ghost use Rattle.std.specs.List.{All, Contains};
-ghost use Rattle.std.specs.Prelude.{◌≡◌, ◌<◌, ◌++◌, ◌∷◌, [], true, false, map, IsTrue, OnOk, IfOk, length, Some, slice_get, slice_set, slice_index, slice_index_or};
+ghost use Rattle.std.specs.Prelude.{◌≡◌, ◌<◌, ◌++◌, [], true, false, map, IsTrue, OnOk, IfOk, length, Some, slice_get, slice_set, slice_index, slice_index_or};
 
+use crate::rows::Rows;
 use cam_base::{Made, NoMemory};
 use cap_machine::Step;
 use cap_model::{Cap, Entry, Object, Rights, Spec};
@@ -44,43 +45,6 @@ pub struct Way {
     pub course: Course,
 }
 
-/// What one CNode holds, in the order found.
-#[derive(Drop)]
-pub struct Shelf {
-    helds: Vec<Held>,
-}
-
-impl Model for Shelf {
-    ghost use Rattle.cap_audit.specs.declared.found.Held.{Held};
-    ghost use Rattle.std.specs.Prelude.{List};
-
-    ghost Value = { List Held };
-
-    ghost view = { λ s. s.helds.items };
-}
-
-impl Shelf {
-    fn helds(&self) -> &[Held]
-        ensures { result.now ≡ self.now }
-    {
-        self.helds.as_slice()
-    }
-
-    fn copy(&self) -> Made<Vec<Held>>
-        ensures { IfOk result (λ helds. helds.items ≡ self.now) }
-    {
-        let helds = self.helds.clone()?;
-        Ok(helds)
-    }
-
-    fn push(&mut self, held: Held) -> Made<()>
-        ensures { OnOk result (self.new ≡ self.old ++ held ∷ []) }
-    {
-        self.helds.push(held)?;
-        Ok(())
-    }
-}
-
 /// Which values are known of one CNode.
 #[derive(Drop)]
 pub struct Marks {
@@ -112,17 +76,6 @@ impl Marks {
             self.marks[value] = true;
         }
     }
-}
-
-fn put_held(shelves: &mut [Shelf], c: u32, held: Held) -> Made<()>
-    ensures { OnOk result (shelves.new ≡ slice_set shelves.old c (slice_index_or shelves.old c [] ++ held ∷ [])) }
-{
-    let c = c as usize;
-    if c < shelves.len() {
-        let shelf = &mut shelves[c];
-        shelf.push(held)?;
-    }
-    Ok(())
 }
 
 fn put_mark(rows: &mut [Marks], c: u32, value: usize)
@@ -198,18 +151,6 @@ fn push_steps(steps: &mut Vec<Step>, course: Course, n: u64) -> Made<()>
     Ok(())
 }
 
-fn blank_shelves(alloc: Global, n: usize) -> Made<Vec<Shelf>>
-    ensures { IfOk result (λ shelves. shelves.items ≡ empties n) }
-{
-    let mut shelves = Vec::new(alloc);
-    for _ in 0..n {
-        shelves.push(Shelf {
-            helds: Vec::new(alloc),
-        })?;
-    }
-    Ok(shelves)
-}
-
 fn next_of(object: &Object) -> u64
     requires { Bootable object.now }
     ensures { result ≡ (boot_node object.now).next }
@@ -239,18 +180,8 @@ fn blank_row(alloc: Global, object: &Object, width: usize) -> Made<Marks>
         _ => 0,
     };
     Ok(Marks {
-        marks: blanks(alloc, n)?,
+        marks: vec![in alloc; false; n]?,
     })
-}
-
-fn blanks(alloc: Global, n: usize) -> Made<Vec<bool>>
-    ensures { IfOk result (λ marks. marks.items ≡ blanks n) }
-{
-    let mut marks = Vec::new(alloc);
-    for _ in 0..n {
-        marks.push(false)?;
-    }
-    Ok(marks)
 }
 
 fn blank_rows(alloc: Global, entries: &[Entry], width: usize) -> Made<Vec<Marks>>
@@ -267,7 +198,7 @@ fn blank_rows(alloc: Global, entries: &[Entry], width: usize) -> Made<Vec<Marks>
 #[derive(Drop)]
 pub struct Findings {
     values: Vec<Cap>,
-    held: Vec<Shelf>,
+    held: Rows<Held>,
     known: Vec<Marks>,
     queue: Vec<Pair>,
     steps: Vec<Step>,
@@ -281,7 +212,7 @@ impl Model for Findings {
 
     ghost view = { λ f. record {
       values = f.values.items;
-      held = f.held.items;
+      held = f.held;
       known = f.known.items;
       queue = f.queue.items;
       steps = f.steps.items;
@@ -300,24 +231,11 @@ impl Findings {
         }
     }
 
-    /// What a CNode holds.
-    pub fn held_copy(&self, alloc: Global, c: u32) -> Made<Vec<Held>>
-        ensures { IfOk result (λ helds. helds.items ≡ held_by self.now c) }
-    {
-        match self.held.get(c as usize) {
-            Some(shelf) => shelf.copy(),
-            None => Ok(Vec::new(alloc)),
-        }
-    }
-
     /// What a CNode holds, in the order found. Takes no memory.
     pub fn holdings(&self, c: u32) -> &[Held]
         ensures { result.now ≡ held_by self.now c }
     {
-        match self.held.get(c as usize) {
-            Some(shelf) => shelf.helds(),
-            None => &[],
-        }
+        self.held.row(c)
     }
 
     /// What was found, without its steps; the steps; and the next number of each CNode. Takes no memory.
@@ -383,7 +301,7 @@ impl Findings {
         ensures { IfOk result (λ f. Starts spec.now f 0 0) }
     {
         let entries = spec.entries.as_slice();
-        let held = blank_shelves(alloc, entries.len())?;
+        let held = Rows::new(alloc, entries.len())?;
         let nexts = boot_nexts(alloc, entries)?;
         Ok(Findings {
             values: Vec::new(alloc),
@@ -419,7 +337,7 @@ impl Findings {
     pub fn own(&mut self, c: u32, held: Held) -> Made<()>
         ensures { OnOk result (self.new ≡ owned self.old c held) }
     {
-        put_held(&mut self.held, c, held)?;
+        self.held.push(c, held)?;
         self.queue.push(Pair { node: c, held })?;
         Ok(())
     }
@@ -452,7 +370,7 @@ impl Findings {
             value: held.value,
             number,
         };
-        put_held(&mut self.held, way.to, here)?;
+        self.held.push(way.to, here)?;
         put_mark(&mut self.known, way.to, held.value);
         self.queue.push(Pair {
             node: way.to,

@@ -1,19 +1,20 @@
 //! Where threads meet at endpoints, so that what one holds goes to the other by a grant or with a reply.
 
-ghost use Rattle.cap_audit.specs.Covering.{hub_at, Allows, StandsAt, AreHubs, Opens, Attends, Covers, AddedAt};
-ghost use Rattle.cap_audit.specs.Hubs.{course_of, nobody, Gives, Takes, IsMember, IsHub, GivesAt, TakesAt, Comes, Given, Taken};
-ghost use Rattle.cap_audit.specs.Search.{IsFound, HoldsAt};
+ghost use Rattle.cap_audit.specs.Covering.{AreHubs, Covers};
+ghost use Rattle.cap_audit.specs.Hubs.{Allows, Attends, IsHub, IsMember, Joins, Passes, course_of, members_at, opposite, with_member};
+ghost use Rattle.cap_audit.specs.Search.{HoldsAt};
 ghost use Rattle.cap_audit.specs.Spread.{HasRoot};
-ghost use Rattle.cap_audit.specs.Start.{repeated};
-ghost use Rattle.cap_audit.specs.Ways.{AreWays, Connects, InClass};
+ghost use Rattle.cap_audit.specs.Ways.{Connects, InClass, IsWeb, Widened};
 ghost use Rattle.cap_audit.specs.declared.hubs.Member.{Member};
+ghost use Rattle.cap_audit.specs.declared.hubs.Side.TheVariants as sides;
 ghost use Rattle.cap_model.specs.Kinds.{is_at};
 ghost use Rattle.cap_model.specs.declared.kind.Kind.TheVariants as kinds;
 ghost use Rattle.std.specs.List.{Contains};
-ghost use Rattle.std.specs.Prelude.{◌≡◌, ◌<◌, ◌↔◌, ℕ, true, length, slice_index_or, IsTrue, IfOk, OnOk};
+ghost use Rattle.std.specs.Prelude.{◌≡◌, ◌↔◌, ℕ, [], true, replicate, IsTrue, IfOk, OnOk};
 
 use crate::found::{Course, Way};
-use crate::ways::{Net, Web, connect};
+use crate::rows::Rows;
+use crate::ways::{Net, Web};
 use cam_base::Made;
 use cap_model::{Cap, Spec};
 use std::alloc::Global;
@@ -42,11 +43,15 @@ pub enum Side {
     Taking,
 }
 
-/// What a member does at an endpoint.
-#[derive(Clone, Copy)]
-pub struct Role {
-    pub passage: Passage,
-    pub side: Side,
+impl Side {
+    fn opposite(self) -> Side
+        ensures { result ≡ opposite self }
+    {
+        match self {
+            Side::Giving => Side::Taking,
+            Side::Taking => Side::Giving,
+        }
+    }
 }
 
 fn course_of(passage: Passage, giver: Member, taker: Member) -> Course
@@ -68,39 +73,18 @@ fn course_of(passage: Passage, giver: Member, taker: Member) -> Course
     }
 }
 
-const GIVES_BY_GRANT: Role = Role {
-    passage: Passage::Grant,
-    side: Side::Giving,
-};
-
-const TAKES_BY_GRANT: Role = Role {
-    passage: Passage::Grant,
-    side: Side::Taking,
-};
-
-const GIVES_BY_REPLY: Role = Role {
-    passage: Passage::Reply,
-    side: Side::Giving,
-};
-
-const TAKES_BY_REPLY: Role = Role {
-    passage: Passage::Reply,
-    side: Side::Taking,
-};
-
-/// Those whose capabilities pass, and those to whom they pass.
-#[derive(Drop)]
-pub struct Hub {
-    givers: Vec<Member>,
-    takers: Vec<Member>,
-}
-
-impl Model for Hub {
-    ghost use Rattle.cap_audit.specs.Hubs.{Gathering};
-
-    ghost Value = { Gathering };
-
-    ghost view = { λ h. record { givers = h.givers.items; takers = h.takers.items } };
+/// Whether a capability to an endpoint allows this.
+fn allows(passage: Passage, side: Side, cap: Cap) -> bool
+    ensures { IsTrue result ↔ Allows passage side cap }
+{
+    match (passage, side) {
+        (Passage::Grant, Side::Giving) => cap.rights.write && cap.rights.grant,
+        (Passage::Grant, Side::Taking) => cap.rights.read,
+        (Passage::Reply, Side::Giving) => cap.rights.read && cap.rights.grant,
+        (Passage::Reply, Side::Taking) => {
+            cap.rights.write && (cap.rights.grant || cap.rights.reply)
+        }
+    }
 }
 
 /// Whether one of the members is joined with the CNode in both directions.
@@ -116,186 +100,153 @@ fn has_fellow(net: &Net, members: &[Member], node: u32) -> bool
 }
 
 /// Connects a giver with a taker.
-fn meet(
-    alloc: Global,
-    web: &mut Web,
-    spec: &Spec,
-    passage: Passage,
-    giver: Member,
-    taker: Member,
-) -> Made<()>
-    requires found { IsFound spec.now web.old.findings }
-    requires ways { AreWays spec.now web.old.findings web.old.net }
-    requires both { (e : ℕ) × IsMember spec.now web.old.findings e (Gives passage) giver × IsMember spec.now web.old.findings e
-        (Takes passage) taker }
-    ensures { OnOk result (Connects spec.now web.old.findings web.old.net giver.node taker.node web.new.findings web.new.net) }
+fn meet(web: &mut Web, spec: &Spec, by: Passage, from: Member, to: Member) -> Made<()>
+    requires web { IsWeb spec.now web.old }
+    requires both { (e : ℕ) × IsMember spec.now web.old.findings e by sides.Giving from
+        × IsMember spec.now web.old.findings e by sides.Taking to }
+    ensures { OnOk result (Connects spec.now web.old from.node to.node web.new) }
 {
-    if giver.node == taker.node {
+    if from.node == to.node {
         return Ok(());
     }
     let way = Way {
-        to: taker.node,
-        course: course_of(passage, giver, taker),
+        to: to.node,
+        course: course_of(by, from, to),
     };
-    connect(alloc, web, spec, giver.node, way)?;
+    web.connect(spec, from.node, way)?;
     Ok(())
 }
 
-/// Connects a giver with each of these takers.
-fn give(
-    alloc: Global,
+/// Connects a member of this side with one of the other.
+fn join(
     web: &mut Web,
     spec: &Spec,
-    passage: Passage,
-    giver: Member,
-    takers: &[Member],
+    by: Passage,
+    side: Side,
+    member: Member,
+    other: Member,
 ) -> Made<()>
-    requires found { IsFound spec.now web.old.findings }
-    requires ways { AreWays spec.now web.old.findings web.old.net }
-    requires giver { (e : ℕ) × IsMember spec.now web.old.findings e (Gives passage) giver × ((taker : Member)
-        → Contains takers.now taker → IsMember spec.now web.old.findings e (Takes passage) taker) }
-    ensures { OnOk result (Given spec.now web.old.findings web.old.net giver takers.now web.new.findings web.new.net) }
+    requires web { IsWeb spec.now web.old }
+    requires both { (e : ℕ) × IsMember spec.now web.old.findings e by side member
+        × IsMember spec.now web.old.findings e by (opposite side) other }
+    ensures widened { OnOk result (Widened spec.now web.old web.new) }
+    ensures passes { OnOk result (Passes side web.new.net member.node other.node) }
 {
-    for taker in takers {
-        meet(alloc, web, spec, passage, giver, *taker)?;
+    match side {
+        Side::Giving => {
+            meet(web, spec, by, member, other)?;
+            Ok(())
+        }
+        Side::Taking => {
+            meet(web, spec, by, other, member)?;
+            Ok(())
+        }
+    }
+}
+
+/// Connects a member of this side with each of these of the other.
+fn join_all(
+    web: &mut Web,
+    spec: &Spec,
+    by: Passage,
+    side: Side,
+    member: Member,
+    others: &[Member],
+) -> Made<()>
+    requires web { IsWeb spec.now web.old }
+    requires both { (e : ℕ) × IsMember spec.now web.old.findings e by side member × ((other : Member)
+        → Contains others.now other → IsMember spec.now web.old.findings e by (opposite side) other) }
+    ensures { OnOk result (Joins spec.now web.old side member others.now web.new) }
+{
+    for other in others {
+        join(web, spec, by, side, member, *other)?;
     }
     Ok(())
 }
 
-/// Connects each of these givers with a taker.
-fn take(
-    alloc: Global,
-    web: &mut Web,
-    spec: &Spec,
-    passage: Passage,
-    givers: &[Member],
-    taker: Member,
-) -> Made<()>
-    requires found { IsFound spec.now web.old.findings }
-    requires ways { AreWays spec.now web.old.findings web.old.net }
-    requires taker { (e : ℕ) × IsMember spec.now web.old.findings e (Takes passage) taker × ((giver : Member)
-        → Contains givers.now giver → IsMember spec.now web.old.findings e (Gives passage) giver) }
-    ensures { OnOk result (Taken spec.now web.old.findings web.old.net givers.now taker web.new.findings web.new.net) }
-{
-    for giver in givers {
-        meet(alloc, web, spec, passage, *giver, taker)?;
-    }
-    Ok(())
+/// By the places of endpoints, those whose capabilities pass there, and those to whom they pass.
+#[derive(Drop)]
+pub struct Hub {
+    givers: Rows<Member>,
+    takers: Rows<Member>,
+}
+
+impl Model for Hub {
+    ghost use Rattle.cap_audit.specs.Hubs.{Gathering};
+
+    ghost Value = { Gathering };
+
+    ghost view = { λ h. record { givers = h.givers; takers = h.takers } };
 }
 
 impl Hub {
-    /// With nobody there.
-    pub fn new(alloc: Global) -> Hub
-        ensures { result ≡ nobody }
+    fn new(alloc: Global, n: usize) -> Made<Hub>
+        ensures { IfOk result (λ hub. hub ≡ record { givers = replicate n []; takers = replicate n [] }) }
     {
-        Hub {
-            givers: Vec::new(alloc),
-            takers: Vec::new(alloc),
+        let givers = Rows::new(alloc, n)?;
+        let takers = Rows::new(alloc, n)?;
+        Ok(Hub { givers, takers })
+    }
+
+    fn members(&self, side: Side, endpoint: u32) -> &[Member]
+        ensures { result.now ≡ members_at self.now side endpoint }
+    {
+        match side {
+            Side::Giving => self.givers.row(endpoint),
+            Side::Taking => self.takers.row(endpoint),
         }
     }
 
-    /// A giver comes. One that is joined with a giver that is there stays away.
-    pub fn add_giver(
-        &mut self,
-        alloc: Global,
-        web: &mut Web,
-        spec: &Spec,
-        passage: Passage,
-        giver: Member,
-    ) -> Made<()>
-        requires found { IsFound spec.now web.old.findings }
-        requires ways { AreWays spec.now web.old.findings web.old.net }
-        requires hub { IsHub spec.now web.old.findings web.old.net passage giver.cap.object self.old }
-        requires giver { IsMember spec.now web.old.findings giver.cap.object (Gives passage) giver }
-        ensures comes { OnOk result (Comes spec.now web.old.findings web.old.net passage giver.cap.object self.old
-            web.new.findings web.new.net self.new) }
-        ensures gives { OnOk result (GivesAt web.new.net self.new giver.node) }
+    fn put(&mut self, side: Side, member: Member) -> Made<()>
+        ensures { OnOk result (self.new ≡ with_member self.old side member) }
     {
-        if has_fellow(&web.net, self.givers.as_slice(), giver.node) {
-            return Ok(());
+        match side {
+            Side::Giving => self.givers.push(member.cap.object, member),
+            Side::Taking => self.takers.push(member.cap.object, member),
         }
-        give(alloc, web, spec, passage, giver, self.takers.as_slice())?;
-        self.givers.push(giver)?;
-        Ok(())
     }
 
-    /// A taker comes. One that is joined with a taker that is there stays away.
-    pub fn add_taker(
+    /// A root comes, where its capability allows it. One that is joined with one that is there stays away.
+    fn attend(
         &mut self,
-        alloc: Global,
         web: &mut Web,
         spec: &Spec,
-        passage: Passage,
-        taker: Member,
-    ) -> Made<()>
-        requires found { IsFound spec.now web.old.findings }
-        requires ways { AreWays spec.now web.old.findings web.old.net }
-        requires hub { IsHub spec.now web.old.findings web.old.net passage taker.cap.object self.old }
-        requires taker { IsMember spec.now web.old.findings taker.cap.object (Takes passage) taker }
-        ensures comes { OnOk result (Comes spec.now web.old.findings web.old.net passage taker.cap.object self.old
-            web.new.findings web.new.net self.new) }
-        ensures takes { OnOk result (TakesAt web.new.net self.new taker.node) }
-    {
-        if has_fellow(&web.net, self.takers.as_slice(), taker.node) {
-            return Ok(());
-        }
-        take(alloc, web, spec, passage, self.givers.as_slice(), taker)?;
-        self.takers.push(taker)?;
-        Ok(())
-    }
-}
-
-impl Hub {
-    /// One of this side comes.
-    fn add(
-        &mut self,
-        alloc: Global,
-        web: &mut Web,
-        spec: &Spec,
-        role: Role,
+        by: Passage,
+        side: Side,
         member: Member,
     ) -> Made<()>
-        requires found { IsFound spec.now web.old.findings }
-        requires ways { AreWays spec.now web.old.findings web.old.net }
-        requires hub { IsHub spec.now web.old.findings web.old.net role.passage member.cap.object self.old }
-        requires member { IsMember spec.now web.old.findings member.cap.object (Allows role.passage role.side) member }
-        ensures comes { OnOk result (Comes spec.now web.old.findings web.old.net role.passage member.cap.object self.old
-            web.new.findings web.new.net self.new) }
-        ensures stands { OnOk result (StandsAt role.side web.new.net self.new member.node) }
+        requires web { IsWeb spec.now web.old }
+        requires hub { IsHub spec.now web.old by self.old }
+        requires root { HasRoot spec.now member.thread member.node }
+        requires at { HoldsAt web.old.findings member.node member.number member.cap }
+        requires is { is_at spec.now kinds.Endpoint member.cap.object ≡ true }
+        ensures { OnOk result (Attends spec.now web.old self.old by side member web.new self.new) }
     {
-        match role.side {
-            Side::Giving => self.add_giver(alloc, web, spec, role.passage, member),
-            Side::Taking => self.add_taker(alloc, web, spec, role.passage, member),
+        let endpoint = member.cap.object;
+        if !allows(by, side, member.cap) {
+            return Ok(());
         }
+        if has_fellow(&web.net, self.members(side, endpoint), member.node) {
+            return Ok(());
+        }
+        join_all(
+            web,
+            spec,
+            by,
+            side,
+            member,
+            self.members(side.opposite(), endpoint),
+        )?;
+        self.put(side, member)?;
+        Ok(())
     }
 }
 
-fn add_at(
-    hubs: &mut [Hub],
-    alloc: Global,
-    web: &mut Web,
-    spec: &Spec,
-    role: Role,
-    member: Member,
-) -> Made<()>
-    requires found { IsFound spec.now web.old.findings }
-    requires ways { AreWays spec.now web.old.findings web.old.net }
-    requires inside { member.cap.object < length hubs.old }
-    requires hub { IsHub spec.now web.old.findings web.old.net role.passage member.cap.object
-        (slice_index_or hubs.old member.cap.object nobody) }
-    requires member { IsMember spec.now web.old.findings member.cap.object (Allows role.passage role.side) member }
-    ensures { OnOk result (AddedAt spec.now web.old.findings web.old.net role.passage role.side member.cap.object member
-        hubs.old web.new.findings web.new.net hubs.new) }
-{
-    let hub = &mut hubs[member.cap.object as usize];
-    hub.add(alloc, web, spec, role, member)
-}
-
-/// The hubs of all endpoints, by the endpoints' places.
+/// The hubs of grants and those of replies.
 #[derive(Drop)]
 pub struct Hubs {
-    grants: Vec<Hub>,
-    replies: Vec<Hub>,
+    grants: Hub,
+    replies: Hub,
 }
 
 impl Model for Hubs {
@@ -303,117 +254,37 @@ impl Model for Hubs {
 
     ghost Value = { Doors };
 
-    ghost view = { λ h. record { grants = h.grants.items; replies = h.replies.items } };
-}
-
-/// Whether a capability to an endpoint allows this.
-fn allows(role: Role, cap: Cap) -> bool
-    ensures { IsTrue result ↔ Allows role.passage role.side cap }
-{
-    match (role.passage, role.side) {
-        (Passage::Grant, Side::Giving) => cap.rights.write && cap.rights.grant,
-        (Passage::Grant, Side::Taking) => cap.rights.read,
-        (Passage::Reply, Side::Giving) => cap.rights.read && cap.rights.grant,
-        (Passage::Reply, Side::Taking) => {
-            cap.rights.write && (cap.rights.grant || cap.rights.reply)
-        }
-    }
-}
-
-fn empty_hubs(alloc: Global, n: usize) -> Made<Vec<Hub>>
-    ensures { IfOk result (λ hubs. hubs.items ≡ repeated nobody n) }
-{
-    let mut hubs = Vec::new(alloc);
-    for _ in 0..n {
-        hubs.push(Hub::new(alloc))?;
-    }
-    Ok(hubs)
+    ghost view = { λ h. record { grants = h.grants; replies = h.replies } };
 }
 
 impl Hubs {
     /// With nobody at the hubs of n objects.
     pub fn new(alloc: Global, n: usize) -> Made<Hubs>
-        ensures { IfOk result (λ hubs. hubs ≡ record { grants = repeated nobody n; replies = repeated nobody n }) }
+        ensures grants { IfOk result (λ hubs. hubs.grants ≡ record { givers = replicate n []; takers = replicate n [] }) }
+        ensures replies { IfOk result (λ hubs. hubs.replies ≡ record { givers = replicate n []; takers = replicate n [] }) }
     {
-        let grants = empty_hubs(alloc, n)?;
-        let replies = empty_hubs(alloc, n)?;
+        let grants = Hub::new(alloc, n)?;
+        let replies = Hub::new(alloc, n)?;
         Ok(Hubs { grants, replies })
     }
 
-    fn add(
-        &mut self,
-        alloc: Global,
-        web: &mut Web,
-        spec: &Spec,
-        role: Role,
-        member: Member,
-    ) -> Made<()>
-        requires found { IsFound spec.now web.old.findings }
-        requires ways { AreWays spec.now web.old.findings web.old.net }
-        requires hubs { AreHubs spec.now web.old.findings web.old.net self.old }
-        requires inside { member.cap.object < length spec.now.entries }
-        requires member { IsMember spec.now web.old.findings member.cap.object (Allows role.passage role.side) member }
-        ensures opens { OnOk result (Opens spec.now web.old.findings web.old.net self.old web.new.findings web.new.net self.new) }
-        ensures stands { OnOk result (StandsAt role.side web.new.net (hub_at self.new role.passage member.cap.object)
-            member.node) }
-    {
-        match role.passage {
-            Passage::Grant => {
-                add_at(&mut self.grants, alloc, web, spec, role, member)?;
-                Ok(())
-            }
-            Passage::Reply => {
-                add_at(&mut self.replies, alloc, web, spec, role, member)?;
-                Ok(())
-            }
-        }
-    }
-
-    /// A root comes to a hub, where its capability to the endpoint allows it.
-    fn attend(
-        &mut self,
-        alloc: Global,
-        web: &mut Web,
-        spec: &Spec,
-        role: Role,
-        member: Member,
-    ) -> Made<()>
-        requires found { IsFound spec.now web.old.findings }
-        requires ways { AreWays spec.now web.old.findings web.old.net }
-        requires hubs { AreHubs spec.now web.old.findings web.old.net self.old }
-        requires root { HasRoot spec.now member.thread member.node }
-        requires at { HoldsAt web.old.findings member.node member.number member.cap }
-        requires is { is_at spec.now kinds.Endpoint member.cap.object ≡ true }
-        ensures { OnOk result (Attends spec.now web.old.findings web.old.net self.old role.passage role.side member
-            web.new.findings web.new.net self.new) }
-    {
-        if !allows(role, member.cap) {
-            return Ok(());
-        }
-        self.add(alloc, web, spec, role, member)
-    }
-
     /// A root comes to the hubs of the endpoint of its capability.
-    pub fn attend_all(
-        &mut self,
-        alloc: Global,
-        web: &mut Web,
-        spec: &Spec,
-        member: Member,
-    ) -> Made<()>
-        requires found { IsFound spec.now web.old.findings }
-        requires ways { AreWays spec.now web.old.findings web.old.net }
-        requires hubs { AreHubs spec.now web.old.findings web.old.net self.old }
+    pub fn attend(&mut self, web: &mut Web, spec: &Spec, member: Member) -> Made<()>
+        requires web { IsWeb spec.now web.old }
+        requires hubs { AreHubs spec.now web.old self.old }
         requires root { HasRoot spec.now member.thread member.node }
         requires at { HoldsAt web.old.findings member.node member.number member.cap }
         requires is { is_at spec.now kinds.Endpoint member.cap.object ≡ true }
-        ensures { OnOk result (Covers spec.now web.old.findings web.old.net self.old member.node member.cap
-            web.new.findings web.new.net self.new) }
+        ensures { OnOk result (Covers spec.now web.old self.old member.node member.cap web.new self.new) }
     {
-        self.attend(alloc, web, spec, GIVES_BY_GRANT, member)?;
-        self.attend(alloc, web, spec, TAKES_BY_GRANT, member)?;
-        self.attend(alloc, web, spec, GIVES_BY_REPLY, member)?;
-        self.attend(alloc, web, spec, TAKES_BY_REPLY, member)?;
+        self.grants
+            .attend(web, spec, Passage::Grant, Side::Giving, member)?;
+        self.grants
+            .attend(web, spec, Passage::Grant, Side::Taking, member)?;
+        self.replies
+            .attend(web, spec, Passage::Reply, Side::Giving, member)?;
+        self.replies
+            .attend(web, spec, Passage::Reply, Side::Taking, member)?;
         Ok(())
     }
 }

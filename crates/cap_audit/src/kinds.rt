@@ -1,14 +1,13 @@
 //! Which objects stand for others: the first of those that hold the same.
 
-ghost use Rattle.cap_audit.specs.Gates.{with_more};
+ghost use Rattle.cap_audit.specs.Rows.{with_more};
 ghost use Rattle.cap_audit.specs.Kinds.{AreFirsts, AreHeadRoots, AreHeads, AreMembers, AreRootMarks, IsLike, root_mark, stand_in};
 ghost use Rattle.cap_model.specs.Kept.{IsKept};
 ghost use Rattle.cap_audit.specs.Covering.{AreRoots};
-ghost use Rattle.cap_audit.specs.Start.{repeated};
-ghost use Rattle.std.specs.Prelude.{◌≡◌, ◌<◌, ◌^◌, ◌==◌, if◌then◌else◌, [], IfOk, OnOk, length, map, slice_index, slice_set};
+ghost use Rattle.std.specs.Prelude.{◌≡◌, ◌<◌, ◌^◌, ◌==◌, if◌then◌else◌, IfOk, OnOk, length, map, slice_index, slice_set};
 
-use crate::gates::{Roster, no_rosters, put_thread, threads_of};
 use crate::roots;
+use crate::rows::Rows;
 use cam_base::Made;
 use cap_model::{Labels, Spec};
 use std::alloc::Global;
@@ -68,28 +67,13 @@ fn first_like(row: &[u32], marks: &[u32], c: u32) -> u32
 }
 
 /// Puts an object that stands for itself into the row of its class.
-fn put_first(rows: &mut [Roster], class: u32, first: u32, c: u32) -> Made<()>
+fn put_first(rows: &mut Rows<u32>, class: u32, first: u32, c: u32) -> Made<()>
     ensures { OnOk result (rows.new ≡ (if first == c then with_more rows.old class c else rows.old)) }
 {
     if first == c {
-        return put_thread(rows, class, c);
+        return rows.push(class, c);
     }
     Ok(())
-}
-
-fn firsts_in(alloc: Global, rows: &mut [Roster], classes: &[u32], marks: &[u32]) -> Made<Vec<u32>>
-    requires few { length classes.now < 2 ^ 32 }
-    requires none { rows.old ≡ repeated [] (length classes.now) }
-    ensures { IfOk result (λ firsts. AreFirsts classes.now marks.now firsts.items (length classes.now)) }
-{
-    let mut firsts = Vec::new(alloc);
-    for c in 0..classes.len() {
-        let class = classes[c];
-        let first = first_like(threads_of(rows, class), marks, c as u32);
-        put_first(rows, class, first, c as u32)?;
-        firsts.push(first)?;
-    }
-    Ok(firsts)
 }
 
 /// By places, the first with the same class and the same mark.
@@ -97,8 +81,14 @@ fn firsts(alloc: Global, classes: &[u32], marks: &[u32]) -> Made<Vec<u32>>
     requires { length classes.now < 2 ^ 32 }
     ensures { IfOk result (λ firsts. AreFirsts classes.now marks.now firsts.items (length classes.now)) }
 {
-    let mut rows = no_rosters(alloc, classes.len())?;
-    let firsts = firsts_in(alloc, rows.as_mut_slice(), classes, marks)?;
+    let mut rows = Rows::new(alloc, classes.len())?;
+    let mut firsts = Vec::new(alloc);
+    for c in 0..classes.len() {
+        let class = classes[c];
+        let first = first_like(rows.row(class), marks, c as u32);
+        put_first(&mut rows, class, first, c as u32)?;
+        firsts.push(first)?;
+    }
     Ok(firsts)
 }
 
@@ -159,23 +149,14 @@ pub fn head_roots(alloc: Global, spec: &Spec, heads: &[u32]) -> Made<Vec<Option<
     Ok(roots)
 }
 
-fn put_members(members: &mut [Roster], heads: &[u32]) -> Made<()>
-    requires few { length heads.now < 2 ^ 32 }
-    requires none { members.old ≡ repeated [] (length heads.now) }
-    ensures { OnOk result (AreMembers heads.now members.new (length heads.now)) }
-{
-    for c in 0..heads.len() {
-        put_thread(members, heads[c], c as u32)?;
-    }
-    Ok(())
-}
-
 /// The objects by who stands for them.
-pub fn members(alloc: Global, heads: &[u32]) -> Made<Vec<Roster>>
+pub fn members(alloc: Global, heads: &[u32]) -> Made<Rows<u32>>
     requires { length heads.now < 2 ^ 32 }
-    ensures { IfOk result (λ members. AreMembers heads.now members.items (length heads.now)) }
+    ensures { IfOk result (λ members. AreMembers heads.now members (length heads.now)) }
 {
-    let mut members = no_rosters(alloc, heads.len())?;
-    put_members(members.as_mut_slice(), heads)?;
+    let mut members = Rows::new(alloc, heads.len())?;
+    for c in 0..heads.len() {
+        members.push(heads[c], c as u32)?;
+    }
     Ok(members)
 }

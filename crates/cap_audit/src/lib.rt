@@ -15,6 +15,7 @@ mod making;
 mod picks;
 mod refuse;
 mod report;
+mod rows;
 mod search;
 mod spread_laws;
 mod ways;

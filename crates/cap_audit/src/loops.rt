@@ -10,12 +10,14 @@ ghost use Rattle.cap_audit.specs.Search.{held_by};
 ghost use Rattle.cap_audit.specs.Spread.{HasRoot};
 ghost use Rattle.cap_audit.specs.declared.found.Pair.{Pair};
 ghost use Rattle.std.specs.List.{Contains};
-ghost use Rattle.std.specs.Prelude.{◌≡◌, ℕ, None, Some, IsTrue, OnOk, length, slice_get, slice_index_or};
+ghost use Rattle.std.specs.Prelude.{◌≡◌, ℕ, None, Some, IsTrue, OnOk, length};
 
 use crate::Pair;
-use crate::gates::{Company, Party, Place, Roster, doors_at, put_thread, threads_of};
+use crate::gates::{Company, Party, Place};
 use crate::making::{Deed, Making};
 use crate::picks::{Pick, Wanted};
+use crate::rows::Rows;
+use crate::search::thread_of;
 use cam_base::Made;
 
 /// Shows what the capability of a pair confers, where its CNode is a face.
@@ -115,16 +117,6 @@ fn act_at_root(making: &mut Making<'_>, deed: Deed, root: Option<u32>, node: u32
     }
 }
 
-/// A thread with this root, if there is one.
-fn thread_of(roots: &[Option<u32>], c: u32) -> Option<u32>
-    ensures { result ≡ slice_index_or roots.now c None }
-{
-    match roots.get(c as usize) {
-        Some(thread) => *thread,
-        None => None,
-    }
-}
-
 /// Makes threads take all such steps, one thread of each root.
 pub fn act_at_all(making: &mut Making<'_>, deed: Deed, roots: &[Option<u32>]) -> Made<()>
     requires so_far { IsSoFar making.old }
@@ -173,7 +165,7 @@ fn call_from_each(
 ) -> Made<()>
     requires so_far { IsSoFar making.old }
     requires meets { Meets making.old.spec making.old.found at peer }
-    requires roots { (k t : ℕ) → slice_get threads.now k ≡ Some t → HasRoot making.old.spec t at.node }
+    requires roots { (t : ℕ) → Contains threads.now t → HasRoot making.old.spec t at.node }
     requires peer_root { HasRoot making.old.spec u peer.node }
     ensures { OnOk result (Gains (OfSome (OfCall making.old.labels u peer.node) threads.now) making.old making.new) }
 {
@@ -184,14 +176,14 @@ fn call_from_each(
 }
 
 /// All threads with the one root call those with the other.
-fn call_between(making: &mut Making<'_>, rosters: &[Roster], at: Place, peer: Place) -> Made<()>
+fn call_between(making: &mut Making<'_>, rosters: &Rows<u32>, at: Place, peer: Place) -> Made<()>
     requires so_far { IsSoFar making.old }
     requires rosters { AreRosters making.old.spec rosters.now (length making.old.spec.entries) }
     requires meets { Meets making.old.spec making.old.found at peer }
     ensures { OnOk result (Gains (Between making.old.labels rosters.now at.node peer.node) making.old making.new) }
 {
-    let callers = threads_of(rosters, at.node);
-    let peers = threads_of(rosters, peer.node);
+    let callers = rosters.row(at.node);
+    let peers = rosters.row(peer.node);
     for u in peers {
         call_from_each(making, callers, at, *u, peer)?;
     }
@@ -201,13 +193,13 @@ fn call_between(making: &mut Making<'_>, rosters: &[Roster], at: Place, peer: Pl
 /// All threads that may call at an endpoint call those with this root.
 fn call_from_gate(
     making: &mut Making<'_>,
-    rosters: &[Roster],
+    rosters: &Rows<u32>,
     gate: &[Place],
     peer: Place,
 ) -> Made<()>
     requires so_far { IsSoFar making.old }
     requires rosters { AreRosters making.old.spec rosters.now (length making.old.spec.entries) }
-    requires meet { (k : ℕ) (at : Place) → slice_get gate.now k ≡ Some at → Meets making.old.spec making.old.found at peer }
+    requires meet { (at : Place) → Contains gate.now at → Meets making.old.spec making.old.found at peer }
     ensures { OnOk result (Gains (OfSome (λ at. Between making.old.labels rosters.now at.node peer.node) gate.now)
         making.old making.new) }
 {
@@ -220,13 +212,13 @@ fn call_from_gate(
 /// All at the first places call all at the second.
 fn call_all(
     making: &mut Making<'_>,
-    rosters: &[Roster],
+    rosters: &Rows<u32>,
     callers: &[Place],
     peers: &[Place],
 ) -> Made<()>
     requires so_far { IsSoFar making.old }
     requires rosters { AreRosters making.old.spec rosters.now (length making.old.spec.entries) }
-    requires meet { (j k : ℕ) (peer at : Place) → slice_get peers.now j ≡ Some peer → slice_get callers.now k ≡ Some at
+    requires meet { (peer at : Place) → Contains peers.now peer → Contains callers.now at
         → Meets making.old.spec making.old.found at peer }
     ensures { OnOk result
         (Gains (OfSome (λ peer. OfSome (λ at. Between making.old.labels rosters.now at.node peer.node) callers.now) peers.now)
@@ -241,20 +233,23 @@ fn call_all(
 /// All for whom the CNode of the first pair stands call all for whom that of the second stands, by these values.
 fn call_kinds(making: &mut Making<'_>, company: &Company, door: Pair, pair: Pair) -> Made<()>
     requires so_far { IsSoFar making.old }
-    requires ready { AreReady making.old.spec making.old.found making.old.heads company.now.rosters.items
-        company.now.members.items company.now.gates.items }
+    requires ready { AreReady making.old.spec making.old.found making.old.heads company.now.rosters
+        company.now.members company.now.gates }
     requires door { IsQueued making.old.found door.node door.held.value }
     requires pair { IsQueued making.old.found pair.node pair.held.value }
     requires meet { MeetBy making.old.spec making.old.found door.held.value pair.held.value }
     ensures { OnOk result
-        (Gains (OfKinds making.old.labels company.now.rosters.items company.now.members.items door.node pair.node)
+        (Gains (OfKinds making.old.labels company.now.rosters company.now.members door.node pair.node)
         making.old making.new) }
 {
-    let members = company.members.as_slice();
-    let callers = making.places(threads_of(members, door.node), door.held.value)?;
-    let peers = making.places(threads_of(members, pair.node), pair.held.value)?;
-    let rosters = company.rosters.as_slice();
-    call_all(making, rosters, callers.as_slice(), peers.as_slice())?;
+    let callers = making.places(company.members.row(door.node), door.held.value)?;
+    let peers = making.places(company.members.row(pair.node), pair.held.value)?;
+    call_all(
+        making,
+        &company.rosters,
+        callers.as_slice(),
+        peers.as_slice(),
+    )?;
     Ok(())
 }
 
@@ -269,26 +264,26 @@ fn knows(row: &[u32], object: u32) -> bool
 fn meet(
     making: &mut Making<'_>,
     company: &Company,
-    met: &mut [Roster],
+    met: &mut Rows<u32>,
     door: Pair,
     pair: Pair,
 ) -> Made<()>
     requires so_far { IsSoFar making.old }
-    requires ready { AreReady making.old.spec making.old.found making.old.heads company.now.rosters.items
-        company.now.members.items company.now.gates.items }
-    requires are_met { AreMet making.old.labels company.now.rosters.items company.now.members.items met.old making.old.edges }
+    requires ready { AreReady making.old.spec making.old.found making.old.heads company.now.rosters
+        company.now.members company.now.gates }
+    requires are_met { AreMet making.old.labels company.now.rosters company.now.members met.old making.old.edges }
     requires door { IsQueued making.old.found door.node door.held.value }
     requires pair { IsQueued making.old.found pair.node pair.held.value }
     requires meet { MeetBy making.old.spec making.old.found door.held.value pair.held.value }
-    ensures { OnOk result (Greets company.now.rosters.items company.now.members.items
-        (OfKinds making.old.labels company.now.rosters.items company.now.members.items door.node pair.node)
+    ensures { OnOk result (Greets company.now.rosters company.now.members
+        (OfKinds making.old.labels company.now.rosters company.now.members door.node pair.node)
         making.old making.new met.new) }
 {
-    if knows(threads_of(met, door.node), pair.node) {
+    if knows(met.row(door.node), pair.node) {
         return Ok(());
     }
     call_kinds(making, company, door, pair)?;
-    put_thread(met, door.node, pair.node)?;
+    met.push(door.node, pair.node)?;
     Ok(())
 }
 
@@ -296,20 +291,19 @@ fn meet(
 fn meet_all(
     making: &mut Making<'_>,
     company: &Company,
-    met: &mut [Roster],
+    met: &mut Rows<u32>,
     gate: &[Pair],
     pair: Pair,
 ) -> Made<()>
     requires so_far { IsSoFar making.old }
-    requires ready { AreReady making.old.spec making.old.found making.old.heads company.now.rosters.items
-        company.now.members.items company.now.gates.items }
-    requires are_met { AreMet making.old.labels company.now.rosters.items company.now.members.items met.old making.old.edges }
-    requires doors { (k : ℕ) (door : Pair) → slice_get gate.now k ≡ Some door
-        → IsQueued making.old.found door.node door.held.value × MeetBy making.old.spec making.old.found
+    requires ready { AreReady making.old.spec making.old.found making.old.heads company.now.rosters
+        company.now.members company.now.gates }
+    requires are_met { AreMet making.old.labels company.now.rosters company.now.members met.old making.old.edges }
+    requires doors { (door : Pair) → Contains gate.now door → IsQueued making.old.found door.node door.held.value × MeetBy making.old.spec making.old.found
         door.held.value pair.held.value }
     requires pair { IsQueued making.old.found pair.node pair.held.value }
-    ensures { OnOk result (Greets company.now.rosters.items company.now.members.items
-        (OfSome (λ door. OfKinds making.old.labels company.now.rosters.items company.now.members.items door.node
+    ensures { OnOk result (Greets company.now.rosters company.now.members
+        (OfSome (λ door. OfKinds making.old.labels company.now.rosters company.now.members door.node
         pair.node) gate.now)
         making.old making.new met.new) }
 {
@@ -320,22 +314,22 @@ fn meet_all(
 }
 
 /// Those who may call call those for whom the pair's CNode stands, where its capability listens.
-fn listen(making: &mut Making<'_>, company: &Company, met: &mut [Roster], pair: Pair) -> Made<()>
+fn listen(making: &mut Making<'_>, company: &Company, met: &mut Rows<u32>, pair: Pair) -> Made<()>
     requires so_far { IsSoFar making.old }
-    requires ready { AreReady making.old.spec making.old.found making.old.heads company.now.rosters.items
-        company.now.members.items company.now.gates.items }
-    requires are_met { AreMet making.old.labels company.now.rosters.items company.now.members.items met.old making.old.edges }
+    requires ready { AreReady making.old.spec making.old.found making.old.heads company.now.rosters
+        company.now.members company.now.gates }
+    requires are_met { AreMet making.old.labels company.now.rosters company.now.members met.old making.old.edges }
     requires pair { IsQueued making.old.found pair.node pair.held.value }
-    ensures { OnOk result (Greets company.now.rosters.items company.now.members.items
-        (OfListening making.old.spec making.old.labels making.old.found making.old.heads company.now.rosters.items
-        company.now.members.items company.now.gates.items pair) making.old making.new met.new) }
+    ensures { OnOk result (Greets company.now.rosters company.now.members
+        (OfListening making.old.spec making.old.labels making.old.found making.old.heads company.now.rosters
+        company.now.members company.now.gates pair) making.old making.new met.new) }
 {
     if !making.is_head(pair.node) {
         return Ok(());
     }
     match making.pick(Wanted::Listener, pair.held) {
         Some(pick) => {
-            let gate = doors_at(company.gates.as_slice(), pick.cap.object);
+            let gate = company.gates.row(pick.cap.object);
             meet_all(making, company, met, gate, pair)?;
             Ok(())
         }
@@ -344,14 +338,14 @@ fn listen(making: &mut Making<'_>, company: &Company, met: &mut [Roster], pair: 
 }
 
 /// Shows all calls.
-pub fn listen_all(making: &mut Making<'_>, company: &Company, met: &mut [Roster]) -> Made<()>
+pub fn listen_all(making: &mut Making<'_>, company: &Company, met: &mut Rows<u32>) -> Made<()>
     requires so_far { IsSoFar making.old }
-    requires ready { AreReady making.old.spec making.old.found making.old.heads company.now.rosters.items
-        company.now.members.items company.now.gates.items }
-    requires are_met { AreMet making.old.labels company.now.rosters.items company.now.members.items met.old making.old.edges }
-    ensures { OnOk result (Greets company.now.rosters.items company.now.members.items
-        (OfSome (OfListening making.old.spec making.old.labels making.old.found making.old.heads company.now.rosters.items
-        company.now.members.items company.now.gates.items) making.old.found.queue) making.old making.new met.new) }
+    requires ready { AreReady making.old.spec making.old.found making.old.heads company.now.rosters
+        company.now.members company.now.gates }
+    requires are_met { AreMet making.old.labels company.now.rosters company.now.members met.old making.old.edges }
+    ensures { OnOk result (Greets company.now.rosters company.now.members
+        (OfSome (OfListening making.old.spec making.old.labels making.old.found making.old.heads company.now.rosters
+        company.now.members company.now.gates) making.old.found.queue) making.old making.new met.new) }
 {
     for place in 0..making.count() {
         listen(making, company, met, making.pair(place))?;

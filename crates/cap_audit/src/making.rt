@@ -16,14 +16,14 @@ ghost use Rattle.cap_model.specs.Auth.{Auth};
 ghost use Rattle.cap_model.specs.Kept.{IsKept};
 ghost use Rattle.cap_model.specs.State.{boot};
 ghost use Rattle.cap_audit.specs.Search.{HoldsAt, held_by};
-ghost use Rattle.cap_audit.specs.Start.{repeated};
 ghost use Rattle.std.specs.List.{filter_map};
-ghost use Rattle.std.specs.Prelude.{Some, ◌≡◌, ◌==◌, ◌≢◌, ◌<◌, ◌+◌, ℕ, length, slice_get, ◌++◌, ◌∷◌, ◌↔◌, [], true, IfOk, IsTrue, OnOk, slice_set, slice_index};
+ghost use Rattle.std.specs.Prelude.{Some, ◌≡◌, ◌==◌, ◌≢◌, ◌<◌, ◌+◌, ℕ, length, replicate, slice_get, ◌++◌, ◌∷◌, ◌↔◌, [], true, IfOk, IsTrue, OnOk, slice_set, slice_index};
 
 use crate::found::put_next;
-use crate::gates::{Company, Party, Place, Roster, gates, no_rosters, rosters};
+use crate::gates::{Company, Party, Place, gates, rosters};
 use crate::kinds::{Kinds, head_roots, members, stand_in};
 use crate::picks::{Pick, Wanted, picked, picks, places};
+use crate::rows::Rows;
 use crate::{Findings, Held, Pair, whole};
 use cam_base::NoMemory;
 use cap_machine::{Step, direct, with_cap, with_link};
@@ -230,9 +230,9 @@ impl<'a> Making<'a> {
         requires kept { IsKept self.now.spec }
         requires all { IsAll self.now.spec self.now.found }
         requires as_many { length self.now.heads ≡ length self.now.spec.entries }
-        ensures rosters { IfOk result (λ c. AreRosters self.now.spec c.rosters.items (length self.now.spec.entries)) }
-        ensures members { IfOk result (λ c. AreMembers self.now.heads c.members.items (length self.now.heads)) }
-        ensures gates { IfOk result (λ c. AreGates self.now.spec self.now.found self.now.heads c.gates.items
+        ensures rosters { IfOk result (λ c. AreRosters self.now.spec c.rosters (length self.now.spec.entries)) }
+        ensures members { IfOk result (λ c. AreMembers self.now.heads c.members (length self.now.heads)) }
+        ensures gates { IfOk result (λ c. AreGates self.now.spec self.now.found self.now.heads c.gates
             (length self.now.found.queue)) }
     {
         let heads = self.kinds.heads.as_slice();
@@ -247,10 +247,10 @@ impl<'a> Making<'a> {
     }
 
     /// Rows in which nobody has met.
-    pub fn nobody(&self) -> Result<Vec<Roster>, NoMemory>
-        ensures { IfOk result (λ met. met.items ≡ repeated [] (length self.now.spec.entries)) }
+    pub fn nobody(&self) -> Result<Rows<u32>, NoMemory>
+        ensures { IfOk result (λ met. met ≡ replicate (length self.now.spec.entries) []) }
     {
-        no_rosters(self.alloc, self.spec.entries.len())
+        Rows::new(self.alloc, self.spec.entries.len())
     }
 
     /// Where these CNodes have the value.

@@ -132,6 +132,6 @@ fn show_calls(making: &mut Making<'_>) -> Made<()>
 {
     let company = making.company()?;
     let mut met = making.nobody()?;
-    listen_all(making, &company, met.as_mut_slice())?;
+    listen_all(making, &company, &mut met)?;
     Ok(())
 }

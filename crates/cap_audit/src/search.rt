@@ -3,7 +3,7 @@
 ghost use Rattle.cap_audit.specs.Covering.{AreAlike, AreHubs, AreRoots, Covers, CoversPair, GoesOn, IsFoundAt, IsSearch, Links};
 ghost use Rattle.cap_audit.specs.Search.{held_by, HoldsAt, IsFound};
 ghost use Rattle.cap_audit.specs.Spread.{HasRoot, IsClosed};
-ghost use Rattle.cap_audit.specs.Ways.{AreWays};
+ghost use Rattle.cap_audit.specs.Ways.{IsWeb};
 ghost use Rattle.cap_model.specs.Kept.{IsKept};
 ghost use Rattle.cap_model.specs.Kinds.{is_at};
 ghost use Rattle.cap_model.specs.declared.kind.Kind.TheVariants as kinds;
@@ -13,20 +13,18 @@ ghost use Rattle.std.specs.Prelude.{◌≡◌, ◌<◌, ◌+◌, true, None, len
 use crate::begin::{begin, roots};
 use crate::found::{Course, Findings, Pair, Way};
 use crate::hubs::{Hubs, Member};
-use crate::ways::{Net, Web, connect, go_along};
+use crate::ways::{Net, Web, go_along};
 use cam_base::Made;
 use cap_model::{Kind, Spec};
 use std::alloc::Global;
 
 /// Connects a root with the CNode that it has a capability to, there and back.
-fn link(alloc: Global, web: &mut Web, spec: &Spec, member: Member) -> Made<()>
-    requires found { IsFound spec.now web.old.findings }
-    requires ways { AreWays spec.now web.old.findings web.old.net }
+fn link(web: &mut Web, spec: &Spec, member: Member) -> Made<()>
+    requires web { IsWeb spec.now web.old }
     requires root { HasRoot spec.now member.thread member.node }
     requires at { HoldsAt web.old.findings member.node member.number member.cap }
     requires is { is_at spec.now kinds.CNode member.cap.object ≡ true }
-    ensures { OnOk result (Links spec.now web.old.findings web.old.net member.node member.cap.object
-        web.new.findings web.new.net) }
+    ensures { OnOk result (Links spec.now web.old member.node member.cap.object web.new) }
 {
     if web.net.are_joined(member.node, member.cap.object) {
         return Ok(());
@@ -38,7 +36,7 @@ fn link(alloc: Global, web: &mut Web, spec: &Spec, member: Member) -> Made<()>
             i: member.number,
         },
     };
-    connect(alloc, web, spec, member.node, there)?;
+    web.connect(spec, member.node, there)?;
     let back = Way {
         to: member.node,
         course: Course::Take {
@@ -46,32 +44,31 @@ fn link(alloc: Global, web: &mut Web, spec: &Spec, member: Member) -> Made<()>
             i: member.number,
         },
     };
-    connect(alloc, web, spec, member.cap.object, back)?;
+    web.connect(spec, member.cap.object, back)?;
     web.net.join(member.node, member.cap.object);
     Ok(())
 }
 
 /// Does what the rules ask for because a root has this capability.
-fn cover_cap(alloc: Global, web: &mut Web, hubs: &mut Hubs, spec: &Spec, member: Member) -> Made<()>
-    requires found { IsFound spec.now web.old.findings }
-    requires ways { AreWays spec.now web.old.findings web.old.net }
-    requires hubs { AreHubs spec.now web.old.findings web.old.net hubs.old }
+fn cover_cap(web: &mut Web, hubs: &mut Hubs, spec: &Spec, member: Member) -> Made<()>
+    requires web { IsWeb spec.now web.old }
+    requires hubs { AreHubs spec.now web.old hubs.old }
     requires root { HasRoot spec.now member.thread member.node }
     requires at { HoldsAt web.old.findings member.node member.number member.cap }
-    ensures { OnOk result (Covers spec.now web.old.findings web.old.net hubs.old member.node member.cap web.new.findings
-        web.new.net hubs.new) }
+    ensures { OnOk result (Covers spec.now web.old hubs.old member.node member.cap web.new hubs.new) }
 {
     if is_kind(spec, member.cap.object, Kind::CNode) {
-        link(alloc, web, spec, member)?;
+        link(web, spec, member)?;
         return Ok(());
     }
     if is_kind(spec, member.cap.object, Kind::Endpoint) {
-        hubs.attend_all(alloc, web, spec, member)?;
+        hubs.attend(web, spec, member)?;
         return Ok(());
     }
     Ok(())
 }
 
+/// Whether an object is of a kind.
 pub fn is_kind(spec: &Spec, object: u32, kind: Kind) -> bool
     ensures { result ≡ is_at spec.now kind object }
 {
@@ -82,7 +79,7 @@ pub fn is_kind(spec: &Spec, object: u32, kind: Kind) -> bool
 }
 
 /// The thread whose root the CNode is, if it is one's.
-fn thread_of(roots: &[Option<u32>], c: u32) -> Option<u32>
+pub(crate) fn thread_of(roots: &[Option<u32>], c: u32) -> Option<u32>
     ensures { result ≡ slice_index_or roots.now c None }
 {
     match roots.get(c as usize) {
@@ -92,20 +89,12 @@ fn thread_of(roots: &[Option<u32>], c: u32) -> Option<u32>
 }
 
 /// Does what the rules ask for because of this pair.
-fn cover(
-    alloc: Global,
-    web: &mut Web,
-    hubs: &mut Hubs,
-    spec: &Spec,
-    roots: &[Option<u32>],
-    pair: Pair,
-) -> Made<()>
-    requires found { IsFound spec.now web.old.findings }
-    requires ways { AreWays spec.now web.old.findings web.old.net }
-    requires hubs { AreHubs spec.now web.old.findings web.old.net hubs.old }
+fn cover(web: &mut Web, hubs: &mut Hubs, spec: &Spec, roots: &[Option<u32>], pair: Pair) -> Made<()>
+    requires web { IsWeb spec.now web.old }
+    requires hubs { AreHubs spec.now web.old hubs.old }
     requires roots { AreRoots spec.now roots.now }
     requires held { Contains (held_by web.old.findings pair.node) pair.held }
-    ensures { OnOk result (CoversPair spec.now web.old.findings web.old.net hubs.old pair web.new.findings web.new.net hubs.new) }
+    ensures { OnOk result (CoversPair spec.now web.old hubs.old pair web.new hubs.new) }
 {
     let thread = match thread_of(roots, pair.node) {
         Some(thread) => thread,
@@ -121,52 +110,39 @@ fn cover(
         number: pair.held.number,
         cap,
     };
-    cover_cap(alloc, web, hubs, spec, member)?;
+    cover_cap(web, hubs, spec, member)?;
     Ok(())
 }
 
 /// Looks at the pair at a place of the queue.
 fn look(
-    alloc: Global,
     web: &mut Web,
     hubs: &mut Hubs,
     spec: &Spec,
     roots: &[Option<u32>],
     place: usize,
 ) -> Made<()>
-    requires search { IsSearch spec.now web.old.findings web.old.net hubs.old place }
+    requires search { IsSearch spec.now web.old hubs.old place }
     requires inside { place < length web.old.findings.queue }
     requires roots { AreRoots spec.now roots.now }
-    ensures { OnOk result (GoesOn spec.now web.old.findings (place + 1) web.new.findings web.new.net hubs.new) }
+    ensures { OnOk result (GoesOn spec.now web.old (place + 1) web.new hubs.new) }
 {
     let pair = web.findings.pair(place);
-    go_along(
-        &mut web.findings,
-        spec,
-        pair.node,
-        web.net.ways(pair.node),
-        pair.held,
-    )?;
-    cover(alloc, web, hubs, spec, roots, pair)?;
+    let ways = web.net.ways(pair.node);
+    go_along(&mut web.findings, spec, pair.node, ways, pair.held)?;
+    cover(web, hubs, spec, roots, pair)?;
     Ok(())
 }
 
 /// Looks at all pairs, also those that are found on the way.
-pub fn search(
-    alloc: Global,
-    web: &mut Web,
-    hubs: &mut Hubs,
-    spec: &Spec,
-    roots: &[Option<u32>],
-) -> Made<()>
-    requires search { IsSearch spec.now web.old.findings web.old.net hubs.old 0 }
+fn search(web: &mut Web, hubs: &mut Hubs, spec: &Spec, roots: &[Option<u32>]) -> Made<()>
+    requires search { IsSearch spec.now web.old hubs.old 0 }
     requires roots { AreRoots spec.now roots.now }
-    ensures { OnOk result (GoesOn spec.now web.old.findings (length web.new.findings.queue) web.new.findings
-        web.new.net hubs.new) }
+    ensures { OnOk result (GoesOn spec.now web.old (length web.new.findings.queue) web.new hubs.new) }
 {
     let mut done = 0;
     while done < web.findings.count() {
-        look(alloc, web, hubs, spec, roots, done)?;
+        look(web, hubs, spec, roots, done)?;
         done += 1;
     }
     Ok(())
@@ -189,11 +165,19 @@ pub fn spread(alloc: Global, spec: &Spec) -> Made<Classed>
     let n = spec.entries.len();
     let findings = begin(alloc, spec)?;
     let net = Net::new(alloc, n)?;
-    let mut web = Web { findings, net };
+    let mut web = Web {
+        alloc,
+        findings,
+        net,
+    };
     let mut hubs = Hubs::new(alloc, n)?;
     let roots = roots(alloc, spec)?;
-    search(alloc, &mut web, &mut hubs, spec, roots.as_slice())?;
-    let Web { findings, net } = web;
+    search(&mut web, &mut hubs, spec, roots.as_slice())?;
+    let Web {
+        alloc: _,
+        findings,
+        net,
+    } = web;
     Ok(Classed {
         findings,
         classes: net.into_classes(),

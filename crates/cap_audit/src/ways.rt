@@ -1,59 +1,19 @@
 //! Ways from one CNode to another, along which all goes that is found.
 
 ghost use Rattle.cap_audit.specs.Search.{held_by, IsFound, IsWay};
-ghost use Rattle.cap_audit.specs.Start.{repeated, IsCounted};
-ghost use Rattle.cap_audit.specs.Ways.{ways_from, with_way, InClass, AreWays, GoesAlong, AllGo, Connects, HasWay, JoinsBack, LeadsTo, Merges, Unites};
+ghost use Rattle.cap_audit.specs.Start.{IsCounted};
+ghost use Rattle.cap_audit.specs.Ways.{ways_from, with_way, InClass, GoesAlong, AllGo, Connects, HasWay, IsWeb, JoinsBack, LeadsTo, Merges, Unites};
 ghost use Rattle.cap_audit.specs.declared.found.Held.{Held};
 ghost use Rattle.cap_audit.specs.declared.found.Way.{Way};
 ghost use Rattle.std.specs.List.{Contains};
-ghost use Rattle.std.specs.Prelude.{◌≡◌, ◌<◌, ◌^◌, ◌++◌, ◌∷◌, [], length, IsTrue, IfOk, OnOk, slice_set, slice_index_or};
+ghost use Rattle.std.specs.Prelude.{◌≡◌, ◌<◌, ◌^◌, [], length, replicate, IsTrue, IfOk, OnOk, slice_index_or};
 
 use crate::found::{Findings, Held, Way};
+use crate::rows::Rows;
 use cam_base::Made;
 use cap_model::Spec;
 use std::alloc::Global;
 use std::marker::Model;
-
-/// The ways out of one CNode.
-#[derive(Drop)]
-pub struct Lane {
-    ways: Vec<Way>,
-}
-
-impl Model for Lane {
-    ghost use Rattle.cap_audit.specs.declared.found.Way.{Way};
-    ghost use Rattle.std.specs.Prelude.{List};
-
-    ghost Value = { List Way };
-
-    ghost view = { λ l. l.ways.items };
-}
-
-impl Lane {
-    fn push(&mut self, way: Way) -> Made<()>
-        ensures { OnOk result (self.new ≡ self.old ++ way ∷ []) }
-    {
-        self.ways.push(way)?;
-        Ok(())
-    }
-
-    fn ways(&self) -> &[Way]
-        ensures { result.now ≡ self.now }
-    {
-        self.ways.as_slice()
-    }
-}
-
-fn put_way(lanes: &mut [Lane], c: u32, way: Way) -> Made<()>
-    ensures { OnOk result (lanes.new ≡ slice_set lanes.old c (slice_index_or lanes.old c [] ++ way ∷ [])) }
-{
-    let c = c as usize;
-    if c < lanes.len() {
-        let lane = &mut lanes[c];
-        lane.push(way)?;
-    }
-    Ok(())
-}
 
 /// Makes the class of `d` the class of `c`.
 fn merge(classes: &mut [u32], c: u32, d: u32)
@@ -73,16 +33,16 @@ fn merge(classes: &mut [u32], c: u32, d: u32)
 /// Ways out of each object, and classes of objects that ways join in both directions.
 #[derive(Drop)]
 pub struct Net {
-    out: Vec<Lane>,
+    out: Rows<Way>,
     classes: Vec<u32>,
 }
 
 impl Model for Net {
-    ghost use Rattle.cap_audit.specs.Ways.{Lanes};
+    ghost use Rattle.cap_audit.specs.Nets.{Lanes};
 
     ghost Value = { Lanes };
 
-    ghost view = { λ n. record { out = n.out.items; classes = n.classes.items } };
+    ghost view = { λ n. record { out = n.out; classes = n.classes.items } };
 }
 
 fn counted(alloc: Global, n: usize) -> Made<Vec<u32>>
@@ -96,26 +56,14 @@ fn counted(alloc: Global, n: usize) -> Made<Vec<u32>>
     Ok(numbers)
 }
 
-fn lanes(alloc: Global, n: usize) -> Made<Vec<Lane>>
-    ensures { IfOk result (λ lanes. lanes.items ≡ repeated [] n) }
-{
-    let mut lanes = Vec::new(alloc);
-    for _ in 0..n {
-        lanes.push(Lane {
-            ways: Vec::new(alloc),
-        })?;
-    }
-    Ok(lanes)
-}
-
 impl Net {
     /// No ways, and each of n objects in a class of its own.
     pub fn new(alloc: Global, n: usize) -> Made<Net>
         requires { n < 2 ^ 32 }
-        ensures out { IfOk result (λ net. net.out ≡ repeated [] n) }
+        ensures out { IfOk result (λ net. net.out ≡ replicate n []) }
         ensures classes { IfOk result (λ net. IsCounted net.classes n) }
     {
-        let out = lanes(alloc, n)?;
+        let out = Rows::new(alloc, n)?;
         let classes = counted(alloc, n)?;
         Ok(Net { out, classes })
     }
@@ -141,10 +89,7 @@ impl Net {
     pub fn ways(&self, c: u32) -> &[Way]
         ensures { result.now ≡ ways_from self.now c }
     {
-        match self.out.get(c as usize) {
-            Some(lane) => lane.ways(),
-            None => &[],
-        }
+        self.out.row(c)
     }
 
     /// Whether a way leads from the one to the other, or to one that is joined with it.
@@ -209,8 +154,7 @@ impl Net {
     fn add(&mut self, c: u32, way: Way) -> Made<()>
         ensures { OnOk result (self.new ≡ with_way self.old c way) }
     {
-        put_way(&mut self.out, c, way)?;
-        Ok(())
+        self.out.push(c, way)
     }
 
     /// Says that both are joined in both directions.
@@ -259,27 +203,29 @@ fn all_go(findings: &mut Findings, spec: &Spec, from: u32, way: Way, helds: &[He
 /// What was found, and the ways along which all of it has gone.
 #[derive(Drop)]
 pub struct Web {
+    pub alloc: Global,
     pub findings: Findings,
     pub net: Net,
 }
 
-/// Sees to it that ways lead from one CNode to the end of this way, and that all has gone along them.
-pub fn connect(alloc: Global, web: &mut Web, spec: &Spec, from: u32, way: Way) -> Made<()>
-    requires found { IsFound spec.now web.old.findings }
-    requires ways { AreWays spec.now web.old.findings web.old.net }
-    requires way { IsWay spec.now web.old.findings from way }
-    requires from { from < length spec.now.entries }
-    ensures { OnOk result (Connects spec.now web.old.findings web.old.net from way.to web.new.findings web.new.net) }
-{
-    if web.net.are_joined(from, way.to) {
-        return Ok(());
+impl Web {
+    /// Sees to it that ways lead from one CNode to the end of this way, and that all has gone along them.
+    pub fn connect(&mut self, spec: &Spec, from: u32, way: Way) -> Made<()>
+        requires web { IsWeb spec.now self.old }
+        requires way { IsWay spec.now self.old.findings from way }
+        requires from { from < length spec.now.entries }
+        ensures { OnOk result (Connects spec.now self.old from way.to self.new) }
+    {
+        if self.net.are_joined(from, way.to) {
+            return Ok(());
+        }
+        if self.net.leads_to(from, way.to) {
+            return Ok(());
+        }
+        let helds = Vec::from_slice(self.alloc, self.findings.holdings(from))?;
+        all_go(&mut self.findings, spec, from, way, helds.as_slice())?;
+        self.net.add(from, way)?;
+        self.net.join_back(from, way.to);
+        Ok(())
     }
-    if web.net.leads_to(from, way.to) {
-        return Ok(());
-    }
-    let helds = web.findings.held_copy(alloc, from)?;
-    all_go(&mut web.findings, spec, from, way, helds.as_slice())?;
-    web.net.add(from, way)?;
-    web.net.join_back(from, way.to);
-    Ok(())
 }

@@ -1,6 +1,6 @@
 use Rattle.cap_audit.proofs.Common.{AreRosters, Entry, List, Some, ap, arith, get_or, length, root_of, subst, sym, ℕ, ◌<◌, ◌∙◌, ◌≡◌}
-use Rattle.cap_audit.proofs.Beginning.{root_item, root_inside}
-use Rattle.cap_audit.proofs.Gating.{rosters_more, rosters_none}
+use Rattle.cap_audit.proofs.Beginning.{root_item}
+use Rattle.cap_audit.proofs.Gating.{rosters_by, rosters_none}
 use Rattle.cap_audit.proofs.gates.enrol_all.Goals as goal
 
 pub loop-t-init : goal.loop-t-init
@@ -15,9 +15,8 @@ loop-t-preserved c =
     sym (root_item c.args.spec.now c.loop-t.t item less)
     ∙ (ap (λ (es : List Entry). root_of (Some (get_or es c.loop-t.t item).object)) (sym c.as_slice-entries.ensures)
     ∙ sym c.root_of.ensures) in
-    rosters_more c.args.spec.now c.loop-t.rosters c.enrol.new.rosters c.loop-t.t c.root_of.result
-    (λ d some. root_inside c.args.spec.now c.loop-t.t d c.requires.kept (is ∙ some)) c.loop-t.invariant is
-    c.in_ok-enrol.ensures
+    rosters_by c.args.spec.now c.loop-t.rosters c.loop-t.t c.loop-t.invariant c.root_of.result c.enrol.new.rosters c.requires.kept
+    is c.in_ok-enrol.ensures
 
 pub returns : goal.returns
 returns c =

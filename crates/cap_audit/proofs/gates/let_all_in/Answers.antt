@@ -1,5 +1,5 @@
 use Rattle.cap_audit.proofs.Common.{AreGates, arith, length, subst, ℕ, ◌≡◌}
-use Rattle.cap_audit.proofs.Gating.{gates_more, gates_none}
+use Rattle.cap_audit.proofs.Gating.{gates_by, gates_none}
 use Rattle.cap_audit.proofs.gates.let_all_in.Goals as goal
 
 pub loop-place-init : goal.loop-place-init
@@ -7,9 +7,8 @@ loop-place-init c = gates_none c.args.spec.now c.args.findings.now c.args.heads.
 
 pub loop-place-preserved : goal.loop-place-preserved
 loop-place-preserved c =
-    gates_more c.args.spec.now c.args.findings.now c.args.heads.now c.loop-place.gates c.let_in.new.gates c.loop-place.place
-    c.pair-pair.result c.caller.result c.pair-pair.ensures c.loop-place.invariant c.caller.ensures
-    c.in_ok-let_in.ensures
+    gates_by c.args.spec.now c.args.findings.now c.args.heads.now c.loop-place.gates c.loop-place.place c.pair-pair.result
+    c.pair-pair.ensures c.loop-place.invariant c.caller.result c.let_in.new.gates c.caller.ensures c.in_ok-let_in.ensures
 
 pub returns : goal.returns
 returns c =

@@ -1,17 +1,10 @@
-use Rattle.cap_audit.proofs.Common.{AtPlace, Gains, Made, OfDeed, OfSome, OwnsFrom, Pick, arith, false, get_or, slice_get-get_or, subst, sym}
-use Rattle.cap_audit.proofs.Gaining.{below_none, some_all, some_more}
+use Rattle.cap_audit.proofs.Common.{Contains-get_or, Gains, Made, OfDeed, OfSome, OwnsFrom, Pick, arith, get_or, slice_get-get_or, subst, sym}
+use Rattle.cap_audit.proofs.Gaining.{AtPlace, below_none, some_all, some_more}
+use Rattle.cap_audit.proofs.WaysMeeting.{no_member}
 use Rattle.cap_audit.proofs.loops.act_from_each.Goals as goal
 
 no_pick : Pick
-no_pick =
-    record {
-      number = 0;
-      cap = record {
-        object = 0;
-        rights = record { read = false; write = false; grant = false; reply = false };
-        badge = 0;
-      };
-    }
+no_pick = record { number = 0; cap = no_member.cap }
 
 pub loop-from-init : goal.loop-from-init
 loop-from-init c =
@@ -24,13 +17,13 @@ pub act_to_each-requires-clause-own : goal.act_to_each-requires-clause-own
 unfolding no_pick
 act_to_each-requires-clause-own c =
     let own = c.requires.own in
-    let there = slice_get-get_or c.args.froms.now c.loop-from.from-index no_pick c.loop-from-test.true in
+    let there = Contains-get_or c.args.froms.now c.loop-from.from-index no_pick c.loop-from-test.true in
     subst (λ (x : Made). OwnsFrom x.spec x.found c.args.t c.args.deed (get_or c.args.froms.now c.loop-from.from-index no_pick)
     c.args.tos.now) (sym c.loop-from.invariant.same) (record {
       node = own.node;
       root = own.root;
-      own_from = own.own_from c.loop-from.from-index (get_or c.args.froms.now c.loop-from.from-index no_pick) there;
-      is_from = own.is_from c.loop-from.from-index (get_or c.args.froms.now c.loop-from.from-index no_pick) there;
+      own_from = own.own_from (get_or c.args.froms.now c.loop-from.from-index no_pick) there;
+      is_from = own.is_from (get_or c.args.froms.now c.loop-from.from-index no_pick) there;
       own_to = own.own_to;
       is_to = own.is_to;
     })

@@ -1,4 +1,5 @@
-use Rattle.cap_audit.proofs.Common.{AtPlace, Below, Gains, OfDeed, OfSome, Pick}
+use Rattle.cap_audit.proofs.Common.{Below, Gains, OfDeed, OfSome, Pick}
+use Rattle.cap_audit.proofs.Gaining.{AtPlace}
 use Rattle.cap_audit.proofs.loops.act_from_each.Given as goal
 
 abbrev pub invariant-loop-from : goal.invariant-loop-from

@@ -1,17 +1,10 @@
-use Rattle.cap_audit.proofs.Common.{AtPlace, Gains, Made, OfDeed, OwnsBoth, Pick, arith, false, get_or, slice_get-get_or, subst, sym}
-use Rattle.cap_audit.proofs.Gaining.{below_none, some_all, some_more}
+use Rattle.cap_audit.proofs.Common.{Contains-get_or, Gains, Made, OfDeed, OwnsBoth, Pick, arith, get_or, slice_get-get_or, subst, sym}
+use Rattle.cap_audit.proofs.Gaining.{AtPlace, below_none, some_all, some_more}
+use Rattle.cap_audit.proofs.WaysMeeting.{no_member}
 use Rattle.cap_audit.proofs.loops.act_to_each.Goals as goal
 
 no_pick : Pick
-no_pick =
-    record {
-      number = 0;
-      cap = record {
-        object = 0;
-        rights = record { read = false; write = false; grant = false; reply = false };
-        badge = 0;
-      };
-    }
+no_pick = record { number = 0; cap = no_member.cap }
 
 pub loop-to-init : goal.loop-to-init
 loop-to-init c =
@@ -22,15 +15,15 @@ pub act-requires-clause-owns : goal.act-requires-clause-owns
 unfolding no_pick
 act-requires-clause-owns c =
     let own = c.requires.own in
-    let there = slice_get-get_or c.args.tos.now c.loop-to.to-index no_pick c.loop-to-test.true in
+    let there = Contains-get_or c.args.tos.now c.loop-to.to-index no_pick c.loop-to-test.true in
     subst (λ (x : Made). OwnsBoth x.spec x.found c.args.t c.args.deed c.args.from.now
     (get_or c.args.tos.now c.loop-to.to-index no_pick)) (sym c.loop-to.invariant.same) (record {
       node = own.node;
       root = own.root;
       own_from = own.own_from;
-      own_to = own.own_to c.loop-to.to-index (get_or c.args.tos.now c.loop-to.to-index no_pick) there;
+      own_to = own.own_to (get_or c.args.tos.now c.loop-to.to-index no_pick) there;
       is_from = own.is_from;
-      is_to = own.is_to c.loop-to.to-index (get_or c.args.tos.now c.loop-to.to-index no_pick) there;
+      is_to = own.is_to (get_or c.args.tos.now c.loop-to.to-index no_pick) there;
     })
 
 pub loop-to-preserved : goal.loop-to-preserved

@@ -1,4 +1,5 @@
-use Rattle.cap_audit.proofs.Common.{AtPlace, Below, Gains, OfDeed, Pick}
+use Rattle.cap_audit.proofs.Common.{Below, Gains, OfDeed, Pick}
+use Rattle.cap_audit.proofs.Gaining.{AtPlace}
 use Rattle.cap_audit.proofs.loops.act_to_each.Given as goal
 
 abbrev pub invariant-loop-to : goal.invariant-loop-to

@@ -1,5 +1,5 @@
-use Rattle.cap_audit.proofs.Common.{AreRosters, AtPlace, Between, Gains, Made, Meets, OfSome, Place, arith, get_or, length, slice_get-get_or, subst, sym}
-use Rattle.cap_audit.proofs.Gaining.{below_none, some_all, some_more}
+use Rattle.cap_audit.proofs.Common.{AreRosters, Between, Contains-get_or, Gains, Made, Meets, OfSome, Place, arith, get_or, length, slice_get-get_or, subst, sym}
+use Rattle.cap_audit.proofs.Gaining.{AtPlace, below_none, some_all, some_more}
 use Rattle.cap_audit.proofs.loops.call_all.Goals as goal
 
 no_place : Place
@@ -17,11 +17,11 @@ call_from_gate-requires-clause-rosters c = subst (λ (x : Made). AreRosters x.sp
 
 pub call_from_gate-requires-clause-meet : goal.call_from_gate-requires-clause-meet
 unfolding no_place
-call_from_gate-requires-clause-meet c = λ k at there.
+call_from_gate-requires-clause-meet c = λ at there.
     subst (λ (x : Made). Meets x.spec x.found at (get_or c.args.peers.now c.loop-peer.peer-index no_place))
     (sym c.loop-peer.invariant.same)
-    (c.requires.meet c.loop-peer.peer-index k (get_or c.args.peers.now c.loop-peer.peer-index no_place) at
-    (slice_get-get_or c.args.peers.now c.loop-peer.peer-index no_place c.loop-peer-test.true) there)
+    (c.requires.meet (get_or c.args.peers.now c.loop-peer.peer-index no_place) at
+    (Contains-get_or c.args.peers.now c.loop-peer.peer-index no_place c.loop-peer-test.true) there)
 
 pub loop-peer-preserved : goal.loop-peer-preserved
 unfolding no_place

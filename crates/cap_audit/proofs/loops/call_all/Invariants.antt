@@ -1,4 +1,5 @@
-use Rattle.cap_audit.proofs.Common.{AtPlace, Below, Between, Gains, OfSome, Place}
+use Rattle.cap_audit.proofs.Common.{Below, Between, Gains, OfSome, Place}
+use Rattle.cap_audit.proofs.Gaining.{AtPlace}
 use Rattle.cap_audit.proofs.loops.call_all.Given as goal
 
 abbrev pub invariant-loop-peer : goal.invariant-loop-peer

@@ -1,4 +1,5 @@
-use Rattle.cap_audit.proofs.Common.{AtPlace, Below, Gains, OfCall, OfSome, ℕ}
+use Rattle.cap_audit.proofs.Common.{Below, Gains, OfCall, OfSome, ℕ}
+use Rattle.cap_audit.proofs.Gaining.{AtPlace}
 use Rattle.cap_audit.proofs.loops.call_between.Given as goal
 
 abbrev pub invariant-loop-u : goal.invariant-loop-u

@@ -1,5 +1,5 @@
-use Rattle.cap_audit.proofs.Common.{AtPlace, Gains, HasRoot, Made, Meets, OfCall, arith, get_or, slice_get-get_or, subst, sym, ℕ}
-use Rattle.cap_audit.proofs.Gaining.{below_none, some_all, some_more}
+use Rattle.cap_audit.proofs.Common.{Contains-get_or, Gains, HasRoot, Made, Meets, OfCall, arith, get_or, slice_get-get_or, subst, sym, ℕ}
+use Rattle.cap_audit.proofs.Gaining.{AtPlace, below_none, some_all, some_more}
 use Rattle.cap_audit.proofs.loops.call_from_each.Goals as goal
 
 pub loop-t-init : goal.loop-t-init
@@ -14,8 +14,8 @@ pub call-requires-clause-root : goal.call-requires-clause-root
 call-requires-clause-root c =
     subst (λ (x : Made). HasRoot x.spec (get_or c.args.threads.now c.loop-t.t-index 0) c.args.at.node)
     (sym c.loop-t.invariant.same)
-    (c.requires.roots c.loop-t.t-index (get_or c.args.threads.now c.loop-t.t-index 0)
-    (slice_get-get_or c.args.threads.now c.loop-t.t-index 0 c.loop-t-test.true))
+    (c.requires.roots (get_or c.args.threads.now c.loop-t.t-index 0)
+    (Contains-get_or c.args.threads.now c.loop-t.t-index 0 c.loop-t-test.true))
 
 pub call-requires-clause-peer_root : goal.call-requires-clause-peer_root
 call-requires-clause-peer_root c = subst (λ (x : Made). HasRoot x.spec c.args.u c.args.peer.node) (sym c.loop-t.invariant.same)

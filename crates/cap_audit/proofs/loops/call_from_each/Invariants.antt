@@ -1,4 +1,5 @@
-use Rattle.cap_audit.proofs.Common.{AtPlace, Below, Gains, OfCall}
+use Rattle.cap_audit.proofs.Common.{Below, Gains, OfCall}
+use Rattle.cap_audit.proofs.Gaining.{AtPlace}
 use Rattle.cap_audit.proofs.loops.call_from_each.Given as goal
 
 abbrev pub invariant-loop-t : goal.invariant-loop-t

@@ -1,5 +1,5 @@
-use Rattle.cap_audit.proofs.Common.{AreRosters, AtPlace, Between, Gains, Made, Meets, Place, arith, get_or, length, slice_get-get_or, subst, sym}
-use Rattle.cap_audit.proofs.Gaining.{below_none, some_all, some_more}
+use Rattle.cap_audit.proofs.Common.{AreRosters, Between, Contains-get_or, Gains, Made, Meets, Place, arith, get_or, length, slice_get-get_or, subst, sym}
+use Rattle.cap_audit.proofs.Gaining.{AtPlace, below_none, some_all, some_more}
 use Rattle.cap_audit.proofs.loops.call_from_gate.Goals as goal
 
 no_place : Place
@@ -19,8 +19,8 @@ unfolding no_place
 call_between-requires-clause-meets c =
     subst (λ (x : Made). Meets x.spec x.found (get_or c.args.gate.now c.loop-at.at-index no_place) c.args.peer)
     (sym c.loop-at.invariant.same)
-    (c.requires.meet c.loop-at.at-index (get_or c.args.gate.now c.loop-at.at-index no_place)
-    (slice_get-get_or c.args.gate.now c.loop-at.at-index no_place c.loop-at-test.true))
+    (c.requires.meet (get_or c.args.gate.now c.loop-at.at-index no_place)
+    (Contains-get_or c.args.gate.now c.loop-at.at-index no_place c.loop-at-test.true))
 
 pub loop-at-preserved : goal.loop-at-preserved
 unfolding no_place

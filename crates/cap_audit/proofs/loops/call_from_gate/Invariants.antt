@@ -1,4 +1,5 @@
-use Rattle.cap_audit.proofs.Common.{AtPlace, Below, Between, Gains, Place}
+use Rattle.cap_audit.proofs.Common.{Below, Between, Gains, Place}
+use Rattle.cap_audit.proofs.Gaining.{AtPlace}
 use Rattle.cap_audit.proofs.loops.call_from_gate.Given as goal
 
 abbrev pub invariant-loop-at : goal.invariant-loop-at

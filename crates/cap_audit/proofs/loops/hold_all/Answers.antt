@@ -1,5 +1,5 @@
-use Rattle.cap_audit.proofs.Common.{AtPlace, Contains, Found, Gains, Made, OfFace, Some, ap, arith, held_by, length, slice_get, subst, sym, ◌≡◌}
-use Rattle.cap_audit.proofs.Gaining.{below_none, some_all, some_more}
+use Rattle.cap_audit.proofs.Common.{Contains, Found, Gains, Made, OfFace, Some, ap, arith, held_by, length, slice_get, subst, sym, ◌≡◌}
+use Rattle.cap_audit.proofs.Gaining.{AtPlace, below_none, some_all, some_more}
 use Rattle.cap_audit.proofs.loops.hold_all.Goals as goal
 
 pub loop-place-init : goal.loop-place-init

@@ -1,4 +1,5 @@
-use Rattle.cap_audit.proofs.Common.{AtPlace, Below, Gains, OfFace}
+use Rattle.cap_audit.proofs.Common.{Below, Gains, OfFace}
+use Rattle.cap_audit.proofs.Gaining.{AtPlace}
 use Rattle.cap_audit.proofs.loops.hold_all.Given as goal
 
 abbrev pub invariant-loop-place : goal.invariant-loop-place

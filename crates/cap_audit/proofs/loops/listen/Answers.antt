@@ -1,4 +1,4 @@
-use Rattle.cap_audit.proofs.Common.{Greets, List, Made, OfKinds, OfListening, OfSome, Pair, Some, ap, false, length, row_at, slice_get, stand_in, subst, sym, ℕ, ◌==◌, ◌∙◌, ◌≡◌}
+use Rattle.cap_audit.proofs.Common.{Contains, Greets, List, Made, OfKinds, OfListening, OfSome, Pair, false, length, row_at, stand_in, subst, sym, ℕ, ◌==◌, ◌∙◌, ◌≡◌}
 use Rattle.cap_audit.specs.declared.picks.Wanted.TheVariants as wants
 use Rattle.cap_audit.proofs.Assembling.{gate_meets}
 use Rattle.cap_audit.proofs.Looping.{listen_by, listen_none, no_head}
@@ -10,38 +10,34 @@ pub returns-then-not-is_head : goal.returns-then-not-is_head
 returns-then-not-is_head c =
     let m : Made = c.args.making.now in
     let fails : (stand_in m.heads c.args.pair.node == c.args.pair.node) ≡ false = cc in
-    greets_none c.args.company.now.rosters.items c.args.company.now.members.items m c.args.met.now c.requires.are_met
-    (OfListening m.spec m.labels m.found m.heads c.args.company.now.rosters.items c.args.company.now.members.items
-    c.args.company.now.gates.items c.args.pair) c.requires.so_far
-    (no_head m c.args.company.now.rosters.items c.args.company.now.members.items c.args.company.now.gates.items c.args.pair fails)
+    greets_none c.args.company.now.rosters c.args.company.now.members m c.args.met.now c.requires.are_met
+    (OfListening m.spec m.labels m.found m.heads c.args.company.now.rosters c.args.company.now.members
+    c.args.company.now.gates c.args.pair) c.requires.so_far
+    (no_head m c.args.company.now.rosters c.args.company.now.members c.args.company.now.gates c.args.pair fails)
 
 pub returns-in-None : goal.returns-in-None
 returns-in-None c =
     let m : Made = c.args.making.now in
-    greets_none c.args.company.now.rosters.items c.args.company.now.members.items m c.args.met.now c.requires.are_met
-    (OfListening m.spec m.labels m.found m.heads c.args.company.now.rosters.items c.args.company.now.members.items
-    c.args.company.now.gates.items c.args.pair) c.requires.so_far
-    (listen_none m c.args.company.now.rosters.items c.args.company.now.members.items c.args.company.now.gates.items c.args.pair
+    greets_none c.args.company.now.rosters c.args.company.now.members m c.args.met.now c.requires.are_met
+    (OfListening m.spec m.labels m.found m.heads c.args.company.now.rosters c.args.company.now.members
+    c.args.company.now.gates c.args.pair) c.requires.so_far
+    (listen_none m c.args.company.now.rosters c.args.company.now.members c.args.company.now.gates c.args.pair
     (sym c.pick.ensures ∙ c.in-None.is))
 
 pub meet_all-requires-clause-doors : goal.meet_all-requires-clause-doors
-meet_all-requires-clause-doors c = λ k door there.
+meet_all-requires-clause-doors c = λ door there.
     let m : Made = c.args.making.now in
     let from = picked_from m.spec m.found wants.Listener c.args.pair.held c.in-Some.pick (sym c.pick.ensures ∙ c.in-Some.is) in
-    let row = c.doors_at-gate.ensures ∙ ap (λ (rows : List (List Pair)). row_at rows c.in-Some.pick.cap.object)
-    c.as_slice.ensures.value in
-    gate_meets m.spec m.found m.heads c.args.company.now.gates.items (length m.found.queue) c.requires.ready.are_gates c.args.pair
-    c.in-Some.pick.cap from.0 from.2 k door
-    (subst (λ (xs : List Pair). slice_get xs k ≡ Some door) row there)
+    gate_meets m.spec m.found m.heads c.args.company.now.gates (length m.found.queue) c.requires.ready.are_gates c.args.pair
+    c.in-Some.pick.cap from.0 from.2 door
+    (subst (λ (xs : List Pair). Contains xs door) c.row-gate.ensures there)
 
 pub returns-in_ok-meet_all-in-Some : goal.returns-in_ok-meet_all-in-Some
 returns-in_ok-meet_all-in-Some c =
     let m : Made = c.args.making.now in
-    let rosters : List (List ℕ) = c.args.company.now.rosters.items in
-    let members : List (List ℕ) = c.args.company.now.members.items in
-    let gates : List (List Pair) = c.args.company.now.gates.items in
-    let row = c.doors_at-gate.ensures ∙ ap (λ (rows : List (List Pair)). row_at rows c.in-Some.pick.cap.object)
-    c.as_slice.ensures.value in
+    let rosters : List (List ℕ) = c.args.company.now.rosters in
+    let members : List (List ℕ) = c.args.company.now.members in
+    let gates : List (List Pair) = c.args.company.now.gates in
     greets_by rosters members (OfSome (λ (door : Pair). OfKinds m.labels rosters members door.node c.args.pair.node)
     (row_at gates c.in-Some.pick.cap.object))
     (OfListening m.spec m.labels m.found m.heads rosters members gates c.args.pair) (listen_by m rosters members gates c.args.pair
@@ -50,5 +46,5 @@ returns-in_ok-meet_all-in-Some c =
     (subst
     (λ (xs : List Pair). Greets rosters members
     (OfSome (λ (door : Pair). OfKinds m.labels rosters members door.node c.args.pair.node) xs) m c.meet_all.new.making
-    c.meet_all.new.met) row
+    c.meet_all.new.met) c.row-gate.ensures
     c.in_ok-meet_all-in-Some.ensures)

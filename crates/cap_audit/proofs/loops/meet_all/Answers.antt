@@ -1,5 +1,6 @@
-use Rattle.cap_audit.proofs.Common.{AreMet, AreReady, AtPlace, Greets, IsQueued, Made, MeetBy, OfKinds, Pair, arith, get_or, slice_get-get_or, subst, sym}
+use Rattle.cap_audit.proofs.Common.{AreMet, AreReady, Contains-get_or, Greets, IsQueued, Made, MeetBy, OfKinds, Pair, arith, get_or, slice_get-get_or, subst, sym}
 use Rattle.cap_audit.proofs.Meeting.{greets_all, greets_begin, greets_more}
+use Rattle.cap_audit.proofs.Gaining.{AtPlace}
 use Rattle.cap_audit.proofs.loops.meet_all.Goals as goal
 
 no_pair : Pair
@@ -7,9 +8,9 @@ no_pair = record { node = 0; held = record { value = 0; number = 0 } }
 
 pub loop-door-init : goal.loop-door-init
 loop-door-init c =
-    greets_begin c.args.company.now.rosters.items c.args.company.now.members.items c.args.making.now c.args.met.now
+    greets_begin c.args.company.now.rosters c.args.company.now.members c.args.making.now c.args.met.now
     c.requires.are_met
-    (AtPlace (λ (door : Pair). OfKinds c.args.making.now.labels c.args.company.now.rosters.items c.args.company.now.members.items
+    (AtPlace (λ (door : Pair). OfKinds c.args.making.now.labels c.args.company.now.rosters c.args.company.now.members
     door.node c.args.pair.node) c.args.gate.now) c.requires.so_far
 
 pub meet-requires-clause-so_far : goal.meet-requires-clause-so_far
@@ -17,12 +18,12 @@ meet-requires-clause-so_far c = c.loop-door.invariant.gains.so_far
 
 pub meet-requires-clause-ready : goal.meet-requires-clause-ready
 meet-requires-clause-ready c =
-    subst (λ (x : Made). AreReady x.spec x.found x.heads c.args.company.now.rosters.items c.args.company.now.members.items
-    c.args.company.now.gates.items) (sym c.loop-door.invariant.gains.same) c.requires.ready
+    subst (λ (x : Made). AreReady x.spec x.found x.heads c.args.company.now.rosters c.args.company.now.members
+    c.args.company.now.gates) (sym c.loop-door.invariant.gains.same) c.requires.ready
 
 pub meet-requires-clause-are_met : goal.meet-requires-clause-are_met
 meet-requires-clause-are_met c =
-    subst (λ (x : Made). AreMet x.labels c.args.company.now.rosters.items c.args.company.now.members.items c.loop-door.met
+    subst (λ (x : Made). AreMet x.labels c.args.company.now.rosters c.args.company.now.members c.loop-door.met
     c.loop-door.making.edges) (sym c.loop-door.invariant.gains.same) c.loop-door.invariant.are
 
 pub meet-requires-clause-door : goal.meet-requires-clause-door
@@ -30,8 +31,7 @@ unfolding no_pair
 meet-requires-clause-door c =
     let door : Pair = get_or c.args.gate.now c.loop-door.door-index no_pair in
     subst (λ (x : Made). IsQueued x.found door.node door.held.value) (sym c.loop-door.invariant.gains.same)
-    (c.requires.doors c.loop-door.door-index door (slice_get-get_or c.args.gate.now c.loop-door.door-index no_pair
-    c.loop-door-test.true)).0
+    (c.requires.doors door (Contains-get_or c.args.gate.now c.loop-door.door-index no_pair c.loop-door-test.true)).0
 
 pub meet-requires-clause-pair : goal.meet-requires-clause-pair
 meet-requires-clause-pair c = subst (λ (x : Made). IsQueued x.found c.args.pair.node c.args.pair.held.value)
@@ -42,26 +42,25 @@ unfolding no_pair
 meet-requires-clause-meet c =
     let door : Pair = get_or c.args.gate.now c.loop-door.door-index no_pair in
     subst (λ (x : Made). MeetBy x.spec x.found door.held.value c.args.pair.held.value) (sym c.loop-door.invariant.gains.same)
-    (c.requires.doors c.loop-door.door-index door (slice_get-get_or c.args.gate.now c.loop-door.door-index no_pair
-    c.loop-door-test.true)).1
+    (c.requires.doors door (Contains-get_or c.args.gate.now c.loop-door.door-index no_pair c.loop-door-test.true)).1
 
 pub loop-door-preserved : goal.loop-door-preserved
 unfolding no_pair
 loop-door-preserved c =
     let m : Made = c.args.making.now in
     let door : Pair = get_or c.args.gate.now c.loop-door.door-index no_pair in
-    greets_more c.args.company.now.rosters.items c.args.company.now.members.items
-    (λ (door : Pair). OfKinds m.labels c.args.company.now.rosters.items c.args.company.now.members.items door.node
+    greets_more c.args.company.now.rosters c.args.company.now.members
+    (λ (door : Pair). OfKinds m.labels c.args.company.now.rosters c.args.company.now.members door.node
     c.args.pair.node) c.args.gate.now c.loop-door.door-index door m c.loop-door.making c.meet.new.making
     c.loop-door.met c.meet.new.met (slice_get-get_or c.args.gate.now c.loop-door.door-index no_pair c.loop-door-test.true)
     c.loop-door.invariant
-    (subst (λ (x : Made). Greets c.args.company.now.rosters.items c.args.company.now.members.items
-    (OfKinds x.labels c.args.company.now.rosters.items c.args.company.now.members.items door.node c.args.pair.node)
+    (subst (λ (x : Made). Greets c.args.company.now.rosters c.args.company.now.members
+    (OfKinds x.labels c.args.company.now.rosters c.args.company.now.members door.node c.args.pair.node)
     c.loop-door.making c.meet.new.making c.meet.new.met) c.loop-door.invariant.gains.same c.in_ok-meet.ensures)
 
 pub returns : goal.returns
 returns c =
-    greets_all c.args.company.now.rosters.items c.args.company.now.members.items
-    (λ (door : Pair). OfKinds c.args.making.now.labels c.args.company.now.rosters.items c.args.company.now.members.items door.node
+    greets_all c.args.company.now.rosters c.args.company.now.members
+    (λ (door : Pair). OfKinds c.args.making.now.labels c.args.company.now.rosters c.args.company.now.members door.node
     c.args.pair.node) c.args.gate.now c.loop-door.door-index c.args.making.now
     c.loop-door.making c.loop-door.met (let t = c.loop-door-test.false in omega arith) c.loop-door.invariant

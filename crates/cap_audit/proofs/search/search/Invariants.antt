@@ -3,7 +3,7 @@ use Rattle.cap_audit.proofs.search.search.Given as goal
 
 abbrev pub invariant-loop-done : goal.invariant-loop-done
 invariant-loop-done l = record {
-  on : GoesOn l.spec l.initial.web.findings l.done l.web.findings l.web.net l.hubs;
+  on : GoesOn l.spec l.initial.web l.done l.web l.hubs;
   within : l.done ≤ length l.web.findings.queue;
 }
 

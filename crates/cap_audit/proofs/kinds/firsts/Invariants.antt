@@ -1,5 +1,5 @@
 use Rattle.cap_audit.proofs.Common.{AreFirsts, AreRows}
-use Rattle.cap_audit.proofs.kinds.firsts_in.Given as goal
+use Rattle.cap_audit.proofs.kinds.firsts.Given as goal
 
 abbrev pub invariant-loop-c : goal.invariant-loop-c
 invariant-loop-c l = record {
