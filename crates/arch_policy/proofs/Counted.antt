@@ -1,14 +1,11 @@
 -- A table that has the listed edges has as many as there are different ones.
-use Rattle.arch_policy.proofs.Common.{Adds, Bool, Edge, IsBound, IsIn, IsPolicyOf, IsSorted, List, Tables, [], ap, arith, bound_edges, cases_lt, edge_count, filter, has, in_append, in_left, in_right, inl, inr, length, refl, same_edge, same_edge_self}
-use Rattle.arch_policy.proofs.Common.{same_edge_true, sym, triples, true, true≢false, ◌++◌, ◌<◌, ◌∙◌, ◌∷◌, ◌≡◌}
+use Rattle.arch_policy.proofs.Common.{Adds, Bool, Edge, IsBound, IsIn, IsPolicyOf, IsSorted, List, Tables, [], ap, arith, bound_edges, cases_lt, edge_count, filter, has, in_append, in_left, in_right, inl, inr, length, refl}
+use Rattle.arch_policy.proofs.Common.{sym, triples, true, true≢false, ◌++◌, ◌<◌, ◌∙◌, ◌∷◌, ◌≡◌}
 use Rattle.std.specs.Cmp.Derive.{one_truth}
 use Rattle.cap_model.proofs.EdgeLists.{distinct, member_has, same_laws}
 use Rattle.std.proofs.lemmas.Map.Made.{length-from_keys}
 use Rattle.arch_policy.proofs.Listed.{from_bound, in_bound, triples_are_policy}
 use Rattle.arch_policy.proofs.Lists.{from_filter, has_in, in_filter, in_has}
-
-same_back : (d e : Edge) → same_edge d e ≡ true → same_edge e d ≡ true
-same_back d e h = ap (λ z. same_edge z d) (sym (same_edge_true d e h)) ∙ same_edge_self d
 
 pub table_counts : (t : Tables) (table : List Edge) → IsSorted table → ((e : Edge) → has table e ≡ has (triples t) e)
     → length table ≡ edge_count t

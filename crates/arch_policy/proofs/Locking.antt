@@ -1,6 +1,6 @@
 -- The edges of locks, leaf by leaf, are those of the locks of domains.
-use Rattle.arch_policy.proofs.Common.{Adds, Edge, IsCertificateOf, IsLockEdge, IsOfLeaf, IsOfSet, IsPolicyOf, IsSetOf, IsWithLock, Leaf, List, RW, Some, Tables, adds_none, adds_same, ap, domain_label, from_any, has, in_place, inl, inr, is_lock}
-use Rattle.arch_policy.proofs.Common.{list_any, members_at, place_of, refl, same_Some, subst, sym, true, ℕ, ⊎_elim, ◌↔◌, ◌∙◌, ◌≡◌, ◌⊎◌}
+use Rattle.arch_policy.proofs.Common.{Adds, Edge, IsCertificateOf, IsLockEdge, IsOfLeaf, IsOfSet, IsPolicyOf, IsSetOf, IsWithLock, List, RW, Some, Tables, adds_same, ap, from_any, has, in_place, inl, inr, is_lock}
+use Rattle.arch_policy.proofs.Common.{members_at, place_of, refl, subst, sym, true, ℕ, ⊎_elim, ◌↔◌, ◌∙◌, ◌≡◌, ◌⊎◌}
 use Rattle.adl_ast.specs.declared.component.Member.TheVariants as members
 use Rattle.arch_policy.proofs.Listed.{lock_of_member}
 use Rattle.arch_policy.proofs.Lists.{in_any}
@@ -15,27 +15,6 @@ with_lock_adds label bits a b set grown =
     (λ e h. record { from = h.from_is; conferred = sym (set.each e.authority) ∙ h.in_set; to = h.to_is })
     (λ e h. record { from_is = h.from; in_set = set.each e.authority ∙ h.conferred; to_is = h.to })
     a b grown
-
-pub leaf_adds : (t : Tables) (leaf : Leaf) (d : ℕ) (a b : List Edge) → leaf.domain ≡ Some d
-    → list_any is_lock (members_at t.source leaf.component) ≡ true → Adds (IsWithLock (domain_label t d)) a b
-    → Adds (IsOfLeaf t leaf) a b
-leaf_adds t leaf d a b inside locks grown =
-    adds_same (IsWithLock (domain_label t d)) (IsOfLeaf t leaf)
-    (λ e h. record { domain = d; inside = inside; locks = locks; with_lock = h })
-    (λ e h. let same : h.domain ≡ d = same_Some h.domain d (sym h.inside ∙ inside) in there e h.domain same h.with_lock)
-    a b grown
-  where
-    there : (e : Edge) (x : ℕ) → x ≡ d → IsWithLock (domain_label t x) e → IsWithLock (domain_label t d) e
-    there e x same h = record {
-      from = h.from ∙ ap (domain_label t) same;
-      conferred = h.conferred;
-      to = h.to ∙ ap (domain_label t) same;
-    }
-
-pub no_leaf_adds : (t : Tables) (leaf : Leaf) (a : List Edge)
-    → ((d : ℕ) → leaf.domain ≡ Some d → list_any is_lock (members_at t.source leaf.component) ≡ true → ⊥)
-    → Adds (IsOfLeaf t leaf) a a
-no_leaf_adds t leaf a none = adds_none (IsOfLeaf t leaf) (λ e h. none h.domain h.inside h.locks) a
 
 -- ---- all leaves
 
@@ -91,11 +70,12 @@ exactly : (t : Tables) (policy edges cert : List Edge) → Adds (IsLockEdge t) p
 exactly t policy edges cert grown same e =
     (λ h. grown.only e (sym (same e) ∙ h), λ h. same e ∙ ⊎_elim (λ i. grown.kept e i) (λ l. grown.added e l) h)
 
-pub certified : (t : Tables) (policy kept edges read cert : List Edge) → kept ≡ policy → Adds (IsLockEdge t) kept edges
-    → read ≡ edges → ((e : Edge) → has cert e ≡ has read e)
+pub certified : (t : Tables) (policy kept edges sorted read cert : List Edge) → kept ≡ policy → Adds (IsLockEdge t) kept edges
+    → ((e : Edge) → has sorted e ≡ has edges e) → read ≡ sorted → ((e : Edge) → has cert e ≡ has read e)
     → (e : Edge) → (has cert e ≡ true) ↔ ((has policy e ≡ true) ⊎ IsLockEdge t e)
-certified t policy kept edges read cert first grown told same =
-    exactly t policy edges cert (subst (λ z. Adds (IsLockEdge t) z edges) first grown) (λ e. same e ∙ ap (λ z. has z e) told)
+certified t policy kept edges sorted read cert first grown moved told same =
+    exactly t policy edges cert (subst (λ z. Adds (IsLockEdge t) z edges) first grown) (λ e. same e ∙ ap (λ z. has z e) told
+    ∙ moved e)
 
 pub certifies : (t : Tables) (policy cert : List Edge)
     → ((e : Edge) → (has cert e ≡ true) ↔ ((has policy e ≡ true) ⊎ IsLockEdge t e)) → IsPolicyOf t policy → IsCertificateOf t cert

@@ -69,6 +69,18 @@ fn edges_of(alloc: Global, table: &EdgeTable) -> Made<Vec<Edge>>
     Ok(edges)
 }
 
+/// The edges, of which so many that stand first are in order already. Those of locks mostly rise too, so they are sorted by runs.
+fn sorted(edges: Vec<Edge>, first: usize) -> Made<Vec<Edge>>
+    ensures { IfOk result (λ sorted. (e : Triple) → has sorted.items e ≡ has edges.items e) }
+{
+    if edges.len() == first {
+        return Ok(edges);
+    }
+    let mut edges = edges;
+    edges.sort()?;
+    Ok(edges)
+}
+
 /// The certificate of a system with this policy: what the policy has, and within the label of each domain with a lock what
 /// the domain may do with a lock. An edge of several leaves stands once.
 ///
@@ -83,6 +95,7 @@ pub fn certificate_of(alloc: Global, tables: &Tables<'_>, policy: &EdgeTable) ->
 {
     let kept = edges_of(alloc, policy)?;
     let edges = with_locks(kept, tables)?;
-    let cert = EdgeTable::from_list(alloc, edges.as_slice())?;
+    let sorted = sorted(edges, policy.len())?;
+    let cert = EdgeTable::from_list(alloc, sorted.as_slice())?;
     Ok(cert)
 }

@@ -1,4 +1,4 @@
-use Rattle.arch_policy.proofs.Common.{FlatConnection, FlatEnd, append-nil, ap, gather, gather_turn, length, refl, signals_at, subst, sym, take, told, ◌++◌, ◌∙◌, ◌≤◌}
+use Rattle.arch_policy.proofs.Common.{FlatConnection, FlatEnd, append-nil, ap, gather, gather_turn, length, refl, signals_at, subst, sym, told, ◌++◌, ◌∙◌, ◌≤◌}
 use Rattle.std.proofs.lemmas.List.{at_drop_all}
 use Rattle.arch_policy.proofs.edges.push_signals.Goals as goal
 
