@@ -2,7 +2,6 @@
 use Rattle.adl_flatten.proofs.TemplateCommon.{All, All-map, Bool, Component, Export, Hierarchy, IsReady, Joined, List, Name, None, Option, Part, Placed, Some, [], ap, arith, at_place, below, body, common_steps, cond_both, connection_in, end_in, ends_in, export_named, export_target, exports_of, false, flat_map, from_filter_map, get_or, get_or_from_slice_get, homed, in_place, is_composite, is_interface, joined_by, kind_in, leaves_before, leaves_by, leaves_in, leaves_step, length, length-flat_map-take, length-map, map, map_some, moved_leaf, option_and_then_some, option_map, option_map_or, place_by, placed_by, port_in, reached, read_in, same_path, slice_get, subst, sym, take, target, target_in, target_of, template_connections, template_leaves, ℕ, ◌++◌, ◌+◌, ◌<◌, ◌^◌, ◌∙◌, ◌∷◌, ◌≡◌, ◌≤◌}
 use Rattle.adl_meaning.specs.Joins.{connections_in}
 use Rattle.std.specs.Option.{option_flatten}
-use Rattle.adl_flatten.specs.declared.placed.Target.{Target}
 use Rattle.adl_flatten.proofs.Placing.{template_leaves_placed}
 
 place_below : {X : Type 0} (p : X → Bool) (xs : List X) → place_by p xs ≤ length xs
@@ -11,14 +10,14 @@ place_below p (x ∷ xs) = grind (arith, common_steps, place_below p xs)
 
 -- ---- in a template
 
-pub export_below : (h : Hierarchy) (k : ℕ) (n : Name) (o : Option (Option Target)) (t : Target) → o ≡ export_target h k n
-    → option_flatten o ≡ Some t → t.leaf ≤ length (leaves_in h k)
+pub export_below : (h : Hierarchy) (k : ℕ) (n : Name) (o : Option (Option ℕ)) (t : ℕ) → o ≡ export_target h k n
+    → option_flatten o ≡ Some t → t ≤ length (leaves_in h k)
 export_below h k n None t e f = cc
 export_below h k n (Some o) t e f =
     let x = map_some (λ (e : Export). target_of h k e.words) (export_named (exports_of (body h k)) n) o (sym e) in
     option_and_then_some (target h k) (port_in x.0.words) t (x.2 ∙ f) (λ port e1 e2.
     let r = map_some (target_in h k) (reached h k port) t e2 in
-    let P : Target → Type 0 = λ u. u.leaf ≤ length (leaves_in h k) in
+    let P : ℕ → Type 0 = λ u. u ≤ length (leaves_in h k) in
     subst P r.2 (place_below (λ (x : Placed). same_path r.0.path x.path) (leaves_in h k)))
 
 pub connections_below : (h : Hierarchy) (k a n : ℕ) → a + length (leaves_in h k) < n

@@ -1,5 +1,5 @@
 -- What an instance places of the template of its component.
-use Rattle.adl_flatten.proofs.TemplateCommon.{End, Export, Hierarchy, Homed, IsIn, IsReady, Joined, List, Name, None, Option, Part, Path, Placed, Reached, Some, Strung, [], ap, arith, behind, body, connection_in, connections_by, connections_step, cons_option, end_in, export_named, exports_of, filter_map, flat_map, flat_map_same, from_get_map, further, gather, gathered, get_map, group_above, group_or, homed, in_place, inl, inr, is_composite, is_once, joined_by, kind_in, leaf_place, leaves_before, leaves_by, leaves_in, leaves_step, length, map, map-append, member_number, moved_connection, moved_end, moved_leaf, moved_target, name_of, option_and_then, option_and_then_some, option_map, outside, own_connections, own_target, part_named, placed_by, port_in, reached, reached_by, reached_step, refl, same_path, slice_get, strung, strung_by, suc, sym, take, target, target_by, target_in, target_of, template_connections, template_leaves, true, wires_of, ℕ, ◌++◌, ◌+◌, ◌∙◌, ◌∷◌, ◌≡◌, ◌≤◌}
+use Rattle.adl_flatten.proofs.TemplateCommon.{End, Export, Hierarchy, Homed, IsIn, IsReady, Joined, List, Name, None, Option, Part, Path, Placed, Reached, Some, Strung, [], ap, arith, behind, body, connection_in, connections_by, connections_step, cons_option, end_in, export_named, exports_of, filter_map, flat_map, flat_map_same, from_get_map, further, gather, gathered, get_map, group_above, group_or, homed, in_place, inl, inr, is_composite, is_once, joined_by, kind_in, leaf_place, leaves_before, leaves_by, leaves_in, leaves_step, length, map, map-append, member_number, moved_connection, moved_end, moved_leaf, name_of, option_and_then, option_and_then_some, option_map, outside, own_connections, part_named, placed_by, port_in, reached, reached_by, reached_step, refl, same_path, slice_get, strung, strung_by, suc, sym, take, target, target_by, target_in, target_of, template_connections, template_leaves, true, wires_of, ℕ, ◌++◌, ◌+◌, ◌∙◌, ◌∷◌, ◌≡◌, ◌≤◌}
 use Rattle.adl_meaning.specs.Joins.{connections_in}
 use Rattle.cam_base.proofs.Gathered.{place_of as number_at}
 use Rattle.std.proofs.lemmas.Bool.{cases_Bool}
@@ -31,7 +31,7 @@ get_flat_map {X} {Y} f xs i n x y g t =
     (ap (λ ys. length ys + n) (flat_map_gathered f F (take i xs) (λ j z e. refl)))
 
 -- where two ways to make each element lead to the same
-map_both : {X A B Y : Type 0} (f : A → Y) (a : X → A) (g : B → Y) (b : X → B) (xs : List X)
+pub map_both : {X A B Y : Type 0} (f : A → Y) (a : X → A) (g : B → Y) (b : X → B) (xs : List X)
     → ((x : X) → IsIn x xs → f (a x) ≡ g (b x)) → map f (map a xs) ≡ map g (map b xs)
 map_both f a g b [] same = refl
 map_both f a g b (x ∷ xs) same = ap (λ y. y ∷ map f (map a xs)) (same x (inl refl))
@@ -111,17 +111,17 @@ target_step h ready k i c j x l g p =
     ap (option_map (target_in h k)) (reached_step h ready.finite k l (c, j) ∙ ap (option_and_then (reached_by h (reached h) j)) p)
     ∙ elim (cases_Bool (is_composite h x.kind)) [
       | inl e ↦ rw e
-          (by_option (λ r. option_map (target_in h k) (option_map (behind (name_of x)) r) ≡ option_map (moved_target o)
+          (by_option (λ r. option_map (target_in h k) (option_map (behind (name_of x)) r) ≡ option_map (λ n. o + n)
           (option_map (target_in h x.kind) r))
           (option_and_then (reached h x.kind) port) refl
-          (λ r q. ap (λ n. Some (record { leaf = n; member = member_number h r.part r.interface; once = is_once h r }))
+          (λ r q. ap Some
           (option_and_then_some (reached h x.kind) port r q (λ port e1 e2.
           leaf_moved h ready k i x (record { path = r.path; part = r.part }) l g e
           (reached_met h ready x.kind port r (kind_in h ready.finite k x l (in_place x (body h k).parts i g)) e2))))
-          ∙ ap (option_map (moved_target o)) (exported h x.kind (export_named (exports_of (body h x.kind)) j)))
+          ∙ ap (option_map (λ n. o + n)) (exported h x.kind (export_named (exports_of (body h x.kind)) j)))
       | inr e ↦
           let own : Homed = record { leaf = record { path = name_of x ∷ []; part = x }; home = group_or x.group None } in
-          rw e (ap (λ n. Some (record (own_target (body h x.kind) 0 j) { leaf = n }))
+          rw e (ap Some
           (given_at h ready k i 0 x own l g (rw e refl) ∙ omega arith))
     ]
 

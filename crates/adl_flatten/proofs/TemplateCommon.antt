@@ -5,7 +5,7 @@ pub use Rattle.adl_program.proofs.Filling.{IsFilled, all_filled, filled_more, fi
 pub use Rattle.adl_program.proofs.PartNumbers.{is_named, is_unnamed}
 pub use Rattle.adl_program.specs.Seen.{part_from}
 pub use Rattle.adl_flatten.specs.AreTemplates.{AreBefore, AreHeld, AreInner, IsReady, IsTemplate}
-pub use Rattle.adl_flatten.specs.Templates.{Homed, Joined, connection_in, connections_by, end_in, ends_in, export_target, homed, leaf_place, leaves_before, leaves_by, moved_connection, moved_end, moved_leaf, moved_target, own_connections, own_end, own_target, target, target_by, target_in, target_of, template_connections, template_leaves}
+pub use Rattle.adl_flatten.specs.Templates.{Homed, Joined, connection_in, connections_by, end_in, ends_in, export_target, homed, leaf_place, leaves_before, leaves_by, moved_connection, moved_end, moved_leaf, own_connections, own_end, target, target_by, target_in, target_of, template_connections, template_leaves}
 pub use Rattle.adl_flatten.specs.declared.template.Template.{Template}
 pub use Rattle.name_tables.specs.ByName.{found}
 pub use Rattle.cam_base.proofs.Gathered.{place_of}

@@ -1,6 +1,8 @@
 -- Totals of lists that are put together, and the totals of a body from those of its instances.
 use Rattle.adl_flatten.proofs.Common.{Bool, Hierarchy, IsFinite, IsIn, List, Part, Path, Placed, Strung, Totals, Wire, [], add_part, ap, append-nil, append_assoc, arith, body, body_total, both, cond, connections_step, ends_of, false, flat_map, flat_map-append, flat_map-map, fold, further, get_or, inl, inr, is_composite, leaves_in, leaves_step, length, length-append, length-map, longest, map, max, name_of, ne_eqb, outer, outside, own_total, part_total, placed_by, refl, saturated, strung, strung_by, sym, totals_in, totals_of, true, wires_of, ℕ, ◌++◌, ◌+◌, ◌∙◌, ◌∷◌, ◌≡◌, ◌≤◌}
+use Rattle.adl_flatten.specs.TotalsOf.{led_total}
 use Rattle.adl_meaning.specs.Joins.{connections_in}
+use Rattle.adl_program.specs.LedEnds.{LedWire, led_wire, led_wires}
 
 -- ---- paths and ends
 
@@ -102,3 +104,16 @@ body_is h f k l all known =
     ap (λ t. fold (add_part h all) t (body h k).parts) (own_is k (wires_of (body h k))) ∙ parts_are h all (body h k).parts known
     [] (map (strung k) (wires_of (body h k)))
     ∙ λ i. totals_of (sym (leaves_step h f k l) i) (sym (connections_step h f k l) i)
+
+-- ---- connections whose ends tell where they lead
+
+pub led_total_is : (h : Hierarchy) (k : ℕ) → led_total (led_wires h k) ≡ own_total (wires_of (body h k))
+led_total_is h k =
+    let ws = wires_of (body h k) in
+    let ends = flat_map-map (λ (w : LedWire). w.wire.1.ends) (led_wire h k) ws in
+    λ i. record {
+      leaves = 0;
+      depth = 0;
+      connections = saturated (length-map ws (led_wire h k) i);
+      ends = saturated (length (ends i));
+    }

@@ -1,8 +1,10 @@
 -- What templates rest on, and what tables of templates tell.
 use Rattle.adl_meaning.specs.Prelude.{Hierarchy, Name, body, has, is_composite, leaves_in, name_of, option_map_or}
-use Rattle.std.specs.Prelude.{All, Bool, List, [], false, length, map, slice_index, slice_index_or, suc, true, ℕ, ◌<◌, ◌^◌, ◌≡◌, ◌≤◌}
+use Rattle.std.specs.Prelude.{All, Bool, IfSome, List, [], false, length, map, slice_index, slice_index_or, suc, true, ℕ, ◌+◌, ◌<◌, ◌^◌, ◌≡◌, ◌≤◌}
 use Rattle.adl_hierarchy.specs.Finite.{IsFinite}
 use Rattle.adl_hierarchy.specs.Once.{IsOnce}
+use Rattle.adl_program.specs.LedEnds.{LedEnd}
+use Rattle.adl_program.specs.declared.part.PartAt.{PartAt}
 use Rattle.name_tables.specs.ByName.{found}
 use Rattle.adl_flatten.specs.Templates.{export_target, leaves_before, template_connections, template_leaves}
 use Rattle.adl_flatten.specs.declared.template.Template.{Template}
@@ -31,6 +33,17 @@ pub record AreInner (h : Hierarchy) (k : ℕ) (all : List Template) : Type 0 whe
 pub record AreBefore (h : Hierarchy) (k : ℕ) (before : List ℕ) : Type 0 where
   pub length_is : length before ≡ length (body h k).parts
   pub each : (i : ℕ) → i < length (body h k).parts → slice_index before i ≡ leaves_before h k i
+
+-- the template of the component of an instance, by its number and its component's, and the number of leaves in front
+pub record IsInside (h : Hierarchy) (all : List Template) (before : List ℕ) (at : PartAt) : Type 0 where
+  pub within : at.kind < length all
+  pub numbered : at.number < length before
+  pub template : (t : Template) → IsTemplate h at.kind (slice_index_or all at.kind t)
+  pub room : slice_index_or before at.number 0 + length (leaves_in h at.kind) < 2 ^ 32
+
+-- an end that leads somewhere leads to such an instance, and the place of its member is that of few
+abbrev pub IsLedInside : Hierarchy → List Template → List ℕ → LedEnd → Type 0
+IsLedInside h all before x = IfSome x.lead (λ l. IsInside h all before l.part × (l.port.member < 2 ^ 32))
 
 -- the marks of bodies that the assembly holds: with each body, but for those that wait, the components of its instances, and
 -- none that has too many leaves to number

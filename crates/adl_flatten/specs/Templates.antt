@@ -3,10 +3,11 @@
 --
 -- An instance places the template of its component: its name comes in front of each path, and the number of leaves before it
 -- is added to each leaf's number. Leaves below a group are at home at the outermost one.
-use Rattle.adl_meaning.specs.Prelude.{Body, End, Hierarchy, Id, Name, Part, Path, Placed, Reached, Strung, Wire, body, export_named, exports_of, filter_map, flat_map, group_above, group_or, interface_of, is_composite, is_device, is_interface, is_once, joined_by, joins_once, leaves_in, member_number, name_of, option_and_then, option_map_or, outside, place_by, port_in, reached, same_path, strung, wires_of}
-use Rattle.std.specs.Prelude.{Bool, List, None, Option, Some, [], false, if◌then◌else◌, length, map, option_map, take, ℕ, ◌++◌, ◌+◌, ◌∷◌}
+use Rattle.adl_meaning.specs.Prelude.{End, Hierarchy, Id, Name, Part, Path, Placed, Reached, Strung, Wire, body, export_named, exports_of, filter_map, flat_map, group_above, group_or, is_composite, is_once, joined_by, leaves_in, member_number, name_of, option_and_then, outside, place_by, port_in, reached, same_path, strung, wires_of}
+use Rattle.std.specs.Prelude.{Bool, List, None, Option, Some, [], if◌then◌else◌, length, map, option_map, slice_index_or, take, ℕ, ◌++◌, ◌+◌, ◌∷◌}
 use Rattle.adl_meaning.specs.Joins.{connections_in}
-use Rattle.adl_flatten.specs.declared.placed.Target.{Target}
+use Rattle.adl_program.specs.LedEnds.{LedEnd, LedWire}
+use Rattle.adl_program.specs.declared.leads.Lead.{Lead}
 
 -- ---- leaves
 
@@ -63,23 +64,23 @@ own_connections h k = map (connection_in h k) (map (strung k) (wires_of (body h 
 
 -- ---- ports
 
-abbrev pub target_in : Hierarchy → ℕ → Reached → Target
-target_in h k r = record { leaf = leaf_place h k r.path; member = member_number h r.part r.interface; once = is_once h r }
+abbrev pub target_in : Hierarchy → ℕ → Reached → ℕ
+target_in h k r = leaf_place h k r.path
 
--- where the interface c.j leads in body k
-abbrev pub target : Hierarchy → ℕ → Name × Name → Option Target
+-- the number of the leaf that the interface c.j leads to in body k
+abbrev pub target : Hierarchy → ℕ → Name × Name → Option ℕ
 target h k port = option_map (target_in h k) (reached h k port)
 
--- where a dotted name leads in body k
-abbrev pub target_of : Hierarchy → ℕ → List Id → Option Target
+-- that of the leaf that a dotted name leads to in body k
+abbrev pub target_of : Hierarchy → ℕ → List Id → Option ℕ
 target_of h k words = option_and_then (target h k) (port_in words)
 
 -- an end of the composition itself
 abbrev pub own_end : Hierarchy → ℕ → End → Option Joined
-own_end h k e = option_map (λ t. record { end = e; leaf = t.leaf; member = t.member; once = t.once }) (target_of h k e.words)
+own_end h k e = option_map (end_in h k [] e) (joined_by h k e)
 
--- where the first export of body k under the name leads
-abbrev pub export_target : Hierarchy → ℕ → Name → Option (Option Target)
+-- that of the leaf that the first export of body k under the name leads to
+abbrev pub export_target : Hierarchy → ℕ → Name → Option (Option ℕ)
 export_target h k n = option_map (λ e. target_of h k e.words) (export_named (exports_of (body h k)) n)
 
 -- ---- placing
@@ -108,20 +109,18 @@ moved_connection n o c = record c { path = n ∷ c.path; ends = map (moved_end o
 abbrev pub connections_by : Hierarchy → ℕ → ℕ → Part → List Connected
 connections_by h k i x = map (moved_connection (name_of x) (leaves_before h k i)) (template_connections h x.kind)
 
-abbrev pub moved_target : ℕ → Target → Target
-moved_target o t = record t { leaf = o + t.leaf }
-
--- the interface j of a leaf of the body, with so many leaves before it
-abbrev pub own_target : Body → ℕ → Name → Target
-own_target b before j = record {
-  leaf = before;
-  member = option_map_or (λ c. place_by (is_interface j) c.members) b.component 0;
-  once = option_map_or (λ i. joins_once (option_map_or is_device b.component false) i.kind)
-      (option_and_then (λ c. interface_of c j) b.component) false;
-}
-
 -- where the interface j of an instance leads whose component is k, with so many leaves before it
-abbrev pub target_by : Hierarchy → ℕ → ℕ → Name → Option Target
+abbrev pub target_by : Hierarchy → ℕ → ℕ → Name → Option ℕ
 target_by h before k j =
-    if is_composite h k then option_map (moved_target before) (option_and_then (λ t. t) (export_target h k j)) else Some
-    (own_target (body h k) before j)
+    if is_composite h k then option_map (λ n. before + n) (option_and_then (λ t. t) (export_target h k j)) else Some before
+
+-- an end that leads to this, with so many leaves before each instance
+abbrev pub end_by : Hierarchy → List ℕ → End → Lead → Option Joined
+end_by h before e l = option_map (λ n. record { end = e; leaf = n; member = l.port.member; once = l.port.once })
+    (option_and_then (λ p. target_by h (slice_index_or before l.part.number 0) l.part.kind p.1) (port_in e.words))
+
+abbrev pub led_end_by : Hierarchy → List ℕ → LedEnd → Option Joined
+led_end_by h before x = option_and_then (end_by h before x.end) x.lead
+
+abbrev pub led_wire_by : Hierarchy → List ℕ → LedWire → Connected
+led_wire_by h before x = record { path = []; wire = x.wire; ends = filter_map (led_end_by h before) x.ends }

@@ -1,5 +1,6 @@
 -- The totals of a body, which are plain sums over the paths in it, each at most the greatest number of 64 bits, and what they
 -- are made of.
+use Rattle.adl_program.specs.LedEnds.{LedWire}
 use Rattle.adl_meaning.specs.Prelude.{Assembly, End, Fault, Hierarchy, Part, Placed, Strung, Wire, body, flat_map, is_composite, leaves_in, limit_passed, longest, wires_of}
 use Rattle.std.specs.Prelude.{Bool, List, codes, fold, if◌then◌else◌, length, map, max, min, nat_lt, slice_index_or, ℕ, ◌++◌, ◌+◌, ◌-◌, ◌==◌, ◌^◌, ◌||◌}
 use Rattle.adl_meaning.specs.declared.item_at.ItemAt.{ItemAt}
@@ -44,6 +45,15 @@ own_total ws = record {
   depth = 0;
   connections = saturated (length ws);
   ends = saturated (length (flat_map (λ w. w.1.ends) ws));
+}
+
+-- the same of connections whose ends tell where they lead
+abbrev pub led_total : List LedWire → Totals
+led_total ws = record {
+  leaves = 0;
+  depth = 0;
+  connections = saturated (length ws);
+  ends = saturated (length (flat_map (λ w. w.wire.1.ends) ws));
 }
 
 -- those of an instance, from those of all bodies

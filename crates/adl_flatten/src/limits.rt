@@ -2,15 +2,15 @@
 //! walked.
 
 ghost use Rattle.adl_meaning.specs.Prelude.{AreFew, AreNamesSound, Refuses, body, first_size_fault, flat_map, hierarchy_of, noted, top_number};
-ghost use Rattle.adl_flatten.specs.TotalsOf.{body_total, both, limits_in, outer, own_total, part_total, pass, saturated, totals_in};
+ghost use Rattle.adl_flatten.specs.TotalsOf.{body_total, both, led_total, limits_in, outer, part_total, pass, saturated, totals_in};
 ghost use Rattle.adl_items.specs.Located.{located};
 ghost use Rattle.adl_flatten.specs.AreTemplates.{IsReady};
-ghost use Rattle.std.specs.Prelude.{All, IfOk, length, ◌<◌, ◌≡◌};
+ghost use Rattle.std.specs.Prelude.{All, IfOk, length, ◌<◌, ◌≡◌, ◌≤◌};
 
 use adl_ast::{Assembly, Source};
 use adl_items::{Located, all_items, first_assembly};
 use adl_meaning::Earliest;
-use adl_program::{Part, Program, Wire};
+use adl_program::{LedWire, Part, Program};
 use cam_base::{Code, Fault, Made, Refused};
 use std::alloc::Global;
 
@@ -69,8 +69,8 @@ impl Totals {
 }
 
 /// The number of ends of connections.
-fn end_count(wires: &[Wire<'_>]) -> u64
-    ensures { result ≡ saturated (length (flat_map (λ w. w.1.ends) wires.now)) }
+fn end_count(wires: &[LedWire<'_>]) -> u64
+    ensures { result ≡ saturated (length (flat_map (λ w. w.wire.1.ends) wires.now)) }
 {
     let mut count: u64 = 0;
     for wire in wires {
@@ -80,8 +80,8 @@ fn end_count(wires: &[Wire<'_>]) -> u64
 }
 
 /// The totals of the connections of a body itself.
-fn own_totals(wires: &[Wire<'_>]) -> Totals
-    ensures { result ≡ own_total wires.now }
+fn own_totals(wires: &[LedWire<'_>]) -> Totals
+    ensures { result ≡ led_total wires.now }
 {
     Totals {
         leaves: 0,
@@ -108,13 +108,14 @@ fn part_totals(program: &Program<'_>, all: &[Totals], part: &Part<'_>) -> Totals
 }
 
 /// The totals of the body of a number, from those of its instances' components.
+#[tactic(auto, using(crate::proofs::Totals::led_total_is))]
 fn body_totals(program: &Program<'_>, all: &[Totals], number: u32) -> Totals
-    requires { All (λ x. x.kind < length all.now) (body program.now number).parts }
+    requires number { number ≤ top_number program.now }
+    requires kinds { All (λ x. x.kind < length all.now) (body program.now number).parts }
     ensures { result ≡ body_total program.now all.now number }
 {
-    let body = program.body(number);
-    let mut totals = own_totals(body.wires());
-    for part in body.parts() {
+    let mut totals = own_totals(program.wires(number));
+    for part in program.body(number).parts() {
         totals = totals.and(part_totals(program, all, part));
     }
     totals

@@ -32,15 +32,6 @@ impl<'a> Model for PlacedLeaf<'a> {
     } };
 }
 
-/// An interface of a leaf of a body: the number of the leaf, and the place of the interface among its members.
-#[derive(Clone, Copy)]
-pub struct Target {
-    pub leaf: u32,
-    pub member: u32,
-    /// Whether one end alone may join it.
-    pub once: bool,
-}
-
 /// An end, with the interface of a leaf that it joins, and whether one end alone may join it.
 #[derive(Drop)]
 pub struct PlacedEnd<'a> {

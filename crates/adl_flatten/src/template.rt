@@ -1,8 +1,8 @@
 //! The template of a body, from those of its instances' components.
 
-ghost use Rattle.adl_meaning.specs.Prelude.{body, leaves, leaves_in, top_number};
-ghost use Rattle.adl_flatten.specs.AreTemplates.{AreBefore, AreInner, IsReady, IsTemplate};
-ghost use Rattle.adl_flatten.specs.Templates.{connections_by, export_target, leaves_by, own_connections, own_target, target_by, target_of};
+ghost use Rattle.adl_meaning.specs.Prelude.{body, leaves, top_number};
+ghost use Rattle.adl_flatten.specs.AreTemplates.{AreBefore, AreInner, IsInside, IsLedInside, IsReady, IsTemplate};
+ghost use Rattle.adl_flatten.specs.Templates.{connections_by, export_target, leaves_by, led_end_by, own_connections, target_by, target_of};
 ghost use Rattle.adl_flatten.specs.declared.template.Template.{Template as TemplateOf};
 ghost use Rattle.name_tables.specs.ByName.{found};
 ghost use Rattle.cam_base.specs.Gather.{gather};
@@ -10,19 +10,19 @@ ghost use Rattle.std.specs.Prelude.{IfOk, List as Seq, OnOk, length, slice_index
 
 use crate::held::held_bodies;
 use crate::place::{behind, home_of, place_connections};
-use crate::placed::{PlacedConnection, PlacedEnd, PlacedLeaf, Target};
-use adl_ast::{Id, InterfaceKind, Line};
-use adl_program::{Body, Part, Program, port_in};
+use crate::placed::{PlacedConnection, PlacedEnd, PlacedLeaf};
+use adl_ast::{Id, Line};
+use adl_program::{LedEnd, Part, PartAt, Program, port_in};
 use cam_base::{List, Made, Name};
 use name_tables::NameTable;
 use std::alloc::Global;
 
-/// What a body holds: its leaves and its connections in order, and where its exports lead.
+/// What a body holds: its leaves and its connections in order, and the numbers of the leaves that its exports lead to.
 #[derive(Drop)]
 pub struct Template<'a> {
     pub leaves: Vec<PlacedLeaf<'a>>,
     pub connections: Vec<PlacedConnection<'a>>,
-    pub targets: NameTable<'a, Option<Target>>,
+    pub targets: NameTable<'a, Option<u32>>,
 }
 
 impl<'a> Template<'a> {
@@ -32,28 +32,6 @@ impl<'a> Template<'a> {
             leaves: Vec::new(alloc),
             connections: Vec::new(alloc),
             targets: NameTable::new(alloc),
-        }
-    }
-
-    /// Where an interface of an instance leads, with so many leaves before the instance: `kind` is the number of its
-    /// component, whose template this is.
-    fn target(&self, program: &Program<'_>, before: u32, kind: u32, name: &Name) -> Option<Target>
-        requires ready { IsReady program.now }
-        requires template { IsTemplate program.now kind self.now }
-        requires room { before + length (leaves_in program.now kind) < 2 ^ 32 }
-        ensures { result ≡ target_by program.now before kind name.now }
-    {
-        let body = program.body(kind);
-        if body.is_composite() {
-            let target = self.targets.get(name).copied().flatten()?;
-            let leaf = before + target.leaf;
-            Some(Target { leaf, ..target })
-        } else {
-            Some(Target {
-                leaf: before,
-                member: body.member_number(name) as u32,
-                once: joins_once(body, name),
-            })
         }
     }
 }
@@ -91,35 +69,63 @@ fn place_part<'a>(
     Ok(())
 }
 
-/// Whether one end alone may join the interface of the name.
-fn joins_once(body: &Body<'_>, name: &Name) -> bool
-    ensures { result ≡ (own_target body.now 0 name.now).once }
+/// The number of the leaf that an interface of an instance leads to.
+fn target_by(
+    program: &Program<'_>,
+    all: &[Template<'_>],
+    before: &[u32],
+    at: PartAt,
+    name: &Name,
+) -> Option<u32>
+    requires ready { IsReady program.now }
+    requires inside { IsInside program.now all.now before.now at }
+    ensures { result ≡ target_by program.now (slice_index_or before.now at.number 0) at.kind name.now }
 {
-    match body.interface(name) {
-        None => false,
-        Some(interface) => match interface.kind {
-            InterfaceKind::Uses | InterfaceKind::Consumes => true,
-            InterfaceKind::Emits => body.is_hardware(),
-            InterfaceKind::Provides | InterfaceKind::Dataport => false,
-        },
+    let before = before[at.number];
+    if !program.body(at.kind).is_composite() {
+        return Some(before);
     }
+    let leaf = all[at.kind as usize].targets.get(name).copied().flatten()?;
+    Some(before + leaf)
 }
 
-/// Where a dotted name leads in the body of the number.
+/// That of the leaf that a dotted name leads to in the body of the number.
 fn target_of(
     program: &Program<'_>,
     all: &[Template<'_>],
     before: &[u32],
     number: u32,
     words: &[Id],
-) -> Option<Target>
+) -> Option<u32>
     requires inner { AreInner program.now number all.now }
     requires before { AreBefore program.now number before.now }
     ensures { result ≡ target_of program.now number words.now }
 {
     let (part, interface) = port_in(words)?;
     let at = program.body(number).part(part)?;
-    all[at.kind as usize].target(program, before[at.number], at.kind, interface)
+    target_by(program, all, before, at, interface)
+}
+
+/// An end with the interface of a leaf that it joins.
+fn placed_end<'a>(
+    program: &Program<'a>,
+    all: &[Template<'a>],
+    before: &[u32],
+    led: &LedEnd<'a>,
+) -> Option<PlacedEnd<'a>>
+    requires ready { IsReady program.now }
+    requires inside { IsLedInside program.now all.now before.now led.now }
+    ensures { result ≡ led_end_by program.now before.now led.now }
+{
+    let lead = led.lead?;
+    let (_, interface) = port_in(led.end.words.as_slice())?;
+    let leaf = target_by(program, all, before, lead.part, interface)?;
+    Some(PlacedEnd {
+        end: led.end,
+        leaf,
+        member: lead.port.member as u32,
+        once: lead.port.once,
+    })
 }
 
 /// Where the exports of the body of the number lead.
@@ -129,7 +135,7 @@ fn targets_of<'a>(
     all: &[Template<'a>],
     before: &[u32],
     number: u32,
-) -> Made<NameTable<'a, Option<Target>>>
+) -> Made<NameTable<'a, Option<u32>>>
     requires inner { AreInner program.now number all.now }
     requires before { AreBefore program.now number before.now }
     ensures { IfOk result (λ t. (n : Seq ℕ) → found t n ≡ export_target program.now number n) }
@@ -160,18 +166,13 @@ fn connections_of<'a>(
     ensures { IfOk result (λ v. v.items ≡ own_connections program.now number
         ++ gather (connections_by program.now number) (body program.now number).parts) }
 {
-    let body = program.body(number);
-    let mut connections = Vec::with_capacity(alloc, body.wires().len())?;
-    for wire in body.wires() {
-        let mut ends = Vec::with_capacity(alloc, wire.connection.ends.len())?;
-        for end in wire.connection.ends.as_slice() {
-            if let Some(target) = target_of(program, all, before, number, end.words.as_slice()) {
-                ends.push(PlacedEnd {
-                    end,
-                    leaf: target.leaf,
-                    member: target.member,
-                    once: target.once,
-                })?;
+    let wires = program.wires(number);
+    let mut connections = Vec::with_capacity(alloc, wires.len())?;
+    for wire in wires {
+        let mut ends = Vec::with_capacity(alloc, wire.ends.len())?;
+        for end in wire.ends.as_slice() {
+            if let Some(end) = placed_end(program, all, before, end) {
+                ends.push(end)?;
             }
         }
         connections.push(PlacedConnection {
@@ -181,7 +182,7 @@ fn connections_of<'a>(
             ends,
         })?;
     }
-    for (i, part) in body.parts().iter().enumerate() {
+    for (i, part) in program.body(number).parts().iter().enumerate() {
         let inner = all[part.kind as usize].connections.as_slice();
         place_connections(alloc, part, before[i], inner, &mut connections)?;
     }

@@ -1,4 +1,5 @@
 pub mod Common
+pub mod Ends
 pub mod Filling
 pub mod Joined
 pub mod Leading

@@ -1,3 +1,4 @@
 pub mod Leads
+pub mod LedEnds
 pub mod LeafInterfaces
 pub mod Seen

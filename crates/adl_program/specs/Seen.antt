@@ -1,5 +1,5 @@
 -- What a body's fields are, and what its tables by name say of it.
-use Rattle.adl_meaning.specs.Prelude.{Body, Component, Composition, Name, Part, bytes_eq, connections_in, declared_as, enumerate_from, filter_map, find, is_device, is_interface, list_any, option_and_then, option_copied, option_map_or, place_by, slice_get, wire_of}
+use Rattle.adl_meaning.specs.Prelude.{Body, Component, Name, Part, bytes_eq, declared_as, enumerate_from, find, is_device, is_interface, list_any, option_and_then, option_copied, option_map_or, place_by, slice_get}
 use Rattle.std.specs.Prelude.{IfSome, List, Option, [], false, is_some, option_map, unwrap_or, ℕ, ◌≡◌}
 use Rattle.name_tables.specs.ByName.{found}
 use Rattle.adl_items.specs.Declaring.{declaring_told}
@@ -27,11 +27,10 @@ part_from i xs n = option_map (λ x. record { number = x.0; kind = x.1.kind }) (
     (enumerate_from i xs))
 
 -- the tables of a composition agree with it
-pub record IsComposed (o : Option Composition) (t : Option Composed) : Type 0 where
+pub record IsComposed (t : Option Composed) : Type 0 where
   pub parts_by_name : (n : Name) → option_and_then (λ k. found k.named n) t ≡ part_from 0 (parts_seen t) n
   pub groups_by_name : (n : Name) → option_map_or (λ k. is_some (found k.groups n)) t false ≡ list_any
       (λ x. option_map_or (bytes_eq n) x.group false) (parts_seen t)
-  pub wires_are : option_map_or (λ k. k.wires.items) t [] ≡ filter_map wire_of (option_map_or connections_in o [])
 
 -- those of a component's members agree with it
 pub record AreMembers (o : Option Component) (t : Members) : Type 0 where
@@ -42,5 +41,5 @@ pub record AreMembers (o : Option Component) (t : Members) : Type 0 where
 
 -- all tables agree with the body; few members have none
 pub record IsIndexed (t : Inside) : Type 0 where
-  pub composed : IsComposed (option_copied t.composition) (slice_get t.composed.items 0)
+  pub composed : IsComposed (slice_get t.composed.items 0)
   pub members : IfSome (slice_get t.members.items 0) (AreMembers (option_copied t.component))

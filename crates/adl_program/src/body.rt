@@ -1,17 +1,19 @@
 //! Bodies: components and the assembly.
 
-ghost use Rattle.adl_meaning.specs.Prelude.{Id as Word, attribute_of, body_of, bytes_eq, configurations, declared_as, declared_by, flat_map, interface_of, is_device, is_group, is_interface, list_any, option_and_then, option_copied, option_map_or, option_or, parts_in, place_by, slice_get, top_of, wires_of};
+ghost use Rattle.adl_meaning.specs.Prelude.{Id as Word, attribute_of, body_of, bytes_eq, configurations, declared_as, declared_by, flat_map, is_device, is_group, is_interface, joins_once, list_any, option_and_then, option_copied, option_map_or, option_or, parts_in, place_by, slice_get, top_of};
 ghost use Rattle.adl_meaning.specs.Members.{Declared as Told};
 ghost use Rattle.name_tables.specs.ByName.{found};
 ghost use Rattle.adl_items.specs.Declaring.{declared_told, declaring_told};
 ghost use Rattle.adl_items.specs.Firsts.{first_named};
 ghost use Rattle.adl_items.specs.Located.{located};
-ghost use Rattle.adl_program.specs.LeafInterfaces.{leaf_at};
+ghost use Rattle.adl_program.specs.LeafInterfaces.{leaf_placed, port_at};
 ghost use Rattle.adl_program.specs.Seen.{AreMembers, IsComposed, part_from, parts_seen};
 ghost use Rattle.std.specs.Prelude.{IfOk, IfSome, List as Seq, OnOk, Some, false, is_some, length, option_map, unwrap_or, ℕ, ◌++◌, ◌≡◌};
 
-use crate::part::{Part, PartAt, Wire, parts_of, wires_of};
-use adl_ast::{Assembly, Attribute, Component, Composition, Configuration, Interface, Member};
+use crate::part::{Part, PartAt, parts_of};
+use adl_ast::{
+    Assembly, Attribute, Component, Composition, Configuration, Interface, InterfaceKind, Member,
+};
 use adl_items::{Declared, Located, composition_of, declared_under, is_device};
 use adl_meaning::ItemAt;
 use cam_base::{Made, Name};
@@ -38,7 +40,6 @@ pub struct Composed<'a> {
     parts: Vec<Part<'a>>,
     named: NameTable<'a, PartAt>,
     groups: NameTable<'a, ()>,
-    wires: Vec<Wire<'a>>,
 }
 
 /// What stands among the members of a component.
@@ -65,6 +66,17 @@ impl<'a> Model for Leaf<'a> {
     ghost Value = { LeafInterface };
 
     ghost view = { λ l. record { interface = l.interface.now; hardware = l.hardware } };
+}
+
+/// What the name of an interface means in a leaf.
+#[derive(Clone, Copy)]
+pub struct Port {
+    /// The number of the leaf's component.
+    pub kind: u32,
+    /// The place of the interface among its members; where none has the name, their number.
+    pub member: usize,
+    /// Whether one end alone may join it.
+    pub once: bool,
 }
 
 impl<'a> Model for Body<'a> {
@@ -170,16 +182,6 @@ impl<'a> Body<'a> {
         }
     }
 
-    /// The interface that its component declares under the name.
-    pub fn interface(&self, name: &Name) -> Option<&'a Interface>
-        ensures { option_copied result ≡ option_and_then (λ c. interface_of c name.now) self.now.component }
-    {
-        match self.declared(name.as_bytes())? {
-            Declared::Interface(interface) => Some(interface),
-            _ => None,
-        }
-    }
-
     /// The attribute that its component declares under the name.
     pub fn attribute(&self, name: &[u8]) -> Option<&'a Attribute>
         ensures { option_copied result ≡ option_and_then (λ c. attribute_of c name.now) self.now.component }
@@ -190,18 +192,8 @@ impl<'a> Body<'a> {
         }
     }
 
-    /// Its connections, in order.
-    pub fn wires(&self) -> &[Wire<'a>]
-        ensures { result.now ≡ wires_of self.now }
-    {
-        match self.composed.as_slice() {
-            [] => &[],
-            [composed, ..] => composed.wires.as_slice(),
-        }
-    }
-
     /// The place of the interface among the members of its component; where it has none, their number.
-    pub fn member_number(&self, name: &Name) -> usize
+    fn member_number(&self, name: &Name) -> usize
         ensures { result ≡ option_map_or (λ c. place_by (is_interface name.now) c.members) self.now.component 0 }
     {
         match self.members.first() {
@@ -213,12 +205,37 @@ impl<'a> Body<'a> {
         }
     }
 
-    /// The first interface of its component under the name, as typing looks at it, if the component has one.
-    pub fn leaf(&self, name: &Name) -> Option<Leaf<'a>>
-        ensures { result ≡ leaf_at self.now name.now }
+    /// Whether one end alone may join the interface that its component declares under the name.
+    fn joins_once(&self, name: &Name) -> bool
+        ensures { result ≡ (port_at 0 self.now name.now).once }
+    {
+        match self.declared(name.as_bytes()) {
+            Some(Declared::Interface(interface)) => match interface.kind {
+                InterfaceKind::Uses | InterfaceKind::Consumes => true,
+                InterfaceKind::Emits => self.is_hardware(),
+                InterfaceKind::Provides | InterfaceKind::Dataport => false,
+            },
+            _ => false,
+        }
+    }
+
+    /// What the name of an interface means in it, if it is a leaf: `kind` is its number.
+    pub fn port(&self, kind: u32, name: &Name) -> Port
+        ensures { result ≡ port_at kind self.now name.now }
+    {
+        Port {
+            kind,
+            member: self.member_number(name),
+            once: self.joins_once(name),
+        }
+    }
+
+    /// The interface at a place among the members of its component, as typing looks at it.
+    pub fn leaf(&self, member: usize) -> Option<Leaf<'a>>
+        ensures { result ≡ leaf_placed member self.now }
     {
         let component = self.component?;
-        match component.members.as_slice().get(self.member_number(name)) {
+        match component.members.as_slice().get(member) {
             Some(Member::Interface(interface)) => Some(Leaf {
                 interface,
                 hardware: self.is_hardware(),
@@ -293,7 +310,7 @@ fn composed_of<'a>(
 ) -> Made<Vec<Composed<'a>>>
     ensures parts { IfOk result (λ v. parts_seen (slice_get v.items 0)
         ≡ parts_in (found kinds.now) (option_copied composition.entry)) }
-    ensures tables { IfOk result (λ v. IsComposed (option_copied composition.entry) (slice_get v.items 0)) }
+    ensures tables { IfOk result (λ v. IsComposed (slice_get v.items 0)) }
 {
     let Some(composition) = composition else {
         return Ok(Vec::new(alloc));
@@ -301,13 +318,11 @@ fn composed_of<'a>(
     let lines = composition.lines.as_slice();
     let parts = parts_of(alloc, kinds, lines)?;
     let (named, groups) = names_of(alloc, parts.as_slice())?;
-    let wires = wires_of(alloc, lines)?;
     let mut composed = Vec::with_capacity(alloc, 1)?;
     composed.push(Composed {
         parts,
         named,
         groups,
-        wires,
     })?;
     Ok(composed)
 }

@@ -1,7 +1,7 @@
-//! A source, resolved once: its bodies by number, and for each name that a body exports the leaf interface behind it.
+//! A source, resolved once: its bodies by number, and for each end of their connections where it leads.
 //!
 //! Contracts see a program as the hierarchy of its source, so that what is said of hierarchies is said of it. Where names
-//! lead stands in `specs/LeafInterfaces.antt`.
+//! lead stands in `specs/LeafInterfaces.antt` and `specs/Leads.antt`.
 #![tactic(auto)]
 
 mod bodies;
@@ -9,9 +9,11 @@ mod body;
 mod leads;
 mod part;
 mod program;
+mod wires;
 
 pub use bodies::{Bodies, bodies_of};
-pub use body::{Body, Leaf};
-pub use leads::port_in;
-pub use part::{Part, PartAt, Wire};
+pub use body::{Body, Leaf, Port};
+pub use leads::{Lead, port_in};
+pub use part::{Part, PartAt};
 pub use program::{Program, program_of};
+pub use wires::{LedEnd, LedWire};

@@ -1,12 +1,11 @@
-//! The instances and the connections of a body.
+//! The instances of a body.
 
-ghost use Rattle.adl_meaning.specs.Prelude.{as_connection, filter_map, flat_map, parts_by, wire_of};
+ghost use Rattle.adl_meaning.specs.Prelude.{flat_map, parts_by};
 ghost use Rattle.name_tables.specs.ByName.{found};
 ghost use Rattle.std.specs.Prelude.{IfOk, ◌≡◌};
 
-use adl_ast::{Connection, Instance, Line};
+use adl_ast::{Instance, Line};
 use adl_items::instances_by;
-use adl_meaning::Connector;
 use cam_base::{Made, Name};
 use name_tables::NameTable;
 use std::alloc::Global;
@@ -36,21 +35,6 @@ impl<'a> Model for Part<'a> {
 pub struct PartAt {
     pub number: usize,
     pub kind: u32,
-}
-
-/// A connection of one of the six connectors. Contracts see it as the two.
-#[derive(Drop)]
-pub struct Wire<'a> {
-    pub connector: Connector,
-    pub connection: &'a Connection,
-}
-
-impl<'a> Model for Wire<'a> {
-    ghost use Rattle.adl_meaning.specs.Hierarchy.{Wire as WireOf};
-
-    ghost Value = { WireOf };
-
-    ghost view = { λ w. (w.connector, w.connection.now) };
 }
 
 impl<'a> Part<'a> {
@@ -87,22 +71,4 @@ pub fn parts_of<'a>(
         }
     }
     Ok(parts)
-}
-
-/// The connections among lines, where the connector is one of the six.
-pub fn wires_of<'a>(alloc: Global, lines: &'a [Line]) -> Made<Vec<Wire<'a>>>
-    ensures { IfOk result (λ v. v.items ≡ filter_map wire_of (filter_map as_connection lines.entry.now)) }
-{
-    let mut wires = Vec::new(alloc);
-    for line in lines {
-        if let Line::Connection(connection) = line {
-            if let Some(connector) = Connector::find(connection.connector.name.as_bytes()) {
-                wires.push(Wire {
-                    connector,
-                    connection,
-                })?;
-            }
-        }
-    }
-    Ok(wires)
 }

@@ -1,13 +1,14 @@
 //! A source, resolved.
 
 ghost use Rattle.adl_meaning.specs.Prelude.{AreFew, AreNamesSound, IsInnerFirst, body, graph, hierarchy_of, top_number};
-ghost use Rattle.adl_program.specs.LeafInterfaces.{leaf_of};
+ghost use Rattle.adl_program.specs.LedEnds.{led_leaf, led_wires};
 ghost use Rattle.std.specs.Prelude.{IfOk, ◌+◌, ◌<◌, ◌^◌, ◌≡◌, ◌≤◌};
 
 use crate::bodies::{Bodies, bodies_of, graph};
 use crate::body::{Body, Leaf};
-use crate::leads::{Leads, all_leads, lead};
-use adl_ast::{Id, Source};
+use crate::leads::{Leads, all_leads};
+use crate::wires::{LedEnd, LedWire};
+use adl_ast::Source;
 use adl_hierarchy::{inner_first, sound_hierarchies_are_finite};
 use cam_base::{List, Made};
 use std::alloc::Global;
@@ -68,12 +69,20 @@ impl<'a> Program<'a> {
         self.order.as_slice()
     }
 
-    /// What stands at the leaf interface that a dotted name means in the body of the number.
-    pub fn leaf(&self, number: u32, words: &[Id]) -> Option<Leaf<'a>>
+    /// The connections of the body of the number, in order, with where their ends lead.
+    pub fn wires(&self, number: u32) -> &[LedWire<'a>]
         requires { number ≤ top_number self.now }
-        ensures { result ≡ leaf_of self.now number words.now }
+        ensures { result.now ≡ led_wires self.now number }
     {
-        lead(&self.bodies, self.leads.as_slice(), number, words)
+        self.leads[number as usize].wires.as_slice()
+    }
+
+    /// The leaf interface that an end leads to.
+    pub fn leaf(&self, end: &LedEnd<'_>) -> Option<Leaf<'a>>
+        ensures { result ≡ led_leaf self.now end.now }
+    {
+        let port = end.lead?.port;
+        self.body(port.kind).leaf(port.member)
     }
 }
 

@@ -1,9 +1,34 @@
 -- Where no fault of types stands, connections are as they should be.
-use Rattle.adl_types.proofs.Common.{AreNamesSound, Bool, End, Fault, Hierarchy, IsIn, None, Source, Strung, [], ap, arith, body_faults, cases_eq, connections, end_faults, false, faults_below, first_leaf, first_type_fault, hierarchy_of, inl, inr, least-empty, length, none_in, none_left, none_right, not, refl, suc, top_number, true, type_faults, where_true, wire_faults, zero, ℕ, ◌&&◌, ◌+◌, ◌<◌, ◌∙◌, ◌≡◌, ◌≤◌}
+use Rattle.adl_types.proofs.Common.{AreNamesSound, Bool, End, Fault, Hierarchy, IsIn, List, None, Source, Strung, [], ap, arith, at_word, body, body_faults, cases_eq, connections, end_faults, false, faults_at, faults_below, first_leaf, first_led, first_type_fault, flat_map, hierarchy_of, inl, inr, least-empty, led_faults, led_wire_faults, length, map, may_have, none_in, none_left, none_right, not, refl, suc, top_number, true, type_faults, where_true, wire_faults, wires_of, zero, ℕ, ◌&&◌, ◌++◌, ◌+◌, ◌<◌, ◌∙◌, ◌∷◌, ◌≡◌, ◌≤◌}
 use Rattle.adl_hierarchy.proofs.Connections.{connections_stand}
 use Rattle.adl_hierarchy.proofs.Finite.{sound_is_finite}
 use Rattle.adl_hierarchy.proofs.PartsAt.{body_in}
 use Rattle.adl_types.specs.WellTyped.{IsWellTyped}
+use Rattle.adl_meaning.specs.Prelude.{Wire}
+use Rattle.adl_meaning.specs.declared.connector.Connector.{Connector}
+use Rattle.adl_program.proofs.Ends.{lead_leaf}
+use Rattle.adl_program.specs.LedEnds.{led_end, led_wire, led_wires}
+use Rattle.cam_base.specs.declared.code.Code.TheVariants as code
+use Rattle.std.proofs.lemmas.List.Folds.{flat_map-map}
+
+-- the faults of connections are those of what their ends lead to
+pub wires_faulty : (h : Hierarchy) (k : ℕ) → flat_map (led_wire_faults h) (led_wires h k) ≡ flat_map (wire_faults h k)
+    (wires_of (body h k))
+wires_faulty h k = flat_map-map (led_wire_faults h) (led_wire h k) (wires_of (body h k))
+    ∙ ap (λ f. flat_map f (wires_of (body h k))) (λ i w. same w i)
+  where
+    first : (es : List End) → first_led h (map (led_end h k) es) ≡ first_leaf h k es
+    first [] = refl
+    first (e ∷ es) = lead_leaf h k e
+
+    each : (c : Connector) (e : End) (es : List End)
+        → led_faults h c (first_led h (map (led_end h k) es)) (led_end h k e) ≡ end_faults h k c (first_leaf h k es) e
+    each c e es = λ i. faults_at c (first es i) (lead_leaf h k e i) e
+
+    same : (w : Wire) → led_wire_faults h (led_wire h k w) ≡ wire_faults h k w
+    same w = ap (λ fs. fs ++ where_true (not (may_have w.0 w.1.ends)) (at_word code.EndCount w.1.id))
+        (flat_map-map (led_faults h w.0 (first_led h (map (led_end h k) w.1.ends))) (led_end h k) w.1.ends
+        ∙ ap (λ f. flat_map f w.1.ends) (λ i e. each w.0 e w.1.ends i))
 
 so : (b c : Bool) (f : Fault) → b ≡ true → where_true (b && not c) f ≡ [] → c ≡ true
 so true true f t e = refl

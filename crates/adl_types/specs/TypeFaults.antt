@@ -8,7 +8,7 @@
 --   TypeMismatch stands at the name of an interface whose size stands there and is 0 or above 268,435,456.
 --
 -- An end that leads to no interface has no fault here.
-use Rattle.adl_meaning.specs.Prelude.{Code, End, Fault, From, Hierarchy, Member, Role, Source, To, Wire, at_word, body, bytes_eq, count_by, default_size, flat_map, hierarchy_of, last_name, least, option_map_or, same_kind, top_number, where_true, wires_of}
+use Rattle.adl_meaning.specs.Prelude.{Code, End, Fault, From, Hierarchy, Member, Role, Source, To, Wire, at_word, body, bytes_eq, count_by, default_size, flat_map, hierarchy_of, last_name, least, option_and_then, option_map_or, same_kind, slice_get, top_number, where_true, wires_of}
 use Rattle.std.specs.Prelude.{Bool, List, None, Option, Some, [], false, if◌then◌else◌, nat_le, not, suc, true, unwrap_or, zero, ℕ, ◌&&◌, ◌++◌, ◌+◌, ◌==◌, ◌∷◌}
 use Rattle.adl_meaning.specs.declared.connector.Connector.{Connector}
 use Rattle.adl_meaning.specs.declared.connector.Connector.TheVariants.{Interrupt}
@@ -16,6 +16,7 @@ use Rattle.conn_rules.specs.Ends.{allows, end_rule}
 use Rattle.conn_rules.specs.Row.{same_role}
 use Rattle.conn_rules.specs.declared.end.EndRule.{EndRule}
 use Rattle.adl_program.specs.LeafInterfaces.{LeafInterface, leaf_of}
+use Rattle.adl_program.specs.LedEnds.{LedEnd, LedWire, led_leaf}
 use Rattle.cam_base.specs.declared.code.Code.TheVariants as code
 use Rattle.adl_ast.specs.declared.component.Member.TheVariants as members
 
@@ -66,6 +67,17 @@ may_have c ends = allows (end_rule c From) (count_of From ends) && allows (end_r
 abbrev pub wire_faults : Hierarchy → ℕ → Wire → List Fault
 wire_faults h k w = flat_map (end_faults h k w.0 (first_leaf h k w.1.ends)) w.1.ends ++ where_true (not (may_have w.0 w.1.ends))
     (at_word code.EndCount w.1.id)
+
+-- the same of connections whose ends tell where they lead
+abbrev pub led_faults : Hierarchy → Connector → Option LeafInterface → LedEnd → List Fault
+led_faults h c first x = faults_at c first (led_leaf h x) x.end
+
+abbrev pub first_led : Hierarchy → List LedEnd → Option LeafInterface
+first_led h xs = option_and_then (led_leaf h) (slice_get xs 0)
+
+abbrev pub led_wire_faults : Hierarchy → LedWire → List Fault
+led_wire_faults h x = flat_map (led_faults h x.wire.0 (first_led h x.ends)) x.ends ++ where_true
+    (not (may_have x.wire.0 x.wire.1.ends)) (at_word code.EndCount x.wire.1.id)
 
 -- ---- sizes
 

@@ -1,13 +1,13 @@
 //! The faults of types.
 
-ghost use Rattle.adl_meaning.specs.Prelude.{flat_map, least, noted, option_copied, option_map_or, top_number};
-ghost use Rattle.adl_types.specs.TypeFaults.{agree, count_of, end_faults, faults_at, first_leaf, is_kind_of, may_have, size_faults, type_faults_in, wire_faults};
+ghost use Rattle.adl_meaning.specs.Prelude.{body, flat_map, least, noted, option_copied, option_map_or, top_number, wires_of};
+ghost use Rattle.adl_types.specs.TypeFaults.{agree, count_of, faults_at, first_led, is_kind_of, led_faults, led_wire_faults, may_have, size_faults, type_faults_in, wire_faults};
 ghost use Rattle.std.specs.Prelude.{[], true, ◌≡◌, ◌≤◌};
 
 use adl_ast::{Component, End, Member, Role};
 use adl_items::last_name;
 use adl_meaning::{Connector, Earliest, noted_is_least};
-use adl_program::{Leaf, Program, Wire};
+use adl_program::{Leaf, LedEnd, LedWire, Program};
 use cam_base::Code;
 use conn_rules::EndRule;
 
@@ -74,58 +74,37 @@ fn note_end<'a>(
     );
 }
 
-/// Notes the faults of ends in the body of the number, beside the interface that the first end of their connection joins.
-fn note_rest<'a>(
+/// Notes the faults of a connection's ends.
+fn note_ends<'a>(
     program: &Program<'a>,
-    number: u32,
     connector: Connector,
-    model: &Option<Leaf<'_>>,
-    rest: &'a [End],
+    ends: &[LedEnd<'a>],
     first: &mut Earliest<'a>,
 )
-    requires { number ≤ top_number program.now }
-    ensures { first.new ≡ noted first.old (flat_map (end_faults program.now number connector model.now) rest.entry.now) }
+    ensures { first.new ≡ noted first.old
+        (flat_map (led_faults program.now connector (first_led program.now ends.now)) ends.now) }
 {
-    for end in rest {
-        let leaf = program.leaf(number, end.words.as_slice());
-        note_end(connector, model, &leaf, end, first);
+    let model = match ends {
+        [] => None,
+        [head, ..] => program.leaf(head),
+    };
+    for end in ends {
+        let leaf = program.leaf(end);
+        note_end(connector, &model, &leaf, end.end, first);
     }
 }
 
-/// Notes the faults of a connection's ends in the body of the number.
+/// Notes the faults of a connection.
 #[tactic(auto, using(adl_meaning::proofs::Noting::noting))]
-fn note_ends<'a>(
-    program: &Program<'a>,
-    number: u32,
-    connector: Connector,
-    ends: &'a [End],
-    first: &mut Earliest<'a>,
-)
-    requires { number ≤ top_number program.now }
-    ensures { first.new ≡ noted first.old
-        (flat_map (end_faults program.now number connector (first_leaf program.now number ends.entry.now)) ends.entry.now) }
-{
-    let [head, rest @ ..] = ends else {
-        return;
-    };
-    let model = program.leaf(number, head.words.as_slice());
-    note_end(connector, &model, &model, head, first);
-    note_rest(program, number, connector, &model, rest, first);
-}
-
-/// Notes the faults of a connection in the body of the number.
-#[tactic(auto, using(adl_meaning::proofs::Noting::noting))]
-fn note_wire<'a>(program: &Program<'a>, number: u32, wire: &Wire<'a>, first: &mut Earliest<'a>)
-    requires { number ≤ top_number program.now }
-    ensures { first.new ≡ noted first.old (wire_faults program.now number wire.now) }
+fn note_wire<'a>(program: &Program<'a>, wire: &LedWire<'a>, first: &mut Earliest<'a>)
+    ensures { first.new ≡ noted first.old (led_wire_faults program.now wire.now) }
 {
     let connector = wire.connector;
+    note_ends(program, connector, wire.ends.as_slice(), first);
     let connection = wire.connection;
-    let ends = connection.ends.as_slice();
-    note_ends(program, number, connector, ends, first);
     let name = &connection.id;
     first.note(
-        !may_have(connector, ends),
+        !may_have(connector, connection.ends.as_slice()),
         Code::EndCount,
         name.place(),
         name.name.as_bytes(),
@@ -151,18 +130,26 @@ fn note_sizes<'a>(component: Option<&'a Component>, first: &mut Earliest<'a>)
     }
 }
 
+/// Notes the faults of the connections of the body of the number.
+fn note_wires<'a>(program: &Program<'a>, number: u32, first: &mut Earliest<'a>)
+    requires { number ≤ top_number program.now }
+    ensures { first.new ≡ noted first.old (flat_map (wire_faults program.now number) (wires_of (body program.now number))) }
+{
+    for wire in program.wires(number) {
+        note_wire(program, wire, first);
+    }
+}
+
 /// The first fault of types, if one stands: `specs/TypeFaults.antt`. Takes no memory.
+#[tactic(auto, using(adl_meaning::proofs::Noting::noting))]
 pub fn type_fault<'a>(program: &Program<'a>) -> Earliest<'a>
     ensures { result ≡ least (type_faults_in program.now) }
 {
     noted_is_least();
     let mut first = Earliest::none();
     for number in 0..program.top_number() + 1 {
-        let body = program.body(number);
-        for wire in body.wires() {
-            note_wire(program, number, wire, &mut first);
-        }
-        note_sizes(body.component(), &mut first);
+        note_wires(program, number, &mut first);
+        note_sizes(program.body(number).component(), &mut first);
     }
     first
 }

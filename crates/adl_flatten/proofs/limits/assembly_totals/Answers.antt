@@ -2,8 +2,12 @@ use Rattle.adl_flatten.proofs.Common.{all_filled, ap, arith, filled_more, get_or
 use Rattle.adl_flatten.proofs.Totals.{IsTotal, body_is}
 use Rattle.adl_flatten.proofs.limits.assembly_totals.Goals as goal
 
-pub body_totals-totals-requires : goal.body_totals-totals-requires
-body_totals-totals-requires c =
+pub body_totals-totals-requires-clause-number : goal.body_totals-totals-requires-clause-number
+body_totals-totals-requires-clause-number c = order_below c.args.program.now c.order-number-items.result.now
+    c.loop-number.number-index c.order-number-items.ensures c.loop-number-test.true
+
+pub body_totals-totals-requires-clause-kinds : goal.body_totals-totals-requires-clause-kinds
+body_totals-totals-requires-clause-kinds c =
     let l = order_below c.args.program.now c.order-number-items.result.now c.loop-number.number-index c.order-number-items.ensures
     c.loop-number-test.true in
     rw c.as_slice.ensures.value (kinds_in c.args.program.now c.requires _ (length c.loop-number.all.items) l
