@@ -1,5 +1,7 @@
 pub mod Common
 pub mod EndNumbers
+pub mod FewBadges
+pub mod JudgedEnds
 pub mod Noted
 pub mod ValueSearch
 mod SettleCommon

@@ -1,5 +1,5 @@
 -- Keys of settings: a path with a name behind it.
-use Rattle.adl_settings.proofs.SettleCommon.{Bool, Bor, Global, Hierarchy, Id, List, Name, None, Option, Part, Path, Setting, SettingTable, Some, Vec, [], ap, append_assoc, arith, body, bytes_eq, cond, false, groups, inner_names, is_group, is_none, is_some, length, lookup, map, map-append, nil_from_length, option_and_then, option_copied, option_map, option_map-option_or, option_map_or, option_or, option_or-none, option_or-there, part_named, path_from, path_of, pointed, pointwise, pointwise-map, refl, same_path, same_path-true, suc, sym, take, true, ℕ, ◌&&◌, ◌++◌, ◌+◌, ◌-◌, ◌∙◌, ◌∷◌, ◌≡◌}
+use Rattle.adl_settings.proofs.SettleCommon.{Bool, Bor, Global, Hierarchy, Id, List, Name, None, Option, Part, Path, Setting, SettingTable, Some, Vec, [], ap, append_assoc, arith, body, bytes_eq, cond, false, groups, inner_names, is_group, is_none, is_some, length, lookup, map, map-append, nil_from_length, option_and_then, option_copied, option_map, option_map_or, option_or, option_or-none, option_or-there, part_named, path_from, path_of, pointed, pointwise, pointwise-map, refl, same_path, same_path-true, suc, sym, take, true, ℕ, ◌&&◌, ◌++◌, ◌+◌, ◌-◌, ◌∙◌, ◌∷◌, ◌≡◌}
 use Rattle.adl_program.specs.Seen.{part_from}
 use Rattle.adl_program.specs.declared.part.PartAt.{PartAt}
 use Rattle.adl_settings.specs.Lookups.{setting_found, within}

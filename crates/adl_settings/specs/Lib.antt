@@ -6,6 +6,7 @@ pub mod EndMeaning
 pub mod IrqTwice
 pub mod Joint
 pub mod Joints
+pub mod Judged
 pub mod Meant
 pub mod Missing
 pub mod Named

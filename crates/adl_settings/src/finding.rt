@@ -1,16 +1,18 @@
 //! The values of the settings of all leaves, and of the ends of connections at the interfaces that they join.
 
-ghost use Rattle.adl_meaning.specs.Prelude.{cons_option, option_copied};
-ghost use Rattle.std.specs.Prelude.{IfOk, List as Seq, OnOk, option_map, ◌++◌, ◌≡◌};
+ghost use Rattle.adl_meaning.specs.Prelude.{cons_option, filter, option_copied};
+ghost use Rattle.std.specs.Prelude.{IfOk, List as Seq, OnOk, map, option_map, ◌++◌, ◌≡◌};
 ghost use Rattle.adl_settings.specs.Joints.{Found as End, component_at, found_at, found_on, interface_at, joint_of, size_of, value_of};
+ghost use Rattle.adl_settings.specs.EndMeaning.{end_setting};
+ghost use Rattle.adl_settings.specs.Judged.{is_judged};
 ghost use Rattle.adl_settings.specs.Meant.{where_set};
-ghost use Rattle.adl_settings.specs.Settled.{leaf_found};
+ghost use Rattle.adl_settings.specs.Settled.{end_settings, leaf_found};
 ghost use Rattle.adl_settings.specs.Lookups.{IsRemembered};
 
 use crate::search::{Lookup, Memo, value_at};
 use crate::{Found, Given, Joint, LeafFound, is_shared};
 use adl_ast::{Component, Interface, Item, Member, Role, Source};
-use adl_meaning::{Flat, FlatConnection, FlatEnd, ItemAt, Leaf};
+use adl_meaning::{EndSetting, EndSettings, Flat, FlatConnection, FlatEnd, ItemAt, Leaf};
 use cam_base::{List, Made, Name};
 
 /// The component that stands at a place.
@@ -57,8 +59,7 @@ fn joint_of<'a>(
     })
 }
 
-/// The value of a setting of the interface that an end joins. Where no name has a value, its name isn't made.
-#[tactic(auto, using(crate::proofs::Unvalued::unvalued))]
+/// The value of a setting of the interface that an end joins.
 fn value_of<'a>(
     lookup: &Lookup<'_, 'a>,
     memo: &mut Memo<'a>,
@@ -69,9 +70,6 @@ fn value_of<'a>(
     ensures value { IfOk result (λ o. o ≡ value_of lookup.now joint.now setting.now) }
     ensures memo { OnOk result (IsRemembered lookup.now memo.new) }
 {
-    if lookup.is_bare() {
-        return Ok(None);
-    }
     let front = joint.interface.id.name.as_bytes();
     let mut name = Vec::with_capacity(lookup.alloc, front.len().saturating_add(setting.len()))?;
     name.extend_from_slice(front)?;
@@ -79,7 +77,9 @@ fn value_of<'a>(
     value_at(lookup, memo, joint.leaf.path.names(), name.as_slice())
 }
 
-/// The value of a setting of the interface that an end joins, where it has a meaning.
+/// The value of a setting of the interface that an end joins, where it has a meaning. Where no name has a value, none is made.
+#[inline(always)]
+#[tactic(auto, using(crate::proofs::Unvalued::unvalued))]
 fn value_where<'a>(
     lookup: &Lookup<'_, 'a>,
     memo: &mut Memo<'a>,
@@ -91,11 +91,10 @@ fn value_where<'a>(
     ensures value { IfOk result (λ o. o ≡ where_set on (value_of lookup.now joint.now setting.now)) }
     ensures memo { OnOk result (IsRemembered lookup.now memo.new) }
 {
-    if on {
-        value_of(lookup, memo, joint, setting)
-    } else {
-        Ok(None)
+    if !on || lookup.is_bare() {
+        return Ok(None);
     }
+    value_of(lookup, memo, joint, setting)
 }
 
 /// The value of the size of shared memory, or else of a device's registers.
@@ -137,46 +136,58 @@ fn found_at<'a>(lookup: &Lookup<'_, 'a>, memo: &mut Memo<'a>, joint: Joint<'a>) 
     })
 }
 
-/// Adds the values of the settings of an end, where it joins an interface.
-fn push_found<'a>(
+/// Adds the settings of an end, where it joins an interface, and what was found there if it is judged.
+fn add_end<'a>(
     lookup: &Lookup<'_, 'a>,
     memo: &mut Memo<'a>,
     joint: Option<Joint<'a>>,
-    found: &mut List<Found<'a>>,
+    settings: &mut List<EndSetting>,
+    judged: &mut Vec<Found<'a>>,
 ) -> Made<()>
     requires { IsRemembered lookup.now memo.old }
-    ensures found { OnOk result ((rest : Seq End) → found.new ++ rest
-        ≡ found.old ++ cons_option (option_map (found_at lookup.now) joint.entry) rest) }
+    ensures settings { OnOk result ((rest : Seq End) → settings.new ++ map end_setting rest
+        ≡ settings.old ++ map end_setting (cons_option (option_map (found_at lookup.now) joint.entry) rest)) }
+    ensures judged { OnOk result ((rest : Seq End) → judged.new.items ++ filter is_judged rest
+        ≡ judged.old.items ++ filter is_judged (cons_option (option_map (found_at lookup.now) joint.entry) rest)) }
     ensures memo { OnOk result (IsRemembered lookup.now memo.new) }
 {
-    match joint {
-        None => Ok(()),
-        Some(joint) => found.push(found_at(lookup, memo, joint)?),
+    if let Some(joint) = joint {
+        let found = found_at(lookup, memo, joint)?;
+        settings.push(found.setting())?;
+        if found.is_judged() {
+            judged.push(found)?;
+        }
     }
+    Ok(())
 }
 
-/// The values of the settings of a connection's ends.
-pub fn found_on<'a>(
+/// The settings of a connection's ends, and what was found at those that are judged, in place of what stood there.
+pub fn settings_on<'a>(
     lookup: &Lookup<'_, 'a>,
     memo: &mut Memo<'a>,
     source: &'a Source,
     flat: &'a Flat,
     connection: &'a FlatConnection,
-) -> Made<List<Found<'a>>>
+    judged: &mut Vec<Found<'a>>,
+) -> Made<EndSettings>
     requires { IsRemembered lookup.now memo.old }
-    ensures found { IfOk result (λ k. k ≡ found_on lookup.now source.now flat.now connection.now) }
+    ensures settings { IfOk result (λ k. k ≡ end_settings (found_on lookup.now source.now flat.now connection.now)) }
+    ensures judged { OnOk result (judged.new.items
+        ≡ filter is_judged (found_on lookup.now source.now flat.now connection.now)) }
     ensures memo { OnOk result (IsRemembered lookup.now memo.new) }
 {
-    let mut found = List::new(lookup.alloc);
+    judged.clear();
+    let room = connection.ends.len();
+    let mut settings = List::from_vec(Vec::with_capacity(lookup.alloc, room)?);
     let mut before: u64 = 0;
     for end in connection.ends.as_slice() {
         let joint = joint_of(source, flat, connection, before + 1, *end);
-        push_found(lookup, memo, joint, &mut found)?;
+        add_end(lookup, memo, joint, &mut settings, judged)?;
         if end.role == Role::From {
             before += 1;
         }
     }
-    Ok(found)
+    Ok(EndSettings { ends: settings })
 }
 
 /// The values of the settings of a leaf.

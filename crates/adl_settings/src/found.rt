@@ -2,6 +2,7 @@
 
 ghost use Rattle.std.specs.Prelude.{◌≡◌};
 ghost use Rattle.adl_settings.specs.Joints.{has_access, has_badge, is_device_event, is_device_memory, is_shared};
+ghost use Rattle.adl_settings.specs.Judged.{has_value, is_judged};
 
 use adl_ast::{Interface, InterfaceKind, Role, Value};
 use adl_meaning::{Connector, FlatConnection, FlatEnd, Leaf};
@@ -94,6 +95,25 @@ impl<'a> Given<'a> {
             value: self.value,
             name: self.name,
         }
+    }
+}
+
+impl<'a> Found<'a> {
+    fn has_value(&self) -> bool
+        ensures { result ≡ has_value self.now }
+    {
+        self.access.is_some()
+            || self.badge.is_some()
+            || self.size.is_some()
+            || self.paddr.is_some()
+            || self.irq.is_some()
+    }
+
+    /// Whether a fault can stand at the end.
+    pub fn is_judged(&self) -> bool
+        ensures { result ≡ is_judged self.now }
+    {
+        self.joint.has_badge() || self.joint.leaf.hardware || self.has_value()
     }
 }
 

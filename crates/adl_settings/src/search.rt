@@ -193,6 +193,7 @@ fn referred<'a>(
 }
 
 /// The value of the setting at a path. It is searched for where its name can have a value.
+#[inline(always)]
 #[tactic(auto, using(crate::proofs::Unvalued::unvalued))]
 pub fn value_at<'a>(
     lookup: &Lookup<'_, 'a>,

@@ -10,8 +10,7 @@ ghost use Rattle.adl_settings.specs.Lookups.{IsRemembered};
 ghost use Rattle.adl_settings.specs.SettingFaults.{faults_on, first_setting_fault, value_faults};
 ghost use Rattle.adl_settings.specs.Settled.{end_settings, leaf_setting, leaves_found, settled_from, settled_of};
 
-use crate::Found;
-use crate::finding::{found_on, leaf_found};
+use crate::finding::{leaf_found, settings_on};
 use crate::names::names_for;
 use crate::search::{Lookup, Memo};
 use crate::tables::setting_tables;
@@ -45,18 +44,6 @@ fn settle_leaves<'a>(
     Ok(List::from_vec(settings))
 }
 
-fn end_settings(alloc: Global, ends: &[Found<'_>]) -> Made<EndSettings>
-    ensures { IfOk result (λ settings. settings ≡ end_settings ends.now) }
-{
-    let mut settings = Vec::with_capacity(alloc, ends.len())?;
-    for end in ends {
-        settings.push(end.setting())?;
-    }
-    Ok(EndSettings {
-        ends: List::from_vec(settings),
-    })
-}
-
 /// The settings of all ends, whose values are judged one connection after the other.
 fn settle_ends<'a>(
     lookup: &Lookup<'_, 'a>,
@@ -75,10 +62,11 @@ fn settle_ends<'a>(
         ≡ judged.old.irqs.items ++ irqs (founds_in lookup.now source.now flat.now)) }
 {
     let mut settings = Vec::with_capacity(lookup.alloc, flat.connections.len())?;
+    let mut found = Vec::new(lookup.alloc);
     for connection in flat.connections.as_slice() {
-        let ends = found_on(lookup, memo, source, flat, connection)?;
-        judged.add(lookup.alloc, ends.as_slice())?;
-        settings.push(end_settings(lookup.alloc, ends.as_slice())?)?;
+        let ends = settings_on(lookup, memo, source, flat, connection, &mut found)?;
+        judged.add(lookup.alloc, found.as_slice())?;
+        settings.push(ends)?;
     }
     Ok(List::from_vec(settings))
 }

@@ -102,6 +102,7 @@ fn own_badges(alloc: Global, ends: &[Found<'_>]) -> Made<Vec<u64>>
 }
 
 /// Notes the ends of a connection that have the badge of another.
+#[tactic(auto, using(crate::proofs::FewBadges::few_badges))]
 pub fn note_badges_twice<'a>(
     alloc: Global,
     ends: &[Found<'a>],
@@ -109,6 +110,9 @@ pub fn note_badges_twice<'a>(
 ) -> Made<()>
     ensures { OnOk result (first.new ≡ noted first.old (badges_twice_in ends.now)) }
 {
+    if ends.len() < 2 {
+        return Ok(());
+    }
     let badges = own_badges(alloc, ends)?;
     let twice = repeated(alloc, badges.as_slice())?;
     for end in ends {

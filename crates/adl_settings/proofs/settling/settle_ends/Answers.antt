@@ -3,6 +3,7 @@ use Rattle.adl_meaning.proofs.Noting.{noted_mapped}
 use Rattle.adl_settings.proofs.SettleCommon.{drop, found_on, ◌+◌}
 use Rattle.adl_settings.specs.DeviceOverlap.{regions_in}
 use Rattle.adl_settings.specs.IrqTwice.{irqs_in}
+use Rattle.adl_settings.proofs.JudgedEnds.{faults_judged, irqs_judged, regions_judged}
 use Rattle.adl_settings.specs.SettingFaults.{faults_on}
 use Rattle.adl_settings.proofs.settling.settle_ends.Goals as goal
 
@@ -29,23 +30,21 @@ loop-connection-preserved c =
     let here = subst (λ z. k ≡ get_or z i k) all c.connection-item.is in
     let rest = map f (drop (i + 1) ks) in
     let next = ap (map f) (drop_first ks i k less here) in
-    let judged = c.as_slice.ensures ∙ c.in_ok-ends.ensures.found in
-    let settled = c.as_slice-in-loop-connection.ensures ∙ c.in_ok-ends.ensures.found in
+    let judged = c.as_slice.ensures.value ∙ c.in_ok-ends.ensures.judged in
     let a = c.in_ok-add.ensures in
     record {
       settings =
           one_added (f k) (map f (drop i ks)) rest next end_settings l.settings.items c.push.new.self.items
-          (c.in_ok-push.ensures.items
-          ∙ ap (λ v. l.settings.items ++ v ∷ []) (c.in_ok-end_settings.ensures ∙ ap end_settings settled))
+          (c.in_ok-push.ensures.items ∙ ap (λ v. l.settings.items ++ v ∷ []) c.in_ok-ends.ensures.settings)
           ∙ l.invariant.settings;
       first =
           noted_mapped faults_on f c.add.new.self.first l.judged.first ks i k less here
-          (a.first ∙ ap (λ es. noted l.judged.first (faults_on es)) judged) ∙ l.invariant.first;
+          (a.first ∙ ap (noted l.judged.first) (ap faults_on judged ∙ faults_judged (f k))) ∙ l.invariant.first;
       regions =
           all_added (f k) (map f (drop i ks)) rest next regions_in l.judged.regions.items c.add.new.self.regions.items
-          (a.regions ∙ ap (λ es. l.judged.regions.items ++ regions_in es) judged) ∙ l.invariant.regions;
+          (a.regions ∙ ap (λ z. l.judged.regions.items ++ z) (ap regions_in judged ∙ regions_judged (f k))) ∙ l.invariant.regions;
       irqs =
           all_added (f k) (map f (drop i ks)) rest next irqs_in l.judged.irqs.items c.add.new.self.irqs.items
-          (a.irqs ∙ ap (λ es. l.judged.irqs.items ++ irqs_in es) judged) ∙ l.invariant.irqs;
+          (a.irqs ∙ ap (λ z. l.judged.irqs.items ++ z) (ap irqs_in judged ∙ irqs_judged (f k))) ∙ l.invariant.irqs;
       memo = c.in_ok-ends.ensures.memo;
     }

@@ -1,6 +1,5 @@
-use Rattle.std.proofs.Common.{List, false, length, ℕ, ◌<◌, ◌≡◌}
-use Rattle.std.proofs.lemmas.List.Sums.{count_by-le-length}
-use Rattle.adl_settings.proofs.Common.{arith, count_by, count_by_more_no, count_by_more_yes, get_or, nat_eq, nat_le, nat_tests, subst, sym, take_all}
+use Rattle.adl_settings.proofs.Common.{arith, count_by_more_no, count_by_more_yes, get_or, nat_eq, nat_tests, subst, sym, take_all, ◌≡◌}
+use Rattle.adl_settings.proofs.FewBadges.{none_twice}
 use Rattle.adl_settings.specs.Repeated.{is_marked, is_repeated}
 use Rattle.adl_settings.proofs.twice.repeated.Goals as goal
 
@@ -30,9 +29,6 @@ returns c = λ n. grind (
   take_all c.loop-number.number-index c.args.numbers.now
       c.loop-number-test.false,
 )
-
-none_twice : (numbers : List ℕ) (n : ℕ) → length numbers < 2 → false ≡ nat_le 2 (count_by (λ m. nat_eq n m) numbers)
-none_twice numbers n few = grind (arith, nat_tests, count_by-le-length (λ m. nat_eq n m) numbers)
 
 pub returns-then-numbers-lt2 : goal.returns-then-numbers-lt2
 unfolding is_marked
