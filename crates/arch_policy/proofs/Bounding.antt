@@ -1,4 +1,5 @@
 -- Edges that bound interrupts give, added one handler after another.
+use Rattle.std.proofs.Common.{rules}
 use Rattle.arch_policy.proofs.Common.{Adds, AsyncSend, Edge, IsBound, IsBoundAt, IsBoundBy, IsFirstFrom, IsIn, List, None, Option, Some, adds_none, adds_same, adds_then, ap, arith, bound_to, cases_lt, edge, in_append, in_left, in_place, in_right}
 use Rattle.arch_policy.proofs.Common.{inl, inr, length, place_of, refl, slice_get, slice_get_within, subst, sym, ℕ, ◌++◌, ◌+◌, ◌<◌, ◌∙◌, ◌≡◌, ◌≤◌, ◌⊎◌}
 use Rattle.arch_policy.proofs.Lists.{has_in, in_has}
@@ -42,28 +43,12 @@ module _ (handle : Edge) (signals : List Edge) where
   until_more first at a b c o le before here now =
       adds_same (λ e. Until handle signals first at e ⊎ IsIn e (bound_to handle o)) (Until handle signals first (at + 1))
       (λ e h. elim h [
-        | inl u ↦ record {
-          place = u.place;
-          low = u.low;
-          below = (let w = u.below in omega (arith, w));
-          signal = u.signal;
-          there = u.there;
-          is = u.is;
-        }
-        | inr i ↦ let s = of_bound o e i in record {
-          place = at;
-          low = le;
-          below = omega arith;
-          signal = s.0;
-          there = sym here ∙ s.1;
-          is = s.2;
-        }
+        | inl u ↦ search (rules)
+        | inr i ↦ search (rules, of_bound)
       ])
       (λ e u. elim (cases_lt u.place at) [
         | inl below ↦ inl (record { place = u.place; low = u.low; below = below; signal = u.signal; there = u.there; is = u.is })
-        | inr ge ↦
-            let same : u.place ≡ at = (let w = u.below in omega (arith, w, ge)) in
-            inr (in_bound o u.signal e (here ∙ ap (slice_get signals) (sym same) ∙ u.there) u.is)
+        | inr ge ↦ search (rules, in_bound)
       ])
       a c
       (adds_then (Until handle signals first at) (λ e. IsIn e (bound_to handle o)) a b c before
@@ -72,36 +57,7 @@ module _ (handle : Edge) (signals : List Edge) where
   pub until_all : (first past : ℕ) (a b : List Edge) → IsFirstFrom signals handle.from first
       → IsFirstFrom signals (handle.from + 1) past → Adds (Until handle signals first past) a b
       → Adds (IsBoundBy handle signals) a b
-  until_all first past a b f p grown =
-      adds_same (Until handle signals first past) (IsBoundBy handle signals)
-      (λ e u.
-      let above = f.above u.place u.signal u.low u.there in
-      let below = p.below u.place u.signal u.below u.there in
-      record {
-        signal = u.signal;
-        listed = in_place u.signal signals u.place u.there;
-        same = omega (arith, above, below);
-        is = u.is;
-      })
-      (λ e by.
-      let k = place_of by.signal signals by.listed in
-      record {
-        place = k.0;
-        low = elim (cases_lt k.0 first) [
-          | inl l ↦ absurd (let w = f.below k.0 by.signal l k.1 in let s = by.same in
-              omega (arith, w, s))
-          | inr ge ↦ ge
-        ];
-        below = elim (cases_lt k.0 past) [
-          | inl l ↦ l
-          | inr ge ↦ absurd (let w = p.above k.0 by.signal ge k.1 in let s = by.same in
-              omega (arith, w, s))
-        ];
-        signal = by.signal;
-        there = k.1;
-        is = by.is;
-      })
-      a b grown
+  until_all first past a b f p grown = search (rules, adds_same, in_place, place_of, cases_lt)
 
 -- by the handlers at lesser places
 pub record Among (handles : List Edge) (signals : List Edge) (n : ℕ) (e : Edge) : Type 0 where
@@ -115,20 +71,7 @@ module _ (handles : List Edge) (signals : List Edge) where
 
   pub among_more : (n : ℕ) (a b c : List Edge) (o : Option Edge) → o ≡ slice_get handles n → Adds (Among handles signals n) a b
       → Adds (IsBoundAt o signals) b c → Adds (Among handles signals (n + 1)) a c
-  among_more n a b c o here before now =
-      adds_same (λ e. Among handles signals n e ⊎ IsBoundAt o signals e) (Among handles signals (n + 1))
-      (λ e h. elim h [
-        | inl x ↦ record { place = x.place; below = (let w = x.below in omega (arith, w)); by = x.by }
-        | inr y ↦ record { place = n; below = omega arith; by = subst (λ z. IsBoundAt z signals e) here y }
-      ])
-      (λ e x. elim (cases_lt x.place n) [
-        | inl below ↦ inl (record { place = x.place; below = below; by = x.by })
-        | inr ge ↦
-            let same : x.place ≡ n = (let w = x.below in omega (arith, w, ge)) in
-            inr (subst (λ z. IsBoundAt z signals e) (sym here) (subst (λ k. IsBoundAt (slice_get handles k) signals e) same x.by))
-      ])
-      a c
-      (adds_then (Among handles signals n) (IsBoundAt o signals) a b c before now)
+  among_more n a b c o here before now = search (rules, adds_same, cases_lt, adds_then)
 
   from_at : (n : ℕ) (e : Edge) (o : Option Edge) → slice_get handles n ≡ o → IsBoundAt o signals e → IsBound handles signals e
   from_at n e None h x = absurd x

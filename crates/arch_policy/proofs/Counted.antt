@@ -1,4 +1,5 @@
 -- A table that has the listed edges has as many as there are different ones.
+use Rattle.std.proofs.Common.{rules}
 use Rattle.arch_policy.proofs.Common.{Adds, Bool, Edge, IsBound, IsIn, IsPolicyOf, IsSorted, List, Tables, [], ap, arith, bound_edges, cases_lt, edge_count, filter, has, in_append, in_left, in_right, inl, inr, length, refl}
 use Rattle.arch_policy.proofs.Common.{sym, triples, true, true≢false, ◌++◌, ◌<◌, ◌∙◌, ◌∷◌, ◌≡◌}
 use Rattle.std.specs.Cmp.Derive.{one_truth}
@@ -22,13 +23,7 @@ swapped xs ys same e i = has_in e ys (sym (same e) ∙ in_has e xs i)
 
 same_bound : (xs ys us vs : List Edge) → ((e : Edge) → has xs e ≡ has ys e) → ((e : Edge) → has us e ≡ has vs e) → (e : Edge)
     → IsBound xs us e → IsBound ys vs e
-same_bound xs ys us vs h s e x =
-    let by = x.by in
-    record {
-      handle = x.handle;
-      listed = swapped xs ys h x.handle x.listed;
-      by = record { signal = by.signal; listed = swapped us vs s by.signal by.listed; same = by.same; is = by.is };
-    }
+same_bound xs ys us vs h s e x = search (rules, swapped)
 
 -- by tables hs and ss that have the edges of two lists
 module _ (direct reply handles signals hs ss before edges : List Edge) (h : (e : Edge) → has hs e ≡ has handles e) (s : (e : Edge)
@@ -48,10 +43,7 @@ module _ (direct reply handles signals hs ss before edges : List Edge) (h : (e :
       (in_bound handles signals e (same_bound hs handles ss signals h s e x)))
 
   collected_in : (e : Edge) → has edges e ≡ true → has all e ≡ true
-  collected_in e k = elim (grown.only e k) [
-    | inl old ↦ in_has e all (old_in e (has_in e (direct ++ reply) (ap (λ z. has z e) (sym is) ∙ old)))
-    | inr x ↦ in_has e all (bound_in e x)
-  ]
+  collected_in e k = search (rules, in_has, old_in, has_in, bound_in)
 
   old_has : (e : Edge) → IsIn e (direct ++ reply) → has edges e ≡ true
   old_has e i = grown.kept e (ap (λ z. has z e) is ∙ in_has e (direct ++ reply) i)
@@ -89,8 +81,4 @@ collected_few direct reply handles signals hs ss before edges h s is grown e = e
 
 pub has_filter : (xs ys : List Edge) (p : Edge → Bool) → ((e : Edge) → has xs e ≡ has ys e) → (e : Edge)
     → has (filter p xs) e ≡ has (filter p ys) e
-has_filter xs ys p same e = one_truth (has (filter p xs) e) (has (filter p ys) e)
-    (λ h. let w = from_filter p e xs (has_in e (filter p xs) h) in
-    in_has e (filter p ys) (in_filter p e ys (swapped xs ys same e w.0) w.1))
-    (λ h. let w = from_filter p e ys (has_in e (filter p ys) h) in
-    in_has e (filter p xs) (in_filter p e xs (swapped ys xs (λ d. sym (same d)) e w.0) w.1))
+has_filter xs ys p same e = search (rules, from_filter, has_in, in_has, in_filter, swapped)

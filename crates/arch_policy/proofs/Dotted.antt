@@ -1,4 +1,5 @@
 -- Texts that are read as names with dots
+use Rattle.std.proofs.Common.{rules}
 use Rattle.arch_policy.proofs.Common.{IfSome, List, None, Option, Some, [], ap, arith, drop, false, flat_map, get_or, length, pointwise, sym, take, take_all, true, ℕ, ◌++◌, ◌+◌, ◌-◌, ◌<◌, ◌∙◌, ◌∷◌, ◌≡◌, ◌≤◌}
 use Rattle.std.proofs.lemmas.Bool.Decides.{Decides-eqb}
 use Rattle.std.proofs.lemmas.Slice.Eq.{strip_prefix_is}
@@ -22,7 +23,4 @@ first_then (x ∷ xs) l = ap (λ ys. x ∷ ys) (sym (take_all (length (x ∷ xs)
 pub dotted_turn : (names : List (List ℕ)) (i : ℕ) (name left rest : List ℕ) → i < length names → name ≡ get_or names i name
     → 1 ≤ length left → get_or left 0 0 ≡ 46 → take (length left - 1) (drop 1 left) ≡ name ++ rest
     → rest ≡ flat_map (λ m. 46 ∷ m) (drop (i + 1) names) → left ≡ flat_map (λ m. 46 ∷ m) (drop i names)
-dotted_turn names i name left rest l is long dot front more =
-    first_then left long ∙ ap (λ d. d ∷ take (length left - 1) (drop 1 left)) dot ∙ ap (λ r. 46 ∷ r) front
-    ∙ ap (λ r. 46 ∷ name ++ r) more
-    ∙ ap (flat_map (λ m. 46 ∷ m)) (sym (drop_first names i name l is))
+dotted_turn names i name left rest l is long dot front more = search (rules, first_then, drop_first)

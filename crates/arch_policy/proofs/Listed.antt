@@ -1,4 +1,5 @@
 -- The listed edges are those that have a reason.
+use Rattle.std.proofs.Common.{rules}
 use Rattle.arch_policy.proofs.Common.{AsyncSend, Authority, Bool, Connector, Edge, FlatConnection, FlatEnd, From, Handle, Interrupt, IsBound, IsIn, IsPolicyOf, Leaf, List, NoObject, None, Notification, ObjectKind, OfDevice, OfEndpoint, OfFrames}
 use Rattle.arch_policy.proofs.Common.{OfIrq, OfNotification, Option, Reply, Role, Rpc, Some, Tables, To, [], and_from, and_parts, ap, authorities, bound_edges, cond, connection_label, crossed, crossed_at, crossed_edges, direct_edges, domain_label}
 use Rattle.arch_policy.proofs.Common.{edge, end_edges, eq-eqb, eqb-true, false, from_any, from_gather, gather, given_edges, gives, handle_edges, has, in_append, in_gather, in_left, in_place, in_right, inl, inr, is_lock, labels_in_role, leads_out}
@@ -26,13 +27,7 @@ is_same_connector c d e = ap (λ z. same_connector z d) e ∙ same_connector_sel
 
 from_crossed : (ls : List ℕ) (a : Authority) (ms : List ℕ) (e : Edge) → IsIn e (crossed ls a ms) → (l : ℕ) × (m : ℕ) × IsIn l ls
     × IsIn m ms × (edge l a m ≡ e)
-from_crossed ls a ms e i =
-    let l = from_gather (λ i l. gather (λ j m. edge l a m ∷ []) ms) e ls i in
-    let m = from_gather (λ j m. edge l.1 a m ∷ []) e ms l.3 in
-    elim m.3 [
-      | inl same ↦ (l.1, m.1, in_place l.1 ls l.0 l.2, in_place m.1 ms m.0 m.2, same)
-      | inr none ↦ absurd none
-    ]
+from_crossed ls a ms e i = search (rules, from_gather, in_place)
 
 in_crossed : (ls : List ℕ) (a : Authority) (ms : List ℕ) (l m : ℕ) → IsIn l ls → IsIn m ms → IsIn (edge l a m) (crossed ls a ms)
 in_crossed ls a ms l m i j =
@@ -64,11 +59,7 @@ in_bound hs ss e j =
     let p = place_of j.handle hs j.listed in
     let q = place_of by.signal ss by.listed in
     let d = edge j.handle.to AsyncSend by.signal.to in
-    let E : IsIn d (bound_edges hs ss) =
-    in_gather (λ i (h : Edge). gather (λ k (s : Edge). where_true (h.from == s.from) (edge h.to AsyncSend s.to)) ss) d hs
-    p.0 j.handle p.1
-    (in_gather (λ k (s : Edge). where_true (j.handle.from == s.from) (edge j.handle.to AsyncSend s.to)) d ss q.0 by.signal q.1
-    (in_where (j.handle.from == by.signal.from) d (eq-eqb j.handle.from by.signal.from by.same))) in
+    let E : IsIn d (bound_edges hs ss) = search (rules, in_gather, in_where, eq-eqb) in
     subst (λ z. IsIn z (bound_edges hs ss)) by.is E
 
 pub lock_of_member : (m : Member) → is_lock m ≡ true → (x : Lock) × (m ≡ members.Lock x)
@@ -90,9 +81,7 @@ module _ (t : Tables) where
   end_in k n c e h s = record { place = k; connection = c; here = h; number = n; end = e; stands = s }
 
   pub same_place : (x y : End) → y.place ≡ x.place → y.connection ≡ x.connection
-  same_place x y e =
-      let both : Some y.connection ≡ Some x.connection = sym y.here ∙ ap (λ z. slice_get t.flat.connections z) e ∙ x.here in
-      cc
+  same_place x y e = search (rules)
 
   -- an end of a connection that has this label and this role
   record InRole (k : ℕ) (c : FlatConnection) (r : Role) (l : ℕ) : Type 0 where
@@ -116,10 +105,7 @@ module _ (t : Tables) where
       }
 
   in_role : (x : End) (r : Role) → x.end.role ≡ r → IsIn (leaf_label t x.end.leaf) (labels_in_role t r x.connection.ends)
-  in_role x r e =
-      in_gather (λ n (f : FlatEnd). where_true (same_role f.role r) (leaf_label t f.leaf)) (leaf_label t x.end.leaf)
-      x.connection.ends x.number x.end x.stands
-      (in_where (same_role x.end.role r) (leaf_label t x.end.leaf) (is_same_role x.end.role r e))
+  in_role x r e = search (rules, in_gather, in_where, is_same_role)
 
   -- ---- direct
 
@@ -131,12 +117,7 @@ module _ (t : Tables) where
       record { at = g.at; same = g.place_is; role = g.role; label_is = g.label }
 
   in_other : (x : End) (m : ℕ) → AtOtherEnd t x m → IsIn m (labels_in_role t (opposite x.end.role) x.connection.ends)
-  in_other x m o =
-      let same = same_place x o.at o.same in
-      let there : IsIn (leaf_label t o.at.end.leaf) (labels_in_role t (opposite x.end.role) x.connection.ends) =
-      subst (λ (c : FlatConnection). IsIn (leaf_label t o.at.end.leaf) (labels_in_role t (opposite x.end.role) c.ends)) same
-      (in_role o.at (opposite x.end.role) o.role) in
-      subst (λ z. IsIn z (labels_in_role t (opposite x.end.role) x.connection.ends)) (sym o.label_is) there
+  in_other x m o = search (rules, same_place, in_role)
 
   from_target : (k n : ℕ) (c : FlatConnection) (e : FlatEnd) (h : slice_get t.flat.connections k ≡ Some c)
       (s : slice_get c.ends n ≡ Some e) (o : ObjectKind) (m : ℕ) → IsIn m (targets t k c e.role o)
@@ -162,9 +143,7 @@ module _ (t : Tables) where
   -- a row gives what the table gives over its object
   row_given : (c : Connector) (r : Role) (row : RuleRow) (a : Authority) → IsIn row (rows_of c r)
       → set_has row.authorities.bits a ≡ true → gives c r row.object a ≡ true
-  row_given c r row a i h = in_any (λ row2. same_object row2.object row.object && set_has row2.authorities.bits a) row
-      (rows_of c r) i (and_from (same_object row.object row.object) (set_has row.authorities.bits a)
-      (same_object_self row.object) h)
+  row_given c r row a i h = search (rules, in_any, and_from, same_object_self)
 
   given_row : (c : Connector) (r : Role) (o : ObjectKind) (a : Authority) → gives c r o a ≡ true
       → (row : RuleRow) × IsIn row (rows_of c r) × (row.object ≡ o) × (set_has row.authorities.bits a ≡ true)
@@ -190,11 +169,7 @@ module _ (t : Tables) where
   -- an edge that an end is given leads out of its label
   out_of_own : (k n : ℕ) (c : FlatConnection) (f : FlatEnd) (e : Edge) → IsIn e (end_edges t k c n f)
       → e.from ≡ leaf_label t f.leaf
-  out_of_own k n c f e i =
-      let r = from_gather (λ i row. row_edges t k c n f row) e (rows_of c.connector f.role) i in
-      let m = from_gather (λ i m. given_edges t k n r.1 (leaf_label t f.leaf) m) e (targets t k c f.role r.1.object) r.3 in
-      let w = from_given k n r.1 (leaf_label t f.leaf) m.1 e m.3 in
-      ap (λ (z : Edge). z.from) (sym w.2)
+  out_of_own k n c f e i = search (rules, from_gather, from_given)
 
   pub none_of_another : (k n : ℕ) (c : FlatConnection) (f : FlatEnd) (e : Edge) → leaf_label t f.leaf ≢ e.from
       → has (end_edges t k c n f) e ≡ false
@@ -240,31 +215,19 @@ module _ (t : Tables) where
       let m = e.to in
       let row = given_row x.connection.connector x.end.role d.object a d.given in
       let ts = targets t x.place x.connection x.end.role row.0.object in
-      let there : IsIn m ts = subst (λ o. IsIn m (targets t x.place x.connection x.end.role o)) (sym row.2)
-      (in_target x d.object m d.to) in
+      let there : IsIn m ts = search (rules, in_target) in
       let p = place_of m ts there in
       let q = place_of row.0 (rows_of x.connection.connector x.end.role) row.1 in
       let own = leaf_label t x.end.leaf in
       let E : IsIn (edge own a m) (end_edges t x.place x.connection x.number x.end) =
-      in_gather (λ i row. row_edges t x.place x.connection x.number x.end row) (edge own a m)
-      (rows_of x.connection.connector x.end.role) q.0 row.0 q.1
-      (in_gather (λ i m. given_edges t x.place x.number row.0 own m) (edge own a m) ts p.0 m p.1
-      (in_given x.place x.number row.0 own m a (and_from (set_has row.0.authorities.bits a)
-      (leaves (setting_of t.settled x.place x.number) a) row.3 d.left))) in
+      search (rules, in_gather, in_given, and_from) in
       subst (λ z. IsIn (edge z a m) (end_edges t x.place x.connection x.number x.end)) (sym d.from) E
 
   from_direct : (e : Edge) → IsIn e (direct_edges t) → DirectReason t e
-  from_direct e i =
-      let k = from_gather (λ k (c : FlatConnection). gather (λ n e. end_edges t k c n e) c.ends) e t.flat.connections i in
-      let n = from_gather (λ n f. end_edges t k.0 k.1 n f) e k.1.ends k.3 in
-      from_end k.0 n.0 k.1 n.1 k.2 n.2 e n.3
+  from_direct e i = search (rules, from_gather, from_end)
 
   in_direct : (e : Edge) → DirectReason t e → IsIn e (direct_edges t)
-  in_direct e d =
-      let x = d.at in
-      in_gather (λ k (c : FlatConnection). gather (λ n f. end_edges t k c n f) c.ends) e t.flat.connections x.place
-      x.connection x.here
-      (in_gather (λ n f. end_edges t x.place x.connection n f) e x.connection.ends x.number x.end x.stands (in_end e d))
+  in_direct e d = search (rules, in_gather, in_end)
 
   -- ---- of two ends of one connection
 
@@ -280,19 +243,11 @@ module _ (t : Tables) where
   from_at : (connector : Connector) (a : Authority) (e : Edge) (c : FlatConnection) → IsIn e (crossed_at t connector a c)
       → (same_connector c.connector connector ≡ true)
       × IsIn e (crossed (labels_in_role t To c.ends) a (labels_in_role t From c.ends))
-  from_at connector a e c i = go (same_connector c.connector connector) refl i where
-    go : (b : Bool) → same_connector c.connector connector ≡ b
-        → IsIn e (cond b (crossed (labels_in_role t To c.ends) a (labels_in_role t From c.ends)) [])
-        → (same_connector c.connector connector ≡ true)
-        × IsIn e (crossed (labels_in_role t To c.ends) a (labels_in_role t From c.ends))
-    go true q j = (q, j)
-    go false q j = absurd j
+  from_at connector a e c i = search (rules)
 
   in_at : (connector : Connector) (a : Authority) (e : Edge) (c : FlatConnection) → same_connector c.connector connector ≡ true
       → IsIn e (crossed (labels_in_role t To c.ends) a (labels_in_role t From c.ends)) → IsIn e (crossed_at t connector a c)
-  in_at connector a e c q i =
-      let P : Bool → Type 0 = λ b. IsIn e (cond b (crossed (labels_in_role t To c.ends) a (labels_in_role t From c.ends)) []) in
-      subst P (sym q) i
+  in_at connector a e c q i = search (rules)
 
   record Paired (connector : Connector) (a : Authority) (e : Edge) : Type 0 where
     l : ℕ
@@ -331,15 +286,9 @@ module _ (t : Tables) where
       let y = p.from_end in
       let c = x.connection in
       let same = same_place x y p.same in
-      let i : IsIn l (labels_in_role t To c.ends) = subst (λ z. IsIn z (labels_in_role t To c.ends)) (sym p.l_is)
-      (in_role x To p.is_to.role) in
-      let j : IsIn m (labels_in_role t From c.ends) =
-      subst (λ z. IsIn z (labels_in_role t From c.ends)) (sym p.m_is)
-      (subst (λ (d : FlatConnection). IsIn (leaf_label t y.end.leaf) (labels_in_role t From d.ends)) same
-      (in_role y From p.is_from.role)) in
-      in_gather (λ k (c : FlatConnection). crossed_at t connector a c) (edge l a m) t.flat.connections x.place c x.here
-      (in_at connector a (edge l a m) c (is_same_connector c.connector connector p.is_to.connector)
-      (in_crossed (labels_in_role t To c.ends) a (labels_in_role t From c.ends) l m i j))
+      let i : IsIn l (labels_in_role t To c.ends) = search (rules, in_role) in
+      let j : IsIn m (labels_in_role t From c.ends) = search (rules, in_role) in
+      search (rules, in_gather, in_at, is_same_connector, in_crossed)
 
   from_reply : (e : Edge) → IsIn e (reply_edges t) → CallReason t e
   from_reply e i =
@@ -373,26 +322,10 @@ module _ (t : Tables) where
   -- ---- of interrupts
 
   handles_of : (l d : ℕ) → Pair Interrupt l d → Handles t l d
-  handles_of l d p = record {
-    handler = p.to_end;
-    handles = p.is_to;
-    source = p.from_end;
-    interrupts = p.is_from;
-    same = p.same;
-    label_is = p.l_is;
-    device_is = p.m_is;
-  }
+  handles_of l d p = search (rules)
 
   in_handles : (l d : ℕ) → Handles t l d → IsIn (edge l Handle d) (handle_edges t)
-  in_handles l d h = in_pair Interrupt Handle l d (record {
-    to_end = h.handler;
-    is_to = h.handles;
-    from_end = h.source;
-    is_from = h.interrupts;
-    same = h.same;
-    l_is = h.label_is;
-    m_is = h.device_is;
-  })
+  in_handles l d h = search (rules, in_pair, from_end)
 
   pub record Signal (s : Edge) : Type 0 where
     pub at : End
@@ -408,24 +341,13 @@ module _ (t : Tables) where
       let b = and_parts (same_connector k.1.connector Notification) (same_role n.1.role From) v.0 in
       record {
         at = end_in k.0 n.0 k.1 n.1 k.2 n.2;
-        is = record {
-          connector = is_connector k.1.connector Notification b.0;
-          role = is_role n.1.role From b.1;
-        };
+        is = search (rules, is_connector, is_role);
         edge_is = v.1;
       }
 
   pub in_signal : (y : End) → IsEnd Notification From y
       → IsIn (edge (leaf_label t y.end.leaf) AsyncSend (connection_label t y.place)) (signal_edges t)
-  in_signal y s =
-      let x = edge (leaf_label t y.end.leaf) AsyncSend (connection_label t y.place) in
-      let test : same_connector y.connection.connector Notification && same_role y.end.role From ≡ true =
-      and_from (same_connector y.connection.connector Notification) (same_role y.end.role From)
-      (is_same_connector y.connection.connector Notification s.connector) (is_same_role y.end.role From s.role) in
-      in_gather (λ k (c : FlatConnection). gather (λ n e. signals_at t k c e) c.ends) x t.flat.connections y.place
-      y.connection y.here
-      (in_gather (λ n e. signals_at t y.place y.connection e) x y.connection.ends y.number y.end y.stands
-      (in_where (same_connector y.connection.connector Notification && same_role y.end.role From) x test))
+  in_signal y s = search (rules, and_from, is_same_connector, is_same_role, in_gather, in_where)
 
   record Locked (s : Edge) : Type 0 where
     lock : LockAt t.source t.flat
@@ -447,16 +369,7 @@ module _ (t : Tables) where
           let p = place_of x.0 (members_at t.source leaf.component) x.1 in
           let y = lock_of_member x.0 x.2 in
           record {
-            lock = record {
-              leaf = k;
-              found = leaf;
-              here = h;
-              domain = d;
-              inside = e;
-              member = p.0;
-              lock = y.0;
-              declared = p.1 ∙ ap (λ z. Some z) y.1;
-            };
+            lock = search (rules);
             is = w.1;
           }
 
@@ -558,10 +471,7 @@ module _ (t : Tables) where
   from_all : (e : Edge) → IsIn e all → Reason t e
   from_all e i = elim (in_append e (direct_edges t) (reply_edges t ++ bound) i) [
     | inl j ↦ by_direct (from_direct e j)
-    | inr i ↦ elim (in_append e (reply_edges t) bound i) [
-      | inl j ↦ by_call (from_reply e j)
-      | inr j ↦ from_joined e (from_bound (handle_edges t) signals e j)
-    ]
+    | inr i ↦ search (rules, in_append, from_reply, from_joined, from_bound)
   ]
 
   in_all : (l : ℕ) (a : Authority) (m : ℕ) → Reason t (edge l a m) → IsIn (edge l a m) all

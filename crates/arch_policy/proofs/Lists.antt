@@ -1,4 +1,5 @@
 -- What stands in lists that are made by a test
+use Rattle.std.proofs.Common.{rules}
 use Rattle.arch_policy.proofs.Common.{Bool, Edge, IsIn, List, [], ap, cond, eq-eqb, eqb-true, false, filter, from_any, has, inl, inr, leads_out, list_any, not, refl, same_edge, same_edge_self, same_edge_true, subst, sym, true, true≢false, where_true}
 use Rattle.arch_policy.proofs.Common.{◌==◌, ◌||◌, ◌∙◌, ◌∷◌, ◌≡◌, ◌≢◌}
 
@@ -51,7 +52,4 @@ pub led_out : (e : Edge) → leads_out e ≡ true → e.from ≢ e.to
 led_out e h same = true≢false (sym h ∙ ap not (eq-eqb e.from e.to same))
 
 pub leads : (e : Edge) → e.from ≢ e.to → leads_out e ≡ true
-leads e differ = go (e.from == e.to) refl where
-  go : (b : Bool) → (e.from == e.to) ≡ b → not b ≡ true
-  go true q = absurd (differ (eqb-true e.from e.to q))
-  go false q = refl
+leads e differ = search (rules, eqb-true)

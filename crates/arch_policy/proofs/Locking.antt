@@ -1,4 +1,5 @@
 -- The edges of locks, leaf by leaf, are those of the locks of domains.
+use Rattle.std.proofs.Common.{rules}
 use Rattle.arch_policy.proofs.Common.{Adds, Edge, IsCertificateOf, IsLockEdge, IsOfLeaf, IsOfSet, IsPolicyOf, IsSetOf, IsWithLock, List, RW, Some, Tables, adds_same, ap, from_any, has, in_place, inl, inr, is_lock}
 use Rattle.arch_policy.proofs.Common.{members_at, place_of, refl, subst, sym, true, ℕ, ⊎_elim, ◌↔◌, ◌∙◌, ◌≡◌, ◌⊎◌}
 use Rattle.adl_ast.specs.declared.component.Member.TheVariants as members
@@ -10,29 +11,12 @@ use Rattle.cap_model.specs.declared.kind.Kind.TheVariants.{Notification}
 
 pub with_lock_adds : (label bits : ℕ) (a b : List Edge) → IsSetOf (kind_confers Notification RW) bits
     → Adds (IsOfSet label bits label) a b → Adds (IsWithLock label) a b
-with_lock_adds label bits a b set grown =
-    adds_same (IsOfSet label bits label) (IsWithLock label)
-    (λ e h. record { from = h.from_is; conferred = sym (set.each e.authority) ∙ h.in_set; to = h.to_is })
-    (λ e h. record { from_is = h.from; in_set = set.each e.authority ∙ h.conferred; to_is = h.to })
-    a b grown
+with_lock_adds label bits a b set grown = search (rules, adds_same)
 
 -- ---- all leaves
 
 of_leaf : (t : Tables) (e : Edge) → IsLockEdge t e → OfEach (λ k leaf. IsOfLeaf t leaf) t.flat.leaves e
-of_leaf t e h =
-    let lock = h.lock in
-    let ms = members_at t.source lock.found.component in
-    record {
-      place = lock.leaf;
-      item = lock.found;
-      there = lock.here;
-      by = record {
-        domain = lock.domain;
-        inside = lock.inside;
-        locks = in_any is_lock (members.Lock lock.lock) ms (in_place (members.Lock lock.lock) ms lock.member lock.declared) refl;
-        with_lock = record { from = h.from; conferred = h.conferred; to = h.to };
-      };
-    }
+of_leaf t e h = search (rules, in_any, in_place)
 
 lock_edge : (t : Tables) (e : Edge) → OfEach (λ k leaf. IsOfLeaf t leaf) t.flat.leaves e → IsLockEdge t e
 lock_edge t e h =
@@ -43,16 +27,7 @@ lock_edge t e h =
     let y = lock_of_member x.0 x.2 in
     let own = by.with_lock in
     record {
-      lock = record {
-        leaf = h.place;
-        found = h.item;
-        here = h.there;
-        domain = by.domain;
-        inside = by.inside;
-        member = p.0;
-        lock = y.0;
-        declared = p.1 ∙ ap (λ z. Some z) y.1;
-      };
+      lock = search (rules);
       from = own.from;
       conferred = own.conferred;
       to = own.to;
@@ -73,13 +48,8 @@ exactly t policy edges cert grown same e =
 pub certified : (t : Tables) (policy kept edges sorted read cert : List Edge) → kept ≡ policy → Adds (IsLockEdge t) kept edges
     → ((e : Edge) → has sorted e ≡ has edges e) → read ≡ sorted → ((e : Edge) → has cert e ≡ has read e)
     → (e : Edge) → (has cert e ≡ true) ↔ ((has policy e ≡ true) ⊎ IsLockEdge t e)
-certified t policy kept edges sorted read cert first grown moved told same =
-    exactly t policy edges cert (subst (λ z. Adds (IsLockEdge t) z edges) first grown) (λ e. same e ∙ ap (λ z. has z e) told
-    ∙ moved e)
+certified t policy kept edges sorted read cert first grown moved told same = search (rules, exactly)
 
 pub certifies : (t : Tables) (policy cert : List Edge)
     → ((e : Edge) → (has cert e ≡ true) ↔ ((has policy e ≡ true) ⊎ IsLockEdge t e)) → IsPolicyOf t policy → IsCertificateOf t cert
-certifies t policy cert exact is e = (
-  λ h. ⊎_elim (λ i. inl ((is e).0 i)) (λ l. inr l) ((exact e).0 h),
-  λ h. (exact e).1 (⊎_elim (λ r. inl ((is e).1 r)) (λ l. inr l) h),
-)
+certifies t policy cert exact is e = search (rules)

@@ -1,4 +1,5 @@
 -- The offsets at which regions begin.
+use Rattle.std.proofs.Common.{rules}
 use Rattle.boot_plan.proofs.Common.{AreBases, Bool, HasOffset, IsNonDecreasing, IsPartitionPoint, IsPermutation, List, Untyped, [], address, ap, are_regions, arith, cases_lt, cond, false, get_or, get_or_append_left, get_or_default, get_or_push, had}
 use Rattle.boot_plan.proofs.Common.{is_region, le-ltb, leb, length, length_push, list_all, list_any, list_any-IsPermutation, lt-ltb, nat_lt, nat_tests, not, refl, room_bytes, slice_index, subst, suc, sum_by, sum_by-IsPermutation, sum_by-cons}
 use Rattle.boot_plan.proofs.Common.{sum_by_more, sym, take, take_all, true, zero, ℕ, ⊎_elim, ◌&&◌, ◌++◌, ◌+◌, ◌-◌, ◌<◌, ◌^◌, ◌∙◌, ◌∷◌, ◌≡◌, ◌≤◌}
@@ -26,10 +27,7 @@ pub address_at : (rs : List Untyped) (i : ℕ) (d : Untyped) (offset : ℕ) → 
     → offset < had 0 (take i rs) + room_bytes 0 (get_or rs i d)
     → address rs offset ≡ (get_or rs i d).paddr + (offset - had 0 (take i rs))
 address_at [] i d offset l low high = absurd (omega arith)
-address_at (r ∷ rs) zero d offset l low high =
-    let t : nat_lt offset (room_bytes 0 r) ≡ true = lt-ltb offset (room_bytes 0 r) (omega arith) in
-    let e : offset - 0 ≡ offset = omega arith in
-    rw (t, e) refl
+address_at (r ∷ rs) zero d offset l low high = search (rules, nat_lt, lt-ltb)
 address_at (r ∷ rs) (suc i) d offset l low high =
     let more : had 0 (take (suc i) (r ∷ rs)) ≡ room_bytes 0 r + had 0 (take i rs) = sum_by-cons (room_bytes 0) r (take i rs) in
     let t : nat_lt offset (room_bytes 0 r) ≡ false = le-ltb offset (room_bytes 0 r) (omega (arith, more)) in
@@ -91,15 +89,8 @@ pub record BasesTo (rs : List Untyped) (i base : ℕ) (bases : List ℕ) : Type 
 pub base_more : (rs : List Untyped) (i base more : ℕ) (bases new : List ℕ) (d : Untyped) → i < length rs
     → base ≡ had 0 (take i rs) → length bases ≡ i → ((k : ℕ) → k < i → slice_index bases k ≡ had 0 (take k rs))
     → more ≡ room_bytes 0 (get_or rs i d) → new ≡ bases ++ base ∷ [] → BasesTo rs (i + 1) (base + more) new
-base_more rs i base more bases new d l so_far count each is pushed = record {
-  so_far = omega (arith, sum_by_more (room_bytes 0) rs i d l, so_far, is);
-  count = ap length pushed ∙ length_push bases base ∙ ap (λ n. n + 1) count;
-  each = λ k h. ap (λ xs. slice_index xs k) pushed ∙ ⊎_elim
-      (λ below. get_or_append_left bases (base ∷ []) 0 k (omega (arith, count)) ∙ each k below)
-      (λ past. let at : k ≡ i = omega arith in get_or_push bases base 0 k (count ∙ sym at) ∙ so_far
-      ∙ ap (λ n. had 0 (take n rs)) (sym at))
-      (cases_lt k i);
-}
+base_more rs i base more bases new d l so_far count each is pushed =
+    search (rules, sum_by_more, length_push, get_or_append_left, get_or_push, cases_lt)
 
 count_all : (rs : List Untyped) → sum_by (λ _. 1) rs ≡ length rs
 count_all [] = refl
@@ -120,22 +111,11 @@ had_take_less (r ∷ rs) (suc i) (suc j) h =
 
 -- bases rise
 pub rising : (rs : List Untyped) (bases : List ℕ) → AreBases rs bases → IsNonDecreasing bases
-rising rs bases b = λ i j d h l.
-    let x = get_or_default bases i d 0 (omega arith) in
-    let y = get_or_default bases j d 0 (omega arith) in
-    let p = b.each i (omega (arith, b.count)) in
-    let q = b.each j (omega (arith, b.count)) in
-    let k = had_take_less rs i j h in
-    omega (arith, x, y, p, q, k)
+rising rs bases b = search (rules, get_or_default, had_take_less)
 
 -- a room ends within 48 bits
 pub room_end : (r : Untyped) → is_region r.paddr r.bits ≡ true → r.paddr + room_bytes 0 r ≤ 2 ^ 48
-room_end r h = let k = (region_parts r.paddr r.bits h).3 in let e = small_cond (not r.device && leb 0 r.bits) (2 ^ r.bits) in
-    omega (arith, k, e)
-  where
-    small_cond : (b : Bool) (n : ℕ) → cond b n 0 ≤ n
-    small_cond true n = omega arith
-    small_cond false n = omega arith
+room_end r h = search (rules, region_parts, leb)
 
 -- the base and the region that are read for an offset
 pub base_read : (rs : List Untyped) (bases : List ℕ) (offset k b : ℕ) → AreBases rs bases → HasOffset rs bases offset k

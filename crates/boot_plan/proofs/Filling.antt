@@ -1,4 +1,5 @@
 -- Offsets of regions that are laid end to end, the greatest first.
+use Rattle.std.proofs.Common.{rules}
 use Rattle.boot_plan.proofs.Common.{Apart, Bool, Bytes, IsInOrder, IsPermutation, LieIn, LieInOne, List, Untyped, [], address, and_from, and_parts, ap, are_regions, arith, bytes_end, cases_lt, false, get_or, had, inl, inr, is_region, le-leb, leb}
 use Rattle.boot_plan.proofs.Common.{leb-true, length, list_any, list_any-IsPermutation, nat_lt, nat_tests, not, not-true, or_right, rank, refl, region_end, room_bytes, subst, suc, sum_by-cons, sym, true, ℕ, ⊎_elim, ◌&&◌, ◌+◌, ◌-◌, ◌<◌, ◌^◌, ◌∙◌, ◌∷◌}
 use Rattle.boot_plan.proofs.Common.{◌≡◌, ◌≤◌, ◌⊎◌}
@@ -41,9 +42,7 @@ none_behind s k (r ∷ rs) sound h order =
 
     head : (d : Bool) → r.device ≡ d → k ≤ rank r → r.bits ≤ 47 → room_bytes s r ≡ 0
     head true d o b = device_room s r d
-    head false d o b =
-        let e : rank r ≡ 47 - r.bits = rw d refl in
-        small_room s r (small s r.bits (omega (arith, e))) d
+    head false d o b = grind (arith, small_room, small)
 
 -- ---- blocks lie in one region
 
@@ -111,11 +110,7 @@ later_address r rs v h = let t : nat_lt v (room_bytes 0 r) ≡ false = grind (ar
 
 -- a region that has room is no device's, and has 2^bits bytes
 has_room : (r : Untyped) → 0 < room_bytes 0 r → (r.device ≡ false) × (room_bytes 0 r ≡ 2 ^ r.bits)
-has_room r h = go r.device refl
-  where
-    go : (d : Bool) → r.device ≡ d → (r.device ≡ false) × (room_bytes 0 r ≡ 2 ^ r.bits)
-    go true d = absurd (omega (arith, device_room 0 r d))
-    go false d = (d, great_room 0 r d (zero_below r.bits))
+has_room r h = search (rules, device_room, great_room, zero_below)
 
 unfoldable pub block : List Untyped → ℕ → ℕ → Bytes
 block rs v s = record { first = address rs v; bits = s }
@@ -123,11 +118,7 @@ block rs v s = record { first = address rs v; bits = s }
 pub lies : (rs : List Untyped) (v s : ℕ) → InRoom rs v s → LieInOne false (block rs v s) rs
 unfolding InRoom block
 lies [] v s h = absurd h
-lies (r ∷ rs) v s (inl (h, m)) =
-    let p = power_pos s in
-    let room = has_room r (omega (arith, p)) in
-    let at = first_address r rs v (omega (arith, p)) in
-    inl (record { kind = room.0; low = omega (arith, at); high = omega (arith, at, room.1) })
+lies (r ∷ rs) v s (inl (h, m)) = search (rules, power_pos, has_room, first_address)
 lies (r ∷ rs) v s (inr (le, h)) =
     let at = later_address r rs v le in
     let P : ℕ → Type 0 = λ a. LieInOne false (record { first = a; bits = s }) rs in
@@ -145,22 +136,13 @@ pub offsets_apart : (rs : List Untyped) (v s w t : ℕ) → Solo rs → v + 2 ^ 
     → Apart (block rs v s) (block rs w t)
 unfolding InRoom block
 offsets_apart [] v s w t solo h a b = absurd a
-offsets_apart (r ∷ rs) v s w t solo h (inl (a, m)) (inl (b, n)) =
-    let p = power_pos s in
-    let q = power_pos t in
-    let at = first_address r rs v (omega (arith, p)) in
-    let to = first_address r rs w (omega (arith, q)) in
-    inl (omega (arith, at, to))
+offsets_apart (r ∷ rs) v s w t solo h (inl (a, m)) (inl (b, n)) = search (rules, power_pos, first_address)
 offsets_apart (r ∷ rs) v s w t solo h (inl (a, m)) (inr (le, b)) =
     let p = power_pos s in
     let room = has_room r (omega (arith, p)) in
     let at = first_address r rs v (omega (arith, p)) in
     let to = later_address r rs w le in
-    let lie : LieIn false (block (r ∷ rs) v s) r = record {
-      kind = room.0;
-      low = omega (arith, at);
-      high = omega (arith, at, room.1);
-    } in
+    let lie : LieIn false (block (r ∷ rs) v s) r = search (rules) in
     let P : ℕ → Type 0 = λ k. LieInOne false (record { first = k; bits = t }) rs in
     let there : LieInOne false (block (r ∷ rs) w t) rs = subst P (sym to) (lies rs (w - room_bytes 0 r) t b) in
     solo_apart false false (block (r ∷ rs) v s) (block (r ∷ rs) w t) r rs solo lie there
@@ -183,10 +165,7 @@ lie_tested b r l = and_from (not r.device) _ (ap not l.kind) (and_from (leb r.pa
 
 tested_lie : (b : Bytes) (r : Untyped) → test b r ≡ true → LieIn false b r
 unfolding test
-tested_lie b r t =
-    let p = and_parts (not r.device) (leb r.paddr b.first && leb (bytes_end b) (region_end r)) t in
-    let q = and_parts (leb r.paddr b.first) (leb (bytes_end b) (region_end r)) p.1 in
-    record { kind = not-true r.device p.0; low = leb-true r.paddr b.first q.0; high = leb-true (bytes_end b) (region_end r) q.1 }
+tested_lie b r t = search (rules, and_parts, leb, not-true, leb-true)
 
 any_from : (b : Bytes) (rs : List Untyped) → LieInOne false b rs → list_any (test b) rs ≡ true
 any_from b [] l = absurd l

@@ -1,4 +1,5 @@
 -- Multiples of powers of two.
+use Rattle.std.proofs.Common.{rules}
 use Rattle.boot_plan.proofs.Common.{ap, arith, cases_lt, le_of_mul-le-mul_right, lit<, mul-le-mul_right, mul-mod_left, one-le-pow, ℕ, ⊎_elim, ◌%◌, ◌*◌, ◌+◌, ◌-◌, ◌/◌, ◌<◌, ◌^◌, ◌∙◌, ◌≡◌, ◌≤◌}
 use Rattle.std.proofs.lemmas.Nat.{pow-add, div-add-mod'}
 
@@ -26,8 +27,7 @@ multiple_add s n m a b = let e = a.is in let f = b.is in record { times = a.time
 
 pub multiple_sub : (s n m : ℕ) → Multiple s n → Multiple s m → m ≤ n → Multiple s (n - m)
 multiple_sub s n m a b le =
-    let few : b.times ≤ a.times = le_of_mul-le-mul_right {m = b.times} {n = a.times} {k = 2 ^ s} (omega (arith, a.is, b.is))
-    (power_pos s) in
+    let few : b.times ≤ a.times = search (rules, le_of_mul-le-mul_right, power_pos) in
     let k = a.times - b.times in
     let back : a.times ≡ k + b.times = omega arith in
     let whole : a.times * 2 ^ s ≡ (k + b.times) * 2 ^ s = ap (λ t. t * 2 ^ s) back in
@@ -43,7 +43,4 @@ multiple_coarse s b n le a =
 
 -- between two multiples stands one size
 pub multiple_gap : (s n m : ℕ) → Multiple s n → Multiple s m → n < m → n + 2 ^ s ≤ m
-multiple_gap s n m a b lt = ⊎_elim
-    (λ less. let up = mul-le-mul_right {m = a.times + 1} {n = b.times} (2 ^ s) (omega arith) in omega (arith, up, a.is, b.is))
-    (λ more. let down = mul-le-mul_right {m = b.times} {n = a.times} (2 ^ s) more in absurd (omega (arith, down, a.is, b.is)))
-    (cases_lt a.times b.times)
+multiple_gap s n m a b lt = search (rules, mul-le-mul_right, cases_lt)

@@ -1,4 +1,5 @@
 -- A placement has room: bytes that are apart and lie in regions are no more than those of the regions.
+use Rattle.std.proofs.Common.{rules}
 use Rattle.boot_plan.proofs.Common.{AllApart, AllByRecursion, AllSuit, Apart, Block, Bool, Bytes, DevicePage, HasRoom, LacksRoom, LieIn, LieInOne, List, Need, None, Nothing, Option, Placed, Some, Untyped, [], all_bytes, and_parts, ap, arith}
 use Rattle.boot_plan.proofs.Common.{block_bytes, bytes_end, cases_lt, cond, false, had, inl, inr, le-leb, leb, leb-true, length, nat_tests, needed, not, not-true, pow-suc, refl, region_end, room_bytes, suc, sum_by-cons, sym, true, zero, ℕ, ⊎_elim}
 use Rattle.boot_plan.proofs.Common.{◌&&◌, ◌+◌, ◌<◌, ◌^◌, ◌∙◌, ◌∷◌, ◌≡◌, ◌≤◌}
@@ -106,18 +107,11 @@ lies_in r b = not r.device && (leb r.paddr b.first && leb (bytes_end b) (region_
 lies_parts : (r : Untyped) (b : Bytes) → lies_in r b ≡ true → (r.device ≡ false) × (r.paddr ≤ b.first)
     × (bytes_end b ≤ region_end r)
 unfolding lies_in
-lies_parts r b e =
-    let p = and_parts (not r.device) (leb r.paddr b.first && leb (bytes_end b) (region_end r)) e in
-    let q = and_parts (leb r.paddr b.first) (leb (bytes_end b) (region_end r)) p.1 in
-    (not-true r.device p.0, leb-true r.paddr b.first q.0, leb-true (bytes_end b) (region_end r) q.1)
+lies_parts r b e = search (rules, and_parts, leb, not-true, leb-true)
 
 lies_told : (r : Untyped) (b : Bytes) → LieIn false b r → lies_in r b ≡ true
 unfolding lies_in
-lies_told r b l =
-    let d : not r.device ≡ true = ap not l.kind in
-    let low = le-leb r.paddr b.first l.low in
-    let high = le-leb (bytes_end b) (region_end r) l.high in
-    rw (d, low, high) refl
+lies_told r b l = search (rules, le-leb)
 
 -- bytes of at least so many bits that lie in a region of its own kind
 pub record GreatIn (least : ℕ) (rs : List Untyped) (b : Bytes) : Type 0 where

@@ -1,4 +1,5 @@
 -- Offsets of blocks that are laid end to end, the greatest first.
+use Rattle.std.proofs.Common.{rules}
 use Rattle.boot_plan.proofs.Common.{AllFit, AreStarts, Block, Bool, DevicePage, List, Need, Nothing, Untyped, [], arith, block_bytes, cases_lt, cond, exact_bytes, false, get_or-set_other, get_or-set_same, had, is_usual, leb, length}
 use Rattle.boot_plan.proofs.Common.{nat_tests, needed, needed_at, refl, slice_index, slice_set, starts_behind, subst, sum_by-cons, sym, true, ℕ, ⊎_elim, ◌+◌, ◌<◌, ◌==◌, ◌^◌, ◌∙◌, ◌∷◌, ◌≡◌, ◌≢◌, ◌≤◌}
 use Rattle.std.proofs.Math.ListN.{length-set}
@@ -10,48 +11,19 @@ use Rattle.boot_plan.proofs.Multiples.{Multiple, multiple_add, multiple_coarse, 
 one_split : (b : ℕ) (n : Need) → block_bytes (b + 1) n + exact_bytes b n ≡ block_bytes b n
 one_split b Nothing = refl
 one_split b (DevicePage paddr) = refl
-one_split b (Block c) = go (leb (b + 1) c) refl (b == c) refl (leb b c) refl
-  where
-    go : (x : Bool) → leb (b + 1) c ≡ x → (y : Bool) → (b == c) ≡ y → (z : Bool) → leb b c ≡ z
-        → cond (leb (b + 1) c) (2 ^ c) 0 + cond (b == c) (2 ^ c) 0 ≡ cond (leb b c) (2 ^ c) 0
-    go true e true f z g = absurd (grind (arith, nat_tests))
-    go true e false f true g = rw (e, f, g) (omega arith)
-    go true e false f false g = absurd (grind (arith, nat_tests))
-    go false e true f true g = rw (e, f, g) (omega arith)
-    go false e true f false g = absurd (grind (arith, nat_tests))
-    go false e false f true g = absurd (grind (arith, nat_tests))
-    go false e false f false g = rw (e, f, g) refl
+one_split b (Block c) = search (rules, leb, nat_tests)
 
 pub needed_split : (b : ℕ) (ns : List Need) → needed (b + 1) ns + needed_at b ns ≡ needed b ns
 needed_split b [] = refl
 needed_split b (n ∷ ns) =
     let ih = needed_split b ns in
     let h = one_split b n in
-    omega (
-      arith,
-      ih,
-      h,
-      sum_by-cons (block_bytes (b + 1)) n ns,
-      sum_by-cons (exact_bytes b) n ns,
-      sum_by-cons (block_bytes b) n ns,
-    )
+    search (rules, sum_by-cons)
 
 one_less : (a b : ℕ) (n : Need) → a ≤ b → block_bytes b n ≤ block_bytes a n
 one_less a b Nothing h = omega arith
 one_less a b (DevicePage paddr) h = omega arith
-one_less a b (Block c) h = go (leb a c) refl (leb b c) refl
-  where
-    go : (x : Bool) → leb a c ≡ x → (y : Bool) → leb b c ≡ y → cond (leb b c) (2 ^ c) 0 ≤ cond (leb a c) (2 ^ c) 0
-    go true e y f = rw e (up y)
-      where
-        up : (y : Bool) → cond (leb b c) (2 ^ c) 0 ≤ 2 ^ c
-        up y = top (leb b c)
-          where
-            top : (t : Bool) → cond t (2 ^ c) 0 ≤ 2 ^ c
-            top true = omega arith
-            top false = omega arith
-    go false e true f = absurd (grind (arith, nat_tests))
-    go false e false f = rw (e, f) (omega arith)
+one_less a b (Block c) h = search (rules, leb, nat_tests)
 
 -- fewer blocks have at least more bits
 pub needed_less : (a b : ℕ) (ns : List Need) → a ≤ b → needed b ns ≤ needed a ns
@@ -137,12 +109,7 @@ laid_block all starts b ns small l = record {
 -- where what comes next is no block, nothing moves
 pub laid_skip : (all : List Need) (starts : List ℕ) (n : Need) (ns : List Need) → ((b : ℕ) → exact_bytes b n ≡ 0)
     → Laid all starts (n ∷ ns) → Laid all starts ns
-laid_skip all starts n ns none l = record {
-  count = l.count;
-  low = l.low;
-  high = λ b h. omega (arith, l.high b h, none b, sum_by-cons (exact_bytes b) n ns);
-  multiple = l.multiple;
-}
+laid_skip all starts n ns none l = search (rules, sum_by-cons)
 
 -- where the next block ends
 pub block_end : (all : List Need) (starts : List ℕ) (b : ℕ) (ns : List Need) → b ≤ 20 → Laid all starts (Block b ∷ ns)

@@ -1,4 +1,5 @@
 -- A need more that is packed.
+use Rattle.std.proofs.Common.{rules}
 use Rattle.boot_plan.proofs.Common.{AllFit, AreStarts, Err, HasRoom, IfOk, IsPermutation, List, Need, Ok, Option, Placed, Result, Untyped, [], and_parts, ap, append_assoc, are_regions, are_usual, arith, drop, drop_more, get_or, had, is_region}
 use Rattle.boot_plan.proofs.Common.{length, packed, place_of, room_bytes, starts_behind, subst, sum_by-IsPermutation, sum_by-cons, sym, true, ℕ, ◌*◌, ◌++◌, ◌+◌, ◌<◌, ◌^◌, ◌∙◌, ◌∷◌, ◌≡◌, ◌≤◌}
 use Rattle.boot_plan.proofs.Offsets.{all_fit, fits_rest}
@@ -19,12 +20,7 @@ pack_step rooms starts behind ns i d places more all p l usual fit is moved push
     record {
       fit = subst (λ s. AllFit rooms s rest) (sym moved) (fits_rest rooms starts n rest (usual_got ns i d usual l)
           (subst (AllFit rooms starts) next fit));
-      so_far = ap (λ ps. ps ++ packed rooms behind rest) pushed
-          ∙ append_assoc places (p ∷ []) (packed rooms behind rest)
-          ∙ ap (λ q. places ++ q ∷ packed rooms behind rest) is
-          ∙ ap (λ s. places ++ place_of rooms starts n ∷ packed rooms s rest) moved
-          ∙ ap (λ ks. places ++ packed rooms starts ks) (sym next)
-          ∙ so_far;
+      so_far = search (rules, append_assoc);
     }
 
 had_small : (rs : List Untyped) → are_regions rs ≡ true → had 0 rs ≤ length rs * 140737488355328

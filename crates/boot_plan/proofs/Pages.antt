@@ -1,4 +1,5 @@
 -- Pages of devices: which regions have them, and which are needed already.
+use Rattle.std.proofs.Common.{rules}
 use Rattle.boot_plan.proofs.Common.{Block, Bool, DevicePage, Err, IfOk, IsIndexOf, IsPermutation, IsSetOf, List, Need, NoDevice, None, Nothing, Ok, Option, PlanRefusal, Result, SharedFrame, Some, Untyped, [], and_parts, ap, are_usual, arith}
 use Rattle.boot_plan.proofs.Common.{at_drop_all, at_drop_more, cases_lt, cond, device_refusal, drop, eqb-true, false, get_or, has_page, has_pages, is_needed, is_region, is_usual, le-leb, le-ltb, leb, leb-true, length, list_any}
 use Rattle.boot_plan.proofs.Common.{list_any-IsPermutation, list_any-append, list_any_more, lt-ltb, nat_lt, nat_tests, not, page, pages_of, refl, region_end, subst, sym, take, take_all, take_more, true, ℕ, ⊎_elim, ◌%◌, ◌&&◌, ◌++◌, ◌+◌, ◌<◌, ◌==◌}
@@ -42,44 +43,17 @@ great_region paddr r sound great device at = ⊎_elim
         (cases_lt paddr r.paddr)
 
     within : paddr < region_end r → r.paddr < paddr + 4096 → shares (page paddr) (pages_of r) ≡ has_page paddr r
-    within a b =
-        let g = multiple_gap 12 paddr (region_end r) here end a in
-        let la : nat_lt paddr (region_end r) ≡ true = lt-ltb paddr (region_end r) a in
-        let lb : nat_lt r.paddr (paddr + 4096) ≡ true = lt-ltb r.paddr (paddr + 4096) b in
-        let low : leb r.paddr paddr ≡ true = le-leb r.paddr paddr (begins b) in
-        let high : leb (paddr + 4096) (region_end r) ≡ true = le-leb (paddr + 4096) (region_end r) (omega (arith, g, size)) in
-        rw (la, lb, device, low, high) refl
+    within a b = search (rules, multiple_gap, here, end, nat_lt, lt-ltb, leb, le-leb, begins, size)
 
     behind : paddr < region_end r → paddr + 4096 ≤ r.paddr → shares (page paddr) (pages_of r) ≡ has_page paddr r
-    behind a b =
-        let la : nat_lt paddr (region_end r) ≡ true = lt-ltb paddr (region_end r) a in
-        let lb : nat_lt r.paddr (paddr + 4096) ≡ false = le-ltb r.paddr (paddr + 4096) b in
-        let low : leb r.paddr paddr ≡ false = no_le r.paddr paddr (omega arith) in
-        rw (la, lb, device, low) refl
+    behind a b = search (rules, nat_lt, lt-ltb, le-ltb, leb, no_le)
 
     in_front : region_end r ≤ paddr → r.paddr < paddr + 4096 → shares (page paddr) (pages_of r) ≡ has_page paddr r
-    in_front a b =
-        let la : nat_lt paddr (region_end r) ≡ false = le-ltb paddr (region_end r) a in
-        let low : leb r.paddr paddr ≡ true = le-leb r.paddr paddr (begins b) in
-        let high : leb (paddr + 4096) (region_end r) ≡ false = no_le (paddr + 4096) (region_end r) (omega arith) in
-        rw (la, device, low, high) refl
+    in_front a b = search (rules, nat_lt, le-ltb, leb, le-leb, begins, no_le)
 
 -- a small region has no page
 pub small_region : (paddr : ℕ) (r : Untyped) → r.bits < 12 → has_page paddr r ≡ false
-small_region paddr r small = go r.device (leb r.paddr paddr) refl (leb (paddr + 4096) (region_end r)) refl
-  where
-    go : (d : Bool) (a : Bool) → leb r.paddr paddr ≡ a → (b : Bool) → leb (paddr + 4096) (region_end r) ≡ b
-        → (d && (a && b)) ≡ false
-    go d true e true f =
-        let few = pow_le r.bits 11 (omega arith) in
-        let size : 2 ^ 11 ≡ 2048 = refl in
-        let p = leb-true r.paddr paddr e in
-        let q = leb-true (paddr + 4096) (region_end r) f in
-        absurd (omega (arith, few, size, p, q))
-    go true true e false f = refl
-    go true false e b f = refl
-    go false true e false f = refl
-    go false false e b f = refl
+small_region paddr r small = search (rules, leb, pow_le, leb-true)
 
 device_only : (paddr : ℕ) (r : Untyped) → r.device ≡ false → has_page paddr r ≡ false
 device_only paddr r d = rw d refl
@@ -120,20 +94,10 @@ found_still rs i d found l none so_far = λ paddr at.
 pub found_pages : (rs : List Untyped) (i : ℕ) (d : Untyped) (found new : List Region) → i < length rs
     → is_region (get_or rs i d).paddr (get_or rs i d).bits ≡ true → has_pages (get_or rs i d) ≡ true
     → AreFound rs i found → new ≡ found ++ pages_of (get_or rs i d) ∷ [] → AreFound rs (i + 1) new
-found_pages rs i d found new l sound has so_far pushed =
-    let p = and_parts (get_or rs i d).device (leb 12 (get_or rs i d).bits) has in
-    found_more rs i d found new l sound (leb-true 12 (get_or rs i d).bits p.1) p.0 so_far pushed
+found_pages rs i d found new l sound has so_far pushed = search (rules, and_parts, leb, found_more, leb-true)
 
 no_pages : (r : Untyped) → has_pages r ≡ false → (paddr : ℕ) → has_page paddr r ≡ false
-no_pages r h paddr = go r.device refl (leb 12 r.bits) refl
-  where
-    less : (n m : ℕ) → leb n m ≡ false → m < n
-    less n m h = grind (arith, nat_tests)
-
-    go : (d : Bool) → r.device ≡ d → (b : Bool) → leb 12 r.bits ≡ b → has_page paddr r ≡ false
-    go false d b e = device_only paddr r d
-    go true d false e = small_region paddr r (less 12 r.bits e)
-    go true d true e = let s : has_pages r ≡ true = rw (d, e) refl in absurd cc
+no_pages r h paddr = search (rules, leb, nat_tests, device_only, small_region)
 
 pub found_no_pages : (rs : List Untyped) (i : ℕ) (d : Untyped) (found : List Region) → i < length rs
     → has_pages (get_or rs i d) ≡ false → AreFound rs i found → AreFound rs (i + 1) found
@@ -206,14 +170,7 @@ skip rs ns i d l none = go (get_or ns i d) refl
     made : (n : Need) → get_or ns i d ≡ n → pages (n ∷ []) ≡ []
         → ((before : List ℕ) (ms : List Need) → device_refusal rs before i (n ∷ ms) ≡ device_refusal rs before (i + 1) ms)
         → Skips rs ns i
-    made n e f g =
-        let same = here n e f in
-        record {
-          refusal = at_next rs ns i d l ∙ ap (λ m. device_refusal rs (pages (take i ns)) i (m ∷ drop (i + 1) ns)) e
-              ∙ g (pages (take i ns)) (drop (i + 1) ns)
-              ∙ ap (λ b. device_refusal rs b (i + 1) (drop (i + 1) ns)) (sym same);
-          before = same;
-        }
+    made n e f g = search (rules, here, at_next, pages)
 
     go : (n : Need) → get_or ns i d ≡ n → Skips rs ns i
     go Nothing e = made Nothing e refl (λ before ms. refl)
@@ -274,21 +231,12 @@ or_cond false false = refl
 pub set_more : (before after : List ℕ) (old new : BTreeSet ℕ) (paddr : ℕ) → IsSetOf before old
     → ((q : ℕ) → contains nat_cmp new q ≡ cond (is_eq (nat_cmp paddr q)) true (contains nat_cmp old q))
     → after ≡ before ++ paddr ∷ [] → IsSetOf after new
-set_more before after old new paddr so_far step is = λ q.
-    step q ∙ ap (λ a. cond a true (contains nat_cmp old q)) (is_eq-nat_cmp paddr q) ∙ ap (cond (paddr == q) true) (so_far q)
-    ∙ or_cond (paddr == q) (is_needed q before)
-    ∙ sym (list_any-append (λ p. p == q) before (paddr ∷ [])) ∙ ap (is_needed q) (sym is)
+set_more before after old new paddr so_far step is = search (rules, is_eq-nat_cmp, or_cond, list_any-append)
 
 -- a page is new in the set, or not
 pub set_told : (before : List ℕ) (set : BTreeSet ℕ) (paddr : ℕ) (new b : Bool) → IsSetOf before set
     → new ≡ not (contains nat_cmp set paddr) → new ≡ not b → is_needed paddr before ≡ b
-set_told before set paddr new b so_far is e = sym (so_far paddr) ∙ same (contains nat_cmp set paddr) b (sym is ∙ e)
-  where
-    same : (x y : Bool) → not x ≡ not y → x ≡ y
-    same true true h = refl
-    same true false h = absurd cc
-    same false true h = absurd cc
-    same false false h = refl
+set_told before set paddr new b so_far is e = search (rules)
 
 pub set_still : (before after : List ℕ) (set : BTreeSet ℕ) → IsSetOf before set → after ≡ before → IsSetOf after set
 set_still before after set h e = λ q. h q ∙ ap (is_needed q) (sym e)

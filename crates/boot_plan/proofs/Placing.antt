@@ -1,4 +1,5 @@
 -- Packed blocks are a placement.
+use Rattle.std.proofs.Common.{rules}
 use Rattle.boot_plan.proofs.Common.{AllApart, AllByRecursion, AllSuit, Apart, AreFree, AreStarts, Block, Bool, Bytes, DevicePage, HasRoom, IsInOrder, IsPermutation, LieInOne, List, Need, NoDevice, None, Nothing, Placed, SharedFrame, Some, Suits}
 use Rattle.boot_plan.proofs.Common.{Untyped, [], address, all_bytes, and_parts, ap, are_regions, are_usual, arith, cases_lt, device_refusal, eqb-true, false, had, has_page, inl, inr, is_needed, is_usual, leb, leb-true, length, list_any}
 use Rattle.boot_plan.proofs.Common.{list_any-append, nat_tests, needed, or_parts, packed, refl, region_end, room_bytes, slice_index, slice_set, subst, sum_by-IsPermutation, sym, true, ℕ, ⊎_elim, ◌%◌, ◌&&◌, ◌++◌, ◌+◌, ◌==◌, ◌^◌, ◌∙◌, ◌∷◌, ◌≡◌, ◌≤◌}
@@ -23,12 +24,7 @@ page_in paddr (r ∷ rs) e = go (has_page paddr r) refl (λ k. page_in paddr rs 
         let p = and_parts r.device (leb r.paddr paddr && leb (paddr + 4096) (region_end r)) t in
         let q = and_parts (leb r.paddr paddr) (leb (paddr + 4096) (region_end r)) p.1 in
         let size : 2 ^ 12 ≡ 4096 = refl in
-        inl (record {
-          kind = p.0;
-          low = leb-true r.paddr paddr q.0;
-          high = let h = leb-true (paddr + 4096) (region_end r) q.1 in
-              omega (arith, h, size);
-        })
+        search (rules, leb-true)
     go false t ih = inr (ih (rw t at e))
 
 pub record PageFree (rs : List Untyped) (before : List ℕ) (k paddr : ℕ) (ns : List Need) : Type 0 where
@@ -51,10 +47,7 @@ page_free rs before k paddr ns e = first (list_any (has_page paddr) rs) refl
 
 not_before : (paddr q : ℕ) (before : List ℕ) → is_needed paddr (before ++ q ∷ []) ≡ false → (is_needed paddr before ≡ false)
     × ((q == paddr) ≡ false)
-not_before paddr q before e =
-    let p = or_parts (is_needed paddr before) (is_needed paddr (q ∷ []))
-    (sym (list_any-append (λ p. p == paddr) before (q ∷ [])) ∙ e) in
-    (p.0, (or_parts (q == paddr) false p.1).0)
+not_before paddr q before e = search (rules, or_parts, list_any-append)
 
 -- ---- what is laid later
 
@@ -84,10 +77,7 @@ page_multiple paddr u = multiple_from 12 paddr (eqb-true (paddr % 4096) 0 u)
 
 grown : (all : List Need) (starts : List ℕ) (b : ℕ) (c : ℕ) → length starts ≡ 21 → b ≤ 20
     → slice_index starts c ≤ slice_index (slice_set starts b (slice_index starts b + 2 ^ b)) c
-grown all starts b c n h = same_or_not c b _
-    (λ e. let P : ℕ → Type 0 = λ k. slice_index starts k ≤ slice_index (slice_set starts b (slice_index starts b + 2 ^ b)) k in
-    subst P (sym e) (omega (arith, set_same starts b (slice_index starts b + 2 ^ b) n h)))
-    (λ ne. omega (arith, set_other starts b (slice_index starts b + 2 ^ b) c ne))
+grown all starts b c n h = search (rules, same_or_not, set_same, set_other)
 
 module _ (all : List Need) (rs rooms : List Untyped) where
   pub later_all : (starts : List ℕ) (before : List ℕ) (k : ℕ) (ns : List Need) → are_usual ns ≡ true → Laid all starts ns
@@ -135,16 +125,7 @@ module _ (all : List Need) (rs rooms : List Untyped) where
       weaker : b ≤ 20 → (c : Bytes) → Later all rs rooms (slice_set starts b (slice_index starts b + 2 ^ b)) before c
           → Later all rs rooms starts before c
       weaker small c (inl h) = inl h
-      weaker small c (inr h) =
-          inr (record {
-            offset = h.offset;
-            is = h.is;
-            small = h.small;
-            low = let g = grown all starts b c.bits l.count small in
-                omega (arith, g, h.low);
-            high = h.high;
-            multiple = h.multiple;
-          })
+      weaker small c (inr h) = search (rules, grown)
 
   -- the regions and what is known of them
   pub record Rooms : Type 0 where
@@ -188,28 +169,13 @@ module _ (all : List Need) (rs rooms : List Untyped) where
 
   pages_apart : (b c : Bytes) → b.bits ≡ 12 → c.bits ≡ 12 → Multiple 12 b.first → Multiple 12 c.first
       → (b.first == c.first) ≡ false → Apart b c
-  pages_apart b c eb ec mb mc ne =
-      let size : (n : ℕ) → n ≡ 12 → 2 ^ n ≡ 4096 = λ n e. ap (λ k. 2 ^ k) e in
-      let sb = size b.bits eb in
-      let sc = size c.bits ec in
-      ⊎_elim
-      (λ lt. let g = multiple_gap 12 b.first c.first mb mc lt in inl (omega (arith, g, sb)))
-      (λ ge. ⊎_elim
-      (λ lt. let g = multiple_gap 12 c.first b.first mc mb lt in inr (omega (arith, g, sc)))
-      (λ le. absurd (differ b.first c.first ne (omega arith)))
-      (cases_lt c.first b.first))
-      (cases_lt b.first c.first)
-    where
-      differ : (n m : ℕ) → (n == m) ≡ false → n ≡ m → ⊥
-      differ n m t e = grind (arith, nat_tests)
+  pages_apart b c eb ec mb mc ne = search (rules, multiple_gap, cases_lt, nat_tests)
 
   lies_in : Rooms → (v s : ℕ) → InRoom rooms v s → LieInOne false (block rooms v s) rs
   lies_in r v s h = lie_permuted (block rooms v s) rs rooms r.permutation (lies rooms v s h)
 
   later_lies : Rooms → (starts : List ℕ) (c : Bytes) → LaterBlock all rooms starts c → LieInOne false c rs
-  later_lies r starts c h =
-      let P : Bytes → Type 0 = λ k. LieInOne false k rs in
-      subst P (sym h.is) (lies_in r h.offset c.bits (there r h.offset c.bits h.multiple h.high))
+  later_lies r starts c h = search (rules, lies_in, there)
 
   pub apart_all : Rooms → (starts : List ℕ) (before : List ℕ) (k : ℕ) (ns : List Need) → are_usual ns ≡ true → Laid all starts ns
       → device_refusal rs before k ns ≡ None → AllApart (all_bytes ns (packed rooms starts ns))
@@ -297,7 +263,4 @@ packed_placed all rs rooms starts usual sound free room perm order s =
       order = order;
       room = λ least. let e = sum_by-IsPermutation (room_bytes least) rs rooms perm in omega (arith, e, room least);
     } in
-    record {
-      suit = suit_all all rs rooms r starts [] 0 all usual (laid_first all starts s) free.devices;
-      apart = apart_all all rs rooms r starts [] 0 all usual (laid_first all starts s) free.devices;
-    }
+    search (rules, suit_all, laid_first, apart_all)

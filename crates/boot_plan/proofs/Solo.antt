@@ -1,4 +1,5 @@
 -- Regions of which no two share an address: each address lies in one of them at most.
+use Rattle.std.proofs.Common.{rules}
 use Rattle.boot_plan.proofs.Common.{Apart, Bool, Bytes, IsPermutation, LieIn, LieInOne, List, None, Option, Some, Untyped, [], and_parts, append-nil, append_assoc, arith, bytes_end, cases_lt, cond, false, first_overlap, inl, inr, le-leb, leb, lt-ltb}
 use Rattle.boot_plan.proofs.Common.{nat_lt, nat_tests, option_map, overlap_at, overlap_behind, position, position_from, refl, region_end, shares, subst, sum_by, sum_by-IsPermutation, sum_by-append, sum_by-cons, sym, true, ℕ, ⊎_elim, ◌&&◌, ◌++◌, ◌+◌}
 use Rattle.boot_plan.proofs.Common.{◌<◌, ◌∙◌, ◌∷◌, ◌≡◌, ◌≤◌}
@@ -18,15 +19,7 @@ pub record Solo (rs : List Untyped) : Type 0 where
 
 holds_both : (x : ℕ) (r q : Untyped) → holds x r ≡ true → holds x q ≡ true → shares r q ≡ true
 unfolding holds
-holds_both x r q a b =
-    let p = and_parts (leb r.paddr x) (nat_lt x (region_end r)) a in
-    let k = and_parts (leb q.paddr x) (nat_lt x (region_end q)) b in
-    let low : nat_lt r.paddr (region_end q) ≡ true = below r.paddr x (region_end q) p.0 k.1 in
-    let high : nat_lt q.paddr (region_end r) ≡ true = below q.paddr x (region_end r) k.0 p.1 in
-    rw (low, high) refl
-  where
-    below : (n x m : ℕ) → leb n x ≡ true → nat_lt x m ≡ true → nat_lt n m ≡ true
-    below n x m h l = grind (arith, nat_tests)
+holds_both x r q a b = search (rules, and_parts, leb, nat_lt, nat_tests)
 
 -- where a region shares no address with the earlier ones, an address of it lies in none of them
 none_hold : (x : ℕ) (r : Untyped) (i : ℕ) (rs : List Untyped) → holds x r ≡ true → position_from (shares r) i rs ≡ None
@@ -39,11 +32,7 @@ none_hold x r i (q ∷ qs) a e = go (shares r q) refl (holds x q) refl (λ left.
         → sum_by (one x) qs ≡ 0) → sum_by (one x) (q ∷ qs) ≡ 0
     go true s h k ih = let found : position_from (shares r) i (q ∷ qs) ≡ Some i = rw s refl in absurd cc
     go false s true k ih = let t = holds_both x r q a k in absurd cc
-    go false s false k ih =
-        let left : position_from (shares r) (i + 1) qs ≡ None = rw s at e in
-        let none : one x q ≡ 0 = rw k refl in
-        let all = ih left in
-        omega (arith, all, none, sum_by-cons (one x) q qs)
+    go false s false k ih = grind (arith, one, sum_by-cons)
 
 map_none : {A B : Type 0} (f : A → B) (a : Option A) → option_map f a ≡ None → a ≡ None
 map_none f None e = refl
@@ -51,19 +40,7 @@ map_none f (Some x) e = absurd cc
 
 solo_more : (before : List Untyped) (r : Untyped) → overlap_at before r ≡ None → Solo before → Solo (before ++ r ∷ [])
 unfolding one
-solo_more before r e s = record { at_most = λ x. go x (holds x r) refl }
-  where
-    none : position_from (shares r) 0 before ≡ None
-    none = sym (position_from-zero (shares r) before) ∙ map_none _ (position (shares r) before) e
-
-    go : (x : ℕ) (h : Bool) → holds x r ≡ h → sum_by (one x) (before ++ r ∷ []) ≤ 1
-    go x true h =
-        let z = none_hold x r 0 before h none in
-        let k : one x r ≡ 1 = rw h refl in
-        omega (arith, sum_by-append (one x) before (r ∷ []), sum_by-cons (one x) r [], z, k)
-    go x false h =
-        let k : one x r ≡ 0 = rw h refl in
-        omega (arith, sum_by-append (one x) before (r ∷ []), sum_by-cons (one x) r [], s.at_most x, k)
+solo_more before r e s = search (rules, holds, position_from-zero, map_none, one, none_hold, sum_by-append, sum_by-cons)
 
 solo_behind : (before rs : List Untyped) → overlap_behind before rs ≡ None → Solo before → Solo (before ++ rs)
 solo_behind before [] e s = subst Solo (sym (append-nil before)) s
@@ -82,10 +59,7 @@ solo_rest r rs s = record { at_most = λ x. omega (arith, s.at_most x, sum_by-co
 
 holds_in : (device : Bool) (b : Bytes) (r : Untyped) (x : ℕ) → LieIn device b r → b.first ≤ x → x < bytes_end b → one x r ≡ 1
 unfolding one holds
-holds_in device b r x lie low high =
-    let l : leb r.paddr x ≡ true = le-leb r.paddr x (omega (arith, lie.low)) in
-    let h : nat_lt x (region_end r) ≡ true = lt-ltb x (region_end r) (omega (arith, lie.high)) in
-    rw (l, h) refl
+holds_in device b r x lie low high = search (rules, leb, le-leb, nat_lt, lt-ltb)
 
 counted_in : (device : Bool) (b : Bytes) (rs : List Untyped) (x : ℕ) → LieInOne device b rs → b.first ≤ x → x < bytes_end b
     → 1 ≤ sum_by (one x) rs

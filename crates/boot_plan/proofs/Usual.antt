@@ -1,4 +1,5 @@
 -- What needs and regions keep: how large they are.
+use Rattle.std.proofs.Common.{rules}
 use Rattle.boot_plan.proofs.Common.{Block, Bool, CNode, DevicePage, Endpoint, Entry, Frame, Irq, List, Need, None, Nothing, Notification, Object, Pages, Some, Spec, Thread, Untyped, [], and_from, and_parts, are_regions, are_usual, arith, block_bytes}
 use Rattle.boot_plan.proofs.Common.{cond, eqb-true, false, fits, get_or, if_any, is_region, is_usual, keeps, keeps_fill, keeps_slots, leb, leb-true, length, list_all, map, nat_lt, nat_tests, need, needed, needs, not, refl, room_bytes, suc}
 use Rattle.boot_plan.proofs.Common.{sum_by-cons, table_bits, true, zero, ℕ, ◌%◌, ◌&&◌, ◌+◌, ◌<◌, ◌==◌, ◌^◌, ◌∷◌, ◌≡◌, ◌≤◌}
@@ -29,26 +30,15 @@ cond_le false n m h = omega arith
 -- the parts of a region's test
 pub region_parts : (paddr bits : ℕ) → is_region paddr bits ≡ true → (4 ≤ bits) × (bits ≤ 47) × (paddr % 2 ^ bits ≡ 0)
     × (paddr + 2 ^ bits ≤ 2 ^ 48)
-region_parts paddr bits h =
-    let a = and_parts (leb 4 bits) (leb bits 47 && (paddr % 2 ^ bits == 0 && leb (paddr + 2 ^ bits) (2 ^ 48))) h in
-    let b = and_parts (leb bits 47) (paddr % 2 ^ bits == 0 && leb (paddr + 2 ^ bits) (2 ^ 48)) a.1 in
-    let c = and_parts (paddr % 2 ^ bits == 0) (leb (paddr + 2 ^ bits) (2 ^ 48)) b.1 in
-    (leb-true 4 bits a.0, leb-true bits 47 b.0, eqb-true (paddr % 2 ^ bits) 0 c.0, leb-true (paddr + 2 ^ bits) (2 ^ 48) c.1)
+region_parts paddr bits h = search (rules, and_parts, leb, leb-true, eqb-true)
 
 pub block_small : (least : ℕ) (n : Need) → is_usual n ≡ true → block_bytes least n ≤ 1048576
 block_small least Nothing h = omega arith
 block_small least (DevicePage paddr) h = omega arith
-block_small least (Block bits) h =
-    let few : bits ≤ 20 = grind (arith, nat_tests) in
-    let e : 2 ^ 20 ≡ 1048576 = refl in
-    let p = pow_le bits 20 few in
-    cond_le (leb least bits) (2 ^ bits) 1048576 (omega (arith, p, e))
+block_small least (Block bits) h = search (rules, nat_tests, pow_le, cond_le, leb)
 
 pub room_small : (least : ℕ) (r : Untyped) → is_region r.paddr r.bits ≡ true → room_bytes least r ≤ 2 ^ 47
-room_small least r h =
-    let few = (region_parts r.paddr r.bits h).1 in
-    let p = pow_le r.bits 47 few in
-    cond_le (not r.device && leb least r.bits) (2 ^ r.bits) (2 ^ 47) p
+room_small least r h = search (rules, region_parts, pow_le, cond_le, leb)
 
 pub bits_few : (paddr bits : ℕ) → is_region paddr bits ≡ true → bits ≤ 47
 bits_few paddr bits h = (region_parts paddr bits h).1
@@ -59,27 +49,11 @@ pub ruleset usual = (usual_got, region_got, block_small, room_small, bits_few)
 pub object_usual : (spec : Spec) (object : Object) → keeps spec object ≡ true → is_usual (need spec.arch object) ≡ true
 object_usual spec Endpoint h = refl
 object_usual spec Notification h = refl
-object_usual spec (CNode bits slots) h =
-    let p = and_parts (nat_lt 0 bits && leb bits 16) (keeps_slots (fits spec) (2 ^ bits) slots) h in
-    let q = and_parts (nat_lt 0 bits) (leb bits 16) p.0 in
-    four_more bits q.1
-  where
-    four_more : (n : ℕ) → leb n 16 ≡ true → leb (n + 4) 20 ≡ true
-    four_more n l = grind (arith, nat_tests)
+object_usual spec (CNode bits slots) h = search (rules, and_parts, nat_lt, leb, nat_tests)
 object_usual spec (Thread tcb) h = refl
 object_usual spec (Frame None fill) h = refl
 object_usual spec (Frame (Some paddr) fill) h = (and_parts (paddr % 4096 == 0) (if_any keeps_fill fill) h).0
-object_usual spec (Pages level slots) h = table_usual spec.arch level
-  where
-    table_usual : (arch : Arch) (level : Level) → leb (table_bits arch level) 20 ≡ true
-    table_usual Aarch64 Global = refl
-    table_usual Aarch64 Upper = refl
-    table_usual Aarch64 Directory = refl
-    table_usual Aarch64 Table = refl
-    table_usual Arm11 Global = refl
-    table_usual Arm11 Upper = refl
-    table_usual Arm11 Directory = refl
-    table_usual Arm11 Table = refl
+object_usual spec (Pages level slots) h = search (rules, leb)
 object_usual spec (Irq notification) h = refl
 
 pub needs_usual : (spec : Spec) → list_all (λ (entry : Entry). keeps spec entry.object) spec.entries ≡ true

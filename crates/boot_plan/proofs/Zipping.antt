@@ -1,4 +1,5 @@
 -- A loop over the objects of a spec and their places.
+use Rattle.std.proofs.Common.{rules}
 use Rattle.boot_plan.proofs.Common.{Block, CNode, DevicePage, Endpoint, Entry, Frame, Irq, IsKept, List, Need, None, Nothing, Notification, Object, Option, Pages, Some, Spec, Thread, and_parts, ap, arith, bits_of, bytes_placed, fits, get_or}
 use Rattle.boot_plan.proofs.Common.{get_or-zip, has_few_bits, is_some, is_usual, keeps, keeps_slots, leb, length, length-zip, min, nat_lt, nat_tests, need, one_placed, refl, subst, sum_by, sum_by_more, sym, take, take_all, true, zip, ℕ, ◌&&◌, ◌+◌}
 use Rattle.boot_plan.proofs.Common.{◌<◌, ◌^◌, ◌∙◌, ◌≡◌, ◌≤◌}
@@ -16,13 +17,7 @@ pub record Turn (entries : List Entry) (places : List (Option ℕ)) (n : ℕ) (e
 pub turn : (entries : List Entry) (places : List (Option ℕ)) (n : ℕ) (entry : Entry) (place : Option ℕ)
     → (n < length entries) × (n < length places) × ((d : Entry) → entry ≡ get_or entries n d) × ((d : Option ℕ)
     → place ≡ get_or places n d) → Turn entries places n entry place
-turn entries places n entry place h = record {
-  few = h.0;
-  within = omega (arith, length-zip entries places, h.0, h.1);
-  entry_is = h.2 entry;
-  is = ap (λ (e : Entry). (e, place)) (h.2 entry) ∙ ap (λ (p : Option ℕ). (get_or entries n entry, p)) (h.3 place)
-      ∙ sym (get_or-zip entries places n (entry, place) h.0 h.1);
-}
+turn entries places n entry place h = search (rules, length-zip, get_or-zip)
 
 -- behind the last turn
 pub turned : (entries : List Entry) (places : List (Option ℕ)) (n : ℕ) → n ≡ min (length entries) (length places)
@@ -32,9 +27,7 @@ turned entries places n h = omega (arith, length-zip entries places, h)
 object_few : (spec : Spec) (object : Object) → keeps spec object ≡ true → has_few_bits object ≡ true
 object_few spec Endpoint h = refl
 object_few spec Notification h = refl
-object_few spec (CNode bits slots) h =
-    (and_parts (nat_lt 0 bits) (leb bits 16) (and_parts (nat_lt 0 bits && leb bits 16)
-    (keeps_slots (fits spec) (2 ^ bits) slots) h).0).1
+object_few spec (CNode bits slots) h = search (rules, and_parts, nat_lt, leb)
 object_few spec (Thread tcb) h = refl
 object_few spec (Frame paddr fill) h = refl
 object_few spec (Pages level slots) h = refl
@@ -43,9 +36,7 @@ object_few spec (Irq notification) h = refl
 -- the object of a turn keeps what the spec keeps
 kept_turn : (spec : Spec) (places : List (Option ℕ)) (n : ℕ) (entry : Entry) (place : Option ℕ) → IsKept spec
     → Turn spec.entries places n entry place → keeps spec entry.object ≡ true
-kept_turn spec places n entry place kept t =
-    subst (λ (e : Entry). keeps spec e.object ≡ true) (sym t.entry_is) (all_got (λ (e : Entry). keeps spec e.object) spec.entries
-    n entry kept.objects t.few)
+kept_turn spec places n entry place kept t = search (rules, all_got)
 
 pub few_turn : (spec : Spec) (places : List (Option ℕ)) (n : ℕ) (entry : Entry) (place : Option ℕ) → IsKept spec
     → Turn spec.entries places n entry place → has_few_bits entry.object ≡ true
@@ -64,10 +55,7 @@ one_small entry (Some first) = omega arith
 need_small : (n : Need) → is_usual n ≡ true → 2 ^ bits_of n ≤ 1048576
 need_small Nothing h = omega arith
 need_small (DevicePage paddr) h = omega arith
-need_small (Block bits) h =
-    let few : bits ≤ 20 = grind (arith, nat_tests) in
-    let e : 2 ^ 20 ≡ 1048576 = refl in
-    omega (arith, pow_le bits 20 few, e)
+need_small (Block bits) h = search (rules, nat_tests, pow_le)
 
 pub bytes_small : (spec : Spec) (places : List (Option ℕ)) (n : ℕ) (entry : Entry) (place : Option ℕ) → IsKept spec
     → Turn spec.entries places n entry place → bytes_placed spec.arch (entry, place) ≤ 1048576

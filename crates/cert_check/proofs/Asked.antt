@@ -1,4 +1,5 @@
 -- The edges that the first rule asks for are those of the objects.
+use Rattle.std.proofs.Common.{rules}
 use Rattle.cert_check.proofs.Common.{Asked, Authority, CNode, Cap, Capability, Contains, Edge, Endpoint, Entry, Held, Irq, Node, Notification, OfBound, OfCap, OfLink, Pages, Spec, Structural, Thread, ThreadState, arith, at_contains, at_entry, boot}
 use Rattle.cert_check.proofs.Common.{boot_contains, boot_irq, boot_node, boot_slot, boot_thread, buffer_of, contains_at, edge, entry_at, inl, inr, irq_at, label_of, map, no_node, no_thread, node_at, none_saved, nothing_pending, of_buffer, of_irq}
 use Rattle.cert_check.proofs.Common.{of_mapped, of_reply, of_root, of_saved, of_space, of_table, slot_of, subst, table_of, thread_at}
@@ -37,9 +38,7 @@ module _ (spec : Spec) (labels : List ℕ) where
           asked = held_object (label_of labels c) found.0.object i x e (subst (λ (n : Node). Contains n.slots (i, Capability x))
               found.2 there) (record { confers = conf; from = from; to = to });
         }
-        | inr none ↦
-            absurd (let c : Contains no_node.slots (i, Capability x) = subst (λ (n : Node). Contains n.slots (i, Capability x))
-            none there in let w = c.1 in omega arith)
+        | inr none ↦ search (rules)
       ]
 
   buffer_object : (l : ℕ) (object : Object) (cap : Cap) (e : Edge) → buffer_of (Some object) ≡ Some cap
@@ -74,27 +73,13 @@ module _ (spec : Spec) (labels : List ℕ) where
       → buffer_of (entry_object o) ≡ Some cap → OfCap spec labels (label_of labels t) cap e → e.from ≢ e.to
       → AskedSome spec labels e
   buffer_place t None cap e here there of_cap differ = absurd cc
-  buffer_place t (Some entry) cap e here there of_cap differ =
-      record {
-        place = t;
-        entry = entry;
-        there = here;
-        asked = buffer_object (label_of labels t) entry.object cap e there
-            of_cap differ;
-      }
+  buffer_place t (Some entry) cap e here there of_cap differ = search (rules, buffer_object)
 
   table_place : (t : ℕ) (o : Option Entry) (slot : ℕ × Cap) (e : Edge) → slice_get spec.entries t ≡ o
       → Contains (table_of (entry_object o)) slot → OfCap spec labels (label_of labels t) slot.1 e → e.from ≢ e.to
       → AskedSome spec labels e
   table_place t None slot e here c of_cap differ = let w = c.1 in absurd (omega arith)
-  table_place t (Some entry) slot e here c of_cap differ =
-      record {
-        place = t;
-        entry = entry;
-        there = here;
-        asked = table_object (label_of labels t) entry.object slot e c
-            of_cap differ;
-      }
+  table_place t (Some entry) slot e here c of_cap differ = search (rules, table_object)
 
   pub structural_asked : (e : Edge) (l : ℕ) (a : Authority) (m : ℕ) → e ≡ edge l a m → Structural spec labels (boot spec) l a m
       → e.from ≢ e.to → AskedSome spec labels e
@@ -105,38 +90,12 @@ module _ (spec : Spec) (labels : List ℕ) where
       differ
   structural_asked e l a m is (of_root h) differ =
       elim (at_entry boot_thread spec.entries h.0 no_thread) [
-        | inl found ↦
-            record {
-              place = h.0;
-              entry = found.0;
-              there = found.1;
-              asked = root_object (label_of labels h.0) found.0.object e
-                  (rw is (record {
-                    object = h.1;
-                    there = subst (λ (n : ThreadState). n.root ≡ Some h.1) found.2 h.2;
-                    control = h.3;
-                    from = h.4;
-                    to = h.5;
-                  })) differ;
-            }
+        | inl found ↦ search (rules, root_object)
         | inr none ↦ absurd (let n = subst (λ (n : ThreadState). n.root ≡ Some h.1) none h.2 in cc)
       ]
   structural_asked e l a m is (of_space h) differ =
       elim (at_entry boot_thread spec.entries h.0 no_thread) [
-        | inl found ↦
-            record {
-              place = h.0;
-              entry = found.0;
-              there = found.1;
-              asked = space_object (label_of labels h.0) found.0.object e
-                  (rw is (record {
-                    object = h.1;
-                    there = subst (λ (n : ThreadState). n.space ≡ Some h.1) found.2 h.2;
-                    control = h.3;
-                    from = h.4;
-                    to = h.5;
-                  })) differ;
-            }
+        | inl found ↦ search (rules, space_object)
         | inr none ↦ absurd (let n = subst (λ (n : ThreadState). n.space ≡ Some h.1) none h.2 in cc)
       ]
   structural_asked e l a m is (of_reply h) differ = absurd (let n = nothing_pending spec h.0 in let w = h.2 in cc)
@@ -144,20 +103,7 @@ module _ (spec : Spec) (labels : List ℕ) where
   structural_asked e l a m is (of_mapped h) differ = absurd (let w = h.1.1 in omega arith)
   structural_asked e l a m is (of_irq h) differ =
       elim (at_entry boot_irq spec.entries h.0 None) [
-        | inl found ↦
-            record {
-              place = h.0;
-              entry = found.0;
-              there = found.1;
-              asked = irq_object (label_of labels h.0) found.0.object e
-                  (rw is (record {
-                    object = h.1;
-                    there = subst (λ (n : Option ℕ). n ≡ Some h.1) found.2 h.2;
-                    sends = h.3;
-                    from = h.4;
-                    to = h.5;
-                  })) differ;
-            }
+        | inl found ↦ search (rules, irq_object)
         | inr none ↦ absurd (let n = subst (λ (n : Option ℕ). n ≡ Some h.1) none h.2 in cc)
       ]
 
@@ -171,15 +117,7 @@ module _ (spec : Spec) (labels : List ℕ) where
       → entry.object ≡ object → Asked spec labels (label_of labels o) object e → At e
   asked_at o entry (CNode bits slots) e here is asked =
       let node : node_at (boot spec) o ≡ boot_node entry.object = entry_at boot_node spec.entries o no_node entry here in
-      inl (
-        o,
-        asked.slot.0,
-        asked.slot.1,
-        rw (node, is) (boot_contains slots asked.place asked.slot asked.there),
-        asked.of_cap.confers,
-        asked.of_cap.from,
-        asked.of_cap.to,
-      )
+      search (rules, boot_contains)
   asked_at o entry (Pages level slots) e here is asked =
       inr (
         of_table (

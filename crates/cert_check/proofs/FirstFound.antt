@@ -1,4 +1,5 @@
 -- What a walk through the edges finds first is least.
+use Rattle.std.proofs.Common.{rules}
 use Rattle.cert_check.proofs.Common.{AsyncSend, AtMost, Before, BreaksBind, BreaksPolicy, Edge, Finds, FindsLeast, FindsLeastAt, Handle, IsFirstNotBefore, IsSorted, List, None, Reset, Some, Violation, ap, arith, at_has, cases_lt, edge, false, has}
 use Rattle.cert_check.proofs.Common.{has_at, inl, inr, length, number_of, refl, slice_get, subst, sym, true, ℕ, ◌<◌, ◌≡◌, ◌≢◌, ◌≤◌}
 use Rattle.cert_check.proofs.Search.{NoneUpTo, none_end, found_first}
@@ -39,28 +40,11 @@ module _ (cert : List Edge) (e : Edge) where
 
   pub bind_start : (low : ℕ) → IsFirstNotBefore cert (edge e.from AsyncSend 0) low
       → NoneUpTo (AtFirst (BreaksBind cert) e) second_of cert low
-  bind_start low first = record {
-    none = λ k v less there p. (
-        let b : Before v.second (edge e.from AsyncSend 0) = first.below k v.second less there in
-        let f : v.second.from ≡ e.from = from_label v p in
-        let n : number_of v.second.authority ≡ 2 = number v p in
-        let z : v.second.to < 0 = b.by_to f n in
-        omega arith);
-  }
+  bind_start low first = search (rules, from_label, number)
 
   pub bind_none : (high j : ℕ) → IsFirstNotBefore cert (edge e.from Reset 0) high → high ≤ j
       → NoneUpTo (AtFirst (BreaksBind cert) e) second_of cert j → FindsLeastAt (BreaksBind cert) e None
-  bind_none high j past le before v p =
-      let there : (k : ℕ) × (slice_get cert k ≡ Some v.second) = at_has cert v.second (named v p) in
-      elim (cases_lt there.0 j) [
-        | inl less ↦ before.none there.0 v less there.1 p
-        | inr ge ↦
-            let a : AtMost (edge e.from Reset 0) v.second = past.above there.0 v.second (omega arith) there.1 in
-            let f : v.second.from ≡ e.from = from_label v p in
-            let n : number_of v.second.authority ≡ 2 = number v p in
-            let z : 3 ≤ number_of v.second.authority = a.by_authority (sym f) in
-            omega arith
-      ]
+  bind_none high j past le before v p = search (rules, slice_get, at_has, named, cases_lt, from_label, number)
 
   pub bind_found : (j : ℕ) (other : Edge) → IsSorted cert → slice_get cert j ≡ Some other → has cert e ≡ true
       → NoneUpTo (AtFirst (BreaksBind cert) e) second_of cert j
@@ -89,11 +73,7 @@ module _ (cert : List Edge) (e : Edge) where
         let number : number_of other.authority ≡ number_of c.second.authority = rw (p.0.sends, sends) refl in
         record {
           by_first = at_first e c.first (sym p.1);
-          by_lack = λ w. rw p.0.redirected (record {
-            by_from = to;
-            by_authority = λ f. omega arith;
-            by_to = λ f g. least.by_to from number;
-          });
+          by_lack = search (rules);
           by_second = λ w x. least;
         },
   )

@@ -1,4 +1,5 @@
 -- Every step keeps what a safe state has, and so every run from the boot state stays within the policy.
+use Rattle.std.proofs.Common.{rules}
 use Rattle.cert_check.proofs.Common.{All-contains, All-filter, All-push, AsyncSend, Authority, Bool, Call, Cap, Capability, Content, Control, Edge, Grant, GrantBack, Handle, Has, List, Node, None, Passes, Pending, Receive, SavedReply, Some, Spec}
 use Rattle.cert_check.proofs.Common.{State, ThreadState, Valid, [], arith, boot, cases_eq, confers, content_in, false, get_or, inl, inr, kind_confers, label_of, no_node, no_thread, node_at, not, refl, set, subst, sym, thread_at, true, ℕ, ◌&&◌, ◌++◌}
 use Rattle.cert_check.proofs.Common.{◌==◌, ◌||◌, ◌∷◌, ◌≡◌, ◌≢◌}
@@ -23,21 +24,13 @@ use Rattle.cap_model.proofs.SpaceRoots.{root_controls}
 -- a fact on each item stays under a write of an item that has it
 each_after_write : {A : Type 0} (P : ℕ → A → Type 0) (xs : List A) (i : ℕ) (v d : A) → ((k : ℕ) → P k (get_or xs k d)) → P i v
     → (k : ℕ) → P k (get_or (set xs i v) k d)
-each_after_write {A} P xs i v d before here k =
-    elim (read_written xs i k v d) [
-      | inl e ↦ subst (λ (x : A). P k x) (sym e) (before k)
-      | inr e ↦ subst (λ (x : A). P k x) (sym e.1) (subst (λ (n : ℕ). P n v) (sym e.0) here)
-    ]
+each_after_write {A} P xs i v d before here k = search (rules, read_written)
 
 -- what a change of a thread asks
 module _ (labels : List ℕ) (cert : List Edge) (t : ℕ) (thread : ThreadState) (fine : FineThread labels cert t thread) where
   pending_fine : (reply : Pending) → FineReply labels cert (label_of labels t) reply
       → FineThread labels cert t (record thread { pending = Some reply })
-  pending_fine reply way = record {
-    root = fine.root;
-    space = fine.space;
-    through = λ q e. (let same : reply ≡ q = cc in subst (λ (q : Pending). FineReply labels cert (label_of labels t) q) same way);
-  }
+  pending_fine reply way = search (rules)
 
   none_fine : FineThread labels cert t (record thread { pending = None })
   none_fine = record { root = fine.root; space = fine.space; through = λ q e. absurd cc }
@@ -47,19 +40,11 @@ module _ (labels : List ℕ) (cert : List Edge) (t : ℕ) (thread : ThreadState)
 
   root_fine : (d : ℕ) → Flows cert (label_of labels t) Control (label_of labels d)
       → FineThread labels cert t (record thread { root = Some d })
-  root_fine d flows = record {
-    root = λ n e. (let same : d ≡ n = cc in rw (← same) flows);
-    space = fine.space;
-    through = fine.through;
-  }
+  root_fine d flows = search (rules)
 
   space_fine : (d : ℕ) → Flows cert (label_of labels t) Control (label_of labels d)
       → FineThread labels cert t (record thread { space = Some d })
-  space_fine d flows = record {
-    root = fine.root;
-    space = λ n e. (let same : d ≡ n = cc in rw (← same) flows);
-    through = fine.through;
-  }
+  space_fine d flows = search (rules)
 
 module _ (spec : Spec) (labels : List ℕ) (policy cert : List Edge) (v : Valid spec labels policy cert) where
   content_fine : (s : State) (c i : ℕ) (content : Content) → Safe spec labels cert s → content_in s c i ≡ Some content
@@ -78,9 +63,7 @@ module _ (spec : Spec) (labels : List ℕ) (policy cert : List Edge) (v : Valid 
   own_has : (s : State) (c i : ℕ) (kind : Kind) (cap : Cap) (a : Authority) → Safe spec labels cert s
       → Own (is_at spec kind) s c i cap → kind_confers kind cap.rights a ≡ true
       → Has cert (label_of labels c) a (label_of labels cap.object)
-  own_has s c i kind cap a safe own conf =
-      fine_at s c i cap safe own.there a (let k : kind_at spec cap.object ≡ Some kind = kind_is spec kind cap.object own.is in
-      rw k conf)
+  own_has s c i kind cap a safe own conf = search (rules, fine_at, kind_is)
 
   own_controls : (s : State) (c i : ℕ) (cap : Cap) → Safe spec labels cert s → Own (is_space_root spec) s c i cap
       → Has cert (label_of labels c) Control (label_of labels cap.object)
@@ -89,26 +72,16 @@ module _ (spec : Spec) (labels : List ℕ) (policy cert : List Edge) (v : Valid 
   -- by the root edge a thread has what its root has, and the root what its thread has
   at_thread : (t c : ℕ) → Flows cert (label_of labels t) Control (label_of labels c)
       → Passes cert (label_of labels c) (label_of labels t)
-  at_thread t c flows a x other has =
-      elim (cases_eq (label_of labels t) (label_of labels c)) [
-        | inl same ↦ rw same has
-        | inr differ ↦ v.control_back (label_of labels t) (label_of labels c) (flows differ) a x other has
-      ]
+  at_thread t c flows a x other has = search (rules, cases_eq)
 
   at_root : (t c : ℕ) → Flows cert (label_of labels t) Control (label_of labels c)
       → Passes cert (label_of labels t) (label_of labels c)
-  at_root t c flows a x other has =
-      elim (cases_eq (label_of labels t) (label_of labels c)) [
-        | inl same ↦ rw (← same) has
-        | inr differ ↦ v.control_out (label_of labels t) (label_of labels c) (flows differ) a x other has
-      ]
+  at_root t c flows a x other has = search (rules, cases_eq)
 
   -- a lessened copy goes where the edges go
   copy_fine : (l m : ℕ) (cap : Cap) (r : Rights) → Passes cert l m → Fine spec labels cert l cap
       → Fine spec labels cert m (lessened cap r)
-  copy_fine l m cap r passes fine a conf =
-      let whole : confers spec cap a ≡ true = lessened_confers spec cap r a conf in
-      passes a (label_of labels cap.object) (not_reply spec cap a whole) (fine a whole)
+  copy_fine l m cap r passes fine a conf = search (rules, lessened_confers, not_reply)
 
   node_safe : (s : State) (c : ℕ) (node : Node) → Safe spec labels cert s → FineNode spec labels cert c node
       → Safe spec labels cert (record s { nodes = set s.nodes c node })
@@ -159,8 +132,7 @@ module _ (spec : Spec) (labels : List ℕ) (policy cert : List Edge) (v : Valid 
       → Own (is_at spec kinds.CNode) s c i to → content_in s to.object j ≡ Some (Capability cap)
       → Safe spec labels cert (added s c (lessened cap r))
   take_safe s c i j to cap r safe own there =
-      let control : Has cert (label_of labels c) Control (label_of labels to.object) =
-      own_has s c i kinds.CNode to Control safe own refl in
+      let control : Has cert (label_of labels c) Control (label_of labels to.object) = search (rules, own_has) in
       grown_safe s c (Capability (lessened cap r)) safe (copy_fine (label_of labels to.object) (label_of labels c) cap r
       (v.control_back _ _ control) (fine_at s to.object j cap safe there))
 
@@ -168,8 +140,7 @@ module _ (spec : Spec) (labels : List ℕ) (policy cert : List Edge) (v : Valid 
       → content_in s c j ≡ Some (Capability cap)
       → Safe spec labels cert (added s to.object (lessened cap r))
   put_safe s c i j to cap r safe own there =
-      let control : Has cert (label_of labels c) Control (label_of labels to.object) =
-      own_has s c i kinds.CNode to Control safe own refl in
+      let control : Has cert (label_of labels c) Control (label_of labels to.object) = search (rules, own_has) in
       grown_safe s to.object (Capability (lessened cap r)) safe (copy_fine (label_of labels c) (label_of labels to.object) cap r
       (v.control_out _ _ control) (fine_at s c j cap safe there))
 
@@ -189,8 +160,7 @@ module _ (spec : Spec) (labels : List ℕ) (policy cert : List Edge) (v : Valid 
       → to.rights.write && to.rights.grant ≡ true → content_in s c k ≡ Some (Capability cap) → Peer spec s t u j to.object d from
       → Safe spec labels cert (added s d (lessened cap r))
   grant_safe s t c i u j k d to cap from r safe own may there peer =
-      let grant : Has cert (label_of labels c) Grant (label_of labels to.object) =
-      own_has s c i kinds.Endpoint to Grant safe own may in
+      let grant : Has cert (label_of labels c) Grant (label_of labels to.object) = search (rules, own_has) in
       grown_safe s d (Capability (lessened cap r)) safe
       (copy_fine (label_of labels c) (label_of labels d) cap r
       (v.grant _ _ _ grant (peer_receives s t u j to.object d from safe peer)) (fine_at s c k cap safe there))
@@ -202,8 +172,7 @@ module _ (spec : Spec) (labels : List ℕ) (policy cert : List Edge) (v : Valid 
   called_safe s t c i u j d to from safe acts own may peer =
       let e = label_of labels to.object in
       let caller : Passes cert (label_of labels c) (label_of labels t) = at_thread t c ((safe.threads t).root c acts.root) in
-      let listener : Passes cert (label_of labels d) (label_of labels u) =
-      at_thread u d ((safe.threads u).root d peer.acts.root) in
+      let listener : Passes cert (label_of labels d) (label_of labels u) = search (rules, at_thread) in
       let way : FineReply labels cert (label_of labels u) (record { caller = t; grants = from.rights.grant }) = record {
         by = e;
         call = caller Call e (λ w. cc) (own_has s c i kinds.Endpoint to Call safe own may);
@@ -237,8 +206,7 @@ module _ (spec : Spec) (labels : List ℕ) (policy cert : List Edge) (v : Valid 
       → Safe spec labels cert (added (replied s t reply.caller) d (lessened cap r))
   reply_copy s t c k d reply cap r safe acts owes grants there root =
       let up : Passes cert (label_of labels c) (label_of labels t) = at_thread t c ((safe.threads t).root c acts.root) in
-      let fine : Fine spec labels cert (label_of labels t) cap =
-      λ a conf. up a (label_of labels cap.object) (not_reply spec cap a conf) (fine_at s c k cap safe there a conf) in
+      let fine : Fine spec labels cert (label_of labels t) cap = search (rules, not_reply, fine_at) in
       grown_safe (replied s t reply.caller) d (Capability (lessened cap r)) (replied_safe s t reply.caller safe)
       (copies_back s (label_of labels t) d reply cap r safe ((safe.threads t).through reply owes) grants root fine)
 
@@ -246,8 +214,7 @@ module _ (spec : Spec) (labels : List ℕ) (policy cert : List Edge) (v : Valid 
       → Own (is_at spec kinds.CNode) s c j cap
       → Safe spec labels cert (record s { threads = with_root s.threads to.object cap.object })
   cspace_safe s c i j to cap safe own of =
-      let over : Has cert (label_of labels c) Control (label_of labels to.object) =
-      own_has s c i kinds.Thread to Control safe own refl in
+      let over : Has cert (label_of labels c) Control (label_of labels to.object) = search (rules, own_has) in
       thread_safe s to.object (record (thread_at s to.object) { root = Some cap.object }) safe
       (root_fine labels cert to.object (thread_at s to.object) (safe.threads to.object) cap.object
       (λ differ. v.control_out _ _ over Control (label_of labels cap.object) (λ w. cc)
@@ -257,8 +224,7 @@ module _ (spec : Spec) (labels : List ℕ) (policy cert : List Edge) (v : Valid 
       → Own (is_space_root spec) s c j cap
       → Safe spec labels cert (record s { threads = with_space s.threads to.object cap.object })
   vspace_safe s c i j to cap safe own of =
-      let over : Has cert (label_of labels c) Control (label_of labels to.object) =
-      own_has s c i kinds.Thread to Control safe own refl in
+      let over : Has cert (label_of labels c) Control (label_of labels to.object) = search (rules, own_has) in
       thread_safe s to.object (record (thread_at s to.object) { space = Some cap.object }) safe
       (space_fine labels cert to.object (thread_at s to.object) (safe.threads to.object) cap.object
       (λ differ. v.control_out _ _ over Control (label_of labels cap.object) (λ w. cc) (own_controls s c j cap safe of)))
@@ -279,8 +245,7 @@ module _ (spec : Spec) (labels : List ℕ) (policy cert : List Edge) (v : Valid 
     mapped =
         All-push (FineMapped labels cert) s.mapped _ safe.mapped
         (λ a conf differ.
-        let whole : kind_confers kinds.Frame frame.rights a ≡ true =
-        lessened_kind kinds.Frame frame.rights (read_write r) a conf in
+        let whole : kind_confers kinds.Frame frame.rights a ≡ true = search (rules, lessened_kind) in
         v.control_out _ _ (own_controls s c j cap safe of) a (label_of labels frame.object)
         (not_reply_kind kinds.Frame frame.rights a whole)
         (own_has s c i kinds.Frame frame a safe own whole));
@@ -308,12 +273,7 @@ module _ (spec : Spec) (labels : List ℕ) (policy cert : List Edge) (v : Valid 
   save_safe s t c reply safe acts owes =
       let way : FineReply labels cert (label_of labels t) reply = (safe.threads t).through reply owes in
       let down : Passes cert (label_of labels t) (label_of labels c) = at_root t c ((safe.threads t).root c acts.root) in
-      let kept : FineReply labels cert (label_of labels c) reply = record {
-        by = way.by;
-        call = way.call;
-        receive = down Receive way.by (λ w. cc) way.receive;
-        back = λ grants. down GrantBack way.by (λ w. cc) (way.back grants);
-      } in
+      let kept : FineReply labels cert (label_of labels c) reply = search (rules) in
       owes_none (record s { nodes = grown_at s.nodes c (SavedReply reply) }) t (grown_safe s c (SavedReply reply) safe kept)
 
   released_safe : (s : State) (c i caller : ℕ) → Safe spec labels cert s → Safe spec labels cert (released s c i caller)
@@ -358,6 +318,4 @@ module _ (spec : Spec) (labels : List ℕ) (policy cert : List Edge) (v : Valid 
 
   -- every edge between labels that a run reaches is in the policy
   pub runs_stay : (l : ℕ) (a : Authority) (m : ℕ) → Reaches spec labels l a m → l ≢ m → Has policy l a m
-  runs_stay l a m (run, s, leads, auth) differ =
-      v.in_policy l a m (safe_edges spec labels policy cert v s (run_safe run (boot spec) s (boot_safe spec labels policy cert v)
-      leads) l a m auth differ) differ
+  runs_stay l a m (run, s, leads, auth) differ = search (rules, safe_edges, run_safe, boot_safe)

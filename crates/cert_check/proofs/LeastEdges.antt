@@ -1,4 +1,5 @@
 -- Least edges of several searches.
+use Rattle.std.proofs.Common.{rules}
 use Rattle.cert_check.proofs.Common.{Authority, Cap, CapLack, Edge, Finds, LesserEdge, SlotsLack, Spec, arith, at_most_trans, before_at_most, cases_lt, confers, edge, edges_same, has, inl, inr, label_of, number_of, same_number, subst}
 use Rattle.std.specs.Prelude.{◌≡◌, ◌≢◌, ◌⊎◌, ◌<◌, ◌≤◌, ℕ, ◌+◌, Bool, true, false, List, slice_get, Option, Some, None, refl}
 use Rattle.authorities.proofs.AuthorityBits.{number_of-lt}
@@ -14,14 +15,7 @@ module _ (P Q : Edge → Type 0) where
   finds_either None None kept p q is = rw is (λ e h. elim h [ inl x ↦ p e x | inr x ↦ q e x ])
   finds_either None (Some new) kept p q is = rw is (inr q.0, λ e h. elim h [ inl x ↦ absurd (p e x) | inr x ↦ q.1 e x ])
   finds_either (Some old) None kept p q is = rw is (inl p.0, λ e h. elim h [ inl x ↦ p.1 e x | inr x ↦ absurd (q e x) ])
-  finds_either (Some old) (Some new) kept p q (inl is) =
-      rw is.1 (
-        inr q.0,
-        λ e h. elim h [
-          | inl x ↦ at_most_trans new old e (before_at_most new old is.0) (p.1 e x)
-          | inr x ↦ q.1 e x
-        ],
-      )
+  finds_either (Some old) (Some new) kept p q (inl is) = search (rules, at_most_trans, before_at_most)
   finds_either (Some old) (Some new) kept p q (inr is) =
       rw is.1 (inl p.0, λ e h. elim h [ inl x ↦ p.1 e x | inr x ↦ at_most_trans old new e is.0 (q.1 e x) ])
 
@@ -33,34 +27,14 @@ module _ (spec : Spec) (cert : List Edge) (within : Bool) (l m : ℕ) (cap : Cap
   pub cap_found : (n : ℕ) (a : Authority) → NoneBelow n → number_of a ≡ n → (within ≡ false → l ≢ m) → confers spec cap a ≡ true
       → has cert (edge l a m) ≡ false
       → Finds (CapLack spec cert within l m cap) (Some (edge l a m))
-  cap_found n a before is wanted conf lacks = (
-    record { confers = conf; from = refl; to = refl; wanted = wanted; lacks = lacks },
-    λ e lack.
-        let le : n ≤ number_of e.authority = elim (cases_lt (number_of e.authority) n) [
-          | inl less ↦
-              absurd (before.none e less lack)
-          | inr ge ↦ ge
-        ] in
-        let from : e.from ≡ l = lack.from in
-        let to : e.to ≡ m = lack.to in
-        record { by_from = omega arith; by_authority = λ f. omega arith; by_to = λ f g. omega arith },
-  )
+  cap_found n a before is wanted conf lacks = search (rules, cases_lt)
 
   pub cap_none : (n : ℕ) → 12 ≤ n → NoneBelow n → (e : Edge) → CapLack spec cert within l m cap e → ⊥
   cap_none n le before e lack = let b = number_of-lt e.authority in before.none e (omega arith) lack
 
   pub cap_more : (n : ℕ) (a : Authority) → NoneBelow n → number_of a ≡ n → (CapLack spec cert within l m cap (edge l a m) → ⊥)
       → NoneBelow (n + 1)
-  cap_more n a before is none = record {
-    none = λ e less lack.
-        elim (cases_lt (number_of e.authority) n) [
-          | inl below ↦ before.none e below lack
-          | inr ge ↦
-              let same : e.authority ≡ a = same_number e.authority a (omega arith) in
-              none (subst (λ (x : Edge). CapLack spec cert within l m cap x) (edges_same e (edge l a m) lack.from same
-              lack.to) lack)
-        ];
-  }
+  cap_more n a before is none = search (rules, cases_lt, same_number, edges_same)
 
 module _ (spec : Spec) (labels : List ℕ) (cert : List Edge) (within : Bool) (l : ℕ) (slots : List (ℕ × Cap)) where
   pub slots_start : Finds (SlotsLack spec labels cert within l slots 0) None
@@ -74,24 +48,13 @@ module _ (spec : Spec) (labels : List ℕ) (cert : List Edge) (within : Bool) (l
       finds_same (λ e. SlotsLack spec labels cert within l slots i e ⊎ CapLack spec cert within l (label_of labels slot.1.object)
       slot.1 e) (SlotsLack spec labels cert within l slots (i + 1))
       (λ e h. elim h [
-        | inl x ↦ record {
-          place = x.place;
-          slot = x.slot;
-          below = (let b = x.below in omega arith);
-          there = x.there;
-          lack = x.lack;
-        }
+        | inl x ↦ search (rules)
         | inr x ↦ record { place = i; slot = slot; below = omega arith; there = here; lack = x }
       ])
       (λ e x.
       elim (cases_lt x.place i) [
         | inl below ↦ inl (record { place = x.place; slot = x.slot; below = below; there = x.there; lack = x.lack })
-        | inr ge ↦
-            let b : x.place < i + 1 = x.below in
-            let same : x.place ≡ i = omega arith in
-            let t = x.there in
-            let s : x.slot ≡ slot = cc in
-            inr (subst (λ (y : ℕ × Cap). CapLack spec cert within l (label_of labels y.1.object) y.1 e) s x.lack)
+        | inr ge ↦ search (rules)
       ])
       kept
       (finds_either (SlotsLack spec labels cert within l slots i) (CapLack spec cert within l (label_of labels slot.1.object)

@@ -1,4 +1,5 @@
 -- The search for the least missing copy.
+use Rattle.std.proofs.Common.{rules}
 use Rattle.cert_check.proofs.Common.{AtMost, Edge, Finds, IsFirstFrom, IsSorted, Missing, Reply, ap, arith, at_has, cases_lt, edge, has, has_at, inl, inr, later_at_most, sym}
 use Rattle.std.specs.Prelude.{◌≤◌, ◌≡◌, ◌≢◌, ◌<◌, ℕ, ◌+◌, true, false, List, slice_get, Some, refl}
 
@@ -16,21 +17,10 @@ module _ (cert : List Edge) (s r : ℕ) where
 
   pub none_more : (i : ℕ) (e : Edge) → NoneBefore i → slice_get cert i ≡ Some e
       → ((d : Edge) → original s d ≡ e → Missing cert s r d → ⊥) → NoneBefore (i + 1)
-  none_more i e before here none = record {
-    none = λ k d l p m.
-        elim (cases_lt k i) [
-          | inl less ↦ before.none k d less p m
-          | inr ge ↦ let same : k ≡ i = omega arith in let this : original s d ≡ e = cc in none d this m
-        ];
-  }
+  none_more i e before here none = search (rules, cases_lt)
 
   pub none_end : (high i : ℕ) → IsFirstFrom cert (s + 1) high → high ≤ i → NoneBefore i → (d : Edge) → Missing cert s r d → ⊥
-  none_end high i past le before d m =
-      let there : (k : ℕ) × (slice_get cert k ≡ Some (original s d)) = at_has cert (original s d) m.there in
-      elim (cases_lt there.0 i) [
-        | inl less ↦ before.none there.0 d less there.1 m
-        | inr ge ↦ let f : s + 1 ≤ s = past.above there.0 (original s d) (omega arith) there.1 in omega arith
-      ]
+  none_end high i past le before d m = search (rules, at_has, cases_lt)
 
   pub other_label : (e : Edge) → e.from ≢ s → (d : Edge) → original s d ≡ e → Missing cert s r d → ⊥
   other_label e differ d same m = differ (sym (ap (λ (x : Edge). x.from) same))
@@ -39,14 +29,7 @@ module _ (cert : List Edge) (s r : ℕ) where
   is_reply e reply d same m = m.other (let f : d.authority ≡ e.authority = ap (λ (x : Edge). x.authority) same in cc)
 
   pub is_there : (e : Edge) → has cert (edge r e.authority e.to) ≡ true → (d : Edge) → original s d ≡ e → Missing cert s r d → ⊥
-  is_there e there d same m =
-      let f : d ≡ edge r e.authority e.to =
-      let g : ◌≡◌ {A = Edge} (record { from = d.from; authority = d.authority; to = d.to }) (edge r e.authority e.to) =
-      rw (m.out, ap (λ (x : Edge). x.authority) same, ap (λ (x : Edge). x.to) same) refl in g
-      in
-      let h : has cert d ≡ true = rw f there in
-      let no : has cert d ≡ false = m.lacks in
-      cc
+  is_there e there d same m = search (rules)
 
   pub found : (i : ℕ) (e : Edge) → IsSorted cert → NoneBefore i → slice_get cert i ≡ Some e → e.from ≡ s → e.authority ≢ Reply
       → has cert (edge r e.authority e.to) ≡ false

@@ -1,4 +1,5 @@
 -- The least violation with one edge of a partner.
+use Rattle.std.proofs.Common.{rules}
 use Rattle.cert_check.proofs.Common.{Authority, Breaks, Edge, Finds, FindsLeast, List, Meeting, Missing, None, Some, Violation, With, ap, edge, edges_same, false, first_authority, has, inl, inr, partner_authority, partner_of, refl, subst, sym, true}
 use Rattle.cert_check.proofs.Common.{ℕ, ◌∙◌, ◌≡◌, ◌≢◌, ◌⊎◌}
 use Rattle.authorities.specs.declared.authority.Authority.TheVariants as authorities
@@ -46,75 +47,22 @@ module _ (cert : List Edge) where
       → Finds (Missing cert e.from other.from) (Some lack)
       → FindsLeast (With Grant cert e.from other)
       (Some (record { first = e; lack = lack; second = edge e.from lack.authority lack.to }))
-  granted e other lack is receives meet there there_too f =
-      let at : other ≡ edge lack.from authorities.Receive e.to = parts other lack.from authorities.Receive e.to (sym f.0.out)
-      receives meet in (
-        record {
-          breaks = record {
-            grant = is;
-            there = there;
-            receive = subst (λ (x : Edge). has cert x ≡ true) at there_too;
-            missing = missing_at e.from e.from other.from lack.from lack refl (sym f.0.out) f.0;
-            copied = refl;
-          };
-          from = refl;
-          partner = sym at;
-        },
-        λ w h. (
-            let to : w.first.to ≡ e.to = ap (λ (x : Edge). x.to) h.partner ∙ meet in
-            let r : w.lack.from ≡ other.from = ap (λ (x : Edge). x.from) h.partner in
-            record {
-              by_first = at_first e w.first (edges_same e w.first (sym h.from) (is ∙ sym h.breaks.grant) (sym to));
-              by_lack = λ x. f.1 w.lack (missing_at w.first.from e.from w.lack.from other.from w.lack h.from r h.breaks.missing);
-              by_second = λ x y. at_first (edge e.from lack.authority lack.to) w.second
-                  (rw (h.breaks.copied, h.from, ← y) refl);
-            }),
-      )
+  granted e other lack is receives meet there there_too f = search (rules, parts, missing_at, at_first, edges_same)
 
   pub none_granted : (e other : Edge) → Finds (Missing cert e.from other.from) None
       → FindsLeast (With Grant cert e.from other) None
-  none_granted e other f w h =
-      f w.lack (missing_at w.first.from e.from w.lack.from other.from w.lack h.from (ap (λ (x : Edge). x.from) h.partner)
-      h.breaks.missing)
+  none_granted e other f w h = search (rules, missing_at)
 
   pub granted_back : (e other lack : Edge) → e.authority ≡ authorities.Call → other.authority ≡ authorities.GrantBack
       → other.to ≡ e.to → has cert e ≡ true → has cert other ≡ true
       → Finds (Missing cert other.from e.from) (Some lack)
       → FindsLeast (With GrantBack cert e.from other)
       (Some (record { first = e; lack = lack; second = edge other.from lack.authority lack.to }))
-  granted_back e other lack is back meet there there_too f =
-      let at : other ≡ edge other.from authorities.GrantBack e.to = parts other other.from authorities.GrantBack e.to refl
-      back meet in (
-        record {
-          breaks = record {
-            call = is;
-            there = there;
-            grants_back = subst (λ (x : Edge). has cert x ≡ true) at there_too;
-            missing = f.0;
-            copied = refl;
-          };
-          from = refl;
-          partner = sym at;
-        },
-        λ w h. (
-            let to : w.first.to ≡ e.to = ap (λ (x : Edge). x.to) h.partner ∙ meet in
-            let r : w.second.from ≡ other.from = ap (λ (x : Edge). x.from) h.partner in
-            record {
-              by_first = at_first e w.first (edges_same e w.first (sym h.from) (is ∙ sym h.breaks.call) (sym to));
-              by_lack = λ x. f.1 w.lack (missing_at w.second.from other.from w.first.from e.from w.lack r h.from
-                  h.breaks.missing);
-              by_second = λ x y. at_first (edge other.from lack.authority lack.to) w.second
-                  (sym (h.breaks.copied ∙ edges_same (edge w.second.from w.lack.authority w.lack.to)
-                  (edge other.from lack.authority lack.to) r (ap (λ (z : Edge). z.authority) (sym y))
-                  (ap (λ (z : Edge). z.to) (sym y))));
-            }),
-      )
+  granted_back e other lack is back meet there there_too f = search (rules, parts, at_first, edges_same, missing_at)
 
   pub none_granted_back : (e other : Edge) → Finds (Missing cert other.from e.from) None
       → FindsLeast (With GrantBack cert e.from other) None
-  none_granted_back e other f w h =
-      f w.lack (missing_at w.second.from other.from w.first.from e.from w.lack (ap (λ (x : Edge). x.from) h.partner) h.from
-      h.breaks.missing)
+  none_granted_back e other f w h = search (rules, missing_at)
 
   pub replied : (e other : Edge) → e.authority ≡ authorities.Call → other.authority ≡ authorities.Receive → other.to ≡ e.to
       → has cert e ≡ true → has cert other ≡ true → e.from ≢ other.from
@@ -124,39 +72,9 @@ module _ (cert : List Edge) where
         lack = edge other.from authorities.Reply e.from;
         second = other;
       }))
-  replied e other is receives meet there there_too differ lacks = (
-    record {
-      breaks = record {
-        call = is;
-        there = there;
-        receive = receives;
-        same = meet;
-        there_too = there_too;
-        differ = differ;
-        reply = refl;
-        lacks = lacks;
-      };
-      from = refl;
-      partner = refl;
-    },
-    λ w h. (
-        let to : w.first.to ≡ e.to = sym h.breaks.same ∙ (ap (λ (x : Edge). x.to) h.partner ∙ meet) in
-        record {
-          by_first = at_first e w.first (edges_same e w.first (sym h.from) (is ∙ sym h.breaks.call) (sym to));
-          by_lack = λ x. at_first (edge other.from authorities.Reply e.from) w.lack
-              (sym (h.breaks.reply ∙ edges_same (edge w.second.from authorities.Reply w.first.from)
-              (edge other.from authorities.Reply e.from) (ap (λ (z : Edge). z.from) h.partner) refl h.from));
-          by_second = λ x y. at_first other w.second (sym h.partner);
-        }),
-  )
+  replied e other is receives meet there there_too differ lacks = search (rules, at_first, edges_same)
 
   pub none_replied : (e other : Edge) → (e.from ≡ other.from) ⊎ (has cert (edge other.from authorities.Reply e.from) ≡ true)
       → FindsLeast (With Call cert e.from other) None
   none_replied e other (inl same) w h = h.breaks.differ (h.from ∙ (same ∙ ap (λ (x : Edge). x.from) (sym h.partner)))
-  none_replied e other (inr there_it_is) w h =
-      let is : w.lack ≡ edge other.from authorities.Reply e.from = h.breaks.reply
-      ∙ edges_same (edge w.second.from authorities.Reply w.first.from) (edge other.from authorities.Reply e.from)
-      (ap (λ (z : Edge). z.from) h.partner) refl h.from in
-      let not_so : has cert (edge other.from authorities.Reply e.from) ≡ false = subst (λ (x : Edge). has cert x ≡ false) is
-      h.breaks.lacks in
-      cc
+  none_replied e other (inr there_it_is) w h = search (rules, edges_same)

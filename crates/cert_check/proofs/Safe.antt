@@ -1,5 +1,6 @@
 -- What every state of a run keeps, given the rules; that such a state has no edge between labels outside the
 -- certificate, and that the boot state is one.
+use Rattle.std.proofs.Common.{rules}
 use Rattle.cert_check.proofs.Common.{All, All-contains, All-nil, AsyncSend, Auth, Authority, Bool, Call, Cap, Capability, Contains, Contains-get_or, Content, Control, Edge, GrantBack, Has, Held, List, Node, Option, Pending, Receive, Reply}
 use Rattle.cert_check.proofs.Common.{SavedReply, Some, Spec, State, Structural, ThreadState, Valid, boot, confers, inl, inr, irq_at, kind_confers, label_of, node_at, none_saved, nothing_pending, of_buffer, of_irq, of_mapped, of_reply, of_root}
 use Rattle.cert_check.proofs.Common.{of_saved, of_space, of_table, refl, sym, thread_at, true, ℕ, ◌≡◌, ◌≢◌}
@@ -99,11 +100,7 @@ module _ (spec : Spec) (labels : List ℕ) (policy cert : List Edge) (v : Valid 
   pub boot_safe : Safe spec labels cert (boot spec)
   boot_safe = record {
     nodes = λ c. λ k d within. boot_content c _ _ (Contains-get_or (node_at (boot spec) c).slots k d within);
-    threads = λ t. record {
-      root = λ d e. v.boot_structural (label_of labels t) Control (label_of labels d) (of_root (t, d, e, refl, refl, refl));
-      space = λ d e. v.boot_structural (label_of labels t) Control (label_of labels d) (of_space (t, d, e, refl, refl, refl));
-      through = λ reply e. (let none = nothing_pending spec t in absurd cc);
-    };
+    threads = search (rules, nothing_pending);
     irqs = λ d n e. v.boot_structural (label_of labels d) AsyncSend (label_of labels n) (of_irq (d, n, e, refl, refl, refl));
     mapped = All-nil _;
   }

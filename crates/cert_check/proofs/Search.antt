@@ -1,5 +1,6 @@
 -- A search through a table, place by place, for the least thing with a property. Each such thing x names an edge `w x` of the
 -- table.
+use Rattle.std.proofs.Common.{rules}
 use Rattle.cert_check.proofs.Common.{AreOthers, AtMost, Authority, Edge, IsSorted, arith, at_has, cases_lt, has, inl, inr, later_at_most, slice_get_within}
 use Rattle.std.specs.Prelude.{◌≡◌, ◌<◌, ◌≤◌, ℕ, ◌+◌, true, List, slice_get, Some, length}
 
@@ -13,28 +14,14 @@ module _ {X : Type 0} (P : X → Type 0) (w : X → Edge) (table : List Edge) wh
 
   pub none_more : (i : ℕ) (e : Edge) → NoneUpTo P w table i → slice_get table i ≡ Some e → ((x : X) → w x ≡ e → P x → ⊥)
       → NoneUpTo P w table (i + 1)
-  none_more i e before here none = record {
-    none = λ k x l p m.
-        elim (cases_lt k i) [
-          | inl less ↦ before.none k x less p m
-          | inr ge ↦ let same : k ≡ i = omega arith in let this : w x ≡ e = cc in none x this m
-        ];
-  }
+  none_more i e before here none = search (rules, cases_lt)
 
   pub none_on : (a : Authority) (i j : ℕ) → ((x : X) → P x → (w x).authority ≡ a) → AreOthers table a i j → NoneUpTo P w table i
       → NoneUpTo P w table j
-  none_on a i j is others before = record {
-    none = λ k x l p m. elim (cases_lt k i) [
-      | inl less ↦ before.none k x less p m
-      | inr ge ↦ others k (w x) ge l p (is x m)
-    ];
-  }
+  none_on a i j is others before = search (rules, cases_lt)
 
   pub none_end : ((x : X) → P x → has table (w x) ≡ true) → (i : ℕ) → length table ≤ i → NoneUpTo P w table i → (x : X) → P x → ⊥
-  none_end named i le before x m =
-      let there : (k : ℕ) × (slice_get table k ≡ Some (w x)) = at_has table (w x) (named x m) in
-      let within : there.0 < length table = slice_get_within table there.0 (w x) there.1 in
-      before.none there.0 x (omega arith) there.1 m
+  none_end named i le before x m = search (rules, at_has, slice_get_within)
 
   -- what is found at the first place is least: each other names an edge that is no less
   pub found_first : ((x : X) → P x → has table (w x) ≡ true) → (i : ℕ) (e : Edge) → IsSorted table → NoneUpTo P w table i

@@ -1,12 +1,10 @@
 -- Edges that a walk passes over, since they have another authority.
+use Rattle.std.proofs.Common.{rules}
 use Rattle.cert_check.proofs.Common.{AreOthers, AtMost, Authority, Before, Edge, Halved, IsFirstFrom, IsFirstNotBefore, IsSorted, List, Some, ap, arith, cases_lt, edge, inl, inr, later_at_most, number_of, refl, slice_get, ℕ, ◌+◌, ◌<◌, ◌≡◌}
 
 pub others_on : (cert : List Edge) (a : Authority) (low i j : ℕ) → AreOthers cert a low i → AreOthers cert a i j
     → AreOthers cert a low j
-others_on cert a low i j before more k e le less there = elim (cases_lt k i) [
-  | inl l ↦ before k e le l there
-  | inr ge ↦ more k e ge less there
-]
+others_on cert a low i j before more k e le less there = search (rules, cases_lt)
 
 module _ (cert : List Edge) (at : ℕ) (e : Edge) (a : Authority) (sorted : IsSorted cert) (here : slice_get cert at ≡ Some e) where
   lesser : (k : ℕ) (d : Edge) → k < at + 1 → slice_get cert k ≡ Some d → AtMost d e
@@ -15,27 +13,14 @@ module _ (cert : List Edge) (at : ℕ) (e : Edge) (a : Authority) (sorted : IsSo
   -- ---- an edge of a lesser authority: the search for those of this one goes on behind it
 
   below : (d : Edge) → number_of e.authority < number_of a → AtMost d e → Before d (edge e.from a 0)
-  below d less most = record {
-    by_from = most.by_from;
-    by_authority = λ f. let n = most.by_authority f in omega arith;
-    by_to = λ f g. absurd (let n = most.by_authority f in omega arith);
-  }
+  below d less most = search (rules)
 
   pub skip_start : (past : ℕ) → number_of e.authority < number_of a → IsFirstFrom cert (e.from + 1) past
       → Halved cert (edge e.from a 0) at past
-  skip_start past less first = record {
-    bound = first.bound;
-    below = λ k d l there. below d less (lesser k d (omega arith) there);
-    above = λ k d l there. let f = first.above k d l there in
-        record { by_from = omega arith; by_authority = λ g. absurd (omega arith); by_to = λ g h. absurd (omega arith) };
-  }
+  skip_start past less first = search (rules, below, lesser)
 
   pub skip_on : (next : ℕ) → number_of e.authority < number_of a → IsFirstNotBefore cert (edge e.from a 0) next → at < next
-  skip_on next less first = elim (cases_lt at next) [
-    | inl l ↦ l
-    | inr ge ↦ absurd (let most : AtMost (edge e.from a 0) e = first.above at e ge here in
-        let n = most.by_authority refl in omega arith)
-  ]
+  skip_on next less first = search (rules, cases_lt)
 
   pub skip_others : (next : ℕ) → IsFirstNotBefore cert (edge e.from a 0) next → AreOthers cert a at next
   skip_others next first k d le less there is =
@@ -50,17 +35,8 @@ module _ (cert : List Edge) (at : ℕ) (e : Edge) (a : Authority) (sorted : IsSo
   -- ---- an edge of a greater authority: those of this one don't go out of its label
 
   pub past_on : (past : ℕ) → IsFirstFrom cert (e.from + 1) past → at < past
-  past_on past first = elim (cases_lt at past) [
-    | inl l ↦ l
-    | inr ge ↦ absurd (let f = first.above at e ge here in omega arith)
-  ]
+  past_on past first = search (rules, cases_lt)
 
   pub past_others : (past : ℕ) → number_of a < number_of e.authority → IsFirstFrom cert (e.from + 1) past
       → AreOthers cert a at past
-  past_others past greater first k d le less there is =
-      let m : AtMost e d = later_at_most cert at k e d sorted le here there in
-      let low = m.by_from in
-      let high = first.below k d less there in
-      let n : number_of d.authority ≡ number_of a = ap number_of is in
-      let more = m.by_authority (omega arith) in
-      omega arith
+  past_others past greater first k d le less there is = search (rules, later_at_most)

@@ -1,4 +1,5 @@
 -- A violation of a rule over two labels that meet has a twin at any labels that may stand for the two, and where they meet too.
+use Rattle.std.proofs.Common.{rules}
 use Rattle.cert_check.proofs.Common.{Alike, AtMost, Authority, Breaks, Edge, List, Meeting, Missing, NotAfter, OutAlike, Violation, arith, edge, edges_same, false, first_authority, has, partner_authority, partner_of, refl, subst, sym, true, ℕ, ◌∙◌}
 use Rattle.cert_check.proofs.Common.{◌≡◌, ◌≢◌, ◌≤◌}
 use Rattle.authorities.specs.declared.authority.Authority.TheVariants as authorities
@@ -58,50 +59,15 @@ module _ (cert : List Edge) where
 
   alike_missing : (s t r q : ℕ) (d : Edge) → OutAlike cert s t → OutAlike cert r q → Missing cert s r d
       → Missing cert t q (edge q d.authority d.to)
-  alike_missing s t r q d st rq m = record {
-    out = refl;
-    other = m.other;
-    there = sym (st d.authority d.to m.other) ∙ m.there;
-    lacks = (
-        let is : d ≡ edge r d.authority d.to = edges_same d (edge r d.authority d.to) m.out refl refl in
-        sym (rq d.authority d.to m.other) ∙ subst (λ (z : Edge). has cert z ≡ false) is m.lacks);
-  }
+  alike_missing s t r q d st rq m = search (rules, edges_same)
 
   pub twin_breaks : (rule : Meeting) (v : Violation) (s r e : ℕ) → Breaks rule cert v → Alike rule cert v.first.from s
       → Alike rule cert (partner_of rule v).from r
       → has cert (edge s (first_authority rule) e) ≡ true → has cert (edge r (partner_authority rule) e) ≡ true
       → Breaks rule cert (twin rule v s r e)
-  twin_breaks Grant v s r e b fs pr first partner =
-      record {
-        grant = refl;
-        there = first;
-        receive = partner;
-        missing = alike_missing v.first.from s v.lack.from r v.lack fs pr
-            b.missing;
-        copied = refl;
-      }
-  twin_breaks Call v s r e b fs pr first partner =
-      let is : v.lack ≡ edge r authorities.Reply s = b.reply ∙ edges_same (edge v.second.from authorities.Reply v.first.from)
-      (edge r authorities.Reply s) pr refl fs in
-      record {
-        call = refl;
-        there = first;
-        receive = refl;
-        same = refl;
-        there_too = partner;
-        differ = (λ w. b.differ (fs ∙ (w ∙ sym pr)));
-        reply = refl;
-        lacks = subst (λ (z : Edge). has cert z ≡ false) is b.lacks;
-      }
-  twin_breaks GrantBack v s r e b fs pr first partner =
-      record {
-        call = refl;
-        there = first;
-        grants_back = partner;
-        missing = alike_missing v.second.from r v.first.from s v.lack pr
-            fs b.missing;
-        copied = refl;
-      }
+  twin_breaks Grant v s r e b fs pr first partner = search (rules, alike_missing)
+  twin_breaks Call v s r e b fs pr first partner = search (rules, edges_same)
+  twin_breaks GrantBack v s r e b fs pr first partner = search (rules, alike_missing)
 
   at_most_from : (r q : ℕ) (a : Authority) (x : ℕ) → r ≤ q → AtMost (edge r a x) (edge q a x)
   at_most_from r q a x le = record { by_from = le; by_authority = λ f. omega arith; by_to = λ f n. omega arith }
@@ -109,29 +75,9 @@ module _ (cert : List Edge) where
   -- a lesser partner is found no later
   pub twin_not_after : (rule : Meeting) (v : Violation) (r : ℕ) → Breaks rule cert v → r ≤ (partner_of rule v).from
       → NotAfter (twin rule v v.first.from r v.first.to) v
-  twin_not_after Grant v r b le = record {
-    by_first = at_first (edge v.first.from authorities.Grant v.first.to) v.first
-        (edges_same (edge v.first.from authorities.Grant v.first.to) v.first refl (sym b.grant) refl);
-    by_lack = λ w. at_most_from r v.lack.from v.lack.authority v.lack.to le;
-    by_second = λ w x. at_first (edge v.first.from v.lack.authority v.lack.to) v.second (sym b.copied);
-  }
-  twin_not_after Call v r b le = record {
-    by_first = at_first (edge v.first.from authorities.Call v.first.to) v.first
-        (edges_same (edge v.first.from authorities.Call v.first.to) v.first refl (sym b.call) refl);
-    by_lack = λ w. subst (λ (z : Edge). AtMost (edge r authorities.Reply v.first.from) z) (sym b.reply)
-        (at_most_from r v.second.from authorities.Reply v.first.from le);
-    by_second = λ w x. subst (λ (z : Edge). AtMost (edge r authorities.Receive v.first.to) z)
-        (edges_same (edge v.second.from authorities.Receive v.first.to) v.second refl (sym b.receive) (sym b.same))
-        (at_most_from r v.second.from authorities.Receive v.first.to le);
-  }
-  twin_not_after GrantBack v r b le = record {
-    by_first = at_first (edge v.first.from authorities.Call v.first.to) v.first
-        (edges_same (edge v.first.from authorities.Call v.first.to) v.first refl (sym b.call) refl);
-    by_lack = λ w. at_first (edge v.first.from v.lack.authority v.lack.to) v.lack
-        (edges_same (edge v.first.from v.lack.authority v.lack.to) v.lack (sym b.missing.out) refl refl);
-    by_second = λ w x. subst (λ (z : Edge). AtMost (edge r v.lack.authority v.lack.to) z) (sym b.copied)
-        (at_most_from r v.second.from v.lack.authority v.lack.to le);
-  }
+  twin_not_after Grant v r b le = search (rules, at_first, edges_same, at_most_from)
+  twin_not_after Call v r b le = search (rules, at_first, edges_same, at_most_from)
+  twin_not_after GrantBack v r b le = search (rules, at_first, edges_same, at_most_from)
 
   pub alike_chain : (rule : Meeting) (l m n : ℕ) → Alike rule cert l m → Alike rule cert m n → Alike rule cert l n
   alike_chain Grant l m n p q = λ a x other. p a x other ∙ q a x other

@@ -1,4 +1,5 @@
 -- The least edge of the boot state that is lacking, over all objects.
+use Rattle.std.proofs.Common.{rules}
 use Rattle.cert_check.proofs.Common.{AsyncSend, BreaksBoot, CNode, Cap, Edge, Entry, Finds, Irq, LesserEdge, LinkLack, ObjectLack, OfTcb, Pages, SlotsLack, Spec, Thread, ThreadLack, arith, cases_lt, has, inl, inr, label_of, slice_get_within, subst}
 use Rattle.std.specs.Prelude.{◌≡◌, ◌≢◌, ◌⊎◌, ◌<◌, ◌≤◌, ℕ, ◌+◌, true, false, List, slice_get, length, Option, Some, None, refl}
 use Rattle.cap_model.specs.declared.object.Tcb.{Tcb}
@@ -21,25 +22,13 @@ module _ (spec : Spec) (labels : List ℕ) (cert : List Edge) where
   unheld_more i entry best found kept here before now is =
       finds_same (λ e. LackBelow i e ⊎ ObjectLack spec labels cert (label_of labels i) entry.object e) (LackBelow (i + 1))
       (λ e h. elim h [
-        | inl x ↦ record {
-          place = x.place;
-          entry = x.entry;
-          below = (let b = x.below in omega arith);
-          there = x.there;
-          lack = x.lack;
-        }
+        | inl x ↦ search (rules)
         | inr x ↦ record { place = i; entry = entry; below = omega arith; there = here; lack = x }
       ])
       (λ e x.
       elim (cases_lt x.place i) [
         | inl below ↦ inl (record { place = x.place; entry = x.entry; below = below; there = x.there; lack = x.lack })
-        | inr ge ↦
-            let b : x.place < i + 1 = x.below in
-            let same : x.place ≡ i = omega arith in
-            let t = x.there in
-            let s : x.entry ≡ entry = cc in
-            inr (subst (λ (n : ℕ). ObjectLack spec labels cert (label_of labels n) entry.object e) same
-            (subst (λ (y : Entry). ObjectLack spec labels cert (label_of labels x.place) y.object e) s x.lack))
+        | inr ge ↦ search (rules)
       ])
       kept
       (finds_either (LackBelow i) (ObjectLack spec labels cert (label_of labels i) entry.object) best found kept before now is)
@@ -51,13 +40,7 @@ module _ (spec : Spec) (labels : List ℕ) (cert : List Edge) where
   }
 
   unheld_some : (i : ℕ) (e : Edge) → length spec.entries ≤ i → has cert e ≡ false → AskedSome spec labels e → LackBelow i e
-  unheld_some i e le lacks x = record {
-    place = x.place;
-    entry = x.entry;
-    below = (let b = slice_get_within spec.entries x.place x.entry x.there in omega arith);
-    there = x.there;
-    lack = record { asked = x.asked; lacks = lacks };
-  }
+  unheld_some i e le lacks x = search (rules, slice_get_within)
 
   unheld_from : (i : ℕ) (e : Edge) → length spec.entries ≤ i → BreaksBoot spec labels cert e → LackBelow i e
   unheld_from i e le b =
@@ -82,12 +65,7 @@ module _ (spec : Spec) (labels : List ℕ) (cert : List Edge) where
     cnode_lack bits slots r found =
         finds_same (SlotsLack spec labels cert true l slots (length slots)) (ObjectLack spec labels cert l (CNode bits slots))
         (λ e x. record {
-          asked = record {
-            place = x.place;
-            slot = x.slot;
-            there = x.there;
-            of_cap = record { confers = x.lack.confers; from = x.lack.from; to = x.lack.to };
-          };
+          asked = search (rules);
           lacks = x.lack.lacks;
         })
         (λ e x. record {
@@ -95,13 +73,7 @@ module _ (spec : Spec) (labels : List ℕ) (cert : List Edge) where
           slot = x.asked.slot;
           below = slice_get_within slots x.asked.place x.asked.slot x.asked.there;
           there = x.asked.there;
-          lack = record {
-            confers = x.asked.of_cap.confers;
-            from = x.asked.of_cap.from;
-            to = x.asked.of_cap.to;
-            wanted = λ w. absurd cc;
-            lacks = x.lacks;
-          };
+          lack = search (rules);
         })
         r found
 
@@ -111,19 +83,7 @@ module _ (spec : Spec) (labels : List ℕ) (cert : List Edge) where
     pages_lack level slots r found =
         finds_same (SlotsLack spec labels cert false l slots (length slots)) (ObjectLack spec labels cert l (Pages level slots))
         (λ e x. record {
-          asked = (
-            record {
-              place = x.place;
-              slot = x.slot;
-              there = x.there;
-              of_cap = record {
-                confers = x.lack.confers;
-                from = x.lack.from;
-                to = x.lack.to;
-              };
-            },
-            λ same. x.lack.wanted refl (let f = x.lack.from in let t = x.lack.to in cc),
-          );
+          asked = search (rules);
           lacks = x.lack.lacks;
         })
         (λ e x. record {
@@ -131,106 +91,25 @@ module _ (spec : Spec) (labels : List ℕ) (cert : List Edge) where
           slot = x.asked.0.slot;
           below = slice_get_within slots x.asked.0.place x.asked.0.slot x.asked.0.there;
           there = x.asked.0.there;
-          lack = record {
-            confers = x.asked.0.of_cap.confers;
-            from = x.asked.0.of_cap.from;
-            to = x.asked.0.of_cap.to;
-            wanted = λ w same. x.asked.1 (let f = x.asked.0.of_cap.from in let t = x.asked.0.of_cap.to in cc);
-            lacks = x.lacks;
-          };
+          lack = search (rules);
         })
         r found
 
     thread_to : (tcb : Tcb) (e : Edge) → ThreadLack spec labels cert l tcb e → ObjectLack spec labels cert l (Thread tcb) e
-    thread_to tcb e (inl x) =
-        record {
-          asked = (
-            inl (record { object = x.object; there = x.there; control = x.authority; from = x.from; to = x.to }),
-            x.differ,
-          );
-          lacks = x.lacks;
-        }
-    thread_to tcb e (inr (inl x)) =
-        record {
-          asked = (
-            inr (inl (record { object = x.object; there = x.there; control = x.authority; from = x.from; to = x.to })),
-            x.differ,
-          );
-          lacks = x.lacks;
-        }
-    thread_to tcb e (inr (inr x)) = record {
-      asked = (
-        inr (inr (record {
-          cap = x.cap;
-          there = x.there;
-          of_cap = record {
-            confers = x.lack.confers;
-            from = x.lack.from;
-            to = x.lack.to;
-          };
-        })),
-        λ same. x.lack.wanted refl (let f = x.lack.from in let t = x.lack.to in cc),
-      );
-      lacks = x.lack.lacks;
-    }
+    thread_to tcb e (inl x) = search (rules)
+    thread_to tcb e (inr (inl x)) = search (rules)
+    thread_to tcb e (inr (inr x)) = search (rules)
 
     thread_from : (tcb : Tcb) (e : Edge) → e.from ≢ e.to → has cert e ≡ false → OfTcb spec labels l tcb e
         → ThreadLack spec labels cert l tcb e
-    thread_from tcb e differ lacks (inl x) = inl (record {
-      object = x.object;
-      there = x.there;
-      authority = x.control;
-      from = x.from;
-      to = x.to;
-      differ = differ;
-      lacks = lacks;
-    })
-    thread_from tcb e differ lacks (inr (inl x)) =
-        inr (inl (record {
-          object = x.object;
-          there = x.there;
-          authority = x.control;
-          from = x.from;
-          to = x.to;
-          differ = differ;
-          lacks = lacks;
-        }))
-    thread_from tcb e differ lacks (inr (inr x)) = inr (inr (record {
-      cap = x.cap;
-      there = x.there;
-      lack = record {
-        confers = x.of_cap.confers;
-        from = x.of_cap.from;
-        to = x.of_cap.to;
-        wanted = λ w same. differ (let f = x.of_cap.from in let t = x.of_cap.to in cc);
-        lacks = lacks;
-      };
-    }))
+    thread_from tcb e differ lacks (inl x) = search (rules)
+    thread_from tcb e differ lacks (inr (inl x)) = search (rules)
+    thread_from tcb e differ lacks (inr (inr x)) = search (rules)
 
     pub tcb_lack : (tcb : Tcb) (r : Option Edge) → Finds (ThreadLack spec labels cert l tcb) r
         → Finds (ObjectLack spec labels cert l (Thread tcb)) r
-    tcb_lack tcb r found =
-        finds_same (ThreadLack spec labels cert l tcb) (ObjectLack spec labels cert l (Thread tcb)) (λ e x. thread_to tcb e x)
-        (λ e x. thread_from tcb e x.asked.1 x.lacks x.asked.0) r found
+    tcb_lack tcb r found = search (rules, finds_same, thread_to, thread_from)
 
     pub irq_lack : (bound : Option ℕ) (r : Option Edge) → Finds (LinkLack labels cert l AsyncSend bound) r
         → Finds (ObjectLack spec labels cert l (Irq bound)) r
-    irq_lack bound r found =
-        finds_same (LinkLack labels cert l AsyncSend bound) (ObjectLack spec labels cert l (Irq bound))
-        (λ e x. record {
-          asked = (
-            record { object = x.object; there = x.there; sends = x.authority; from = x.from; to = x.to },
-            x.differ,
-          );
-          lacks = x.lacks;
-        })
-        (λ e x. record {
-          object = x.asked.0.object;
-          there = x.asked.0.there;
-          authority = x.asked.0.sends;
-          from = x.asked.0.from;
-          to = x.asked.0.to;
-          differ = x.asked.1;
-          lacks = x.lacks;
-        })
-        r found
+    irq_lack bound r found = search (rules, finds_same)

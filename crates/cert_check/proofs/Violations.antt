@@ -1,4 +1,5 @@
 -- The order of violations, and which of two is kept.
+use Rattle.std.proofs.Common.{rules}
 use Rattle.cert_check.proofs.Common.{AtMost, Before, Edge, FindsLeast, LesserOf, None, NotAfter, Option, Some, Violation, at_most_both, at_most_self, at_most_trans, inl, inr, not_before_self, refl, subst, sym, ◌∙◌, ◌≡◌, ◌⊎◌}
 
 abbrev pub first_of : Violation → Edge
@@ -11,11 +12,7 @@ pub before_not_equal : {A : Type 0} (d e : Edge) → Before d e → d ≡ e → 
 before_not_equal d e less same = absurd (not_before_self d (subst (λ (x : Edge). Before d x) (sym same) less))
 
 pub not_after_self : (v : Violation) → NotAfter v v
-not_after_self v = record {
-  by_first = at_most_self v.first;
-  by_lack = λ w. at_most_self v.lack;
-  by_second = λ w x. at_most_self v.second;
-}
+not_after_self v = search (rules, at_most_self)
 
 pub not_after_trans : (u v w : Violation) → NotAfter u v → NotAfter v w → NotAfter u w
 not_after_trans u v w p q = record {
@@ -84,8 +81,4 @@ found_is P (Some b) v f same = let s : b ≡ v = cc in subst P s f.0
 pub finds_least : (P : Violation → Type 0) (best : Option Violation) → ((v : Violation) → best ≡ Some v → P v)
     → ((v : Violation) → P v → Covered best v) → FindsLeast P best
 finds_least P None sound covers = λ v p. (let c = covers v p in let w = c.is in absurd cc)
-finds_least P (Some b) sound covers = (
-  sound b refl,
-  λ v p. (let c = covers v p in let w = c.is in let same : c.kept ≡ b = cc in
-      subst (λ (x : Violation). NotAfter x v) same c.not_after),
-)
+finds_least P (Some b) sound covers = search (rules)

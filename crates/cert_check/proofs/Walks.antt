@@ -1,4 +1,5 @@
 -- A walk through the first edges of a rule, past the partners that are held.
+use Rattle.std.proofs.Common.{rules}
 use Rattle.cert_check.proofs.Common.{Alike, AreMet, AreOthers, AtMost, Breaks, Contains, Contains-append_left, Contains-permutation, Contains-push, Contains-push_cases, Edge, FindsLeast, FindsLeastAt, GoesLike, HasPartners, IfSome, IsLeastAlike}
 use Rattle.cert_check.proofs.Common.{IsLed, IsNonDecreasingBy-from_sort, IsPermutation-sym, IsReach, IsSorted, LesserOf, List, MeetToo, Meeting, None, OfPartners, Option, Some, Violation, With, [], ap, arith, at_contains, at_has, cases_lt}
 use Rattle.cert_check.proofs.Common.{contains_at, edge, end_of, eqb-false, false, first_authority, first_not_less, get_or, get_or_from_slice_get, has, has_at, inl, inr, later_at_most, leb-false, leb-true, length, ltb-false, ltb-true, nat_le, nat_lt}
@@ -20,10 +21,7 @@ module _ (ends : List (ℕ × ℕ)) where
 
   same_label : (a b k j : ℕ) (p q : ℕ × ℕ) → (get_or ends (a + k) (0, 0)).1 ≡ (get_or ends (b + k) (0, 0)).1 → j ≡ k
       → slice_get ends (a + j) ≡ Some p → slice_get ends (b + j) ≡ Some q → p.1 ≡ q.1
-  same_label a b k j p q same at here there =
-      let f : get_or ends (a + j) (0, 0) ≡ p = get_or_from_slice_get ends (a + j) p (0, 0) here in
-      let g : get_or ends (b + j) (0, 0) ≡ q = get_or_from_slice_get ends (b + j) q (0, 0) there in
-      cc
+  same_label a b k j p q same at here there = search (rules, get_or_from_slice_get)
 
   pub alike_more : (a b k : ℕ) → ((j : ℕ) (p q : ℕ × ℕ) → j < k → slice_get ends (a + j) ≡ Some p
       → slice_get ends (b + j) ≡ Some q → p.1 ≡ q.1)
@@ -50,8 +48,7 @@ module _ (ends : List (ℕ × ℕ)) where
       let below : last.low + j < last.high = omega arith in
       let p : ℕ × ℕ = get_or ends (last.low + j) (0, 0) in
       let here : slice_get ends (last.low + j) ≡ Some p = slice_get-get_or ends (last.low + j) (0, 0) (omega arith) in
-      let there : slice_get ends (met.low + j) ≡ Some (met.edge.to, r) =
-      subst (λ (k : ℕ). slice_get ends k ≡ Some (met.edge.to, r)) (sym back) at.1 in
+      let there : slice_get ends (met.low + j) ≡ Some (met.edge.to, r) = search (rules, slice_get) in
       let label : p.1 ≡ r = alike j p (met.edge.to, r) (omega arith) here there in
       let to : p.0 ≡ last.edge.to = was.inside (last.low + j) p (omega arith) below here in
       let pair : p ≡ (last.edge.to, r) = pair_of p last.edge.to r to label in
@@ -78,16 +75,12 @@ module _ (ends : List (ℕ × ℕ)) where
         let e : get_or ends k p ≡ p = get_or_from_slice_get ends k p p h in
         let there : k < length ends = slice_get_within ends k p h in (
           elim (cases_lt k low) [
-            | inl less ↦
-                absurd (let l : p.0 < to = ltb-true _ to (subst (λ (q : ℕ × ℕ). nat_lt q.0 to ≡ true) e
-                (lesser.0 k p (omega arith) less)) in omega arith)
+            | inl less ↦ search (rules, ltb-true, nat_lt)
             | inr ge ↦ ge
           ],
           elim (cases_lt k high) [
             | inl less ↦ less
-            | inr ge ↦
-                absurd (let g : to < p.0 = leb-false _ to (subst (λ (q : ℕ × ℕ). nat_le q.0 to ≡ false) e
-                (most.1 k p ge there)) in omega arith)
+            | inr ge ↦ search (rules, leb-false, nat_le)
           ],
         );
   }
@@ -114,32 +107,15 @@ module _ (rule : Meeting) (cert : List Edge) where
   -- ---- partners that are taken in
 
   pub partners_start : (low : ℕ) → HasPartners rule cert low low []
-  partners_start low = record {
-    each = λ k d le less here is. absurd (omega arith);
-    only = λ p c. absurd (let w = c.1 in omega arith);
-  }
+  partners_start low = search (rules)
 
   pub partners_on : (low i j : ℕ) (ends : List (ℕ × ℕ)) → HasPartners rule cert low i ends
       → AreOthers cert (partner_authority rule) i j → HasPartners rule cert low j ends
-  partners_on low i j ends h others = record {
-    each = λ k c le less there is. elim (cases_lt k i) [
-      | inl before ↦ h.each k c le before there is
-      | inr ge ↦ absurd (others k c ge less there is)
-    ];
-    only = h.only;
-  }
+  partners_on low i j ends h others = search (rules, cases_lt)
 
   pub partners_past : (low k : ℕ) (d : Edge) (ends : List (ℕ × ℕ)) → HasPartners rule cert low k ends → slice_get cert k ≡ Some d
       → (d.authority ≡ partner_authority rule → IsLed rule cert d.from) → HasPartners rule cert low (k + 1) ends
-  partners_past low k d ends h here led = record {
-    each = λ j c le less there is.
-        elim (cases_lt j k) [
-          | inl before ↦ h.each j c le before there is
-          | inr ge ↦ let at : j ≡ k = omega arith in let same : d ≡ c = cc in
-              inr (subst (λ (x : Edge). IsLed rule cert x.from) same (led (ap (λ (x : Edge). x.authority) same ∙ is)))
-        ];
-    only = h.only;
-  }
+  partners_past low k d ends h here led = search (rules, cases_lt)
 
   pub partners_more : (low k : ℕ) (d : Edge) (ends : List (ℕ × ℕ)) → HasPartners rule cert low k ends → slice_get cert k ≡ Some d
       → d.authority ≡ partner_authority rule
@@ -156,9 +132,7 @@ module _ (rule : Meeting) (cert : List Edge) where
         ];
     only = λ p c. elim (Contains-push_cases ends (end_of d) p c) [
       | inl old ↦ h.only p old
-      | inr new ↦ subst (λ (q : ℕ × ℕ). has cert (edge q.1 (partner_authority rule) q.0) ≡ true) new
-          (subst (λ (x : Edge). has cert x ≡ true) (parts d d.from (partner_authority rule) d.to refl is refl)
-          (has_at cert k d here))
+      | inr new ↦ search (rules, parts, has_at)
     ];
   }
 
@@ -219,27 +193,20 @@ module _ (rule : Meeting) (cert : List Edge) where
         let p : Edge = partner_of rule v in
         let is : p.authority ≡ partner_authority rule = partner_is cert rule v b in
         let to : p.to ≡ v.first.to = partner_to cert rule v b in
-        let same : p ≡ edge p.from (partner_authority rule) v.first.to = parts p p.from (partner_authority rule) v.first.to
-        refl is to in
-        let has_p : has cert (edge p.from (partner_authority rule) v.first.to) ≡ true =
-        subst (λ (x : Edge). has cert x ≡ true) same (partner_has cert rule v b) in
+        let same : p ≡ edge p.from (partner_authority rule) v.first.to = search (rules, parts) in
+        let has_p : has cert (edge p.from (partner_authority rule) v.first.to) ≡ true = search (rules, partner_has) in
         let has_q : has cert (edge led.label (partner_authority rule) v.first.to) ≡ true =
         alike_has cert rule p.from led.label (partner_authority rule) v.first.to led.alike (partner_no_reply rule) has_p in
         let has_f : has cert (edge v.first.from (first_authority rule) v.first.to) ≡ true =
-        subst (λ (x : Edge). has cert x ≡ true) (parts v.first v.first.from (first_authority rule) v.first.to refl
-        (first_is cert rule v b) refl) (first_has cert rule v b) in
+        search (rules, parts, first_is, first_has) in
         let at = led_before k p.from led.label v.first.to p sorted there refl led.less
         (subst (λ a. has cert (edge led.label a v.first.to) ≡ true) (sym is) has_q) in
         let w : Violation = twin rule v v.first.from led.label v.first.to in
-        let here : slice_get cert at.0 ≡ Some (partner_of rule w) =
-        at.2 ∙ ap (λ a. Some (edge led.label a v.first.to)) is ∙ ap (λ (x : Edge). Some x)
-        (sym (twin_partner rule v v.first.from led.label v.first.to)) in
-        let breaks : Breaks rule cert w = twin_breaks cert rule v v.first.from led.label v.first.to b
-        (alike_self cert rule v.first.from) led.alike has_f has_q in
+        let here : slice_get cert at.0 ≡ Some (partner_of rule w) = search (rules, twin_partner) in
+        let breaks : Breaks rule cert w = search (rules, twin_breaks, alike_self) in
         covered_later kept w v
         (at_twin w at.0 breaks (let l = at.1 in omega arith) here (λ again. (
-        let q : IsLed rule cert led.label = subst (λ (x : Edge). IsLed rule cert x.from)
-        (twin_partner rule v v.first.from led.label v.first.to) again in
+        let q : IsLed rule cert led.label = search (rules, twin_partner) in
         let le : led.label ≤ q.label = led.least q.label (alike_chain cert rule p.from led.label q.label led.alike q.alike) in
         let l : q.label < led.label = q.less in
         omega arith)))
@@ -248,8 +215,7 @@ module _ (rule : Meeting) (cert : List Edge) where
   pub covers_end : (next : ℕ) (best : Option Violation) → length cert ≤ next → Covers next best
       → FindsLeast (Breaks rule cert) best
   covers_end next best le c = finds_least (Breaks rule cert) best c.sound (λ v b. (
-      let there : (k : ℕ) × (slice_get cert k ≡ Some (partner_of rule v)) =
-      at_has cert (partner_of rule v) (partner_has cert rule v b) in
+      let there : (k : ℕ) × (slice_get cert k ≡ Some (partner_of rule v)) = search (rules, at_has, partner_has, b) in
       let within : there.0 < length cert = slice_get_within cert there.0 (partner_of rule v) there.1 in
       c.covers v there.0 b (omega arith) there.1))
 
@@ -265,11 +231,7 @@ module _ (rule : Meeting) (cert : List Edge) where
     partner_end v e of first = partner_to cert rule v of.breaks ∙ ap (λ (x : Edge). x.to) first
 
     pub taken_start : (e : Edge) (low high : ℕ) → IsReach ends e.to low high → Taken e low None
-    taken_start e low high reach = record {
-      sound = λ v is. absurd cc;
-      covers = λ v k of first less there. absurd (let w = reach.all k (end_of (partner_of rule v)) there
-          (partner_end v e of first) in let x = w.0 in omega arith);
-    }
+    taken_start e low high reach = search (rules, partner_end)
 
     pub taken_more : (e other : Edge) (p : ℕ × ℕ) (j : ℕ) (best found kept : Option Violation) → Taken e j best
         → slice_get ends j ≡ Some p → other ≡ edge p.1 (partner_authority rule) p.0
@@ -323,11 +285,7 @@ module _ (rule : Meeting) (cert : List Edge) where
     twin_gone i k v s e met before of alike here less among =
         let r : ℕ = (partner_of rule v).from in
         before.none k (twin rule v s r e) less (here ∙ ap (λ (x : Edge). Some x) (sym (twin_first rule v s r e)))
-        (record {
-          breaks = twin_breaks cert rule v s r e of.breaks alike (alike_self cert rule r)
-              (has_at cert k (edge s (first_authority rule) e) here) (met (e, r) among);
-          among = subst (λ (x : Edge). Contains ends (end_of x)) (sym (twin_partner rule v s r e)) among;
-        })
+        (search (rules, twin_breaks, alike_self, has_at, twin_partner))
 
     -- the last first edge that was looked at
     pub record Behind (i : ℕ) (m : Met) : Type 0 where
@@ -345,33 +303,18 @@ module _ (rule : Meeting) (cert : List Edge) where
     walked_start = record { none = none_start (OfPartners rule cert ends) first_of cert; behind = λ m is. absurd cc }
 
     further : (i : ℕ) (m : Met) → Behind i m → Behind (i + 1) m
-    further i m b = record {
-      place = b.place;
-      below = (let l = b.below in omega arith);
-      there = b.there;
-      first = b.first;
-      reach = b.reach;
-    }
+    further i m b = search (rules)
 
     walked_past : (i : ℕ) (e : Edge) (last : Option Met) → Walked i last → slice_get cert i ≡ Some e
         → ((v : Violation) → first_of v ≡ e → OfPartners rule cert ends v → ⊥) → Walked (i + 1) last
-    walked_past i e last w here gone = record {
-      none = none_more (OfPartners rule cert ends) first_of cert i e w.none here gone;
-      behind = λ m is. further i m (w.behind m is);
-    }
+    walked_past i e last w here gone = search (rules, none_more, first_of, further)
 
     pub walked_on : (i j : ℕ) (last : Option Met) → i ≤ j → AreOthers cert (first_authority rule) i j → Walked i last
         → Walked j last
     walked_on i j last le others w = record {
       none = none_on (OfPartners rule cert ends) first_of cert (first_authority rule) i j (λ v of. first_is cert rule v of.breaks)
           others w.none;
-      behind = λ m is. let b = w.behind m is in record {
-        place = b.place;
-        below = (let l = b.below in omega arith);
-        there = b.there;
-        first = b.first;
-        reach = b.reach;
-      };
+      behind = search (rules);
     }
 
     pub led_past : (i : ℕ) (e : Edge) (last : Option Met) → IsSorted cert → AreMet rule cert ends → Walked i last
@@ -399,13 +342,7 @@ module _ (rule : Meeting) (cert : List Edge) where
       b = w.behind last refl
 
       gone : (v : Violation) → first_of v ≡ met.edge → OfPartners rule cert ends v → ⊥
-      gone v is of = twin_gone i b.place v met.edge.from last.edge.to are w.none of
-          (subst (λ (l : ℕ). Alike rule cert l met.edge.from) (ap (λ (x : Edge). x.from) (sym is))
-          (alike_self cert rule met.edge.from))
-          (b.there ∙ ap (λ (x : Edge). Some x) (parts last.edge met.edge.from (first_authority rule) last.edge.to from b.first
-          refl)) b.below
-          (too (partner_of rule v).from (subst (λ (n : ℕ). Contains ends (n, (partner_of rule v).from))
-          (partner_end v met.edge of is) of.among))
+      gone v is of = search (rules, twin_gone, b, alike_self, parts, partner_end)
 
     pub like_past : (i : ℕ) (met : Met) (last : Option Met) → AreMet rule cert ends → Walked i last
         → slice_get cert i ≡ Some met.edge → GoesLike ends last met → Walked (i + 1) last
@@ -419,11 +356,7 @@ module _ (rule : Meeting) (cert : List Edge) where
     pub looked_past : (i : ℕ) (met : Met) (last : Option Met) → Walked i last → slice_get cert i ≡ Some met.edge
         → met.edge.authority ≡ first_authority rule → IsReach ends met.edge.to met.low met.high
         → FindsLeastAt (OfPartners rule cert ends) met.edge None → Walked (i + 1) (Some met)
-    looked_past i met last w here first reach none = record {
-      none = none_more (OfPartners rule cert ends) first_of cert i met.edge w.none here (λ v is of. none v (of, is));
-      behind = λ m is. (let same : met ≡ m = cc in
-          subst (Behind (i + 1)) same (record { place = i; below = omega arith; there = here; first = first; reach = reach }));
-    }
+    looked_past i met last w here first reach none = search (rules, none_more, first_of)
 
 -- a label for which a lesser one may stand
 pub led_by : (rule : Meeting) (cert : List Edge) (l n : ℕ) → (rule ≡ rules.Grant) ⊎ (rule ≡ rules.GrantBack)

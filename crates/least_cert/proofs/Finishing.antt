@@ -1,4 +1,5 @@
 -- Where all edges were looked at, the rules hold.
+use Rattle.std.proofs.Common.{rules}
 use Rattle.least_cert.proofs.Common.{AsyncSend, Authority, Begins, Bool, Call, Closes, Closure, Control, Edge, Gifted, Grant, GrantBack, Grows, Handle, Has, HasBoot, IsCertificate, IsClosedFor, IsLeast, IsSound, KeepsRules, Knows, List, Looks}
 use Rattle.least_cert.proofs.Common.{LooksAt, Receive, Reply, Some, Spec, [], ap, arith, edge, eqb-true, false, has, has_at, inl, inr, leader_at, length, length-append, or_cases, or_left, or_right, refl, same_edge, slice_get, subst, suc, sym, take}
 use Rattle.least_cert.proofs.Common.{take-append-le, take_all, true, zero, ℕ, ◌++◌, ◌+◌, ◌<◌, ◌==◌, ◌||◌, ◌∙◌, ◌∷◌, ◌≡◌, ◌≢◌, ◌≤◌, ◌⊎◌}
@@ -9,13 +10,7 @@ use Rattle.least_cert.proofs.Listing.{has_last}
 use Rattle.cam_base.proofs.NumberedLists.{taken_more}
 
 pub closed_none : (c : Closure) → IsClosedFor [] c
-closed_none c = record {
-  control = λ l m h. absurd cc;
-  passed = λ s r g a x other h. absurd cc;
-  grant = λ s e r h. absurd cc;
-  grant_back = λ s e r h. absurd cc;
-  bind = λ s d n h. absurd cc;
-}
+closed_none c = search (rules)
 
 module _ (first : List Edge) (f : Edge) (c new : Closure) (closed : IsClosedFor first c) (looks : Looks c f new)
     (inside : (e : Edge) → has first e ≡ true → has c.queue e ≡ true) (known : has c.queue f ≡ true) where
@@ -91,10 +86,7 @@ take_has (x ∷ xs) (suc n) e h = keep (same_edge x e) (has (take n xs) e) (has 
 -- ---- at the end
 
 same_or_not : (m n : ℕ) → (m ≡ n) ⊎ (m ≢ n)
-same_or_not m n = by (m == n) refl where
-  by : (b : Bool) → m == n ≡ b → (m ≡ n) ⊎ (m ≢ n)
-  by true is = inl (eqb-true m n is)
-  by false is = inr (λ same. absurd (let yes_it : m == n ≡ true = rw same (same_itself n) in cc))
+same_or_not m n = search (rules, eqb-true, same_itself)
 
 module _ (c : Closure) (boots : HasBoot c) (sound : IsSound c) (closed : IsClosedFor c.queue c) (cert : List Edge)
     (is : IsCertificate c cert) where
@@ -147,10 +139,7 @@ module _ (c : Closure) (boots : HasBoot c) (sound : IsSound c) (closed : IsClose
     grant = λ s e r a x g q other there.
         flowed s r (closed.grant (leader_at c.leaders s) e (leader_at c.leaders r) (known s Grant e (number_other Grant refl) g)
         (known r Receive e (number_other Receive refl) q)) a x other there;
-    call = λ s e r h q differ.
-        is.same (edge r Reply s) ∙ or_right (has is.edges (edge r Reply s)) (has is.replies (edge r Reply s))
-        (is.answers.every s e r (listed s Call e (number_other Call refl) h)
-        (listed r Receive e (number_other Receive refl) q) differ);
+    call = search (rules, or_right, listed, number_other);
     grant_back = λ s e r a x h g other there.
         flowed r s (λ differ. closed.grant_back (leader_at c.leaders s) e (leader_at c.leaders r)
         (known s Call e (number_other Call refl) h) (known r GrantBack e (number_other GrantBack refl) g)
@@ -178,8 +167,7 @@ boot_grows c new g b = record {
 pub least_closed : (spec : Spec) (labels : List ℕ) (c new : Closure) (cert : List Edge) → Begins spec labels c → Closes c new
     → IsCertificate new cert → IsLeast spec labels cert
 least_closed spec labels c new cert b done is =
-    let least : IsLeast new.spec new.labels cert = is_least new (boot_grows c new done.grows b.has_boot) done.grows.sound
-    done.closed cert is in
+    let least : IsLeast new.spec new.labels cert = search (rules, is_least, boot_grows) in
     subst (λ (ls : List ℕ). IsLeast spec ls cert) (done.grows.labels_is ∙ b.labels_is)
     (subst (λ (s : Spec). IsLeast s new.labels cert) (done.grows.spec_is ∙ b.spec_is) least)
 
@@ -191,10 +179,8 @@ looks_none c sound = record { grows = grows_none c sound; within = omega arith; 
 pub looks_more : (n : ℕ) (f : Edge) (c mid new : Closure) → LooksAt n c mid → n < length mid.queue
     → slice_get mid.queue n ≡ Some f → Looks mid f new → LooksAt (n + 1) c new
 looks_more n f c mid new before less here looks =
-    let front : take (n + 1) new.queue ≡ take n mid.queue ++ f ∷ [] = ap (λ (xs : List Edge). take (n + 1) xs) looks.grows.longer
-    ∙ (take_front mid.queue looks.grows.more (n + 1) (omega arith) ∙ taken_more mid.queue n f here) in
-    let longer : length new.queue ≡ length mid.queue + length looks.grows.more =
-    ap (λ (xs : List Edge). length xs) looks.grows.longer ∙ length-append mid.queue looks.grows.more in
+    let front : take (n + 1) new.queue ≡ take n mid.queue ++ f ∷ [] = search (rules, take_front, taken_more) in
+    let longer : length new.queue ≡ length mid.queue + length looks.grows.more = search (rules, length-append) in
     record {
       grows = grows_then c mid new before.grows looks.grows;
       within = omega arith;
@@ -203,6 +189,4 @@ looks_more n f c mid new before less here looks =
     }
 
 pub looks_all : (n : ℕ) (c new : Closure) → LooksAt n c new → length new.queue ≤ n → Closes c new
-looks_all n c new at le =
-    let within = at.within in
-    record { grows = at.grows; closed = subst (λ (xs : List Edge). IsClosedFor xs new) (take_all n new.queue le) at.closed }
+looks_all n c new at le = search (rules, take_all)

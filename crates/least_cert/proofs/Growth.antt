@@ -1,4 +1,5 @@
 -- How edges in the making grow.
+use Rattle.std.proofs.Common.{rules}
 use Rattle.least_cert.proofs.Common.{AddsAll, AddsSome, AreCopies, Bool, Closure, Copies, Edge, Flows, Gifted, Gives, GivesAll, GivesSome, Grant, Grows, Has, HasMoreThan, IsCopy, IsGift, IsLess, IsSorted, IsSound, IsTrue, Joins, Knows, List, OfLeast}
 use Rattle.least_cert.proofs.Common.{Puts, PutsGift, Receive, Relabels, Some, [], ap, append_assoc, arith, at_has, cases_lt, edge, edges_same, false, filter_map, has, has_at, inl, inr, lead, leader_at, led_by, length, length-append, number_of}
 use Rattle.least_cert.proofs.Common.{passed_to, refl, same_edge, slice_get, slice_get_within, subst, sym, true, turn, ℕ, ◌&&◌, ◌++◌, ◌+◌, ◌<◌, ◌==◌, ◌^◌, ◌||◌, ◌↔◌, ◌∙◌, ◌∷◌, ◌≡◌, ◌≤◌, ◌⊎◌}
@@ -22,17 +23,7 @@ append_none [] = refl
 append_none (x ∷ xs) = ap (λ (ys : List Edge). x ∷ ys) (append_none xs)
 
 pub grows_none : (c : Closure) → IsSound c → Grows c c
-grows_none c sound = record {
-  spec_is = refl;
-  labels_is = refl;
-  sound = sound;
-  more = [];
-  longer = sym (append_none c.queue);
-  given = λ s r h. h;
-  copied = λ s r h. inl h;
-  together = sound.flat;
-  led_before = λ l h. h;
-}
+grows_none c sound = search (rules, append_none)
 
 pub grows_has : (c new : Closure) → Grows c new → (e : Edge) → has c.queue e ≡ true → has new.queue e ≡ true
 grows_has c new g e h = subst (λ (xs : List Edge). has xs e ≡ true) (sym g.longer) (has_front c.queue g.more e h)
@@ -68,10 +59,7 @@ pub one_grows : (c new : Closure) → Grows c new → (l m : ℕ) → leader_at 
 one_grows c new g l m same = sym (g.together l) ∙ (ap (λ (k : ℕ). leader_at new.leaders k) same ∙ g.together m)
 
 pub gifted_grows : (c new : Closure) → Grows c new → (s r : ℕ) → Gifted c s r → Gifted new s r
-gifted_grows c new g s r h = λ to_s to_r. elim (h (g.led_before s to_s) (g.led_before r to_r)) [
-  | inl same ↦ inl same
-  | inr x ↦ inr (x.0, g.given s x.0 x.1, sym (g.together x.0) ∙ (ap (λ (k : ℕ). leader_at new.leaders k) x.2 ∙ to_r))
-]
+gifted_grows c new g s r h = search (rules)
 
 turned_back : (d e : Edge) → same_edge (turn d) (turn e) ≡ same_edge d e
 turned_back d e = swap (d.to == e.to) (number_of d.authority == number_of e.authority) (d.from == e.from) where
@@ -91,23 +79,16 @@ module _ (asked edge_in : Edge) (c new : Closure) (sound : IsSound c) (is : edge
   least = subst (λ (x : Edge). OfLeast c x) (sym is) (least_led c sound asked of_least)
 
   put_known : (e : Edge) → has new.known e ≡ has new.queue e
-  put_known e =
-      puts.known_is e ∙ (ap (λ (b : Bool). b || same_edge edge_in e) (sound.known_is e)
-      ∙ (sym (has_push c.queue edge_in e) ∙ ap (λ (xs : List Edge). has xs e) (sym puts.queue_is)))
+  put_known e = search (rules, has_push)
 
   put_turned : (e : Edge) → has new.turned (turn e) ≡ has new.queue e
-  put_turned e =
-      puts.turned_is (turn e) ∙ (ap (λ (b : Bool). b || same_edge (turn edge_in) (turn e)) (sound.turned_is e)
-      ∙ (ap (λ (b : Bool). has c.queue e || b) (turned_back edge_in e)
-      ∙ (sym (has_push c.queue edge_in e) ∙ ap (λ (xs : List Edge). has xs e) (sym puts.queue_is))))
+  put_turned e = search (rules, turned_back, has_push)
 
   put_cases_of : (e : Edge) → has new.queue e ≡ true → (has c.queue e ≡ true) ⊎ (edge_in ≡ e)
   put_cases_of e h = has_last c.queue edge_in e (subst (λ (xs : List Edge). has xs e ≡ true) puts.queue_is h)
 
   put_least : (e : Edge) → has new.queue e ≡ true → OfLeast new e
-  put_least e h =
-      least_moves c new puts.spec_is puts.labels_is e
-      (elim (put_cases_of e h) [ inl old ↦ sound.least e old | inr same ↦ subst (λ (x : Edge). OfLeast c x) same least ])
+  put_least e h = search (rules, least_moves, put_cases_of, least)
 
   put_leads : (e : Edge) → has new.queue (lead c.leaders e) ≡ true → Knows new e
   put_leads e h = subst (λ (ls : List ℕ). has new.queue (lead ls e) ≡ true) (sym puts.leaders_is) h
@@ -119,21 +100,11 @@ module _ (asked edge_in : Edge) (c new : Closure) (sound : IsSound c) (is : edge
   put_carried e h = elim (put_cases_of e h) [
     | inl old ↦ put_leads e (subst (λ (xs : List Edge). has xs (lead c.leaders e) ≡ true) (sym puts.queue_is)
         (has_front c.queue (edge_in ∷ []) (lead c.leaders e) (sound.carried e old)))
-    | inr same ↦ put_leads e (
-        let again : lead c.leaders edge_in ≡ edge_in = ap (λ (x : Edge). lead c.leaders x) is
-        ∙ (lead_then c.leaders c.leaders sound.flat asked ∙ sym is) in
-        subst (λ (x : Edge). has new.queue (lead c.leaders x) ≡ true) same (subst (λ (x : Edge). has new.queue x ≡ true)
-        (sym again) put_there)
-        )
+    | inr same ↦ search (rules, put_leads, lead_then, put_there)
   ]
 
   put_length : length new.queue ≡ length new.known
-  put_length =
-      let longer : length new.queue ≡ length c.queue + 1 = ap (λ (xs : List Edge). length xs) puts.queue_is
-      ∙ length-append c.queue (edge_in ∷ []) in
-      let more : length new.known ≡ length c.known + 1 = puts.as_many unknown in
-      let same = sound.as_many in
-      omega arith
+  put_length = search (rules, length-append)
 
   -- where there are too many now
   pub put_many : IsSorted new.known → 262144 < length new.known → HasMoreThan c.spec c.labels 262144
@@ -185,12 +156,7 @@ module _ (asked edge_in : Edge) (c new : Closure) (sound : IsSound c) (is : edge
 
 pub known_adds : (asked edge_in : Edge) (c : Closure) → IsSound c → edge_in ≡ lead c.leaders asked → has c.known edge_in ≡ true
     → Adds asked c c
-known_adds asked edge_in c sound is h = record {
-  grows = grows_none c sound;
-  leaders_is = refl;
-  there = subst (λ (x : Edge). has c.queue x ≡ true) is (sym (sound.known_is edge_in) ∙ h);
-  only = λ e there. inl there;
-}
+known_adds asked edge_in c sound is h = search (rules, grows_none)
 
 -- ---- copies
 
@@ -204,17 +170,10 @@ module _ (giver taker : ℕ) (c : Closure) (sound : IsSound c) where
         let there = only from.0 from.1 in
         let x : Edge = from.0 in
         let giver_is : x ≡ edge giver x.authority x.to = edges_same x (edge giver x.authority x.to) there.1 refl refl in
-        let was : has c.queue (edge giver x.authority x.to) ≡ true = subst (λ (y : Edge). has c.queue y ≡ true) giver_is
-        (sym (sound.known_is x) ∙ there.0) in
+        let was : has c.queue (edge giver x.authority x.to) ≡ true = search (rules) in
         let passes = passed_is taker x e from.2 in
         subst (λ (y : Edge). IsCopy c giver taker y) passes.1 (record { other = passes.0; from_is = refl; known = was });
-    every = λ e copy.
-        let x : Edge = edge giver e.authority e.to in
-        let there : has edges x ≡ true = every x (sound.known_is x ∙ copy.known) refl (sound.less x copy.known).1 in
-        let is : edge taker e.authority e.to ≡ e = edges_same (edge taker e.authority e.to) e (sym copy.from_is) refl refl in
-        subst (λ (y : Edge). has copies y ≡ true) is
-        (subst (λ (xs : List Edge). Has xs taker e.authority e.to) (sym made)
-        (to_mapped (passed_to taker) edges x (edge taker e.authority e.to) there (passes_on taker x copy.other)));
+    every = search (rules, edges_same, to_mapped, passes_on);
   }
 
   pub copy_least : Flows c.spec c.labels giver taker → (e : Edge) → IsCopy c giver taker e → OfLeast c e
@@ -234,8 +193,7 @@ module _ (giver taker : ℕ) (c : Closure) (sound : IsSound c) where
           let copy = are.only d made.1 in
           let led : edge (leader_at c.leaders d.from) d.authority d.to ≡ edge giver a x =
           sym (lead_other c.leaders d (other_number d.authority copy.other)) ∙ made.2 in
-          let is : d ≡ edge taker a x = edges_same d (edge taker a x) copy.from_is (ap (λ (y : Edge). y.authority) led)
-          (ap (λ (y : Edge). y.to) led) in
+          let is : d ≡ edge taker a x = search (rules, edges_same) in
           subst (λ (y : Edge). Knows new y) is (adds.there d made.1)
           )
     ];
@@ -316,12 +274,7 @@ gives_joined s r c new j = record { grows = j.grows; given = λ to_s to_r. inl (
 
 -- what leaders give, their labels do
 pub gives_led : (s r : ℕ) (c new : Closure) → Gives (leader_at c.leaders s) (leader_at c.leaders r) c new → Gives s r c new
-gives_led s r c new g = record {
-  grows = g.grows;
-  given = λ to_s to_r.
-      subst (λ (l : ℕ). Gifted new l r) (g.grows.led_before s to_s) (subst (λ (l : ℕ). Gifted new (leader_at c.leaders s) l)
-      (g.grows.led_before r to_r) g.given) to_s to_r;
-}
+gives_led s r c new g = search (rules)
 
 -- ---- labels that one leader leads
 
@@ -349,10 +302,7 @@ module _ (to from : ℕ) (c mid new : Closure) (copies : Copies from to c mid) (
   -- the leader is as before, or the other one took its place
   new_cases : (l : ℕ) → (leader_at new.leaders l ≡ leader_at mid.leaders l)
       ⊎ ((leader_at mid.leaders l ≡ from) × (leader_at new.leaders l ≡ to))
-  new_cases l = elim (led_cases from to (leader_at mid.leaders l)) [
-    | inl same ↦ inl (relabels.leaders_are.led l ∙ same)
-    | inr led ↦ inr (led.0, relabels.leaders_are.led l ∙ led.1)
-  ]
+  new_cases l = search (rules, led_cases)
 
   to_is : leader_at new.leaders to ≡ to
   to_is = relabels.leaders_are.led to ∙ (ap (led_by from to) first_is ∙ led_to from to)
@@ -365,16 +315,10 @@ module _ (to from : ℕ) (c mid new : Closure) (copies : Copies from to c mid) (
       ∙ (ap (led_by from to) (mid_sound.flat l) ∙ sym (relabels.leaders_are.led l))
 
   new_flat : (l : ℕ) → leader_at new.leaders (leader_at new.leaders l) ≡ leader_at new.leaders l
-  new_flat l = elim (new_cases l) [
-    | inl same ↦ ap (λ (k : ℕ). leader_at new.leaders k) same ∙ new_together l
-    | inr led ↦ ap (λ (k : ℕ). leader_at new.leaders k) led.1 ∙ (to_is ∙ sym led.1)
-  ]
+  new_flat l = search (rules, new_cases, new_together, to_is)
 
   new_before : (l : ℕ) → leader_at new.leaders l ≡ l → leader_at mid.leaders l ≡ l
-  new_before l h = elim (new_cases l) [
-    | inl same ↦ sym same ∙ h
-    | inr led ↦ (let is : to ≡ l = sym led.1 ∙ h in subst (λ (k : ℕ). leader_at mid.leaders k ≡ k) is first_is)
-  ]
+  new_before l h = search (rules, new_cases, first_is)
 
   to_flows : Flows mid.spec mid.labels to from
   to_flows = rw (copies.grows.spec_is, copies.grows.labels_is) there
@@ -383,20 +327,7 @@ module _ (to from : ℕ) (c mid new : Closure) (copies : Copies from to c mid) (
   from_flows = rw (copies.grows.spec_is, copies.grows.labels_is) back
 
   new_carried : (e : Edge) → has mid.queue e ≡ true → has mid.queue (lead new.leaders e) ≡ true
-  new_carried e h = elim (reply_or_not e) [
-    | inl is ↦ subst (λ (x : Edge). has mid.queue x ≡ true) (sym (lead_reply new.leaders e is)) h
-    | inr is ↦ (
-        let known : Has mid.queue (leader_at mid.leaders e.from) e.authority e.to = subst (λ (x : Edge). has mid.queue x ≡ true)
-        (lead_other mid.leaders e is) (mid_sound.carried e h) in
-        subst (λ (x : Edge). has mid.queue x ≡ true) (sym (lead_other new.leaders e is)) (elim (new_cases e.from) [
-          | inl same ↦ subst (λ (l : ℕ). Has mid.queue l e.authority e.to) (sym same) known
-          | inr led ↦ subst (λ (l : ℕ). Has mid.queue l e.authority e.to) (first_is ∙ sym led.1)
-              (knows_led mid mid_sound to e.authority e.to (number_other e.authority is)
-              (copies.copied e.authority e.to (number_other e.authority is)
-              (subst (λ (l : ℕ). Has mid.queue l e.authority e.to) led.0 known)))
-        ])
-        )
-  ]
+  new_carried e h = search (rules, reply_or_not, lead_reply, lead_other, mid_sound, new_cases, first_is, knows_led, number_other)
 
   base_grows : Grows mid (record mid { leaders = new.leaders })
   base_grows = record {
@@ -434,10 +365,7 @@ module _ (to from : ℕ) (c mid new : Closure) (copies : Copies from to c mid) (
   }
 
   pub merged : Joins to from c new
-  merged = record {
-    grows = grows_then c mid new copies.grows (subst (λ (x : Closure). Grows mid x) (sym relabels.is) base_grows);
-    one = to_is ∙ sym from_is;
-  }
+  merged = search (rules, grows_then, base_grows, to_is, from_is)
 
 -- ---- edges of a list, one after the other
 
@@ -445,12 +373,7 @@ abbrev pub no_edge : Edge
 no_edge = record { from = 0; authority = Receive; to = 0 }
 
 pub adds_none : (edges : List Edge) (c : Closure) → IsSound c → AddsSome edges 0 c c
-adds_none edges c sound = record {
-  grows = grows_none c sound;
-  leaders_is = refl;
-  there = λ k e less at. absurd (omega arith);
-  only = λ e h. inl h;
-}
+adds_none edges c sound = search (rules, grows_none)
 
 pub adds_more : (edges : List Edge) (n : ℕ) (e : Edge) (c mid new : Closure) → slice_get edges n ≡ Some e → AddsSome edges n c mid
     → Adds e mid new → AddsSome edges (n + 1) c new
@@ -493,16 +416,8 @@ gives_more gifts n g c mid new here before gives = record {
 }
 
 pub gives_all : (gifts : List Edge) (n : ℕ) (c new : Closure) → length gifts ≤ n → GivesSome gifts n c new → GivesAll gifts c new
-gives_all gifts n c new le some = record {
-  grows = some.grows;
-  given = λ e h.
-      let at = at_has gifts e h in
-      some.given at.0 e (let less : at.0 < length gifts = slice_get_within gifts at.0 e at.1 in omega arith) at.1;
-}
+gives_all gifts n c new le some = search (rules, at_has, slice_get_within)
 
 -- what a test that fails says
 pub not_over : (test : Bool) (n : ℕ) → IsTrue test ↔ (262144 < n) → test ≡ false → n ≤ 262144
-not_over test n over no_it = elim (cases_lt 262144 n) [
-  | inl less ↦ absurd (let yes_it : test ≡ true = over.1 less in cc)
-  | inr ge ↦ ge
-]
+not_over test n over no_it = search (rules, cases_lt)

@@ -1,4 +1,5 @@
 -- Who leads whom, and the edge of a leader.
+use Rattle.std.proofs.Common.{rules}
 use Rattle.least_cert.proofs.Common.{Authority, Bool, Closure, Edge, Flows, Has, IsRelabeled, IsSound, Knows, List, OfLeast, Reply, Widens, [], ap, arith, cases_lt, edge, eqb-true, false, get_or, get_or-map, get_or_past, has, inl, inr, lead}
 use Rattle.least_cert.proofs.Common.{leader_at, led_by, length, length-append, length-map, map, ne_eqb, number_of, refl, same_itself, same_number, subst, suc, sym, true, zero, ℕ, ◌++◌, ◌+◌, ◌<◌, ◌==◌, ◌^◌, ◌∙◌, ◌∷◌, ◌≡◌, ◌≢◌, ◌≤◌, ◌⊎◌}
 
@@ -12,10 +13,7 @@ other_number a other = ne_eqb (number_of a) 9 (λ e. other (same_number a Reply 
 
 -- a reply or not
 pub reply_or_not : (e : Edge) → (number_of e.authority == 9 ≡ true) ⊎ (number_of e.authority == 9 ≡ false)
-reply_or_not e = by (number_of e.authority == 9) refl where
-  by : (b : Bool) → number_of e.authority == 9 ≡ b → (number_of e.authority == 9 ≡ true) ⊎ (number_of e.authority == 9 ≡ false)
-  by true is = inl is
-  by false is = inr is
+reply_or_not e = search (rules)
 
 pub lead_reply : (leaders : List ℕ) (e : Edge) → number_of e.authority == 9 ≡ true → lead leaders e ≡ e
 lead_reply leaders e is = rw is refl
@@ -30,12 +28,7 @@ lead_as leaders l a x other = lead_other leaders (edge l a x) (other_number a ot
 
 pub lead_then : (old new : List ℕ) → ((l : ℕ) → leader_at new (leader_at old l) ≡ leader_at new l) → (e : Edge)
     → lead new (lead old e) ≡ lead new e
-lead_then old new same e = elim (reply_or_not e) [
-  | inl is ↦ ap (λ (x : Edge). lead new x) (lead_reply old e is)
-  | inr is ↦ ap (λ (x : Edge). lead new x) (lead_other old e is)
-      ∙ (lead_other new (edge (leader_at old e.from) e.authority e.to) is
-      ∙ (ap (λ (l : ℕ). edge l e.authority e.to) (same e.from) ∙ sym (lead_other new e is)))
-]
+lead_then old new same e = search (rules, reply_or_not, lead_reply, lead_other)
 
 pub flows_then : (c : Closure) (l m n : ℕ) → Flows c.spec c.labels l m → Flows c.spec c.labels m n → Flows c.spec c.labels l n
 flows_then c l m n f g = λ a x other h. g a x other (f a x other h)
@@ -68,10 +61,7 @@ module _ (c : Closure) (sound : IsSound c) where
 -- ---- leaders that change
 
 pub led_cases : (from to leader : ℕ) → (led_by from to leader ≡ leader) ⊎ ((leader ≡ from) × (led_by from to leader ≡ to))
-led_cases from to leader = by (leader == from) refl where
-  by : (b : Bool) → leader == from ≡ b → (led_by from to leader ≡ leader) ⊎ ((leader ≡ from) × (led_by from to leader ≡ to))
-  by true is = inr (eqb-true leader from is, rw is refl)
-  by false is = inl (rw is refl)
+led_cases from to leader = search (rules, eqb-true)
 
 pub led_to : (from to : ℕ) → led_by from to to ≡ to
 led_to from to = elim (led_cases from to to) [ inl is ↦ is | inr is ↦ is.1 ]
@@ -81,19 +71,7 @@ led_from from to = rw (same_itself from) refl
 
 relabeled : (leaders : List ℕ) (from to l : ℕ) → from < length leaders → leader_at (map (led_by from to) leaders) l ≡ led_by from
     to (leader_at leaders l)
-relabeled leaders from to l less = elim (cases_lt l (length leaders)) [
-  | inl within ↦ get_or-map (led_by from to) leaders l l l within
-  | inr past ↦ (
-      let stays : led_by from to l ≡ l = elim (led_cases from to l) [
-        | inl same ↦ same
-        | inr led ↦
-            absurd (let same : l ≡ from = led.0 in omega arith)
-      ] in
-      let long : length (map (led_by from to) leaders) ≡ length leaders = length-map leaders (led_by from to) in
-      get_or_past (map (led_by from to) leaders) l l (omega arith)
-      ∙ (sym stays ∙ ap (led_by from to) (sym (get_or_past leaders l l past)))
-      )
-]
+relabeled leaders from to l less = search (rules, cases_lt, get_or-map, led_cases, length-map, get_or_past)
 
 -- ---- labels that lead themselves
 
@@ -110,12 +88,7 @@ pub record WidensTo (n : ℕ) (leaders : List ℕ) (new : List ℕ) : Type 0 whe
   pub same : (l : ℕ) → leader_at new l ≡ leader_at leaders l
 
 pub widens_more : (n : ℕ) (leaders mid new : List ℕ) → WidensTo n leaders mid → new ≡ mid ++ n ∷ [] → WidensTo (n + 1) leaders new
-widens_more n leaders mid new w is = record {
-  long = ap (λ (ys : List ℕ). length ys) is ∙ (length-append mid (n ∷ []) ∙ ap (λ (k : ℕ). k + 1) w.long);
-  same = λ l.
-      ap (λ (ys : List ℕ). leader_at ys l) is
-      ∙ (elim (push_at mid n l l) [ inl same ↦ same | inr at ↦ at.1 ∙ (sym w.long ∙ (sym at.0 ∙ sym at.2)) ] ∙ w.same l);
-}
+widens_more n leaders mid new w is = search (rules, length-append, push_at)
 
 pub widens_all : (n label : ℕ) (leaders new : List ℕ) → WidensTo n leaders new → label < n → n ≤ 2 ^ 32 → Widens label leaders new
 widens_all n label leaders new w less few = let long = w.long in record { within = omega arith; few = omega arith; same = w.same }
@@ -124,11 +97,7 @@ widens_all n label leaders new w less few = let long = w.long in record { within
 
 pub is_relabeled : (from to : ℕ) (leaders wide new : List ℕ) → Widens from leaders wide → new ≡ map (led_by from to) wide
     → IsRelabeled from to leaders new
-is_relabeled from to leaders wide new w is = record {
-  few = (let long : length new ≡ length wide = ap (λ (ls : List ℕ). length ls) is ∙ length-map wide (led_by from to) in
-      let few = w.few in omega arith);
-  led = λ l. ap (λ (ls : List ℕ). leader_at ls l) is ∙ (relabeled wide from to l w.within ∙ ap (led_by from to) (w.same l));
-}
+is_relabeled from to leaders wide new w is = search (rules, length-map, relabeled)
 
 pub widens_same : (label : ℕ) (leaders same new : List ℕ) → same ≡ leaders → Widens label same new → Widens label leaders new
 widens_same label leaders same new is w = subst (λ (ls : List ℕ). Widens label ls new) is w

@@ -1,4 +1,5 @@
 -- What lists of edges have: after a push, and after a filter.
+use Rattle.std.proofs.Common.{rules}
 use Rattle.least_cert.proofs.Common.{Bool, Edge, List, Option, Some, [], ap, at_has, false, filter_map, has, has_at, inl, inr, or_cases, or_left, or_right, refl, same_edge, same_edge_self, same_edge_true, sym, true, ◌++◌, ◌||◌, ◌∙◌, ◌∷◌, ◌≡◌, ◌⊎◌}
 use Rattle.cam_base.proofs.Lists.{from_filter_map, to_filter_map}
 
@@ -45,10 +46,7 @@ put_cases old d e h = elim (or_cases old (same_edge d e) h) [ inl x ↦ inl x | 
 
 pub from_mapped : (f : Edge → Option Edge) (xs : List Edge) (e : Edge) → has (filter_map f xs) e ≡ true
     → (x : Edge) × (has xs x ≡ true) × (f x ≡ Some e)
-from_mapped f xs e h =
-    let at = at_has (filter_map f xs) e h in
-    let from = from_filter_map f xs at.0 e at.1 in
-    (from.1, has_at xs from.0 from.1 from.2, from.3)
+from_mapped f xs e h = search (rules, at_has, from_filter_map, has_at)
 
 pub to_mapped : (f : Edge → Option Edge) (xs : List Edge) (x e : Edge) → has xs x ≡ true → f x ≡ Some e
     → has (filter_map f xs) e ≡ true

@@ -1,4 +1,5 @@
 -- The edges of leaders, as those of the labels that they lead, and the replies that calls ask for.
+use Rattle.std.proofs.Common.{rules}
 use Rattle.least_cert.proofs.Common.{Adds, AreReceivers, AreReplies, Authority, Bool, Call, Closure, Edge, Has, HasMoreThan, InLeast, IsAnswer, IsCertificate, IsCopy, IsLess, IsSorted, IsSound, IsSpread, Knows, List, None, OfEach, OfFirst, OfLeast}
 use Rattle.least_cert.proofs.Common.{Receive, Reply, Some, [], ap, arith, at_has, cases_lt, edge, edges_same, eqb-true, false, filter_map, first_more_at, from_other, get_or, get_or_from_slice_get, get_or_past, has, has_at, if◌then◌else◌, inl, inr}
 use Rattle.least_cert.proofs.Common.{le-ltb, leader_at, length, ltb, number_of, or_cases, or_left, or_right, receiver, refl, same_edge, same_number, slice_get, slice_get-get_or, slice_get_within, stays, subst, sym, take, take_all, take_more}
@@ -13,23 +14,11 @@ use Rattle.least_cert.proofs.Passing.{from_other_is, from_other_made}
 
 pub appended : (P : Edge → Type 0) (old more : List Edge) → ((e : Edge) → has more e ≡ true → P e)
     → ((e : Edge) → P e → has more e ≡ true) → Adds P old (old ++ more)
-appended P old more only every = record {
-  kept = λ e h. has_append old more e ∙ or_left (has old e) (has more e) h;
-  added = λ e p. has_append old more e ∙ or_right (has old e) (has more e) (every e p);
-  only = λ e h. elim (or_cases (has old e) (has more e) (sym (has_append old more e) ∙ h)) [
-    | inl was ↦ inl was
-    | inr is ↦
-        inr (only e is)
-  ];
-}
+appended P old more only every = search (rules, has_append, or_left, or_right, or_cases)
 
 pub joined : (P : Edge → Type 0) (old more new : List Edge) → ((e : Edge) → has new e ≡ (has old e || has more e))
     → ((e : Edge) → has more e ≡ true → P e) → ((e : Edge) → P e → has more e ≡ true) → Adds P old new
-joined P old more new same only every = record {
-  kept = λ e h. same e ∙ or_left (has old e) (has more e) h;
-  added = λ e p. same e ∙ or_right (has old e) (has more e) (every e p);
-  only = λ e h. elim (or_cases (has old e) (has more e) (sym (same e) ∙ h)) [ inl was ↦ inl was | inr is ↦ inr (only e is) ];
-}
+joined P old more new same only every = search (rules, or_left, or_right, or_cases)
 
 pub put_none : (old : List Edge) (edges : List Edge) (e : Edge) → has old e ≡ (has old e || has (take 0 edges) e)
 put_none old edges e = sym (or_none (has old e))
@@ -51,21 +40,13 @@ put_all old edges new n le same e = same e ∙ ap (λ (xs : List Edge). has old 
 -- ---- edges that stay
 
 stays_is : (n : ℕ) (x e : Edge) → stays n x ≡ Some e → x ≡ e
-stays_is n x e h = by (number_of x.authority == 9) (ltb x.from n) h where
-  by : (b d : Bool) → (if b then Some x else if d then None else Some x) ≡ Some e → x ≡ e
-  by true d g = cc
-  by false true g = absurd cc
-  by false false g = cc
+stays_is n x e h = search (rules, ltb)
 
 stays_reply : (n : ℕ) (e : Edge) → number_of e.authority == 9 ≡ true → stays n e ≡ Some e
 stays_reply n e is = rw is refl
 
 stays_past : (n : ℕ) (e : Edge) → n ≤ e.from → stays n e ≡ Some e
-stays_past n e le = by (number_of e.authority == 9) (ltb e.from n) (le-ltb e.from n le) where
-  by : (b d : Bool) → d ≡ false → (if b then Some e else if d then None else Some e) ≡ Some e
-  by true d g = refl
-  by false true g = absurd cc
-  by false false g = refl
+stays_past n e le = search (rules, ltb, le-ltb)
 
 -- ---- the edges of all labels
 
@@ -175,13 +156,7 @@ module _ (c : Closure) (sound : IsSound c) where
           place = at.0;
           item = edge s Call x;
           there = at.1;
-          by = record {
-            call = refl;
-            reply = refl;
-            to_is = refl;
-            receives = receivers.every r x receives;
-            differ = λ same. differ (sym same);
-          };
+          by = search (rules);
         });
   }
 
@@ -200,56 +175,24 @@ module _ (c : Closure) (sound : IsSound c) where
 
   pub all_least : (edges replies all : List Edge) → IsSpread c edges → AreReplies c edges replies → all ≡ edges ++ replies
       → (e : Edge) → has all e ≡ true → OfLeast c e
-  all_least edges replies all spread answers is e h =
-      elim (or_cases (has edges e) (has replies e) (sym (has_append edges replies e)
-      ∙ subst (λ (xs : List Edge). has xs e ≡ true) is h)) [
-        | inl there ↦ knows_least c sound e (spread.only e there)
-        | inr reply ↦ (answers.only e reply).1
-      ]
+  all_least edges replies all spread answers is e h = search (rules, or_cases, has_append, knows_least)
 
 pub made : (c : Closure) (edges replies all table : List Edge) → AreReplies c edges replies → IsSpread c edges
     → all ≡ edges ++ replies → ((e : Edge) → has table e ≡ has all e) → IsCertificate c table
-made c edges replies all table answers spread is same = record {
-  edges = edges;
-  replies = replies;
-  spread = spread;
-  answers = answers;
-  same = λ e. same e ∙ (ap (λ (xs : List Edge). has xs e) is ∙ has_append edges replies e);
-}
+made c edges replies all table answers spread is same = search (rules, has_append)
 
 -- ---- Receive edges, turned
 
 receiver_is : (x e : Edge) → receiver x ≡ Some e → (x.authority ≡ Receive) × (turn x ≡ e)
-receiver_is x e h = by (number_of x.authority == 0) refl where
-  by : (b : Bool) → number_of x.authority == 0 ≡ b → (x.authority ≡ Receive) × (turn x ≡ e)
-  by true is = (
-    same_number x.authority Receive (eqb-true (number_of x.authority) 0 is),
-    let y : receiver x ≡ Some
-        (turn x) = rw is refl in cc,
-  )
-  by false is = absurd (let y : receiver x ≡ None = rw is refl in cc)
+receiver_is x e h = search (rules, same_number, eqb-true)
 
 pub are_receivers : (edges listed turned : List Edge) → listed ≡ filter_map receiver edges
     → ((e : Edge) → has turned e ≡ (has [] e || has listed e)) → AreReceivers edges turned
-are_receivers edges listed turned is same = record {
-  only = λ e h.
-      let from = from_mapped receiver edges e (subst (λ (xs : List Edge). has xs e ≡ true) is (sym (same e) ∙ h)) in
-      let made = receiver_is from.0 e from.2 in
-      subst (λ (y : Edge). (y.authority ≡ Receive) × Has edges y.to Receive y.from) made.1 (
-        made.0,
-        subst (λ (y : Edge). has edges y ≡ true) (edges_same from.0 (edge from.0.from Receive from.0.to) refl made.0
-            refl) from.1,
-      );
-  every = λ r x h.
-      same (edge x Receive r) ∙ subst (λ (xs : List Edge). Has xs x Receive r) (sym is)
-      (to_mapped receiver edges (edge r Receive x) (edge x Receive r) h refl);
-}
+are_receivers edges listed turned is same = search (rules, from_mapped, receiver_is, edges_same, to_mapped)
 
 pub receivers_less : (c : Closure) (edges turned : List Edge) → IsSpread c edges → AreReceivers edges turned → (e : Edge)
     → has turned e ≡ true → IsLess e
-receivers_less c edges turned spread receivers e h =
-    let less = spread.less (edge e.to Receive e.from) (receivers.only e h).1 in
-    (less.1, less.0)
+receivers_less c edges turned spread receivers e h = search (rules)
 
 -- ---- what one call asks for
 
@@ -259,22 +202,5 @@ pub answers_made : (turned peers made old new : List Edge) (f : Edge) → f.auth
     → ((m : ℕ) → has turned (edge f.to Receive m) ≡ true → m < 2 ^ 32 → has peers (edge f.to Receive m) ≡ true)
     → made ≡ filter_map (from_other Reply f.from) peers → ((e : Edge) → has new e ≡ (has old e || has made e))
     → Adds (IsAnswer turned f) old new
-answers_made turned peers made old new f call less only every is same = joined (IsAnswer turned f) old made new same
-    (λ e h.
-    let from = from_mapped (from_other Reply f.from) peers e (subst (λ (xs : List Edge). has xs e ≡ true) is h) in
-    let p : Edge = from.0 in
-    let there = only p from.1 in
-    let made_is = from_other_is Reply f.from p e from.2 in
-    subst (λ (x : Edge). IsAnswer turned f x) made_is.1 (record {
-      call = call;
-      reply = refl;
-      to_is = refl;
-      receives = subst (λ (x : Edge). has turned x ≡ true) (edges_same p (edge f.to Receive p.to) there.1 there.2 refl) there.0;
-      differ = made_is.0;
-    }))
-    (λ e answer.
-    let p : Edge = edge f.to Receive e.from in
-    let there : has peers p ≡ true = every e.from answer.receives (less p answer.receives).1 in
-    subst (λ (x : Edge). has made x ≡ true) (edges_same (edge e.from Reply f.from) e refl (sym answer.reply) (sym answer.to_is))
-    (subst (λ (xs : List Edge). Has xs e.from Reply f.from) (sym is) (to_mapped (from_other Reply f.from) peers p
-    (edge e.from Reply f.from) there (from_other_made Reply f.from p answer.differ))))
+answers_made turned peers made old new f call less only every is same =
+    search (rules, joined, from_mapped, from_other_is, edges_same, to_mapped, from_other_made)

@@ -1,4 +1,5 @@
 -- One line more behind others, and lines in two parts.
+use Rattle.std.proofs.Common.{rules}
 use Rattle.policy_text.proofs.Common.{Bool, Entry, Kind, Line, List, None, Number, Some, Told, [], ap, append-nil, append_assoc, arith, cond, count_by, false, fault_at, filter_map-append, first_wrong, form_fault, has_label, is_new_edge, is_none}
 use Rattle.policy_text.proofs.Common.{list_any, list_any-append, new_edges, option_or, option_or-assoc, or-false, or_comm, refl, said, sum_by-append, sym, told, told_of, true, ℕ, ◌++◌, ◌+◌, ◌||◌, ◌∙◌, ◌∷◌, ◌≡◌}
 
@@ -16,10 +17,7 @@ one_if b = cond b 1 0
 
 pub edges_more : (before ts : List Told) (t : Told) → new_edges before (ts ++ t ∷ []) ≡ new_edges before ts + one_if
     (is_new_edge (before ++ ts) t)
-edges_more before [] t =
-    let same : one_if (is_new_edge (before ++ []) t) ≡ one_if (is_new_edge before t) =
-    ap (λ (all : List Told). one_if (is_new_edge all t)) (append-nil before) in
-    omega (arith, same)
+edges_more before [] t = search (rules, append-nil)
 edges_more before (s ∷ ts) t =
     let more : new_edges (before ++ s ∷ []) (ts ++ t ∷ []) ≡ new_edges (before ++ s ∷ []) ts + one_if
     (is_new_edge ((before ++ s ∷ []) ++ ts) t) = edges_more (before ++ s ∷ []) ts t in
@@ -44,12 +42,7 @@ told-cons kind line more = filter_map-append (told_of kind) (line ∷ []) more
 
 pub form-cons : (kind : Kind) (line : Line) (more : List Line)
     → form_fault kind (line ∷ more) ≡ option_or (form_fault kind (line ∷ [])) (form_fault kind more)
-form-cons kind line more = go (is_none (said kind line)) refl
-  where
-    go : (b : Bool) → is_none (said kind line) ≡ b → form_fault kind (line ∷ more) ≡ option_or (form_fault kind (line ∷ []))
-        (form_fault kind more)
-    go true e = rw e refl
-    go false e = rw e refl
+form-cons kind line more = search (rules)
 
 pub has_label-append : (xs ys : List Told) (n : Number) → has_label (xs ++ ys) n ≡ (has_label xs n || has_label ys n)
 has_label-append xs ys n = list_any-append _ xs ys

@@ -1,4 +1,5 @@
 -- What lines say together, after one line more.
+use Rattle.std.proofs.Common.{rules}
 use Rattle.policy_text.proofs.Common.{Authority, Builds, Edge, Err, IsBuilt, Line, List, NoMemory, None, Ok, OnOk, Option, Parts, Result, Some, Told, [], ap, append-nil, built_edge, built_label, built_object, by_number, edge, false, filter_map}
 use Rattle.policy_text.proofs.Common.{filter_map-append, fold-append, insert_entry, is_name, label, narrow, nat_cmp, object, refl, sym, true, ℕ, ◌++◌, ◌∙◌, ◌∷◌, ◌≡◌}
 
@@ -29,31 +30,17 @@ pub built_object_more : (old new : Parts) (before : List Told) (line : Line) (wo
     → is_name word ≡ true → new.labels.entries ≡ old.labels.entries
     → new.objects ≡ old.objects ++ (word, narrow n) ∷ [] → new.edges.items ≡ old.edges.items
     → IsBuilt new (before ++ (line, object word n) ∷ [])
-built_object_more old new before line word n built name labels objects edges = record {
-  labels = labels ∙ built.labels ∙ ap by_number (sym (none_more built_label before (line, object word n) refl));
-  objects = objects ∙ ap (λ os. os ++ (word, narrow n) ∷ []) built.objects
-      ∙ sym (one_more built_object before (line, object word n) (word, narrow n) (rw name refl));
-  edges = edges ∙ built.edges ∙ sym (none_more built_edge before (line, object word n) refl);
-}
+built_object_more old new before line word n built name labels objects edges = search (rules, none_more, one_more)
 
 pub built_object_none : (old : Parts) (before : List Told) (line : Line) (word n : List ℕ) → IsBuilt old before
     → is_name word ≡ false → IsBuilt old (before ++ (line, object word n) ∷ [])
-built_object_none old before line word n built name = record {
-  labels = built.labels ∙ ap by_number (sym (none_more built_label before (line, object word n) refl));
-  objects = built.objects ∙ sym (none_more built_object before (line, object word n) (rw name refl));
-  edges = built.edges ∙ sym (none_more built_edge before (line, object word n) refl);
-}
+built_object_none old before line word n built name = search (rules, none_more)
 
 pub built_edge_more : (old new : Parts) (before : List Told) (line : Line) (l : List ℕ) (a : Authority) (m : List ℕ)
     → IsBuilt old before → new.labels.entries ≡ old.labels.entries
     → new.objects ≡ old.objects → new.edges.items ≡ old.edges.items ++ record { from = narrow l; authority = a; to = narrow m }
     ∷ [] → IsBuilt new (before ++ (line, edge l a m) ∷ [])
-built_edge_more old new before line l a m built labels objects edges = record {
-  labels = labels ∙ built.labels ∙ ap by_number (sym (none_more built_label before (line, edge l a m) refl));
-  objects = objects ∙ built.objects ∙ sym (none_more built_object before (line, edge l a m) refl);
-  edges = edges ∙ ap (λ (es : List Edge). es ++ record { from = narrow l; authority = a; to = narrow m } ∷ []) built.edges
-      ∙ sym (one_more built_edge before (line, edge l a m) _ refl);
-}
+built_edge_more old new before line l a m built labels objects edges = search (rules, none_more, one_more)
 
 pub builds_object : (old : Parts) (objects : List (List ℕ × ℕ)) (word n : List ℕ) (r : Result (Unit {0}) NoMemory)
     → is_name word ≡ true → OnOk r (objects ≡ old.objects ++ (word, narrow n) ∷ [])

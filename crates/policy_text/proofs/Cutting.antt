@@ -1,30 +1,14 @@
 -- The first field of a text, and the fields behind it.
+use Rattle.std.proofs.Common.{rules}
 use Rattle.policy_text.proofs.Common.{Bool, Kind, List, None, Some, [], ap, arith, drop, entry_of, fails_before_first, false, fields, length, length-drop, length-slice_split, ltb-true, nat_lt, nat_tests, position, position_or_len, refl}
 use Rattle.policy_text.proofs.Common.{slice_split_first, slice_split_none, sym, take, take_all, true, ℕ, ◌+◌, ◌-◌, ◌<◌, ◌==◌, ◌∙◌, ◌∷◌, ◌≡◌, ◌≤◌}
 
 pub cut_some : (text : List ℕ) (n : ℕ) → position (λ b. b == 32) text ≡ Some n
     → fields text ≡ take n text ∷ fields (take (length text - (n + 1)) (drop (n + 1) text))
-cut_some text n e = go (nat_lt (position_or_len (λ b. b == 32) text) (length text)) refl
-  where
-    go : (v : Bool) → nat_lt (position_or_len (λ b. b == 32) text) (length text) ≡ v → fields text ≡ take n text
-        ∷ fields (take (length text - (n + 1)) (drop (n + 1) text))
-    go true t =
-        let is : position (λ b. b == 32) text ≡ Some (position_or_len (λ b. b == 32) text) = rw t refl in
-        let same : position_or_len (λ b. b == 32) text ≡ n = cc in
-        slice_split_first (λ b. b == 32) text 0 (ltb-true (position_or_len (λ b. b == 32) text) (length text) t)
-        ∙ ap (λ k. take k text ∷ fields (drop (k + 1) text)) same
-        ∙ ap (λ rest. take n text ∷ fields rest)
-        (sym (take_all (length text - (n + 1)) (drop (n + 1) text) (omega (arith, length-drop (n + 1) text))))
-    go false t = let is : position (λ b. b == 32) text ≡ None = rw t refl in absurd cc
+cut_some text n e = search (rules, nat_lt, slice_split_first, ltb-true, take_all, length-drop)
 
 pub cut_none : (text : List ℕ) → position (λ b. b == 32) text ≡ None → fields text ≡ text ∷ []
-cut_none text e = go (nat_lt (position_or_len (λ b. b == 32) text) (length text)) refl
-  where
-    go : (v : Bool) → nat_lt (position_or_len (λ b. b == 32) text) (length text) ≡ v → fields text ≡ text ∷ []
-    go true t = let is : position (λ b. b == 32) text ≡ Some (position_or_len (λ b. b == 32) text) = rw t refl in absurd cc
-    go false t =
-        let all : length text ≤ position_or_len (λ b. b == 32) text = grind (arith, nat_tests) in
-        slice_split_none (λ b. b == 32) text (λ k d lt. fails_before_first (λ b. b == 32) text k d (omega arith))
+cut_none text e = search (rules, nat_lt, nat_tests, slice_split_none, fails_before_first)
 
 -- five fields say nothing
 five_or_more : (kind : Kind) (word l a m : List ℕ) (fs : List (List ℕ)) → 0 < length fs

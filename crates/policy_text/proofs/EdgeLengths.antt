@@ -1,4 +1,5 @@
 -- How long the lines of edges and the text of a certificate are, where its labels are below the limit.
+use Rattle.std.proofs.Common.{rules}
 use Rattle.policy_text.proofs.Common.{AsyncSend, Authority, Edge, List, [], ap, arith, edge_line, flat_map, has, length, length-append, refl, same_edge}
 use Rattle.policy_text.proofs.Common.{same_edge_self, text_of, true, ℕ, ◌*◌, ◌+◌, ◌<◌, ◌||◌, ◌∷◌, ◌≡◌, ◌≤◌}
 use Rattle.std.proofs.Math.Nat.{mul-suc}
@@ -24,19 +25,7 @@ word_short AsyncSend = omega arith
 word_short _ = omega arith
 
 pub edge_short : (e : Edge) → e.from < 8192 → e.to < 8192 → length (edge_line e) ≤ 25
-edge_short e f t =
-    let g = together_length (codes "\n") [] in
-    let m = together_length (decimal e.to) (codes "\n" ∷ []) in
-    let s = together_length (codes " ") (decimal e.to ∷ codes "\n" ∷ []) in
-    let a = together_length (text_of e.authority) (codes " " ∷ decimal e.to ∷ codes "\n" ∷ []) in
-    let r = together_length (codes " ") (text_of e.authority ∷ codes " " ∷ decimal e.to ∷ codes "\n" ∷ []) in
-    let l = together_length (decimal e.from) (codes " " ∷ text_of e.authority ∷ codes " " ∷ decimal e.to ∷ codes "\n" ∷ []) in
-    let w = together_length (codes "edge ") (decimal e.from ∷ codes " " ∷ text_of e.authority ∷ codes " " ∷ decimal e.to
-    ∷ codes "\n" ∷ []) in
-    let from = number_short e.from f in
-    let to = number_short e.to t in
-    let word = word_short e.authority in
-    omega (arith, g, m, s, a, r, l, w, from, to, word, nothing_together)
+edge_short e f t = search (rules, together_length, number_short, word_short, nothing_together)
 
 lines_short : (cert : List Edge) → ((e : Edge) → has cert e ≡ true → (e.from < 8192) × (e.to < 8192))
     → length (flat_map edge_line cert) ≤ 25 * length cert
@@ -52,7 +41,4 @@ lines_short (e ∷ cert) small =
 pub cert_short : (cert : List Edge) → ((e : Edge) → has cert e ≡ true → (e.from < 8192) × (e.to < 8192)) → length cert ≤ 262144
     → length (cert_text cert) ≤ 67108864
 unfolding cert_text ◌⊹◌
-cert_short cert small few =
-    let lines = lines_short cert small in
-    let whole = length-append (codes "certificate 1\n") (flat_map edge_line cert) in
-    omega (arith, whole, lines, few)
+cert_short cert small few = search (rules, lines_short, length-append)

@@ -1,4 +1,5 @@
 -- Labels in the order of their numbers, after one label more.
+use Rattle.std.proofs.Common.{rules}
 use Rattle.policy_text.proofs.Common.{All, All-cons, All-nil, AllPairs, AllPairs-cons, Bool, List, NumbersDiffer, [], ap, arith, bytes_eq, bytes_eq-Decides, bytes_eq-sym, eqb-true, false, fold, insert_entry, is_label_name, label_name, list_any}
 use Rattle.policy_text.proofs.Common.{nat_cmp, nat_lt, nat_tests, or_parts, refl, sym, true, true≢false, ℕ, ◌<◌, ◌==◌, ◌||◌, ◌∙◌, ◌∷◌, ◌≡◌, ◌≢◌}
 use Rattle.std.specs.Option.{is_some}
@@ -27,12 +28,7 @@ or_map false h f = f h
 pub insert_by : (k : ℕ) (v : List ℕ) (e : ℕ × List ℕ) (es : Pairs) (P : Pairs → Type 0) → (k < e.0 → P ((k, v) ∷ e ∷ es))
     → (k ≡ e.0 → P ((e.0, v) ∷ es))
     → (e.0 < k → P (e ∷ insert_entry nat_cmp es k v)) → P (insert_entry nat_cmp (e ∷ es) k v)
-insert_by k v e es P less same more = go (nat_lt k e.0) (k == e.0) refl refl
-  where
-    go : (a b : Bool) → nat_lt k e.0 ≡ a → k == e.0 ≡ b → P (insert_entry nat_cmp (e ∷ es) k v)
-    go true b l s = rw l (less (grind (arith, nat_tests)))
-    go false true l s = rw (l, s) (same (eqb-true k e.0 s))
-    go false false l s = rw (l, s) (more (grind (arith, nat_tests)))
+insert_by k v e es P less same more = search (rules, nat_lt, nat_tests, eqb-true)
 
 -- ---- names
 

@@ -1,4 +1,5 @@
 -- One line judged or noted, and then the lines behind it.
+use Rattle.std.proofs.Common.{rules}
 use Rattle.policy_text.proofs.Common.{Authority, Bool, Entry, Err, HasFewEdges, IsAdded, IsFault, IsLineJudged, IsNear, IsRefusal, IsSeen, Kind, Line, List, NoMemory, None, Notes, Number, Ok, OnOk, Option, PolicySyntax, Refused, Result, Seen, Some}
 use Rattle.policy_text.proofs.Common.{TextFault, Told, Words, [], ap, append_assoc, arith, at_line, bytes_eq, cond, count_by, drop, drop_more, edge, edges_limit, false, fault_at, first_wrong, form_fault, get_or, gives, has_label, is_edge, label}
 use Rattle.policy_text.proofs.Common.{length, map_more, map_push, meant, min, nat_le, object, option_map, option_or, or-false, or_assoc, or_comm, refl, said, subst, sum_by-append, sum_by-take-le, sym, take, take-map, told, told_line, told_lines}
@@ -41,25 +42,17 @@ module _ (knows : Number → Bool) (lines : List EntryLine) (i : ℕ) (x : Entry
   check_more : first_wrong knows (told_lines (take i lines)) (told_lines (drop i lines))
       ≡ option_or (fault_at knows (told_lines (take i lines)) (told_line x)) (first_wrong knows (told_lines (take (i + 1) lines))
       (told_lines (drop (i + 1) lines)))
-  check_more =
-      ap (λ ls. first_wrong knows (told_lines (take i lines)) (told_lines ls)) (drop_more lines i x lt
-      ∙ ap (λ y. y ∷ drop (i + 1) lines) (sym is))
-      ∙ ap (λ ts. option_or (fault_at knows (told_lines (take i lines)) (told_line x))
-      (first_wrong knows ts (told_lines (drop (i + 1) lines)))) (sym (told_more lines i x lt is))
+  check_more = search (rules, drop_more, told_more)
 
   pub check_step : (all : Option TextFault) → first_wrong knows (told_lines (take i lines)) (told_lines (drop i lines)) ≡ all
       → fault_at knows (told_lines (take i lines)) (told_line x) ≡ None
       → first_wrong knows (told_lines (take (i + 1) lines)) (told_lines (drop (i + 1) lines)) ≡ all
-  check_step all so_far none =
-      ap (λ o. option_or o (first_wrong knows (told_lines (take (i + 1) lines)) (told_lines (drop (i + 1) lines)))) (sym none)
-      ∙ sym check_more ∙ so_far
+  check_step all so_far none = search (rules, check_more)
 
   pub check_fails : (all : Option TextFault) (r : Refused TextFault)
       → first_wrong knows (told_lines (take i lines)) (told_lines (drop i lines)) ≡ all
       → IsFault (fault_at knows (told_lines (take i lines)) (told_line x)) r → IsFault all r
-  check_fails all r so_far wrong =
-      fault_is _ all r (sym check_more ∙ so_far)
-      (fault_first _ (first_wrong knows (told_lines (take (i + 1) lines)) (told_lines (drop (i + 1) lines))) r wrong)
+  check_fails all r so_far wrong = search (rules, fault_is, check_more, fault_first)
 
 pub few_front : (lines : List EntryLine) (i : ℕ) (x : EntryLine) → i < length lines → x ≡ get_or lines i x
     → HasFewEdges (told_lines lines) → HasFewEdges (told_lines (take i lines) ++ told_line x ∷ [])
@@ -95,12 +88,7 @@ pub notes_label : (old new : Noted) (line : EntryLine) (n name : List ℕ) (r : 
     → meant line.entry ≡ label n name → OnOk r (IsAdded n old.numbers new.numbers)
     → OnOk r (IsNear old.near.items old.numbers → IsNear new.near.items new.numbers) → new.edges ≡ old.edges → Pushed old line new
     → OnOk r (Notes (told_line line) old new)
-notes_label old new line n name (Ok x) is added near edges pushed = record {
-  numbers = λ m. added.each m ∙ or_comm (bytes_eq n m) (has old.numbers m) ∙ ap (λ e. has old.numbers m || gives m e) (sym is);
-  edges = λ le. edges ∙ no_edges (meant line.entry) old.edges (ap is_edge is);
-  near = near;
-  lines = lines_more old new line pushed;
-}
+notes_label old new line n name (Ok x) is added near edges pushed = search (rules, or_comm, no_edges, lines_more)
 notes_label old new line n name (Err e) is added near edges pushed = tt
 
 -- a line that gives no number
@@ -108,12 +96,7 @@ notes_other : (old new : Noted) (line : EntryLine) → ((m : List ℕ) → gives
     → new.numbers ≡ old.numbers → new.near ≡ old.near
     → (new.edges ≤ edges_limit → new.edges ≡ old.edges + one_if (is_edge (meant line.entry))) → Pushed old line new
     → Notes (told_line line) old new
-notes_other old new line apart numbers near edges pushed = record {
-  numbers = λ m. ap (λ set. has set m) numbers ∙ sym (ap (λ b. has old.numbers m || b) (apart m) ∙ or-false (has old.numbers m));
-  edges = edges;
-  near = λ is. rw (numbers, near) is;
-  lines = lines_more old new line pushed;
-}
+notes_other old new line apart numbers near edges pushed = search (rules, or-false, lines_more)
 
 pub notes_object : (old new : Noted) (line : EntryLine) (word n : List ℕ) → meant line.entry ≡ object word n
     → new.numbers ≡ old.numbers → new.near ≡ old.near → new.edges ≡ old.edges
@@ -135,17 +118,11 @@ notes_edge old new line l a m is numbers near edges pushed =
 pub noted_numbers : (kind : Kind) (line : Line) (e : Entry) (old new : Noted) (n : List ℕ) → said kind line ≡ Some e
     → Notes (line, e) old new
     → has new.numbers n ≡ (has old.numbers n || has_label (told kind (line ∷ [])) n)
-noted_numbers kind line e old new n says notes =
-    notes.numbers n ∙ ap (λ b. has old.numbers n || b) (sym (ap (λ ts. has_label ts n) (told_one kind line e says)
-    ∙ or-false (gives n e)))
+noted_numbers kind line e old new n says notes = search (rules, told_one, or-false)
 
 pub noted_edges : (kind : Kind) (line : Line) (e : Entry) (old new : Noted) → said kind line ≡ Some e → Notes (line, e) old new
     → new.edges ≤ edges_limit → new.edges ≡ old.edges + count_by (λ t. is_edge t.1) (told kind (line ∷ []))
-noted_edges kind line e old new says notes le =
-    let one : count_by (λ t. is_edge t.1) (told kind (line ∷ [])) ≡ 0 + one_if (is_edge e) =
-    ap (count_by (λ t. is_edge t.1)) (told_one kind line e says) in
-    let more = notes.edges le in
-    omega (arith, one, more)
+noted_edges kind line e old new says notes le = search (rules, count_by, one_if, told_one)
 
 -- ---- the lines behind it
 
@@ -158,48 +135,30 @@ forms_step kind line left more all is so_far none =
 pub forms_fail : (kind : Kind) (line : Line) (left more : List Line) (all : Option TextFault) (r : Refused TextFault)
     → left ≡ line ∷ more → form_fault kind left ≡ all
     → IsFault (form_fault kind (line ∷ [])) r → IsFault all r
-forms_fail kind line left more all r is so_far here =
-    fault_is _ all r (sym (ap (form_fault kind) is ∙ form-cons kind line more) ∙ so_far)
-    (fault_first _ (form_fault kind more) r here)
+forms_fail kind line left more all r is so_far here = search (rules, fault_is, form-cons, fault_first)
 
 pub numbers_step : (kind : Kind) (line : Line) (left more : List Line) (old new : Words) (n : List ℕ) (all : Bool)
     → left ≡ line ∷ more
     → (has old n || has_label (told kind left) n) ≡ all → has new n ≡ (has old n || has_label (told kind (line ∷ [])) n)
     → (has new n || has_label (told kind more) n) ≡ all
-numbers_step kind line left more old new n all is so_far noted =
-    ap (λ b. b || has_label (told kind more) n) noted ∙ or_assoc (has old n) (has_label (told kind (line ∷ [])) n)
-    (has_label (told kind more) n)
-    ∙ ap (λ b. has old n || b)
-    (sym (ap (λ ls. has_label (told kind ls) n) is ∙ ap (λ ts. has_label ts n) (told-cons kind line more)
-    ∙ has_label-append (told kind (line ∷ [])) (told kind more) n))
-    ∙ so_far
+numbers_step kind line left more old new n all is so_far noted = search (rules, or_assoc, told-cons, has_label-append)
 
 counts : (kind : Kind) (line : Line) (left more : List Line) → left ≡ line ∷ more
     → count_by (λ t. is_edge t.1) (told kind left) ≡ count_by (λ t. is_edge t.1) (told kind (line ∷ [])) + count_by
     (λ t. is_edge t.1) (told kind more)
-counts kind line left more is =
-    ap (λ ls. count_by (λ t. is_edge t.1) (told kind ls)) is ∙ ap (count_by (λ t. is_edge t.1)) (told-cons kind line more)
-    ∙ sum_by-append (λ t. cond (is_edge t.1) 1 0) (told kind (line ∷ [])) (told kind more)
+counts kind line left more is = search (rules, count_by, told-cons, sum_by-append)
 
 pub edges_step : (kind : Kind) (line : Line) (left more : List Line) (old new all : ℕ) → left ≡ line ∷ more
     → (old ≤ edges_limit → old + count_by (λ t. is_edge t.1) (told kind left) ≡ all)
     → (new ≤ edges_limit → new ≡ old + count_by (λ t. is_edge t.1) (told kind (line ∷ []))) → new ≤ edges_limit
     → new + count_by (λ t. is_edge t.1) (told kind more) ≡ all
-edges_step kind line left more old new all is so_far noted le =
-    let both = counts kind line left more is in
-    let step = noted le in
-    let few : old ≤ edges_limit = omega arith in
-    let before = so_far few in
-    omega arith
+edges_step kind line left more old new all is so_far noted le = search (rules, counts)
 
 -- the lines told so far, and then those that are left
 pub told_on : (kind : Kind) (before : List Told) (line : Line) (e : Entry) (left more : List Line) (all : List Told)
     → left ≡ line ∷ more → before ++ told kind left ≡ all → said kind line ≡ Some e
     → (before ++ (line, e) ∷ []) ++ told kind more ≡ all
-told_on kind before line e left more all is so_far says =
-    append_assoc before ((line, e) ∷ []) (told kind more) ∙ ap (λ ts. before ++ (ts ++ told kind more))
-    (sym (told_one kind line e says))
-    ∙ ap (λ ts. before ++ ts) (sym (ap (told kind) is ∙ told-cons kind line more)) ∙ so_far
+told_on kind before line e left more all is so_far says = search (rules, append_assoc, told_one, told-cons)
 
 few_le : (n : ℕ) → nat_le n edges_limit ≡ true → n ≤ edges_limit
 few_le n test = grind arith

@@ -1,5 +1,6 @@
 -- What lines without faults mean together: numbers fit, no name and no object stands twice, and each number that is used has a
 -- label.
+use Rattle.std.proofs.Common.{rules}
 use Rattle.policy_text.proofs.Common.{All, All-cons, All-from_get_or, All-nil, AllPairs, AllPairs-cons, Authority, Bool, Decides-eqb, Edge, Entry, IsBuilt, IsPolicy, IsPolicyOf, Kind, Line, List, None, Number, NumbersDiffer, Option, Parts, Policy}
 use Rattle.policy_text.proofs.Common.{Receive, Some, TextFault, Told, Wrong, [], ap, arith, at_line, authority_of, built_edge, built_label, built_object, by_number, bytes_eq, bytes_eq-Decides, bytes_eq-refl, codes, edge, edge_entry, edge_of}
 use Rattle.policy_text.proofs.Common.{entry_of, false, fault_at, fields, filter_map, first_wrong, get_or, gives, has, has_at, has_label, insert_entry, is_decimal, is_label_name, is_letter, is_name, is_past, is_word, is_word_byte, label, label_entry}
@@ -20,22 +21,10 @@ Formed (object word n) = is_word word ≡ true
 Formed (edge l a m) = Unit {0}
 
 label_formed : (n name : List ℕ) (e : Entry) → label_entry n name ≡ Some e → Formed e
-label_formed n name e h = go (is_decimal n) (is_label_name name) refl refl
-  where
-    go : (a b : Bool) → is_decimal n ≡ a → is_label_name name ≡ b → Formed e
-    go false b d k = let is = rw d at h in absurd cc
-    go true false d k = let is = rw (d, k) at h in absurd cc
-    go true true d k = let is : Some (label n name) ≡ Some e = rw (d, k) at h in let same : label n name ≡ e = cc in
-        subst Formed same k
+label_formed n name e h = search (rules)
 
 object_formed : (word n : List ℕ) (e : Entry) → object_entry word n ≡ Some e → Formed e
-object_formed word n e h = go (is_word word) (is_decimal n) refl refl
-  where
-    go : (a b : Bool) → is_word word ≡ a → is_decimal n ≡ b → Formed e
-    go false b d k = let is = rw d at h in absurd cc
-    go true false d k = let is = rw (d, k) at h in absurd cc
-    go true true d k = let is : Some (object word n) ≡ Some e = rw (d, k) at h in let same : object word n ≡ e = cc in
-        subst Formed same d
+object_formed word n e h = search (rules)
 
 edge_formed : (l a m : List ℕ) (e : Entry) → edge_entry l a m ≡ Some e → Formed e
 edge_formed l a m e h = go (is_decimal l && is_decimal m) (authority_of a) refl refl
@@ -118,26 +107,13 @@ right_label knows before line n name h = go (list_any (λ t. gives n t.1) before
 pub right_object : (knows : Number → Bool) (before : List Told) (line : Line) (word n : List ℕ)
     → wrong_entry knows before line (object word n) ≡ None
     → (knows n ≡ true) × (list_any (λ t. labels_object word t.1) before ≡ false) × (nat_lt 127 (length word) ≡ false)
-right_object knows before line word n h = go (knows n) (list_any (λ t. labels_object word t.1) before) (nat_lt 127 (length word))
-    refl refl refl
-  where
-    go : (a b c : Bool) → knows n ≡ a → list_any (λ t. labels_object word t.1) before ≡ b → nat_lt 127 (length word) ≡ c
-        → (knows n ≡ true) × (list_any (λ t. labels_object word t.1) before ≡ false) × (nat_lt 127 (length word) ≡ false)
-    go false b c p q r = let is = rw p at h in absurd cc
-    go true true c p q r = let is = rw (p, q) at h in absurd cc
-    go true false true p q r = let is = rw (p, q, r) at h in absurd cc
-    go true false false p q r = (p, q, r)
+right_object knows before line word n h = search (rules, nat_lt)
 
 -- an edge
 right_edge : (knows : Number → Bool) (before : List Told) (line : Line) (l : List ℕ) (a : Authority) (m : List ℕ)
     → wrong_entry knows before line (edge l a m) ≡ None
     → (knows l ≡ true) × (knows m ≡ true)
-right_edge knows before line l a m h = go (knows l) (knows m) refl refl
-  where
-    go : (a b : Bool) → knows l ≡ a → knows m ≡ b → (knows l ≡ true) × (knows m ≡ true)
-    go false b p q = let is = rw p at h in absurd cc
-    go true false p q = let is = rw (p, q) at h in absurd cc
-    go true true p q = (p, q)
+right_edge knows before line l a m h = search (rules)
 
 -- ---- numbers fit 32 bits
 
@@ -210,9 +186,7 @@ built_edges knows before ((line, object word n) ∷ ts) small c =
 built_edges knows before ((line, edge l a m) ∷ ts) small c =
     let right = right_edge knows before line l a m c.0 in
     let rest = built_edges knows (before ++ (line, edge l a m) ∷ []) ts small c.2 in
-    ap (λ (e : Edge). e ∷ filter_map built_edge ts) (edge_at (narrow l) (label_value l) (narrow m) (label_value m) a
-    (small l right.0) (small m right.1))
-    ∙ ap (λ (es : List Edge). record { from = label_value l; authority = a; to = label_value m } ∷ es) rest
+    search (rules, edge_at)
 
 -- ---- labels
 
@@ -355,22 +329,13 @@ no_edge = record { from = 0; authority = Receive; to = 0 }
 
 -- what holds of each edge that a table has holds of all
 pub all_edges : (P : Edge → Type 0) (edges : List Edge) → ((e : Edge) → has edges e ≡ true → P e) → All P edges
-all_edges P edges each =
-    All-from_get_or P edges no_edge
-    (λ i lt. each (get_or edges i no_edge) (has_at edges i (get_or edges i no_edge) (slice_get-get_or edges i no_edge lt)))
+all_edges P edges each = search (rules, no_edge, has_at, slice_get-get_or)
 
 -- ---- the policy
 
 pub policy_says : (ts : List Told) (parts : Parts) (policy : Policy) → Clean (has_label ts) [] ts → IsBuilt parts ts
     → IsPolicyOf parts policy → Says ts policy
-policy_says ts parts policy c built is = record {
-  labels = is.labels ∙ built.labels ∙ ap by_number (built_labels (has_label ts) [] ts c);
-  objects = is.objects ∙ built.objects ∙ built_objects (has_label ts) [] ts (known_small ts c) c;
-  edges = record {
-    order = is.order;
-    same = λ e. is.edges e ∙ ap (λ es. has es e) (built.edges ∙ built_edges (has_label ts) [] ts (known_small ts c) c);
-  };
-}
+policy_says ts parts policy c built is = search (rules, built_labels, built_objects, known_small, built_edges)
 
 pub policy_kept : (ts : List Told) (policy : Policy) → Clean (has_label ts) [] ts → Says ts policy → IsPolicy policy
 policy_kept ts policy c says =

@@ -1,4 +1,5 @@
 -- The numbers of labels, after one label more.
+use Rattle.std.proofs.Common.{rules}
 use Rattle.policy_text.proofs.Common.{BTreeSet, Bool, IsSmall, List, Updates, [], ap, arith, cases_lt, cond, contains, eqb-true, false, get_or, inl, inr, is_at, is_some, label_name, length, list_any, list_any_more, nat_cmp, nat_tests, or_comm, refl}
 use Rattle.policy_text.proofs.Common.{sym, take, true, ℕ, ◌+◌, ◌<◌, ◌==◌, ◌^◌, ◌||◌, ◌∙◌, ◌∷◌, ◌≡◌}
 use Rattle.cam_base.proofs.Orders.{is_eq-nat_cmp}
@@ -30,11 +31,7 @@ has_more old new k n updates = updates.0 n ∙ cond_or (is_at (nat_cmp k) n) (co
     ∙ ap (λ (b : Bool). b || contains nat_cmp old n) (is_eq-nat_cmp k n)
 
 pub small_more : (old new : BTreeSet ℕ) (k : ℕ) → k < 2 ^ 32 → IsSmall old → Updates nat_cmp old new k true → IsSmall new
-small_more old new k few small updates n h = go (k == n) refl
-  where
-    go : (b : Bool) → (k == n) ≡ b → n < 2 ^ 32
-    go true e = let same : k ≡ n = eqb-true k n e in omega arith
-    go false e = small n (ap (λ (b : Bool). b || contains nat_cmp old n) (sym e) ∙ sym (has_more old new k n updates) ∙ h)
+small_more old new k few small updates n h = search (rules, eqb-true, has_more)
 
 -- one number more that has a label
 eqb-self : (a b : ℕ) → a ≡ b → (a == b) ≡ true
@@ -43,10 +40,7 @@ eqb-self a b same = grind (arith, nat_tests)
 pub near_more : (old new : List (ℕ × List ℕ)) (near : ℕ)
     → ((n : ℕ) → is_some (label_name new n) ≡ (near == n || is_some (label_name old n)))
     → ((n : ℕ) → n < near → is_some (label_name old n) ≡ true) → (n : ℕ) → n < near + 1 → is_some (label_name new n) ≡ true
-near_more old new near more below n less = elim (cases_lt n near) [
-  | inl before ↦ more n ∙ ap (λ b. near == n || b) (below n before) ∙ or_comm (near == n) true
-  | inr ge ↦ let same : near ≡ n = omega arith in more n ∙ ap (λ b. b || is_some (label_name old n)) (eqb-self near n same)
-]
+near_more old new near more below n less = search (rules, cases_lt, or_comm, is_some, eqb-self)
 
 pub near_kept : (old new : List (ℕ × List ℕ)) (near k : ℕ)
     → ((n : ℕ) → is_some (label_name new n) ≡ (k == n || is_some (label_name old n)))

@@ -1,4 +1,5 @@
 -- A table of the labels of objects that is filled line by line, and the labels of a spec's objects.
+use Rattle.std.proofs.Common.{rules}
 use Rattle.policy_text.proofs.Common.{Bool, IsErrAnd, IsFault, IsLabelling, List, None, Option, Policy, Refused, Result, Some, TextFault, ap, at_drop_more, bytes_eq, cond, drop, false, first_unlabelled, get_or, length, object_label, option_or}
 use Rattle.policy_text.proofs.Common.{option_or-cond, passed_on, refl, subst, sym, true, ℕ, ◌+◌, ◌<◌, ◌∙◌, ◌∷◌, ◌≡◌}
 use mathlib.Core.Path.{fun_ext}
@@ -7,12 +8,7 @@ use Rattle.cap_model.specs.declared.spec.Spec.{Spec}
 
 first_label : (o : List ℕ × ℕ) (more : List (List ℕ × ℕ)) (name : List ℕ)
     → object_label (o ∷ more) name ≡ cond (bytes_eq o.0 name) (Some o.1) (object_label more name)
-first_label o more name = go (bytes_eq o.0 name) refl
-  where
-    go : (b : Bool) → bytes_eq o.0 name ≡ b → object_label (o ∷ more) name ≡ cond (bytes_eq o.0 name) (Some o.1)
-        (object_label more name)
-    go true e = rw e refl
-    go false e = rw e refl
+first_label o more name = search (rules)
 
 -- one object line more
 pub label_more : (name : List ℕ) (objects : List (List ℕ × ℕ)) (i : ℕ) (o : List ℕ × ℕ) (f g all : Option ℕ) → i < length objects

@@ -5,13 +5,7 @@ use Rattle.cam_base.specs.declared.error.Refused.TheVariants as refused
 use Rattle.policy_text.specs.PolicyTexts.{Says}
 
 policies_same : (p q : Policy) → p.labels ≡ q.labels → p.objects ≡ q.objects → p.edges ≡ q.edges → p ≡ q
-policies_same p q l o e =
-    let same : ◌≡◌ {A = Policy} (record { labels = p.labels; objects = p.objects; edges = p.edges }) (record {
-      labels = q.labels;
-      objects = q.objects;
-      edges = q.edges;
-    }) = rw (l, o, e) refl in
-    same
+policies_same p q l o e = search (rules)
 
 one_cert : (lines : List Told) (p q : List Edge) → SaysEdges lines p → SaysEdges lines q → p ≡ q
 one_cert lines p q a b = one_table p q a.order b.order (λ e. a.same e ∙ sym (b.same e))
@@ -41,9 +35,7 @@ policy_answers bytes (Err r) h = h
 
 pub policies_one : (bytes : List ℕ) (a b : Result Policy (Refused TextFault)) → IsAnswer a → IsAnswer b → IsPolicyRead bytes a
     → IsPolicyRead bytes b → a ≡ b
-policies_one bytes a b s t h k =
-    one_answer (first_policy_fault bytes) (Says (policy_lines bytes)) (one_policy (policy_lines bytes)) a b s t
-    (policy_answers bytes a h) (policy_answers bytes b k)
+policies_one bytes a b s t h k = search (rules, one_answer, one_policy, policy_answers)
 
 cert_answers : (policy : Policy) (bytes : List ℕ) (a : Result (List Edge) (Refused TextFault)) → IsCertRead policy bytes a
     → Answers (first_cert_fault policy bytes) (SaysEdges (cert_lines bytes)) a

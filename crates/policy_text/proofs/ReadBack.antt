@@ -1,4 +1,5 @@
 -- What is written of a policy or a certificate is a text of it.
+use Rattle.std.proofs.Common.{rules}
 use Rattle.policy_text.proofs.Common.{All, All-head, All-tail, Bool, Edge, IsCertText, IsPolicy, IsPolicyText, Kind, List, None, Number, Option, Policy, PolicyLimit, PolicySyntax, Some, TextFault, Told, [], ap, append-nil, append_assoc, arith}
 use Rattle.policy_text.proofs.Common.{at_start, body, by_number, bytes_limit, codes, cond, count_by, decimal, drop, edge_line, edge_of, entry_of, eqb-true, false, fields, filter_map, filter_map-append, first_wrong, flat_map, form_fault, get_or, has}
 use Rattle.policy_text.proofs.Common.{has_label, head_fault, header, is_edge, is_headed, is_label_name, is_labelled, is_name, is_object, is_some, label_line, label_name, label_of, labels_object, length, lines, map, nat_lt, nat_tests}
@@ -80,11 +81,7 @@ the_form kind items rows says = ap (form_fault kind) (the_body kind items rows) 
 
 the_head : (kind : Kind) (items : List Item) → AreRows (rows_of items) → length (text kind items) ≤ bytes_limit
     → head_fault kind (text kind items) ≡ None
-the_head kind items rows few =
-    let short : nat_lt bytes_limit (length (text kind items)) ≡ false = grind (arith, nat_tests) in
-    head_none (nat_lt bytes_limit (length (text kind items))) (is_headed kind (lines (text kind items)))
-    (Some (at_start PolicyLimit)) (Some (at_start PolicySyntax)) short
-    (ap (is_headed kind) (the_lines kind items rows) ∙ headed kind (rows_of items))
+the_head kind items rows few = search (rules, nat_lt, nat_tests, head_none, the_lines, headed, rows_of)
 
 -- ---- certificates
 
@@ -114,23 +111,12 @@ cert_back policy cert w =
     let says = edges_say kinds.Certificate cert small in
     let is = the_told kinds.Certificate items rows says in
     let known : All (λ e. (is_labelled policy (decimal e.from) ≡ true) × (is_labelled policy (decimal e.to) ≡ true)) cert =
-    λ k d lt. (
-      edges_known policy _ (small k d lt).0 (w.labelled.from k d lt),
-      edges_known policy _ (small k d lt).1
-          (w.labelled.to k d lt),
-    ) in
+    search (rules, edges_known) in
     let right = ap (first_wrong (is_labelled policy) []) is ∙ edges_right (is_labelled policy) [] (start kinds.Certificate) cert
     known (omega (arith, w.edges)) in
-    let few : length (text kinds.Certificate items) ≤ bytes_limit = subst (λ (t : List ℕ). length t ≤ bytes_limit)
-    (cert_is cert) w.bytes in
-    let back : IsCertText policy (text kinds.Certificate items) cert = (
-      fault_none kinds.Certificate (is_labelled policy) (text kinds.Certificate items) (the_head kinds.Certificate items rows few)
-          (the_form kinds.Certificate items rows says) right,
-      record {
-        order = w.order;
-        same = λ e. ap (λ es. has es e) (sym (ap (filter_map edge_of) is ∙ edges_meant (start kinds.Certificate) cert small));
-      },
-    ) in
+    let few : length (text kinds.Certificate items) ≤ bytes_limit = search (rules, cert_is) in
+    let back : IsCertText policy (text kinds.Certificate items) cert =
+    search (rules, fault_none, the_head, the_form, edges_meant) in
     subst (λ (t : List ℕ). IsCertText policy t cert) (sym (cert_is cert)) back
 
 -- ---- policies
@@ -153,12 +139,7 @@ three-ended p =
 
 policy_is : (p : Policy) → policy_text p ≡ text kinds.Policy (policy_items p)
 unfolding policy_text ◌⊹◌
-policy_is p =
-    append_assoc (codes "policy 1\n" ++ flat_map label_line p.labels) (flat_map object_line p.objects)
-    (flat_map edge_line p.edges)
-    ∙ append_assoc (codes "policy 1\n") (flat_map label_line p.labels) (flat_map object_line p.objects
-    ++ flat_map edge_line p.edges)
-    ∙ ap (λ (t : List ℕ). codes "policy 1\n" ++ t) (three-ended p)
+policy_is p = search (rules, append_assoc, three-ended)
 
 -- numbers that labels have are small
 named_small : (ls : Pairs) (n : ℕ) → All (λ l. l.0 < 8192) ls → is_some (label_name ls n) ≡ true → n < 8192
@@ -171,10 +152,7 @@ named_small (l ∷ ls) n few h = go (l.0 == n) refl (λ k. named_small ls n (All
 
 three_right : (knows : Number → Bool) (xs ys zs : List Told) → first_wrong knows [] xs ≡ None → first_wrong knows xs ys ≡ None
     → first_wrong knows (xs ++ ys) zs ≡ None → first_wrong knows [] (xs ++ (ys ++ zs)) ≡ None
-three_right knows xs ys zs a b c =
-    first_wrong-append knows [] xs (ys ++ zs)
-    ∙ none_then (first_wrong knows [] xs) (first_wrong knows xs (ys ++ zs)) a
-    (first_wrong-append knows xs ys zs ∙ none_then (first_wrong knows xs ys) (first_wrong knows (xs ++ ys) zs) b c)
+three_right knows xs ys zs a b c = search (rules, first_wrong-append, none_then)
 
 three_meant : {Y : Type 0} (h : Told → Option Y) (xs ys zs : List Told) → filter_map h (xs ++ (ys ++ zs)) ≡ filter_map h xs
     ++ (filter_map h ys ++ filter_map h zs)
@@ -197,14 +175,7 @@ record Laid (p : Policy) : Type 0 where
   to : All (λ e. is_some (label_name p.labels e.to) ≡ true) p.edges
 
 laid : (p : Policy) → IsPolicy p → IsWritable p → Laid p
-laid p kept w = record {
-  few = w.numbers;
-  labels = kept.named;
-  names = w.names;
-  objects = kept.labelled;
-  from = kept.from;
-  to = kept.to;
-}
+laid p kept w = search (rules)
 
 small_of : (p : Policy) (n : ℕ) → Laid p → is_some (label_name p.labels n) ≡ true → n < 2 ^ 64
 small_of p n h named = let few = named_small p.labels n h.few named in omega arith
@@ -264,9 +235,7 @@ module _ (p : Policy) where
 
   told_in_parts : told_at (start kinds.Policy) (policy_items p) ≡ all_lines
   unfolding at_objects at_edges
-  told_in_parts =
-      told_at-append (start kinds.Policy) (map label_item p.labels) (map object_item p.objects ++ map edge_item p.edges)
-      ∙ ap (λ (ts : List Told). label_lines ++ ts) (told_at-append at_objects (map object_item p.objects) (map edge_item p.edges))
+  told_in_parts = search (rules, told_at-append, label_item, object_item, edge_item, at_objects)
 
   known : (n : ℕ) → is_some (label_name p.labels n) ≡ true → has_label all_lines (decimal n) ≡ true
   known n h = has_label-append label_lines (object_lines ++ edge_lines) (decimal n)
@@ -315,21 +284,10 @@ module _ (p : Policy) where
 
   edges_back : Laid p → filter_map edge_of all_lines ≡ p.edges
   edges_back h =
-      three_meant edge_of label_lines object_lines edge_lines
-      ∙ ap (λ (es : List Edge). es ++ (filter_map edge_of object_lines ++ filter_map edge_of edge_lines))
-      (nothing_meant edge_of label_item (λ line l. refl) (start kinds.Policy) p.labels)
-      ∙ ap (λ (es : List Edge). [] ++ (es ++ filter_map edge_of edge_lines)) (nothing_meant edge_of object_item (λ line o. refl)
-      at_objects p.objects)
-      ∙ ap (λ (es : List Edge). [] ++ ([] ++ es)) (edges_meant at_edges p.edges (small_edges p h))
+      search (rules, three_meant, nothing_meant, label_item, object_item, at_objects, edges_meant, at_edges, small_edges)
 
   says_back : IsPolicy p → IsWritable p → Says all_lines p
-  says_back kept w =
-      let h = laid p kept w in
-      record {
-        labels = sym (ap by_number (labels_back h) ∙ by_number-rising p.labels w.rising);
-        objects = sym (objects_back h);
-        edges = record { order = w.order; same = λ e. ap (λ es. has es e) (sym (edges_back h)) };
-      }
+  says_back kept w = search (rules, laid, labels_back, by_number-rising, objects_back, edges_back)
 
 pub policy_back : (p : Policy) → IsPolicy p → IsWritable p → IsPolicyText (policy_text p) p
 policy_back p kept w =
@@ -338,8 +296,7 @@ policy_back p kept w =
     let rows = policy_rows p h in
     let says = policy_spells p h in
     let is = the_told kinds.Policy items rows says ∙ told_in_parts p in
-    let few : length (text kinds.Policy items) ≤ bytes_limit = subst (λ (t : List ℕ). length t ≤ bytes_limit)
-    (policy_is p) w.bytes in
+    let few : length (text kinds.Policy items) ≤ bytes_limit = search (rules, policy_is) in
     let right = subst (λ (ts : List Told). first_wrong (has_label ts) [] ts ≡ None) (sym is) (all_right p kept w) in
     let back : IsPolicyText (text kinds.Policy items) p = (
       fault_none kinds.Policy (has_label (policy_lines (text kinds.Policy items))) (text kinds.Policy items)

@@ -1,4 +1,5 @@
 -- What the readers cite as they refuse a text and as they answer.
+use Rattle.std.proofs.Common.{rules}
 use Rattle.policy_text.proofs.Common.{AreLabelled, BTreeSet, Bool, Edge, IsBuilt, IsCertRead, IsCertText, IsErrAnd, IsFault, IsPolicy, IsPolicyOf, IsPolicyRead, IsPolicyText, IsSmall, IsSorted, Kind, List, None, Number, Option, Parts, Policy}
 use Rattle.policy_text.proofs.Common.{Refused, Result, SaysEdges, Some, TextFault, Told, Words, [], ap, arith, body, cert_lines, contains, false, first_fault, first_wrong, form_fault, has, has_label, head_fault, is_labelled, label_name, nat_cmp}
 use Rattle.policy_text.proofs.Common.{nat_lt, nat_tests, option_map_or, option_or, passed_on, policy_lines, refl, subst, sym, told, true, true≢false, unwrap_or, value, within, ℕ, ◌<◌, ◌^◌, ◌∙◌, ◌≡◌}
@@ -11,31 +12,20 @@ use Rattle.policy_text.proofs.Kept.{Clean, clean, formed_all, built_edges, edges
 
 module _ (kind : Kind) (knows : Number → Bool) (bytes : List ℕ) where
   pub fault_head : (r : Refused TextFault) → IsFault (head_fault kind bytes) r → IsFault (first_fault kind knows bytes) r
-  fault_head r h =
-      fault_first (head_fault kind bytes) (option_or (form_fault kind (body bytes))
-      (first_wrong knows [] (told kind (body bytes)))) r h
+  fault_head r h = search (rules, fault_first)
 
   pub fault_form : (r : Refused TextFault) → head_fault kind bytes ≡ None → IsFault (form_fault kind (body bytes)) r
       → IsFault (first_fault kind knows bytes) r
-  fault_form r head h =
-      fault_then (head_fault kind bytes) (option_or (form_fault kind (body bytes))
-      (first_wrong knows [] (told kind (body bytes)))) r head
-      (fault_first (form_fault kind (body bytes)) (first_wrong knows [] (told kind (body bytes))) r h)
+  fault_form r head h = search (rules, fault_then, fault_first)
 
   pub fault_wrong : (r : Refused TextFault) → head_fault kind bytes ≡ None → form_fault kind (body bytes) ≡ None
       → IsFault (first_wrong knows [] (told kind (body bytes))) r
       → IsFault (first_fault kind knows bytes) r
-  fault_wrong r head form h =
-      fault_then (head_fault kind bytes) (option_or (form_fault kind (body bytes))
-      (first_wrong knows [] (told kind (body bytes)))) r head
-      (fault_then (form_fault kind (body bytes)) (first_wrong knows [] (told kind (body bytes))) r form h)
+  fault_wrong r head form h = search (rules, fault_then)
 
   pub fault_none : head_fault kind bytes ≡ None → form_fault kind (body bytes) ≡ None
       → first_wrong knows [] (told kind (body bytes)) ≡ None → first_fault kind knows bytes ≡ None
-  fault_none head form wrong =
-      none_then (head_fault kind bytes) (option_or (form_fault kind (body bytes)) (first_wrong knows [] (told kind (body bytes))))
-      head
-      (none_then (form_fault kind (body bytes)) (first_wrong knows [] (told kind (body bytes))) form wrong)
+  fault_none head form wrong = search (rules, none_then)
 
   pub clean_lines : first_wrong knows [] (told kind (body bytes)) ≡ None → Clean knows [] (told kind (body bytes))
   clean_lines h = clean knows [] (told kind (body bytes)) h (formed_all kind (body bytes))
@@ -60,10 +50,7 @@ small_of : (numbers : BTreeSet ℕ) (policy : Policy) (o : Option ℕ)
     → ((n : ℕ) → contains nat_cmp numbers n ≡ is_some (label_name policy.labels n)) → IsSmall numbers
     → option_map_or (λ v. is_some (label_name policy.labels v)) o false ≡ true → within o ≡ unwrap_or o 0
 small_of numbers policy None each small h = absurd (true≢false (sym h))
-small_of numbers policy (Some v) each small h =
-    let few : v < 2 ^ 32 = small v (each v ∙ h) in
-    let lt : nat_lt v 4294967296 ≡ true = grind (arith, nat_tests) in
-    rw lt refl
+small_of numbers policy (Some v) each small h = search (rules, nat_lt, nat_tests)
 
 pub cert_says : (numbers : BTreeSet ℕ) (policy : Policy) (bytes : List ℕ) (parts : Parts) (cert : List Edge)
     → ((n : ℕ) → contains nat_cmp numbers n ≡ is_some (label_name policy.labels n)) → IsSmall numbers
@@ -100,11 +87,7 @@ pub policy_wrong : (numbers : Words) (bytes : List ℕ) (answer : Result Policy 
     → ((n : List ℕ) → words.has numbers n ≡ has_label (policy_lines bytes) n)
     → IsFault (first_wrong (words.has numbers) [] (policy_lines bytes)) r → IsErrAnd answer (λ other. other ≡ r)
     → IsPolicyRead bytes answer
-policy_wrong numbers bytes answer r head form each h is =
-    passed_on (IsPolicyRead bytes) answer r is
-    (fault_wrong kinds.Policy (has_label (policy_lines bytes)) bytes r head form
-    (subst (λ (k : Number → Bool). IsFault (first_wrong k [] (policy_lines bytes)) r)
-    (lines_known numbers (policy_lines bytes) each) h))
+policy_wrong numbers bytes answer r head form each h is = search (rules, passed_on, fault_wrong, lines_known)
 
 pub policy_read : (numbers : Words) (bytes : List ℕ) (parts : Parts) (policy : Policy) → head_fault kinds.Policy bytes ≡ None
     → form_fault kinds.Policy (body bytes) ≡ None
@@ -128,10 +111,7 @@ pub cert_wrong : (numbers : BTreeSet ℕ) (policy : Policy) (bytes : List ℕ) (
     → ((n : ℕ) → contains nat_cmp numbers n ≡ is_some (label_name policy.labels n))
     → IsFault (first_wrong (λ n. option_map_or (λ v. contains nat_cmp numbers v) (value n) false) [] (cert_lines bytes)) r
     → IsErrAnd answer (λ other. other ≡ r) → IsCertRead policy bytes answer
-cert_wrong numbers policy bytes answer r head form each h is =
-    passed_on (IsCertRead policy bytes) answer r is
-    (fault_wrong kinds.Certificate (is_labelled policy) bytes r head form
-    (subst (λ (k : Number → Bool). IsFault (first_wrong k [] (cert_lines bytes)) r) (labels_known numbers policy each) h))
+cert_wrong numbers policy bytes answer r head form each h is = search (rules, passed_on, fault_wrong, labels_known)
 
 pub cert_read : (numbers : BTreeSet ℕ) (policy : Policy) (bytes : List ℕ) (parts : Parts) (cert : List Edge)
     → head_fault kinds.Certificate bytes ≡ None → form_fault kinds.Certificate (body bytes) ≡ None

@@ -1,4 +1,5 @@
 -- The rows of labels, objects and edges: their fields, and what they say.
+use Rattle.std.proofs.Common.{rules}
 use Rattle.policy_text.proofs.Common.{All, All-append, All-cons, All-nil, All-weaker, AsyncSend, Authority, Bool, Edge, Kind, List, Some, [], and_parts, ap}
 use Rattle.policy_text.proofs.Common.{append_assoc, arith, codes, decimal, digits-decimal, edge, edge_line, entry_of, false, fields, is_decimal-decimal, is_digit, is_label_byte, is_label_name, is_letter, is_name, is_word, is_word_byte, label}
 use Rattle.policy_text.proofs.Common.{label_line, leb, length, list_all, nat_lt, nat_tests, object, object_line, refl, slice_split_at, slice_split_none, text_of, true, ℕ, ◌&&◌, ◌++◌, ◌<◌, ◌==◌, ◌^◌, ◌∙◌, ◌∷◌, ◌≡◌}
@@ -37,9 +38,7 @@ pub number_field : (n : ℕ) → n < 2 ^ 64 → IsField (decimal n)
 number_field n h = field_of is_digit past_digit (decimal n) (digits-decimal n h)
 
 pub label_field : (name : List ℕ) → is_label_name name ≡ true → IsField name
-label_field name h =
-    let parts = and_parts (leb 1 (length name)) (leb (length name) 4096 && list_all is_label_byte name) h in
-    field_of is_label_byte past_label name (and_parts (leb (length name) 4096) (list_all is_label_byte name) parts.1).1
+label_field name h = search (rules, and_parts, leb, field_of, past_label)
 
 pub name_word : (name : List ℕ) → is_name name ≡ true → is_word name ≡ true
 name_word [] h = h
@@ -47,9 +46,7 @@ name_word (b ∷ bs) h = (and_parts (leb (length bs) 126) (is_letter b && list_a
 
 pub word_field : (word : List ℕ) → is_word word ≡ true → IsField word
 word_field [] h = All-nil (λ b. 32 < b)
-word_field (b ∷ bs) h =
-    let parts = and_parts (is_letter b) (list_all is_word_byte bs) h in
-    All-cons (λ b. 32 < b) b bs (past_letter b parts.0) (field_of is_word_byte past_word bs parts.1)
+word_field (b ∷ bs) h = search (rules, and_parts, past_letter, field_of, past_word)
 
 literal_field : (bs : List ℕ) → list_all (λ b. nat_lt 32 b) bs ≡ true → IsField bs
 literal_field bs h = field_of (λ b. nat_lt 32 b) past_any bs h
@@ -89,9 +86,7 @@ abbrev three : List ℕ → List ℕ → List ℕ → List ℕ
 three a b c = a ++ 32 ∷ (b ++ 32 ∷ c)
 
 fields-three : (a b c : List ℕ) → IsField a → IsField b → IsField c → fields (three a b c) ≡ a ∷ b ∷ c ∷ []
-fields-three a b c f g h =
-    fields_more a (b ++ 32 ∷ c) f ∙ ap (λ (fs : List (List ℕ)). a ∷ fs) (fields_more b c g ∙ ap (λ (fs : List (List ℕ)). b ∷ fs)
-    (fields_last c h))
+fields-three a b c f g h = search (rules, fields_more, fields_last)
 
 fields-four : (a b c d : List ℕ) → IsField a → IsField b → IsField c → IsField d → fields (a ++ 32 ∷ three b c d) ≡ a
     ∷ b ∷ c ∷ d ∷ []
@@ -128,27 +123,13 @@ unfolding together
 edge_line-ended e = simp append_assoc
 
 pub label_row : (l : ℕ × List ℕ) → l.0 < 2 ^ 64 → is_label_name l.1 ≡ true → IsRow (label_item l).0
-label_row l small name = record {
-  whole = unfed-three (codes "label") (decimal l.0) l.1 (literal_field (codes "label") refl) (number_field l.0 small)
-      (label_field l.1 name);
-  tells = refl;
-}
+label_row l small name = search (rules, unfed-three, literal_field, number_field, label_field)
 
 pub object_row : (o : List ℕ × ℕ) → o.1 < 2 ^ 64 → is_name o.0 ≡ true → IsRow (object_item o).0
-object_row o small name = record {
-  whole = unfed-three (codes "object") o.0 (decimal o.1) (literal_field (codes "object") refl)
-      (word_field o.0 (name_word o.0 name)) (number_field o.1 small);
-  tells = refl;
-}
+object_row o small name = search (rules, unfed-three, literal_field, word_field, name_word, number_field)
 
 pub edge_row : (e : Edge) → e.from < 2 ^ 64 → e.to < 2 ^ 64 → IsRow (edge_item e).0
-edge_row e small small' = record {
-  whole = behind_space (codes "edge") (three (decimal e.from) (text_of e.authority) (decimal e.to))
-      (literal_field (codes "edge") refl)
-      (unfed-three (decimal e.from) (text_of e.authority) (decimal e.to) (number_field e.from small)
-      (literal_field (text_of e.authority) (text_past e.authority)) (number_field e.to small'));
-  tells = refl;
-}
+edge_row e small small' = search (rules, behind_space, literal_field, unfed-three, number_field, text_past)
 
 pub label_says : (l : ℕ × List ℕ) → l.0 < 2 ^ 64 → is_label_name l.1 ≡ true
     → entry_of kinds.Policy (fields (label_item l).0) ≡ Some (label_item l).1
@@ -159,17 +140,8 @@ label_says l small name =
 
 pub object_says : (o : List ℕ × ℕ) → o.1 < 2 ^ 64 → is_name o.0 ≡ true → entry_of kinds.Policy (fields (object_item o).0) ≡ Some
     (object_item o).1
-object_says o small name =
-    let word = name_word o.0 name in
-    ap (entry_of kinds.Policy) (fields-three (codes "object") o.0 (decimal o.1) (literal_field (codes "object") refl)
-    (word_field o.0 word) (number_field o.1 small))
-    ∙ rw (word, is_decimal-decimal o.1 small) refl
+object_says o small name = search (rules, name_word, fields-three, literal_field, word_field, number_field, is_decimal-decimal)
 
 pub edge_says : (kind : Kind) (e : Edge) → e.from < 2 ^ 64 → e.to < 2 ^ 64
     → entry_of kind (fields (edge_item e).0) ≡ Some (edge_item e).1
-edge_says kind e small small' =
-    ap (entry_of kind)
-    (fields-four (codes "edge") (decimal e.from) (text_of e.authority) (decimal e.to) (literal_field (codes "edge") refl)
-    (number_field e.from small)
-    (literal_field (text_of e.authority) (text_past e.authority)) (number_field e.to small'))
-    ∙ rw (is_decimal-decimal e.from small, is_decimal-decimal e.to small', its_word e.authority) refl
+edge_says kind e small small' = search (rules, fields-four, literal_field, number_field, text_past, is_decimal-decimal, its_word)

@@ -8,30 +8,18 @@ use Rattle.policy_text.specs.WordSets.{has}
 -- a label that isn't wrong has a number that no line in front of it has
 fresh_label : (knows : Number → Bool) (before : List Told) (line : Line) (n name : List ℕ)
     → wrong_entry knows before line (label n name) ≡ None → list_any (λ t. gives n t.1) before ≡ false
-fresh_label knows before line n name none = go (list_any (λ t. gives n t.1) before) refl
-  where
-    go : (b : Bool) → list_any (λ t. gives n t.1) before ≡ b → list_any (λ t. gives n t.1) before ≡ false
-    go true e = let is = rw e at none in absurd cc
-    go false e = e
+fresh_label knows before line n name none = search (rules)
 
 fresh_object : (knows : Number → Bool) (before : List Told) (line : Line) (word n : List ℕ)
     → wrong_entry knows before line (object word n) ≡ None → list_any (λ t. labels_object word t.1) before ≡ false
-fresh_object knows before line word n none = go (knows n) (list_any (λ t. labels_object word t.1) before) refl refl
-  where
-    go : (k b : Bool) → knows n ≡ k → list_any (λ t. labels_object word t.1) before ≡ b
-        → list_any (λ t. labels_object word t.1) before ≡ false
-    go false b k e = let is = rw k at none in absurd cc
-    go true true k e = let is = rw (k, e) at none in absurd cc
-    go true false k e = e
+fresh_object knows before line word n none = search (rules)
 
 -- a set and the list that it stands for grow together
 grown : (p : List ℕ → Told → Bool) (before : List Told) (t : Told) (word : List ℕ) (old new : Words)
     → ((other : List ℕ) → p other t ≡ bytes_eq word other)
     → IsAdded word old new → ((other : List ℕ) → has old other ≡ list_any (p other) before) → (other : List ℕ)
     → has new other ≡ list_any (p other) (before ++ t ∷ [])
-grown p before t word old new same added so_far other =
-    added.each other ∙ ap (λ b. bytes_eq word other || b) (so_far other) ∙ ap (λ b. b || list_any (p other) before)
-    (sym (same other)) ∙ sym (any_more (p other) before t)
+grown p before t word old new same added so_far other = search (rules, any_more)
 
 -- a set to which the line says nothing
 kept : (p : List ℕ → Told → Bool) (before : List Told) (t : Told) (set : Words) → ((other : List ℕ) → p other t ≡ false)
@@ -43,10 +31,7 @@ kept p before t set apart so_far other = so_far other ∙ ap (λ b. b || list_an
 counted : (p : Told → Bool) (before : List Told) (t : Told) (word : List ℕ) (old new : Words) → p t ≡ true → has old word ≡ false
     → IsAdded word old new
     → old.len ≡ count_by p before → new.len ≡ count_by p (before ++ t ∷ [])
-counted p before t word old new is fresh added so_far =
-    let one : ◌≡◌ {A = ℕ} (cond (has old word) 0 1) 1 = ap (λ (b : Bool). cond b 0 1) fresh in
-    let more : ◌≡◌ {A = ℕ} (cond (p t) 1 0) 1 = ap (λ (b : Bool). cond b 1 0) is in
-    omega (arith, one, more, added.len, so_far, count_more p before t)
+counted p before t word old new is fresh added so_far = search (rules, count_more)
 
 uncounted : (p : Told → Bool) (before : List Told) (t : Told) (set : Words) → p t ≡ false → set.len ≡ count_by p before
     → set.len ≡ count_by p (before ++ t ∷ [])
@@ -114,10 +99,7 @@ edges_grown : (before : List Told) (line : Line) (l : List ℕ) (a : Authority) 
 edges_grown before line l a m None None adds h = tt
 edges_grown before line l a m (Some old) (Some new) added h = record {
   each = grown says_edge before (line, edge l a m) line.text old new (λ other. refl) added h.each;
-  len =
-      let here : ◌≡◌ {A = ℕ} (cond (has old line.text) 0 1) (cond (not (list_any (says_edge line.text) before)) 1 0) =
-      ap (λ (b : Bool). cond b 0 1) (h.each line.text) ∙ edge_counted (list_any (says_edge line.text) before) in
-      omega (arith, here, added.len, h.len, edges_more [] before (line, edge l a m));
+  len = search (rules, edge_counted, edges_more);
 }
 edges_grown before line l a m _ _ adds h = absurd (search rules)
 
@@ -148,9 +130,7 @@ pub takes_label : (old : Seen) (numbers names : Words) (text : List ℕ) (entry 
     (r : Result (Unit {0}) NoMemory) → entry ≡ label n name → IsAdded n old.numbers numbers
     → OnOk r (IsAdded name old.names names)
     → OnOk r (Takes entry text old (record { numbers = numbers; names = names; objects = old.objects; edges = old.edges }))
-takes_label old numbers names text entry n name (Ok x) is number_added added =
-    takes_same entry (label n name) text old _ is (λ before knows line same seen none. seen_label old numbers names before knows
-    line n name seen number_added added none)
+takes_label old numbers names text entry n name (Ok x) is number_added added = search (rules, takes_same, seen_label)
 takes_label old numbers names text entry n name (Err e) is number_added added = tt
 
 pub takes_object : (old : Seen) (objects : Words) (text : List ℕ) (entry : Entry) (word n : List ℕ)
@@ -191,8 +171,7 @@ pub new_edges_most : (before ts : List Told) → new_edges before ts ≤ count_b
 new_edges_most before [] = omega arith
 new_edges_most before (t ∷ ts) =
     let rest : new_edges (before ++ t ∷ []) ts ≤ count_by (λ t. is_edge t.1) ts = new_edges_most (before ++ t ∷ []) ts in
-    let one : one_if (is_new_edge before t) ≤ one_if (is_edge t.1) =
-    few_new (is_edge t.1) (not (list_any (says_edge t.0.text) before)) in
+    let one : one_if (is_new_edge before t) ≤ one_if (is_edge t.1) = search (rules, few_new) in
     let step : count_by (λ t. is_edge t.1) (t ∷ ts) ≡ (0 + one_if (is_edge t.1)) + count_by (λ t. is_edge t.1) ts =
     sum_by-append (λ t. cond (is_edge t.1) 1 0) (t ∷ []) ts in
     omega (arith, rest, one, step)

@@ -1,4 +1,5 @@
 -- What each text of a policy keeps: what policies keep, and labels of objects below the limit.
+use Rattle.std.proofs.Common.{rules}
 use Rattle.policy_text.proofs.Common.{All, All-cons, All-nil, Bool, IsPolicy, IsPolicyText, List, None, Number, Option, Policy, Some, Told, [], arith, body, edge, false, filter_map, first_policy_fault, first_wrong, form_fault, has_label, head_fault}
 use Rattle.policy_text.proofs.Common.{label, label_value, nat_le, nat_tests, neither, object, object_of, option_map_or, option_or, policy_lines, subst, sym, true, unwrap_or, value, ℕ, ◌++◌, ◌<◌, ◌∷◌, ◌≡◌}
 use Rattle.policy_text.specs.declared.kind.Kind.TheVariants as kinds
@@ -6,10 +7,7 @@ use Rattle.policy_text.proofs.Kept.{Clean, clean, formed_all, gives_small, polic
 
 none_wrong : (bytes : List ℕ) → first_policy_fault bytes ≡ None
     → first_wrong (has_label (policy_lines bytes)) [] (policy_lines bytes) ≡ None
-none_wrong bytes none =
-    let wrong = first_wrong (has_label (policy_lines bytes)) [] (policy_lines bytes) in
-    let form = form_fault kinds.Policy (body bytes) in
-    (neither form wrong (neither (head_fault kinds.Policy bytes) (option_or form wrong) none).1).1
+none_wrong bytes none = search (rules, neither)
 
 all_clean : (bytes : List ℕ) → first_policy_fault bytes ≡ None → Clean (has_label (policy_lines bytes)) [] (policy_lines bytes)
 all_clean bytes none = clean (has_label (policy_lines bytes)) [] (policy_lines bytes) (none_wrong bytes none)

@@ -1,4 +1,5 @@
 -- A set of words with one word more.
+use Rattle.std.proofs.Common.{rules}
 use Rattle.policy_text.proofs.Common.{Bool, IsAdded, IsNear, List, Words, [], ap, bytes_eq, false, list_any, or_comm, refl, sym, true, ℕ, ◌++◌, ◌||◌, ◌∙◌, ◌∷◌, ◌≡◌}
 use Rattle.std.specs.Borrow.{Bor}
 use Rattle.policy_text.proofs.Before.{any_more}
@@ -12,10 +13,4 @@ still_near near old new word added before n h = added.each n ∙ ap (λ (b : Boo
 
 pub near_pushed : (near : List (Bor (List ℕ))) (old new : Words) (w : Bor (List ℕ)) → IsAdded w.now old new → IsNear near old
     → IsNear (near ++ w ∷ []) new
-near_pushed near old new w added before n h = go (bytes_eq w.now n) refl
-  where
-    go : (b : Bool) → bytes_eq w.now n ≡ b → has new n ≡ true
-    go true e = added.each n ∙ ap (λ (b : Bool). b || has old n) e
-    go false e = still_near near old new w.now added before n
-        (ap (λ (b : Bool). b || list_any (λ v. bytes_eq v.now n) near) (sym e)
-        ∙ sym (any_more (λ v. bytes_eq v.now n) near w) ∙ h)
+near_pushed near old new w added before n h = search (rules, still_near, any_more)

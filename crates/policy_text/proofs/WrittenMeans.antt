@@ -1,4 +1,5 @@
 -- What the lines mean that are written of a policy or a certificate.
+use Rattle.std.proofs.Common.{rules}
 use Rattle.policy_text.proofs.Common.{All, All-head, All-nil, All-push, All-tail, All-weaker, AllPairs, Edge, Line, List, None, Option, Told, [], ap, append-nil, append_assoc, arith, by_number, decimal, edge_of, filter_map, fold, insert_entry}
 use Rattle.policy_text.proofs.Common.{label_of, label_value, length, map, nat_cmp, number_value-decimal, object_of, refl, suc, sym, unwrap_or, ℕ, ◌++◌, ◌+◌, ◌<◌, ◌^◌, ◌∙◌, ◌∷◌, ◌≡◌}
 use Rattle.policy_text.proofs.Inserting.{Pairs, insert_by}
@@ -32,10 +33,7 @@ objects_meant at (o ∷ os) small =
     (All-tail (λ p. p.1 < 2 ^ 64) o os small))
 
 edge_at : (l m : ℕ) (e : Edge) → l ≡ e.from → m ≡ e.to → ◌≡◌ {A = Edge} (record { from = l; authority = e.authority; to = m }) e
-edge_at l m e p q =
-    let same : ◌≡◌ {A = Edge} (record { from = l; authority = e.authority; to = m })
-    (record { from = e.from; authority = e.authority; to = e.to }) = rw (p, q) refl in
-    same
+edge_at l m e p q = search (rules)
 
 pub edges_meant : (at : ℕ) (es : List Edge) → All (λ e. (e.from < 2 ^ 64) × (e.to < 2 ^ 64)) es
     → filter_map edge_of (told_at at (map edge_item es)) ≡ es

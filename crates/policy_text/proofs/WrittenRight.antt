@@ -1,4 +1,5 @@
 -- With the lines that are written of a policy or a certificate nothing is wrong.
+use Rattle.std.proofs.Common.{rules}
 use Rattle.policy_text.proofs.Common.{All, All-head, All-tail, AllPairs, Authority, Bool, Edge, Entry, Line, List, None, Number, Option, Some, Told, Wrong, [], ap, arith, at_line, bytes_eq, bytes_eq-Decides, cond, count_by, decimal, edge, eqb-true}
 use Rattle.policy_text.proofs.Common.{false, first_wrong, get_or, gives, has_label, is_edge, is_label, is_name, is_object, is_past, is_some, label, label_name, labels_object, length, list_any, map, names_label, nat_le, nat_lt, nat_tests, new_edges}
 use Rattle.policy_text.proofs.Common.{not, number_value, number_value-decimal, object, option_map, option_map_or, option_or, refl, says_edge, suc, sum_by-cons, sym, true, true≢false, wrong_entry, ℕ, ◌&&◌, ◌++◌, ◌+◌, ◌<◌, ◌==◌, ◌^◌, ◌||◌, ◌∙◌, ◌∷◌}
@@ -12,11 +13,7 @@ use Rattle.policy_text.proofs.Taking.{new_edges_most}
 -- ---- numbers and words that differ
 
 bytes_apart : (a b : List ℕ) → a ≢ b → bytes_eq a b ≡ false
-bytes_apart a b h = go (bytes_eq a b) refl
-  where
-    go : (t : Bool) → bytes_eq a b ≡ t → bytes_eq a b ≡ false
-    go true e = absurd (h ((bytes_eq-Decides a b).0 e))
-    go false e = e
+bytes_apart a b h = search (rules, bytes_eq-Decides)
 
 decimal_apart : (m n : ℕ) → m < n → n < 2 ^ 64 → decimal m ≢ decimal n
 decimal_apart m n lt few = λ same.
@@ -44,21 +41,15 @@ and_false false b h = refl
 edge_right : (knows : Number → Bool) (before : List Told) (line : Line) (l : List ℕ) (a : Authority) (m : List ℕ) → knows l ≡ true
     → knows m ≡ true → nat_le 262144 (new_edges [] before) ≡ false
     → wrong_entry knows before line (edge l a m) ≡ None
-edge_right knows before line l a m p q r =
-    let full = and_false (not (list_any (says_edge line.text) before)) (nat_le 262144 (new_edges [] before)) r in
-    rw (p, q, full) refl
+edge_right knows before line l a m p q r = search (rules, and_false, nat_le)
 
 right_more : (knows : Number → Bool) (before : List Told) (line : Line) (e : Entry) (more : List Told)
     → wrong_entry knows before line e ≡ None → first_wrong knows (before ++ (line, e) ∷ []) more ≡ None
     → first_wrong knows before ((line, e) ∷ more) ≡ None
-right_more knows before line e more here rest =
-    ap (λ (w : Option Wrong). option_or (option_map (at_line line) w) (first_wrong knows (before ++ (line, e) ∷ []) more)) here
-    ∙ rest
+right_more knows before line e more here rest = search (rules)
 
 not_past : (n : ℕ) → n < 8192 → is_past (decimal n) ≡ false
-not_past n h =
-    let few : nat_le 8192 n ≡ false = grind (arith, nat_tests) in
-    ap (λ (o : Option ℕ). option_map_or (λ v. nat_le 8192 v) o true) (number_value-decimal n (omega arith)) ∙ few
+not_past n h = search (rules, nat_le, nat_tests, number_value-decimal)
 
 -- ---- labels
 
@@ -69,12 +60,7 @@ pub record IsFresh (before : List Told) (l : ℕ × List ℕ) : Type 0 where
 
 fresh_more : (before : List Told) (line : Line) (l m : ℕ × List ℕ) → l.0 < m.0 → m.0 < 8192 → l.1 ≢ m.1 → IsFresh before m
     → IsFresh (before ++ (line, label (decimal l.0) l.1) ∷ []) m
-fresh_more before line l m lt few differ fresh = record {
-  number = any_more (λ t. gives (decimal m.0) t.1) before (line, label (decimal l.0) l.1)
-      ∙ neither (bytes_apart (decimal l.0) (decimal m.0) (decimal_apart l.0 m.0 lt (omega arith))) fresh.number;
-  name = any_more (λ t. names_label m.1 t.1) before (line, label (decimal l.0) l.1)
-      ∙ neither (bytes_apart l.1 m.1 differ) fresh.name;
-}
+fresh_more before line l m lt few differ fresh = search (rules, any_more, neither, bytes_apart, decimal_apart)
 
 pub labels_right : (knows : Number → Bool) (before : List Told) (at : ℕ) (ls : Pairs) → AllPairs (λ l m. l.0 < m.0) ls
     → All (λ l. l.0 < 8192) ls → AllPairs (λ l m. l.1 ≢ m.1) ls → All (IsFresh before) ls
