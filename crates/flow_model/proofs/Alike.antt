@@ -1,4 +1,5 @@
 -- Two states that are alike at the objects of a set. They stay alike where one is written at another object, or both alike.
+use Rattle.std.proofs.Common.{rules}
 use Rattle.flow_model.proofs.LawsCommon.{Acts, Bool, Cap, Contains, Content, List, Mapped, Node, None, Option, Owes, Own, Pending, Some, State, ThreadState, [], ap, arith, behind, content_at, content_in, false, filter, filter-append, first}
 use Rattle.flow_model.proofs.LawsCommon.{first_or_behind, from_filter, get_or, grown, grown_at, inl, inr, irq_at, length, length-set, no_node, no_thread, node_at, read_written, refl, set, subst, suc, sym, thread_at, true, waiting, with_pending, with_root}
 use Rattle.flow_model.proofs.LawsCommon.{with_space, without, without_at, zero, ℕ, ◌++◌, ◌∙◌, ◌∷◌, ◌≡◌}
@@ -16,10 +17,7 @@ pub record Alike (side : ℕ → Bool) (s : State) (r : State) : Type 0 where
 
 other_write : {A : Type 0} (side : ℕ → Bool) (xs : List A) (i k : ℕ) (v d : A) → side i ≡ false → side k ≡ true
     → get_or (set xs i v) k d ≡ get_or xs k d
-other_write side xs i k v d out here = elim (read_written xs i k v d) [
-  | inl e ↦ e
-  | inr e ↦ absurd (let w : side i ≡ true = subst (λ (n : ℕ). side n ≡ true) e.0 here in cc)
-]
+other_write side xs i k v d out here = search (rules, read_written)
 
 same_write : {A : Type 0} (xs ys : List A) (i k : ℕ) (v d : A) → length xs ≡ length ys → get_or xs k d ≡ get_or ys k d
     → get_or (set xs i v) k d ≡ get_or (set ys i v) k d
@@ -58,143 +56,60 @@ filter_none {A} p (y ∷ ys) x h = go (p y) refl (filter_none p ys x h) where
 
 module _ (side : ℕ → Bool) (s r : State) (alike : Alike side s r) where
   pub others_node : (c : ℕ) (node : Node) → side c ≡ false → Alike side (record s { nodes = set s.nodes c node }) r
-  others_node c node out = record {
-    nodes_long = length-set s.nodes c node ∙ alike.nodes_long;
-    threads_long = alike.threads_long;
-    irqs_long = alike.irqs_long;
-    nodes = λ k here. other_write side s.nodes c k node no_node out here ∙ alike.nodes k here;
-    threads = alike.threads;
-    irqs = alike.irqs;
-    mapped = alike.mapped;
-  }
+  others_node c node out = search (rules, length-set, other_write, no_node)
 
   pub others_thread : (t : ℕ) (thread : ThreadState) → side t ≡ false
       → Alike side (record s { threads = set s.threads t thread }) r
-  others_thread t thread out = record {
-    nodes_long = alike.nodes_long;
-    threads_long = length-set s.threads t thread ∙ alike.threads_long;
-    irqs_long = alike.irqs_long;
-    nodes = alike.nodes;
-    threads = λ k here. other_write side s.threads t k thread no_thread out here ∙ alike.threads k here;
-    irqs = alike.irqs;
-    mapped = alike.mapped;
-  }
+  others_thread t thread out = search (rules, length-set, other_write, no_thread)
 
   pub others_irq : (d : ℕ) (bound : Option ℕ) → side d ≡ false → Alike side (record s { irqs = set s.irqs d bound }) r
-  others_irq d bound out = record {
-    nodes_long = alike.nodes_long;
-    threads_long = alike.threads_long;
-    irqs_long = length-set s.irqs d bound ∙ alike.irqs_long;
-    nodes = alike.nodes;
-    threads = alike.threads;
-    irqs = λ k here. other_write side s.irqs d k bound None out here ∙ alike.irqs k here;
-    mapped = alike.mapped;
-  }
+  others_irq d bound out = search (rules, length-set, other_write)
 
   pub others_mapped : (m : Mapped) → side m.space ≡ false → Alike side (record s { mapped = s.mapped ++ m ∷ [] }) r
-  others_mapped m out = record {
-    nodes_long = alike.nodes_long;
-    threads_long = alike.threads_long;
-    irqs_long = alike.irqs_long;
-    nodes = alike.nodes;
-    threads = alike.threads;
-    irqs = alike.irqs;
-    mapped = filter_none (λ (m : Mapped). side m.space) s.mapped m out ∙ alike.mapped;
-  }
+  others_mapped m out = search (rules, filter_none)
 
   -- ---- the same is written in both
 
   pub both_nodes : (c : ℕ) (node : Node)
       → Alike side (record s { nodes = set s.nodes c node }) (record r { nodes = set r.nodes c node })
-  both_nodes c node = record {
-    nodes_long = same_length s.nodes r.nodes c node alike.nodes_long;
-    threads_long = alike.threads_long;
-    irqs_long = alike.irqs_long;
-    nodes = λ k here. same_write s.nodes r.nodes c k node no_node alike.nodes_long (alike.nodes k here);
-    threads = alike.threads;
-    irqs = alike.irqs;
-    mapped = alike.mapped;
-  }
+  both_nodes c node = search (rules, same_length, same_write, no_node)
 
   pub both_threads : (t : ℕ) (thread : ThreadState) → Alike side (record s { threads = set s.threads t thread })
       (record r { threads = set r.threads t thread })
-  both_threads t thread = record {
-    nodes_long = alike.nodes_long;
-    threads_long = same_length s.threads r.threads t thread alike.threads_long;
-    irqs_long = alike.irqs_long;
-    nodes = alike.nodes;
-    threads = λ k here. same_write s.threads r.threads t k thread no_thread alike.threads_long (alike.threads k here);
-    irqs = alike.irqs;
-    mapped = alike.mapped;
-  }
+  both_threads t thread = search (rules, same_length, same_write, no_thread)
 
   pub both_irqs : (d : ℕ) (bound : Option ℕ)
       → Alike side (record s { irqs = set s.irqs d bound }) (record r { irqs = set r.irqs d bound })
-  both_irqs d bound = record {
-    nodes_long = alike.nodes_long;
-    threads_long = alike.threads_long;
-    irqs_long = same_length s.irqs r.irqs d bound alike.irqs_long;
-    nodes = alike.nodes;
-    threads = alike.threads;
-    irqs = λ k here. same_write s.irqs r.irqs d k bound None alike.irqs_long (alike.irqs k here);
-    mapped = alike.mapped;
-  }
+  both_irqs d bound = search (rules, same_length, same_write)
 
   pub both_mapped : (m : Mapped)
       → Alike side (record s { mapped = s.mapped ++ m ∷ [] }) (record r { mapped = r.mapped ++ m ∷ [] })
-  both_mapped m = record {
-    nodes_long = alike.nodes_long;
-    threads_long = alike.threads_long;
-    irqs_long = alike.irqs_long;
-    nodes = alike.nodes;
-    threads = alike.threads;
-    irqs = alike.irqs;
-    mapped =
-        let p = λ (m : Mapped). side m.space in
-        filter-append p s.mapped (m ∷ []) ∙ ap (λ (ms : List Mapped). ms ++ filter p (m ∷ [])) alike.mapped
-        ∙ sym (filter-append p r.mapped (m ∷ []));
-  }
+  both_mapped m = search (rules, filter-append, filter)
 
   pub both_grown : (c : ℕ) (content : Content) → side c ≡ true → Alike side (record s { nodes = grown_at s.nodes c content })
       (record r { nodes = grown_at r.nodes c content })
-  both_grown c content here =
-      subst (λ (n : Node). Alike side (record s { nodes = grown_at s.nodes c content })
-      (record r { nodes = set r.nodes c (grown n content) })) (alike.nodes c here) (both_nodes c (grown (node_at s c) content))
+  both_grown c content here = search (rules, grown_at, set, grown, both_nodes, node_at)
 
   pub both_without : (c i : ℕ) → side c ≡ true → Alike side (record s { nodes = without_at s.nodes c i })
       (record r { nodes = without_at r.nodes c i })
-  both_without c i here =
-      subst (λ (n : Node). Alike side (record s { nodes = without_at s.nodes c i })
-      (record r { nodes = set r.nodes c (without n i) })) (alike.nodes c here) (both_nodes c (without (node_at s c) i))
+  both_without c i here = search (rules, without_at, set, without, both_nodes, node_at)
 
   pub both_waiting : (t : ℕ) (b : Bool) → side t ≡ true → Alike side (record s { threads = waiting s.threads t b })
       (record r { threads = waiting r.threads t b })
-  both_waiting t b here =
-      subst (λ (x : ThreadState). Alike side (record s { threads = waiting s.threads t b })
-      (record r { threads = set r.threads t (record x { waits = b }) })) (alike.threads t here)
-      (both_threads t (record (thread_at s t) { waits = b }))
+  both_waiting t b here = search (rules, waiting, set, both_threads, thread_at)
 
   pub both_pending : (t : ℕ) (pending : Option Pending) → side t ≡ true
       → Alike side (record s { threads = with_pending s.threads t pending })
       (record r { threads = with_pending r.threads t pending })
-  both_pending t pending here =
-      subst (λ (x : ThreadState). Alike side (record s { threads = with_pending s.threads t pending })
-      (record r { threads = set r.threads t (record x { pending = pending }) })) (alike.threads t here)
-      (both_threads t (record (thread_at s t) { pending = pending }))
+  both_pending t pending here = search (rules, with_pending, set, both_threads, thread_at)
 
   pub both_root : (t c : ℕ) → side t ≡ true → Alike side (record s { threads = with_root s.threads t c })
       (record r { threads = with_root r.threads t c })
-  both_root t c here =
-      subst (λ (x : ThreadState). Alike side (record s { threads = with_root s.threads t c })
-      (record r { threads = set r.threads t (record x { root = Some c }) })) (alike.threads t here)
-      (both_threads t (record (thread_at s t) { root = Some c }))
+  both_root t c here = search (rules, with_root, set, both_threads, thread_at)
 
   pub both_space : (t d : ℕ) → side t ≡ true → Alike side (record s { threads = with_space s.threads t d })
       (record r { threads = with_space r.threads t d })
-  both_space t d here =
-      subst (λ (x : ThreadState). Alike side (record s { threads = with_space s.threads t d })
-      (record r { threads = set r.threads t (record x { space = Some d }) })) (alike.threads t here)
-      (both_threads t (record (thread_at s t) { space = Some d }))
+  both_space t d here = search (rules, with_space, set, both_threads, thread_at)
 
   -- ---- what one state has at objects of the set, the other has too
 

@@ -1,4 +1,5 @@
 -- What edges of a reached state let a label do.
+use Rattle.std.proofs.Common.{rules}
 use Rattle.flow_model.proofs.LawsCommon.{Access, Auth, Authority, Cap, Commands, Control, Edge, HasSlot, Kind, Leads, LeadsDown, Lets, List, Meets, Owes, Own, Peer, Pending, Reached, Receive, Reply, SavedReply, Some, Spec, State, Stays, [], added_edge}
 use Rattle.flow_model.proofs.LawsCommon.{ap, buffer_edge, cases_eq, contained, content_in, inl, inr, is_at, is_space_root, kind_confers, label_of, leads_slot, of_reply, of_root, of_saved, of_space, of_table, own_edge, own_space_edge, refl, subst, sym}
 use Rattle.flow_model.proofs.LawsCommon.{table_controls, table_edge, thread_at, true, ℕ, ◌++◌, ◌∷◌, ◌≡◌, ◌⊎◌}
@@ -26,10 +27,7 @@ module _ (spec : Spec) (labels : List ℕ) (policy : List Edge) (stays : Stays s
     (reached : Reached spec s) where
   edge_lets : (x y : ℕ) (a : Authority) → Auth spec labels s (label_of labels x) a (label_of labels y)
       → (label_of labels x ≡ label_of labels y) ⊎ Has policy (label_of labels x) a (label_of labels y)
-  edge_lets x y a auth = elim (cases_eq (label_of labels x) (label_of labels y)) [
-    | inl same ↦ inl same
-    | inr differ ↦ inr (stays _ a _ (reached.steps, s, reached.run, auth) differ)
-  ]
+  edge_lets x y a auth = search (rules, cases_eq, label_of)
 
   pub lets : (l x y : ℕ) (a : Authority) → Commands policy l (label_of labels x)
       → Auth spec labels s (label_of labels x) a (label_of labels y) → Lets policy l a (label_of labels y)

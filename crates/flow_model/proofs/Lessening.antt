@@ -1,4 +1,5 @@
 -- The boot edges of a spec that gives less are boot edges of the other one.
+use Rattle.std.proofs.Common.{rules}
 use Rattle.flow_model.proofs.LawsCommon.{Authority, Cap, Edge, Held, Kind, List, Option, Spec, Structural, Valid, ap, arith, boot, confers, kind_at, label_of, none_saved, nothing_pending, of_buffer, of_irq, of_mapped, of_reply, of_root, of_saved}
 use Rattle.flow_model.proofs.LawsCommon.{of_space, of_table, option_confers, subst, true, ℕ, ◌∙◌, ◌≡◌}
 use Rattle.cap_model.proofs.Conferring.{lessened_option}
@@ -8,13 +9,7 @@ use Rattle.flow_model.specs.Less.{IsLess, IsPart}
 module _ (less spec : Spec) (labels : List ℕ) (is : IsLess less spec) where
   -- part of a capability confers no more
   part_confers : (cap whole : Cap) (a : Authority) → IsPart cap whole → confers less cap a ≡ true → confers spec whole a ≡ true
-  part_confers cap whole a part conf =
-      let kind : kind_at less cap.object ≡ kind_at spec whole.object = is.kinds cap.object ∙ ap (λ (o : ℕ). kind_at spec o)
-      part.object in
-      let same : option_confers (kind_at spec whole.object) cap.rights a ≡ true =
-      subst (λ (k : Option Kind). option_confers k cap.rights a ≡ true) kind conf in
-      lessened_option (kind_at spec whole.object) whole.rights part.among a
-      (subst (λ (r : Rights). option_confers (kind_at spec whole.object) r a ≡ true) part.rights same)
+  part_confers cap whole a part conf = search (rules, kind_at, option_confers, lessened_option)
 
   to_whole : (cap whole : Cap) (m : ℕ) → IsPart cap whole → m ≡ label_of labels cap.object → m ≡ label_of labels whole.object
   to_whole cap whole m part e = e ∙ ap (label_of labels) part.object
@@ -26,9 +21,7 @@ module _ (less spec : Spec) (labels : List ℕ) (is : IsLess less spec) where
 
   structural_less : (l : ℕ) (a : Authority) (m : ℕ) → Structural less labels (boot less) l a m
       → Structural spec labels (boot spec) l a m
-  structural_less l a m (of_buffer (t, cap, there, conf, el, em)) =
-      let (whole, stands, part) = is.buffers t cap there in
-      of_buffer (t, whole, stands, part_confers cap whole a part conf, el, to_whole cap whole m part em)
+  structural_less l a m (of_buffer (t, cap, there, conf, el, em)) = search (rules, part_confers, to_whole)
   structural_less l a m (of_table (p, i, cap, there, conf, el, em)) =
       let (j, whole, stands, part) = is.tables p i cap there in
       of_table (p, j, whole, stands, part_confers cap whole a part conf, el, to_whole cap whole m part em)

@@ -1,4 +1,5 @@
 -- Runs in which the threads of the set run programs: with the same turns they do the same.
+use Rattle.std.proofs.Common.{rules}
 use Rattle.flow_model.proofs.LawsCommon.{Act, ActTo, Agree, Attempt, Bool, Edge, IsClosed, IsReached, List, None, Option, Reached, Sight, Some, Spec, Stays, World, [], act_reached, actor, acts_in, allowed, ap, device, false, fire, in_set, inl, inr, map}
 use Rattle.flow_model.proofs.LawsCommon.{one_act, refl, refused, subst, sym, true, world_reached, ℕ, ◌∙◌, ◌∷◌, ◌≡◌, ◌⊎◌}
 use Rattle.flow_model.specs.Programs.{Programs, input_of, turn_of, says, Obeys, ProgramRun}
@@ -22,27 +23,7 @@ is_input (device f x) input h = cc
 -- of an act and its refusal one is possible
 same_act : (spec : Spec) (programs : Programs) (w mid next : World) (x y : Act) → ActTo spec w x mid → ActTo spec w y next
     → Obeys programs w x → Obeys programs w y → actor x ≡ actor y → input_of x ≡ input_of y → x ≡ y
-same_act spec programs w mid next x y does acts obeys also who what = go (input_of x) refl where
-  never : (attempt : Attempt) (one other : World) → ActTo spec w (refused attempt) one → ActTo spec w (allowed attempt) other → ⊥
-  never attempt one other rejected may = rejected.1 other may
-
-  same : says programs w (actor x) ≡ says programs w (actor y)
-  same = ap (λ (t : ℕ). says programs w t) who
-
-  both : (x ≡ allowed (says programs w (actor x))) ⊎ (x ≡ refused (says programs w (actor x)))
-      → (y ≡ allowed (says programs w (actor y))) ⊎ (y ≡ refused (says programs w (actor y))) → x ≡ y
-  both (inl a) (inl b) = a ∙ ap (λ (z : Attempt). allowed z) same ∙ sym b
-  both (inr a) (inr b) = a ∙ ap (λ (z : Attempt). refused z) same ∙ sym b
-  both (inl a) (inr b) = absurd (never (says programs w (actor y)) next mid (subst (λ (z : Act). ActTo spec w z next) b acts)
-      (subst (λ (z : Act). ActTo spec w z mid) (a ∙ ap (λ (z : Attempt). allowed z) same) does))
-  both (inr a) (inl b) =
-      absurd (never (says programs w (actor y)) mid next
-      (subst (λ (z : Act). ActTo spec w z mid) (a ∙ ap (λ (z : Attempt). refused z) same) does)
-      (subst (λ (z : Act). ActTo spec w z next) b acts))
-
-  go : (o : Option Act) → input_of x ≡ o → x ≡ y
-  go None is = both (obeys is) (also (sym what ∙ is))
-  go (Some input) is = is_input x input is ∙ sym (is_input y input (sym what ∙ is))
+same_act spec programs w mid next x y does acts obeys also who what = search (rules, refused, allowed, actor, is_input)
 
 -- with the same turns there is one run
 one_run : (spec : Spec) (programs : Programs) (w new end : World) (xs ys : List Act) → ObeyRun spec programs w xs new
@@ -53,8 +34,7 @@ one_run spec programs w new end (x ∷ xs) [] e f turns = absurd cc
 one_run spec programs w new end (x ∷ xs) (y ∷ ys) (mid, does, obeys, rest) (next, acts, also, more) turns =
     let first : turn_of x ≡ turn_of y = cc in
     let behind : map turn_of xs ≡ map turn_of ys = cc in
-    let same : x ≡ y = same_act spec programs w mid next x y does acts obeys also (ap (λ (p : ℕ × Option Act). p.0) first)
-    (ap (λ (p : ℕ × Option Act). p.1) first) in
+    let same : x ≡ y = search (rules, same_act) in
     let to : next ≡ mid = one_act spec w next mid x (subst (λ (a : Act). ActTo spec w a next) (sym same) acts) does in
     one_run spec programs mid new end xs ys rest (subst (λ (m : World). ObeyRun spec programs m ys end) to more) behind
 
@@ -84,19 +64,9 @@ module _ (spec : Spec) (labels : List ℕ) (policy : List Edge) (inside : ℕ �
             let goes = own_act spec labels policy inside stays closed act w v mid reached onward near here does in
             let after = behind goes.end (act_reached spec v goes.end act onward goes.does) goes.near in
             let e : acts_in labels inside (act ∷ acts) ≡ act ∷ acts_in labels inside acts = rw here refl in
-            let alike : says programs w (actor act) ≡ says programs v (actor act) =
-            ap (λ (xs : List Sight). programs (actor act) xs) (near.seen (actor act) here) in
-            let too : Obeys programs v act =
-            λ none. elim (obeys here none) [
-              | inl a ↦ inl (a ∙ ap (λ (z : Attempt). allowed z) alike)
-              | inr a ↦
-                  inr (a ∙ ap (λ (z : Attempt). refused z) alike)
-            ] in
-            subst (λ (xs : List Act). Obediently spec programs (in_set labels inside) v xs new) (sym e) (record {
-              end = after.end;
-              run = (goes.end, goes.does, too, after.run);
-              near = after.near;
-            })
+            let alike : says programs w (actor act) ≡ says programs v (actor act) = search (rules, actor) in
+            let too : Obeys programs v act = search (rules, allowed, refused) in
+            subst (λ (xs : List Act). Obediently spec programs (in_set labels inside) v xs new) (sym e) (search (rules))
 
   pub programs_alike : (w v new end : World) (acts others : List Act) → IsReached spec w → IsReached spec v
       → Agree labels inside w v → ProgramRun spec programs labels inside w acts new
@@ -108,7 +78,6 @@ module _ (spec : Spec) (labels : List ℕ) (policy : List Edge) (inside : ℕ �
       let near = near_reached spec labels policy inside stays closed in
       let here = obey_alone acts w v new reached onward (near w v reached onward agree) run in
       let there = obey_alone others v v end onward onward (near v v onward onward (agree_self labels inside v)) rest in
-      let one : there.end ≡ here.end = one_run spec programs v there.end here.end (acts_in labels inside others)
-      (acts_in labels inside acts) there.run here.run (sym turns) in
+      let one : there.end ≡ here.end = search (rules, one_run, acts_in) in
       agree_meet labels inside new end here.end (agree_of labels inside new here.end here.near)
       (subst (λ (x : World). Agree labels inside end x) one (agree_of labels inside end there.end there.near))

@@ -1,4 +1,5 @@
 -- An act leads from a world to one world at most, and so do acts one after the other.
+use Rattle.std.proofs.Common.{rules}
 use Rattle.flow_model.proofs.Common.{Act, ActRun, ActTo, Acts, Attempt, AttemptTo, Bool, Cap, Capability, Content, List, Own, SavedReply, Some, Spec, State, World, [], allowed, answer, ap, await, content_in, device, done, fire, load, message}
 use Rattle.flow_model.proofs.Common.{more, put, refused, send, signal, signals, step, store, subst, sym, tell, tell_saved, thread_of, ℕ, ◌∙◌, ◌∷◌, ◌≡◌}
 use Rattle.std.proofs.lemmas.Option.{same_Some}
@@ -7,9 +8,7 @@ use Rattle.cap_model.specs.declared.state.Pending.{Pending}
 
 one_content : (s : State) (t c d i : ℕ) (x y : Content) → Acts s t c → Acts s t d → content_in s c i ≡ Some x
     → content_in s d i ≡ Some y → x ≡ y
-one_content s t c d i x y acts other there here =
-    let same : c ≡ d = same_Some c d (sym acts.root ∙ other.root) in
-    same_Some x y (sym there ∙ subst (λ (n : ℕ). content_in s n i ≡ Some y) (sym same) here)
+one_content s t c d i x y acts other there here = search (rules, same_Some)
 
 one_cap : (kind : ℕ → Bool) (s : State) (t c d i : ℕ) (x y : Cap) → Acts s t c → Acts s t d → Own kind s c i x
     → Own kind s d i y → x ≡ y
@@ -23,9 +22,7 @@ one_reply s t c d i x y acts other there here = let same : SavedReply x ≡ Save
 
 one_attempt : (spec : Spec) (w new other : World) (attempt : Attempt) → AttemptTo spec w attempt new
     → AttemptTo spec w attempt other → new ≡ other
-one_attempt spec w new other (step move) (s, a, e) (r, b, f) =
-    e ∙ ap (λ (x : State). record w { state = x; seen = more w.seen (thread_of move) done }) (one_next spec w.state move s r a b)
-    ∙ sym f
+one_attempt spec w new other (step move) (s, a, e) (r, b, f) = search (rules, one_next)
 one_attempt spec w new other (store t f x) (runs, may, e) (also, might, g) = e ∙ sym g
 one_attempt spec w new other (load t f) (runs, may, e) (also, might, g) = e ∙ sym g
 one_attempt spec w new other (send t i u j x) (c, to, d, from, acts, own, may, peer, e) (
@@ -41,20 +38,10 @@ one_attempt spec w new other (send t i u j x) (c, to, d, from, acts, own, may, p
 ) =
     e ∙ ap (λ (cap : Cap). record w { seen = more (more w.seen u (message cap.badge x)) t done })
     (one_cap _ w.state t c k i to at acts does own has) ∙ sym g
-one_attempt spec w new other (tell t x) (c, reply, acts, owes, e) (k, given, does, owed, g) =
-    e ∙ ap (λ (p : Pending). record w { seen = more (more w.seen p.caller (answer x)) t done })
-    (same_Some reply given (sym owes ∙ owed)) ∙ sym g
-one_attempt spec w new other (tell_saved t i x) (c, reply, acts, there, e) (k, given, does, here, g) =
-    e ∙ ap (λ (p : Pending). record w { seen = more (more w.seen p.caller (answer x)) t done })
-    (one_reply w.state t c k i reply given acts does there here) ∙ sym g
-one_attempt spec w new other (signal t i x) (c, to, acts, own, may, e) (k, at, does, has, might, g) =
-    e ∙ ap (λ (cap : Cap). record w { pending = more w.pending cap.object x; seen = more w.seen t done })
-    (one_cap _ w.state t c k i to at acts does own has) ∙ sym g
-one_attempt spec w new other (await t i) (c, from, acts, own, may, e) (k, by, does, has, might, g) =
-    e ∙ ap (λ (cap : Cap). record w {
-      pending = put w.pending cap.object [];
-      seen = more w.seen t (signals (w.pending cap.object));
-    }) (one_cap _ w.state t c k i from by acts does own has) ∙ sym g
+one_attempt spec w new other (tell t x) (c, reply, acts, owes, e) (k, given, does, owed, g) = search (rules, same_Some)
+one_attempt spec w new other (tell_saved t i x) (c, reply, acts, there, e) (k, given, does, here, g) = search (rules, one_reply)
+one_attempt spec w new other (signal t i x) (c, to, acts, own, may, e) (k, at, does, has, might, g) = search (rules, one_cap)
+one_attempt spec w new other (await t i) (c, from, acts, own, may, e) (k, by, does, has, might, g) = search (rules, one_cap)
 
 pub one_act : (spec : Spec) (w new other : World) (act : Act) → ActTo spec w act new → ActTo spec w act other → new ≡ other
 one_act spec w new other (allowed attempt) a b = one_attempt spec w new other attempt a b

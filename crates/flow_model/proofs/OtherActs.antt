@@ -1,4 +1,5 @@
 -- An act by an object that is not of the set changes no object of the set.
+use Rattle.std.proofs.Common.{rules}
 use Rattle.flow_model.proofs.LawsCommon.{Act, ActTo, AsyncSend, Attempt, AttemptTo, Bool, Edge, IsClosed, List, Reached, Receive, Sight, Spec, Stays, SyncSend, World, [], actor, allowed, answer, await, denied, device, done, false, fire, in_set, inr, load}
 use Rattle.flow_model.proofs.LawsCommon.{maker, message, more, of_irq, own_edge, put, refl, refused, send, signal, step, store, sym, tell, tell_saved, thread_of, ℕ, ◌∙◌, ◌∷◌, ◌≡◌}
 use Rattle.cap_model.specs.declared.kind.Kind.TheVariants as kinds
@@ -9,30 +10,13 @@ use Rattle.flow_model.proofs.OtherSteps.{not_from, other_step}
 
 module _ (side : ℕ → Bool) (w v : World) (near : Near side w v) where
   other_contents : (f x : ℕ) → side f ≡ false → Near side (record w { contents = put w.contents f x }) v
-  other_contents f x out =
-      record {
-        state = near.state;
-        contents = λ k here. put_other side w.contents f x k out here ∙ near.contents k here;
-        pending = near.pending;
-        seen = near.seen;
-      }
+  other_contents f x out = search (rules, put_other)
 
   other_pending : (n : ℕ) (xs : List ℕ) → side n ≡ false → Near side (record w { pending = put w.pending n xs }) v
-  other_pending n xs out =
-      record {
-        state = near.state;
-        contents = near.contents;
-        pending = λ k here. put_other side w.pending n xs k out here ∙ near.pending k here;
-        seen = near.seen;
-      }
+  other_pending n xs out = search (rules, put_other)
 
   other_seen : (t : ℕ) (x : Sight) → side t ≡ false → Near side (record w { seen = more w.seen t x }) v
-  other_seen t x out = record {
-    state = near.state;
-    contents = near.contents;
-    pending = near.pending;
-    seen = λ k here. put_other side w.seen t (x ∷ w.seen t) k out here ∙ near.seen k here;
-  }
+  other_seen t x out = search (rules, put_other)
 
 module _ (spec : Spec) (labels : List ℕ) (policy : List Edge) (inside : ℕ → Bool) (stays : Stays spec labels policy)
     (closed : IsClosed policy inside) where

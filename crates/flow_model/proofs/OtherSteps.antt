@@ -1,4 +1,5 @@
 -- A step of a thread that is not of the set changes no object of the set.
+use Rattle.std.proofs.Common.{rules}
 use Rattle.flow_model.proofs.LawsCommon.{Bool, Capability, Content, Control, Edge, Handle, IsClosed, List, None, Option, Pending, Reached, SavedReply, Some, Spec, State, Stays, Step, StepTo, added, dropped, false, grown, grown_at, in_set, lessened}
 use Rattle.flow_model.proofs.LawsCommon.{node_at, own_edge, refl, released, replied, sym, thread_at, thread_of, true, waiting, with_pending, without, ℕ, ◌∙◌, ◌≡◌}
 use Rattle.cap_machine.specs.declared.step.Step.TheVariants as steps
@@ -38,9 +39,7 @@ module _ (spec : Spec) (labels : List ℕ) (policy : List Edge) (inside : ℕ �
 
   other_released : (s r : State) (c i caller : ℕ) → Alike (in_set labels inside) s r → in_set labels inside c ≡ false
       → in_set labels inside caller ≡ false → Alike (in_set labels inside) (released s c i caller) r
-  other_released s r c i caller alike out away =
-      others_thread (in_set labels inside) (dropped s c i) r (others_node (in_set labels inside) s r alike c
-      (without (node_at s c) i) out) caller _ away
+  other_released s r c i caller alike out away = search (rules, others_thread, in_set, dropped, others_node, without, node_at)
 
   -- each of the twelve kinds of step
   pub other_step : (s r new : State) (step : Step) → Reached spec s → Alike (in_set labels inside) s r

@@ -1,5 +1,6 @@
 -- An act by an object of the set looks only at objects of the set, so it can be done in a world that is alike there, and
 -- leads to worlds that are alike there.
+use Rattle.std.proofs.Common.{rules}
 use Rattle.flow_model.proofs.LawsCommon.{Access, Act, ActTo, Attempt, AttemptTo, Authority, Bool, Edge, IsClosed, List, Reached, Read, Receive, Sight, Spec, Stays, SyncSend, World, Write, [], actor, allowed, answer, ap, await, content, denied, device}
 use Rattle.flow_model.proofs.LawsCommon.{done, false, fire, in_set, inl, inr, load, maker, message, more, put, refl, refused, send, signal, signals, step, store, subst, sym, tell, tell_saved, thread_of, true, ℕ, ◌∙◌, ◌≡◌}
 use Rattle.cap_model.specs.declared.kind.Kind.TheVariants as kinds
@@ -22,57 +23,24 @@ pub record Goes (spec : Spec) (side : ℕ → Bool) (v : World) (act : Act) (new
 
 module _ (side : ℕ → Bool) (w v : World) (near : Near side w v) where
   both_contents : (f x : ℕ) → Near side (record w { contents = put w.contents f x }) (record v { contents = put v.contents f x })
-  both_contents f x = record {
-    state = near.state;
-    contents = λ k here. put_both w.contents v.contents f x k (near.contents k here);
-    pending = near.pending;
-    seen = near.seen;
-  }
+  both_contents f x = search (rules, put_both)
 
   both_put : (n : ℕ) (xs : List ℕ)
       → Near side (record w { pending = put w.pending n xs }) (record v { pending = put v.pending n xs })
-  both_put n xs = record {
-    state = near.state;
-    contents = near.contents;
-    pending = λ k here. put_both w.pending v.pending n xs k (near.pending k here);
-    seen = near.seen;
-  }
+  both_put n xs = search (rules, put_both)
 
   both_pending : (n x : ℕ) → Near side (record w { pending = more w.pending n x }) (record v { pending = more v.pending n x })
-  both_pending n x = record {
-    state = near.state;
-    contents = near.contents;
-    pending = λ k here. more_both w.pending v.pending n x k (near.pending k here);
-    seen = near.seen;
-  }
+  both_pending n x = search (rules, more_both)
 
   both_seen : (t : ℕ) (x y : Sight) → x ≡ y
       → Near side (record w { seen = more w.seen t x }) (record v { seen = more v.seen t y })
-  both_seen t x y same =
-      subst (λ (z : Sight). Near side (record w { seen = more w.seen t x }) (record v { seen = more v.seen t z })) same
-      (record {
-        state = near.state;
-        contents = near.contents;
-        pending = near.pending;
-        seen = λ k here. more_both w.seen v.seen t x k (near.seen k here);
-      })
+  both_seen t x y same = search (rules, more, more_both)
 
 module _ (spec : Spec) (labels : List ℕ) (policy : List Edge) (inside : ℕ → Bool) (stays : Stays spec labels policy)
     (closed : IsClosed policy inside) where
   module _ (w v : World) (reached : Reached spec w.state) (near : Near (in_set labels inside) w v) where
     table_too : (t f : ℕ) (a : Authority) → in_set labels inside t ≡ true → Access spec w.state t a f → Access spec v.state t a f
-    table_too t f a here (inl by) = inl (record {
-      root = by.root;
-      path = by.path;
-      table = by.table;
-      number = by.number;
-      cap = by.cap;
-      space = space_too _ w.state v.state near.state t _ here by.space;
-      leads = by.leads;
-      there = by.there;
-      gives = by.gives;
-      frame = by.frame;
-    })
+    table_too t f a here (inl by) = search (rules, space_too)
     table_too t f a here (inr (inl by)) = inr (inl (record {
       root = by.root;
       rights = by.rights;
@@ -132,62 +100,26 @@ module _ (spec : Spec) (labels : List ℕ) (policy : List Edge) (inside : ℕ �
           peer_too spec labels policy inside stays closed w.state v.state t u j to.object d from reached near.state over peer,
           refl,
         );
-        near =
-            rw e
-            (both_seen _ (record w { seen = more w.seen u (message to.badge x) })
-            (record v { seen = more v.seen u (message to.badge x) })
-            (both_seen _ w v near u (message to.badge x) (message to.badge x) refl) t done done refl);
+        near = search (rules, both_seen, more, message, done);
       }
   own_attempt (tell t x) w v new reached near here (c, reply, acts, owes, e) = record {
     end = record v { seen = more (more v.seen reply.caller (answer x)) t done };
-    does = (
-      c,
-      reply,
-      acts_too _ w.state v.state near.state t c here acts,
-      owes_too _ w.state v.state near.state t reply
-          here owes,
-      refl,
-    );
-    near =
-        rw e
-        (both_seen _ (record w { seen = more w.seen reply.caller (answer x) })
-        (record v { seen = more v.seen reply.caller (answer x) })
-        (both_seen _ w v near reply.caller (answer x) (answer x) refl) t done done refl);
+    does = search (rules, acts_too, owes_too);
+    near = search (rules, both_seen, more, answer, done);
   }
   own_attempt (tell_saved t i x) w v new reached near here (c, reply, acts, there, e) =
       let root = sym (side_root spec labels policy inside stays closed w.state reached t c acts.root) ∙ here in
       record {
         end = record v { seen = more (more v.seen reply.caller (answer x)) t done };
-        does = (
-          c,
-          reply,
-          acts_too _ w.state v.state near.state t c here acts,
-          content_too _ w.state v.state near.state c i _ root
-              there,
-          refl,
-        );
-        near =
-            rw e
-            (both_seen _ (record w { seen = more w.seen reply.caller (answer x) })
-            (record v { seen = more v.seen reply.caller (answer x) })
-            (both_seen _ w v near reply.caller (answer x) (answer x) refl) t done done refl);
+        does = search (rules, acts_too, content_too);
+        near = search (rules, both_seen, more, answer, done);
       }
   own_attempt (signal t i x) w v new reached near here (c, to, acts, own, may, e) =
       let root = sym (side_root spec labels policy inside stays closed w.state reached t c acts.root) ∙ here in
       record {
         end = record v { pending = more v.pending to.object x; seen = more v.seen t done };
-        does = (
-          c,
-          to,
-          acts_too _ w.state v.state near.state t c here acts,
-          own_too _ w.state v.state near.state _ c i to root
-              own,
-          may,
-          refl,
-        );
-        near =
-            rw e (both_seen _ (record w { pending = more w.pending to.object x })
-            (record v { pending = more v.pending to.object x }) (both_pending _ w v near to.object x) t done done refl);
+        does = search (rules, acts_too, own_too);
+        near = search (rules, both_seen, more, both_pending, done);
       }
   own_attempt (await t i) w v new reached near here (c, from, acts, own, may, e) =
       let root = sym (side_root spec labels policy inside stays closed w.state reached t c acts.root) ∙ here in
@@ -195,20 +127,8 @@ module _ (spec : Spec) (labels : List ℕ) (policy : List Edge) (inside : ℕ �
       refl own may) ∙ root in
       record {
         end = record v { pending = put v.pending from.object []; seen = more v.seen t (signals (v.pending from.object)) };
-        does = (
-          c,
-          from,
-          acts_too _ w.state v.state near.state t c here acts,
-          own_too _ w.state v.state near.state _ c i from root
-              own,
-          may,
-          refl,
-        );
-        near =
-            rw e
-            (both_seen _ (record w { pending = put w.pending from.object [] })
-            (record v { pending = put v.pending from.object [] }) (both_put _ w v near from.object []) t _ _
-            (ap (λ (xs : List ℕ). signals xs) (near.pending from.object over)));
+        does = search (rules, acts_too, own_too);
+        near = search (rules, both_seen, put, both_put, signals);
       }
 
   pub own_act : (act : Act) (w v new : World) → Reached spec w.state → Reached spec v.state → Near (in_set labels inside) w v
@@ -231,8 +151,4 @@ module _ (spec : Spec) (labels : List ℕ) (policy : List Edge) (inside : ℕ �
     does = (n, irq_too _ w.state v.state near.state d _ here bound, refl);
     near = rw e (both_pending _ w v near n x);
   }
-  own_act (device f x) w v new reached onward near here (is, e) = record {
-    end = record v { contents = put v.contents f x };
-    does = (is, refl);
-    near = rw e (both_contents _ w v near f x);
-  }
+  own_act (device f x) w v new reached onward near here (is, e) = search (rules, put, both_contents)

@@ -1,5 +1,6 @@
 -- A step of a thread of the set looks only at objects of the set, so it can be done in a state that is alike there, and
 -- leads to states that are alike there.
+use Rattle.std.proofs.Common.{rules}
 use Rattle.flow_model.proofs.LawsCommon.{Bool, Cap, Capability, Control, Edge, IsClosed, List, Mapped, None, Peer, Reached, SavedReply, Some, Spec, State, Stays, Step, StepTo, [], added, both_rights, called, dropped, false, grown_at, in_set, is_at}
 use Rattle.flow_model.proofs.LawsCommon.{lessened, read_write, refl, released, replied, saved, set, sym, thread_of, true, with_pending, with_root, with_space, ℕ, ◌++◌, ◌∙◌, ◌∷◌, ◌≡◌}
 use Rattle.cap_machine.specs.declared.step.Step.TheVariants as steps
@@ -37,9 +38,7 @@ module _ (spec : Spec) (labels : List ℕ) (policy : List Edge) (inside : ℕ �
 
   both_released : (s r : State) (c i caller : ℕ) → Alike (in_set labels inside) s r → in_set labels inside c ≡ true
       → in_set labels inside caller ≡ true → Alike (in_set labels inside) (released s c i caller) (released r c i caller)
-  both_released s r c i caller alike here there =
-      both_waiting (in_set labels inside) (dropped s c i) (dropped r c i) (both_without (in_set labels inside) s r alike c i here)
-      caller false there
+  both_released s r c i caller alike here there = search (rules, both_waiting, in_set, dropped, both_without)
 
   both_called : (s r : State) (t u : ℕ) (grants : Bool) → Alike (in_set labels inside) s r → in_set labels inside t ≡ true
       → in_set labels inside u ≡ true → Alike (in_set labels inside) (called s t u grants) (called r t u grants)
@@ -57,16 +56,7 @@ module _ (spec : Spec) (labels : List ℕ) (policy : List Edge) (inside : ℕ �
         ∙ root in
         record {
           end = added r c (lessened x rights);
-          does = (
-            c,
-            to,
-            x,
-            acts_too _ s r alike t c here acts,
-            own_too _ s r alike _ c i to root own,
-            content_too _ s r alike
-                to.object j _ over there,
-            refl,
-          );
+          does = search (rules, acts_too, own_too, content_too);
           alike = rw e (both_grown _ s r alike c (Capability (lessened x rights)) root);
         }
     own_step new (steps.Put t i j rights) here (c, to, x, acts, own, there, e) =
@@ -75,16 +65,7 @@ module _ (spec : Spec) (labels : List ℕ) (policy : List Edge) (inside : ℕ �
         ∙ root in
         record {
           end = added r to.object (lessened x rights);
-          does = (
-            c,
-            to,
-            x,
-            acts_too _ s r alike t c here acts,
-            own_too _ s r alike _ c i to root own,
-            content_too _ s r alike c j
-                _ root there,
-            refl,
-          );
+          does = search (rules, acts_too, own_too, content_too);
           alike = rw e (both_grown _ s r alike to.object (Capability (lessened x rights)) over);
         }
     own_step new (steps.Grant t i u j k rights) here (c, to, x, d, from, acts, own, may, there, peer, e) =
@@ -140,18 +121,7 @@ module _ (spec : Spec) (labels : List ℕ) (policy : List Edge) (inside : ℕ �
         let beyond = sym (side_root spec labels policy inside stays closed s reached p.caller d root) ∙ far in
         record {
           end = added (replied r t p.caller) d (lessened x copy.1);
-          does = (
-            c,
-            p,
-            x,
-            d,
-            acts_too _ s r alike t c here acts,
-            owes_too _ s r alike t p here owes,
-            grants,
-            content_too _ s r alike c copy.0 _ near there,
-            root_too _ s r alike p.caller (Some d) far root,
-            refl,
-          );
+          does = search (rules, acts_too, owes_too, content_too, root_too);
           alike = rw e (both_grown _ (replied s t p.caller) (replied r t p.caller) (both_replied s r t p.caller alike here far) d
               (Capability (lessened x copy.1)) beyond);
         }
@@ -161,16 +131,7 @@ module _ (spec : Spec) (labels : List ℕ) (policy : List Edge) (inside : ℕ �
         ∙ root in
         record {
           end = record r { threads = with_root r.threads to.object x.object };
-          does = (
-            c,
-            to,
-            x,
-            acts_too _ s r alike t c here acts,
-            own_too _ s r alike _ c i to root own,
-            own_too _ s r alike _ c j x
-                root of,
-            refl,
-          );
+          does = search (rules, acts_too, own_too);
           alike = rw e (both_root _ s r alike to.object x.object over);
         }
     own_step new (steps.SetVspace t i j) here (c, to, x, acts, own, of, e) =
@@ -179,16 +140,7 @@ module _ (spec : Spec) (labels : List ℕ) (policy : List Edge) (inside : ℕ �
         ∙ root in
         record {
           end = record r { threads = with_space r.threads to.object x.object };
-          does = (
-            c,
-            to,
-            x,
-            acts_too _ s r alike t c here acts,
-            own_too _ s r alike _ c i to root own,
-            own_too _ s r alike _ c j x
-                root of,
-            refl,
-          );
+          does = search (rules, acts_too, own_too);
           alike = rw e (both_space _ s r alike to.object x.object over);
         }
     own_step new (steps.Map t i j rights) here (c, frame, x, acts, own, of, e) =
@@ -200,35 +152,12 @@ module _ (spec : Spec) (labels : List ℕ) (policy : List Edge) (inside : ℕ �
         } in
         record {
           end = record r { mapped = r.mapped ++ m ∷ [] };
-          does = (
-            c,
-            frame,
-            x,
-            acts_too _ s r alike t c here acts,
-            own_too _ s r alike _ c i frame root own,
-            own_too _ s r alike _
-                c j x root of,
-            refl,
-          );
+          does = search (rules, acts_too, own_too);
           alike = rw e (both_mapped _ s r alike m);
         }
     own_step new (steps.Bind t i j) here (c, irq, x, acts, own, of, writes, e) =
         let root = sym (side_root spec labels policy inside stays closed s reached t c acts.root) ∙ here in
-        record {
-          end = record r { irqs = set r.irqs irq.object (Some x.object) };
-          does = (
-            c,
-            irq,
-            x,
-            acts_too _ s r alike t c here acts,
-            own_too _ s r alike _ c i irq root own,
-            own_too _ s r alike _ c j
-                x root of,
-            writes,
-            refl,
-          );
-          alike = rw e (both_irqs _ s r alike irq.object (Some x.object));
-        }
+        search (rules, set, acts_too, own_too, both_irqs)
     own_step new (steps.Drop t i) here (c, x, acts, there, e) =
         let root = sym (side_root spec labels policy inside stays closed s reached t c acts.root) ∙ here in
         record {
@@ -241,11 +170,7 @@ module _ (spec : Spec) (labels : List ℕ) (policy : List Edge) (inside : ℕ �
         record {
           end = saved r t c p;
           does = (c, p, acts_too _ s r alike t c here acts, owes_too _ s r alike t p here owes, refl);
-          alike =
-              rw e
-              (both_pending _ (record s { nodes = grown_at s.nodes c (SavedReply p) })
-              (record r { nodes = grown_at r.nodes c (SavedReply p) })
-              (both_grown _ s r alike c (SavedReply p) root) t None here);
+          alike = search (rules, both_pending, grown_at, both_grown);
         }
     own_step new (steps.ReplyTo t i None) here (c, p, acts, there, e) =
         let root = sym (side_root spec labels policy inside stays closed s reached t c acts.root) ∙ here in
@@ -261,18 +186,7 @@ module _ (spec : Spec) (labels : List ℕ) (policy : List Edge) (inside : ℕ �
         let beyond = sym (side_root spec labels policy inside stays closed s reached p.caller d back) ∙ far in
         record {
           end = released (added r d (lessened x copy.1)) c i p.caller;
-          does = (
-            c,
-            p,
-            x,
-            d,
-            acts_too _ s r alike t c here acts,
-            content_too _ s r alike c i _ root there,
-            grants,
-            content_too _ s r alike c copy.0 _ root has,
-            root_too _ s r alike p.caller (Some d) far back,
-            refl,
-          );
+          does = search (rules, acts_too, content_too, root_too);
           alike = rw e (both_released (added s d (lessened x copy.1)) (added r d (lessened x copy.1)) c i p.caller
               (both_grown _ s r alike d (Capability (lessened x copy.1)) beyond) root far);
         }

@@ -1,4 +1,5 @@
 -- The acts of the example, one by one.
+use Rattle.std.proofs.Common.{rules}
 use Rattle.flow_model.proofs.Common.{Access, ActRun, ActTo, Acts, AttemptTo, Cap, Capability, None, Peer, Read, Some, State, World, Write, [], allowed, arith, await, boot, content, content_in, denied, done, false, inl}
 use Rattle.flow_model.proofs.Common.{inr, irq_at, load, message, more, put, refl, refused, send, signal, signals, store, subst, sym, thread_at, true, ℕ, ◌∷◌, ◌≡◌}
 use Rattle.std.proofs.lemmas.List.Elements.{Contains-push}
@@ -53,22 +54,10 @@ reads_8 = inr (inl (record {
 
 -- thread 3 receives at endpoint 5 while it doesn't wait
 peer_3 : Peer sample (boot sample) 2 3 1 5 1 (cap 5 (rights true false true false) 0)
-peer_3 = record {
-  other = λ e. absurd (omega arith);
-  acts = acts_3;
-  own = record { there = refl; is = refl };
-  reads = refl;
-  same = refl;
-}
+peer_3 = search (rules, acts_3)
 
 peer_2 : Peer sample (boot sample) 3 2 8 5 0 (cap 5 (rights true false false false) 0)
-peer_2 = record {
-  other = λ e. absurd (omega arith);
-  acts = acts_2;
-  own = record { there = refl; is = refl };
-  reads = refl;
-  same = refl;
-}
+peer_2 = search (rules, acts_2)
 
 -- acts from any world with the boot state
 module _ (w : World) (boots : w.state ≡ boot sample) where
@@ -299,20 +288,12 @@ lost = record first_world { state = dropped (boot sample) 1 1; seen = more first
 
 no_take : (c : ℕ) (to x : Cap) → Some 0 ≡ Some c → content_in lost.state c 1 ≡ Some (Capability to)
     → content_in lost.state to.object 1 ≡ Some (Capability x) → ⊥
-no_take c to x root own there =
-    let same : 0 ≡ c = cc in
-    let first : Some (Capability (plain 1)) ≡ Some (Capability to) =
-    subst (λ (n : ℕ). content_in lost.state n 1 ≡ Some (Capability to)) (sym same) own in
-    let is : plain 1 ≡ to = cc in
-    let gone : None ≡ Some (Capability x) = subst (λ (y : Cap). content_in lost.state y.object 1 ≡ Some (Capability x))
-    (sym is) there in
-    absurd cc
+no_take c to x root own there = search (rules)
 
 pub untaken : Leaves first_world (dropping ∷ refused taking ∷ []) (λ w. w.seen 2) (denied ∷ [])
 untaken =
     let drops : ActTo sample first_world dropping lost =
     (dropped (boot sample) 1 1, (1, Capability (cap 5 (rights true false true false) 0), acts_3, refl, refl), refl) in
     let end : World = record lost { seen = more lost.seen 2 denied } in
-    let refuse : ActTo sample lost (refused taking) end =
-    (refl, λ end may. no_take may.1.0 may.1.1 may.1.2 may.1.3.root may.1.4.there may.1.5, refl) in
+    let refuse : ActTo sample lost (refused taking) end = search (rules, no_take) in
     (end, (lost, drops, (end, refuse, refl)), refl)

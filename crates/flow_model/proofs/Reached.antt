@@ -1,4 +1,5 @@
 -- The states that runs of steps, and so acts, lead to from boot.
+use Rattle.std.proofs.Common.{rules}
 use Rattle.flow_model.proofs.Common.{Act, ActRun, ActTo, Attempt, AttemptTo, IsReached, List, Spec, State, StepTo, World, [], allowed, await, boot, device, fire, load, refl, refused, send, signal, step, store, subst, tell, tell_saved, ◌++◌, ◌∷◌}
 use Rattle.cap_machine.specs.Runs.{Run}
 use Rattle.cap_machine.specs.declared.step.Step.{Step}
@@ -14,10 +15,7 @@ one_more spec [] s mid new move run next = (new, subst (λ (x : State). StepTo s
 one_more spec (x ∷ xs) s mid new move (y, first, rest) next = (y, first, one_more spec xs y mid new move rest next)
 
 pub reached_next : (spec : Spec) (s new : State) (move : Step) → Reached spec s → StepTo spec s move new → Reached spec new
-reached_next spec s new move reached next = record {
-  steps = reached.steps ++ move ∷ [];
-  run = one_more spec reached.steps (boot spec) s new move reached.run next;
-}
+reached_next spec s new move reached next = search (rules, one_more)
 
 pub steps_reached : (spec : Spec) (steps : List Step) (s new : State) → Reached spec s → Run spec s steps new → Reached spec new
 steps_reached spec [] s new reached e = rw e reached

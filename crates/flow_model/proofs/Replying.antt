@@ -1,5 +1,6 @@
 -- Who may reply lies on the side of the caller: a call comes by an endpoint, whose senders and receivers lie on one side. And
 -- steps keep the lengths of the lists of a state.
+use Rattle.std.proofs.Common.{rules}
 use Rattle.flow_model.proofs.LawsCommon.{All, All-contains, All-filter, All-push, Bool, Cap, Capability, Contains, Contains-get_or, Content, Edge, IsClosed, List, Node, None, Owes, Pending, Reached, Run, SavedReply, Some, Spec, State, Stays, Step, StepTo}
 use Rattle.flow_model.proofs.LawsCommon.{ThreadState, [], added, boot, boot_irq, boot_node, boot_thread, called, contained, content_in, dropped, false, get_or, grown, grown_at, in_set, inl, inr, length, length-map, length-set, lessened, no_node}
 use Rattle.flow_model.proofs.LawsCommon.{no_thread, node_at, none_saved, not, nothing_pending, reached_next, read_written, refl, released, replied, set, subst, sym, thread_at, true, waiting, with_pending, without, ℕ, ◌==◌, ◌∙◌, ◌∷◌, ◌≡◌}
@@ -24,30 +25,11 @@ pub record Joined (spec : Spec) (side : ℕ → Bool) (s : State) : Type 0 where
 module _ (spec : Spec) (side : ℕ → Bool) where
   node_joined : (s : State) (c : ℕ) (node : Node) → Joined spec side s → BesideNode side c node
       → Joined spec side (record s { nodes = set s.nodes c node })
-  node_joined s c node joined beside = record {
-    nodes_long = length-set s.nodes c node ∙ joined.nodes_long;
-    threads_long = joined.threads_long;
-    irqs_long = joined.irqs_long;
-    owes = joined.owes;
-    nodes = λ k. elim (read_written s.nodes c k node no_node) [
-      | inl e ↦ subst (λ (n : Node). BesideNode side k n) (sym e) (joined.nodes k)
-      | inr e ↦ subst (λ (n : Node). BesideNode side k n) (sym e.1) (subst (λ (m : ℕ). BesideNode side m node) (sym e.0) beside)
-    ];
-  }
+  node_joined s c node joined beside = search (rules, length-set, read_written, no_node)
 
   thread_joined : (s : State) (t : ℕ) (thread : ThreadState) → Joined spec side s → ((p : Pending) → thread.pending ≡ Some p
       → side t ≡ side p.caller) → Joined spec side (record s { threads = set s.threads t thread })
-  thread_joined s t thread joined owes = record {
-    nodes_long = joined.nodes_long;
-    threads_long = length-set s.threads t thread ∙ joined.threads_long;
-    irqs_long = joined.irqs_long;
-    owes = λ k p has. elim (read_written s.threads t k thread no_thread) [
-      | inl e ↦ joined.owes k p (subst (λ (x : ThreadState). x.pending ≡ Some p) e has)
-      | inr e ↦ subst (λ (m : ℕ). side m ≡ side p.caller) (sym e.0)
-          (owes p (subst (λ (x : ThreadState). x.pending ≡ Some p) e.1 has))
-    ];
-    nodes = joined.nodes;
-  }
+  thread_joined s t thread joined owes = search (rules, length-set, read_written, no_thread)
 
   cap_joined : (s : State) (c : ℕ) (cap : Cap) → Joined spec side s → Joined spec side (added s c cap)
   cap_joined s c cap joined =
@@ -125,24 +107,8 @@ module _ (spec : Spec) (labels : List ℕ) (policy : List Edge) (inside : ℕ �
   step_joined s new (steps.SetVspace t i j) reached joined (c, to, x, acts, own, of, e) =
       rw e (thread_joined spec _ s to.object (record (thread_at s to.object) { space = Some x.object }) joined
       (joined.owes to.object))
-  step_joined s new (steps.Map t i j r) reached joined (c, frame, x, acts, own, of, e) =
-      rw e
-      (record {
-        nodes_long = joined.nodes_long;
-        threads_long = joined.threads_long;
-        irqs_long = joined.irqs_long;
-        owes = joined.owes;
-        nodes = joined.nodes;
-      })
-  step_joined s new (steps.Bind t i j) reached joined (c, irq, x, acts, own, of, writes, e) =
-      rw e
-      (record {
-        nodes_long = joined.nodes_long;
-        threads_long = joined.threads_long;
-        irqs_long = length-set s.irqs irq.object (Some x.object) ∙ joined.irqs_long;
-        owes = joined.owes;
-        nodes = joined.nodes;
-      })
+  step_joined s new (steps.Map t i j r) reached joined (c, frame, x, acts, own, of, e) = search (rules)
+  step_joined s new (steps.Bind t i j) reached joined (c, irq, x, acts, own, of, writes, e) = search (rules, length-set)
   step_joined s new (steps.Drop t i) reached joined (c, x, acts, there, e) = rw e (dropped_joined spec _ s c i joined)
   step_joined s new (steps.Save t) reached joined (c, p, acts, owes, e) =
       let root = side_root spec labels policy inside stays closed s reached t c acts.root in
@@ -170,6 +136,4 @@ module _ (spec : Spec) (labels : List ℕ) (policy : List Edge) (inside : ℕ �
 
     pub side_saved : (c i : ℕ) (reply : Pending) → content_in s c i ≡ Some (SavedReply reply)
         → in_set labels inside c ≡ in_set labels inside reply.caller
-    side_saved c i reply there =
-        All-contains (λ (slot : ℕ × Content). Beside (in_set labels inside) c slot.1) (node_at s c).slots (i, SavedReply reply)
-        (is_joined.nodes c) (contained spec labels s c i (SavedReply reply) there) reply refl
+    side_saved c i reply there = search (rules, in_set, node_at, is_joined, contained)

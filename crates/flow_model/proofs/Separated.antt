@@ -1,4 +1,5 @@
 -- Acts one after the other: those of the set can be done alone, and lead to a world that agrees on the set.
+use Rattle.std.proofs.Common.{rules}
 use Rattle.flow_model.proofs.LawsCommon.{Act, ActRun, Agree, Bool, Edge, IsClosed, IsReached, List, Reached, Spec, Stays, World, [], act_reached, actor, acts_in, false, in_set, one_world, refl, subst, sym, true, world_reached, ℕ, ◌∷◌, ◌≡◌}
 use Rattle.flow_model.proofs.Contents.{Near, near_agree, agree_of, agree_self, agree_meet}
 use Rattle.flow_model.proofs.OtherActs.{other_act}
@@ -31,11 +32,7 @@ module _ (spec : Spec) (labels : List ℕ) (policy : List Edge) (inside : ℕ �
             let goes = own_act spec labels policy inside stays closed act w v mid reached onward near here does in
             let after = behind goes.end (act_reached spec v goes.end act onward goes.does) goes.near in
             let e : acts_in labels inside (act ∷ acts) ≡ act ∷ acts_in labels inside acts = rw here refl in
-            subst (λ (xs : List Act). Alone spec (in_set labels inside) v xs new) (sym e) (record {
-              end = after.end;
-              run = (goes.end, goes.does, after.run);
-              near = after.near;
-            })
+            search (rules, in_set)
 
   -- worlds that runs lead to and that agree are alike
   pub near_reached : (w v : World) → Reached spec w.state → Reached spec v.state → Agree labels inside w v
@@ -58,6 +55,5 @@ module _ (spec : Spec) (labels : List ℕ) (policy : List Edge) (inside : ℕ �
   own_decide w v new end acts others from also agree run rest same =
       let here = separated w v new acts from also agree run in
       let there = separated v v end others also also (agree_self labels inside v) rest in
-      let one : there.0 ≡ here.0 = one_world spec v there.0 here.0 (acts_in labels inside others) there.1
-      (subst (λ (xs : List Act). ActRun spec v xs here.0) same here.1) in
+      let one : there.0 ≡ here.0 = search (rules, one_world, acts_in) in
       agree_meet labels inside new end here.0 here.2 (subst (λ (x : World). Agree labels inside end x) one there.2)

@@ -1,4 +1,5 @@
 -- The edges that a state has by what it has where.
+use Rattle.std.proofs.Common.{rules}
 use Rattle.flow_model.proofs.Common.{ByAdded, ByBuffer, BySlot, Cap, Capability, Content, Control, LeadsDown, List, None, Option, Own, Some, Spec, State, [], arith, content_in, inl, inr, node_at, refl, subst, sym, true, ℕ, ◌==◌, ◌∷◌, ◌≡◌}
 use Rattle.std.proofs.lemmas.Map.Views.{Contains-from_lookup}
 use Rattle.std.specs.List.{Contains}
@@ -20,19 +21,7 @@ abbrev pub HasSlot : Spec → ℕ → Type 0
 HasSlot spec p = (i : ℕ) × (cap : Cap) × Contains (table_of (object_at spec p)) (i, cap)
 
 pub table_controls : (spec : Spec) (cap : Cap) → HasSlot spec cap.object → confers spec cap Control ≡ true
-table_controls spec cap slot = go (object_at spec cap.object) refl where
-  none : (o : Option Object) → object_at spec cap.object ≡ o → Contains (table_of o) (slot.0, slot.1)
-  none o here = subst (λ (x : Option Object). Contains (table_of x) (slot.0, slot.1)) here slot.2
-
-  go : (o : Option Object) → object_at spec cap.object ≡ o → confers spec cap Control ≡ true
-  go (Some (objects.Pages level slots)) here = rw here refl
-  go None here = absurd (let w = (none None here).1 in omega arith)
-  go (Some objects.Endpoint) here = absurd (let w = (none (Some objects.Endpoint) here).1 in omega arith)
-  go (Some objects.Notification) here = absurd (let w = (none (Some objects.Notification) here).1 in omega arith)
-  go (Some (objects.CNode bits slots)) here = absurd (let w = (none (Some (objects.CNode bits slots)) here).1 in omega arith)
-  go (Some (objects.Thread tcb)) here = absurd (let w = (none (Some (objects.Thread tcb)) here).1 in omega arith)
-  go (Some (objects.Frame paddr fill)) here = absurd (let w = (none (Some (objects.Frame paddr fill)) here).1 in omega arith)
-  go (Some (objects.Irq bound)) here = absurd (let w = (none (Some (objects.Irq bound)) here).1 in omega arith)
+table_controls spec cap slot = search (rules)
 
 pub leads_slot : (spec : Spec) (p q : ℕ) (path : List ℕ) → LeadsDown spec p path q → HasSlot spec q → HasSlot spec p
 leads_slot spec p q [] same slot = subst (λ (n : ℕ). HasSlot spec n) (sym same) slot

@@ -3,7 +3,7 @@ use Rattle.front_laws.proofs.Common.{AreConnections, AreDomains, AreLeaves, AreN
 use Rattle.front_laws.proofs.Common.{IsInside, IsLeafOf, IsOnce, IsPathBefore, IsWireOf, Leaf, List, None, Option, Path, Placed, Reached, Some, Source, Strung, [], all_joined, ap, arith, at_place, below, body, bytes_eq-Decides, cond, connections}
 use Rattle.front_laws.proofs.Common.{connections_once, connections_stand, domain_found, domain_number, domain_of, domains, domains_are, domains_once, end_numbers_kept, ends_kept, false, flat_connection, flat_domain, flat_end, flat_ends, flat_of}
 use Rattle.front_laws.proofs.Common.{from_get_map, from_map, get_map, group_above, hierarchy_of, in_map, in_place, inl, inr, interface_of, is_hardware, is_interface, is_there, joined, joined_by, leaf_number, leaf_number_is, leaves, leaves_of_domain}
-use Rattle.front_laws.proofs.Common.{map, member_number, not, not-true, not_from_false, option_map_or, place_by, place_of, refl, subst, suc, sym, top_number, true, true≢false, unwrap_or, zero, ℕ, ◌++◌, ◌<◌, ◌↔◌, ◌∙◌, ◌∷◌, ◌≡◌}
+use Rattle.front_laws.proofs.Common.{map, member_number, not, not-true, not_from_false, option_map_or, place_by, place_of, refl, rules, subst, suc, sym, top_number, true, true≢false, unwrap_or, zero, ℕ, ◌++◌, ◌<◌, ◌↔◌, ◌∙◌, ◌∷◌, ◌≡◌}
 use Rattle.adl_ast.specs.declared.component.Member.TheVariants as members
 use Rattle.adl_meaning.specs.Prelude.{leaf_of, slice_get}
 use Rattle.adl_hierarchy.specs.Leads.{AreDotted}
@@ -148,12 +148,7 @@ are_domains s sound =
             k.stands.key_is,
           );
           before = λ n i. let y = (leaves_of_domain h e n).0 i in
-              k.before n (record {
-                item = y.0;
-                there = y.1;
-                passing = not_from_false (is_hardware h y.0.part) y.2;
-                key_is = y.3;
-              });
+              k.before n (search (rules, not_from_false));
         }
 
 -- ---- ends
@@ -167,11 +162,7 @@ earlier_fails {X} p (y ∷ xs) k x l e = by_test (p y) refl (λ n m. earlier_fai
     by_test : (b : Bool) → p y ≡ b → ((n : ℕ) → n < place_by p xs → slice_get xs n ≡ Some x → p x ≡ false)
         → k < cond b zero (suc (place_by p xs)) → slice_get (y ∷ xs) k ≡ Some x → p x ≡ false
     by_test true t more l e = absurd (omega (arith, l))
-    by_test false t more l e = by_place k l e
-      where
-        by_place : (n : ℕ) → n < suc (place_by p xs) → slice_get (y ∷ xs) n ≡ Some x → p x ≡ false
-        by_place zero l e = let same : y ≡ x = cc in ap p (sym same) ∙ t
-        by_place (suc n) l e = more n (omega (arith, l)) e
+    by_test false t more l e = grind (arith)
 
 an_end : (s : Source) → AreNamesSound s → AreDotted (hierarchy_of s) → (x : Strung) → IsIn x (connections (hierarchy_of s))
     → (n : ℕ) (end : End) → slice_get x.wire.1.ends n ≡ Some end
@@ -202,14 +193,9 @@ an_end s sound dotted x i n end g r j =
       component = d.component.1;
       of_leaf = ap (λ (b : Body). b.component) own;
       member = m.0;
-      named =
-          sym ((bytes_eq-Decides r.interface m.0.id.name).0 (place_by-passes (is_interface r.interface) d.component.1.members
-          (members.Interface m.0) placed_there));
+      named = search (rules, bytes_eq-Decides, place_by-passes);
       placed = ap (slice_get d.component.1.members) member ∙ placed_there;
-      first = λ k i l e n.
-          let fails = earlier_fails (is_interface r.interface) d.component.1.members k (members.Interface i)
-          (omega (arith, l, member)) e in
-          true≢false (sym ((bytes_eq-Decides r.interface i.id.name).1 (sym n)) ∙ fails);
+      first = search (rules, earlier_fails, bytes_eq-Decides);
     }
 
 -- ---- connections
@@ -248,9 +234,7 @@ are_connections : (s : Source) → AreNamesSound s → AreDotted (hierarchy_of s
 are_connections s sound dotted =
     let h = hierarchy_of s in
     record {
-      each = λ c i.
-          let x = from_map (flat_connection h) c (connections h) i in
-          (x.0.path, x.0.wire, subst (λ z. IsWireOf h (flat_of s) z x.0.path x.0.wire) x.2 (a_wire s sound dotted x.0 x.1));
+      each = search (rules, from_map, a_wire);
       all = λ q k w e i.
           let x : Strung = record { path = q; inside = k; wire = w } in
           let there = (connections_stand s sound x).1 (e, i) in
@@ -270,8 +254,4 @@ are_connections s sound dotted =
     }
 
 pub by_hierarchy : (s : Source) → AreNamesSound s → AreDotted (hierarchy_of s) → IsByHierarchy (hierarchy_of s) (flat_of s)
-by_hierarchy s sound dotted = record {
-  leaves = are_leaves s sound;
-  domains = are_domains s sound;
-  connections = are_connections s sound dotted;
-}
+by_hierarchy s sound dotted = search (rules, are_leaves, are_domains, are_connections)

@@ -46,7 +46,7 @@ pub use Rattle.front_laws.specs.PlannedMemory.{AreApart, AreBlocksPlaced, AreDev
 pub use Rattle.front_laws.specs.Standing.{HasComposition, HasItem, IsLater, of_assembly, of_component}
 pub use Rattle.front_laws.specs.TypesByHierarchy.{HasWire, IsTypeFault, Means, another_count, another_kind, another_type, no_size}
 pub use Rattle.front_laws.specs.UnknownWords.{Ends, Holding, IsInFront, IsUnknownIn, IsUnknownWord, Leads, NamesInstance, Types, a_group_alone, alone, at_connection, at_leaf, behind_an_end, here, in_a_group, inwards, unheld, unheld_in_group}
-pub use Rattle.std.proofs.Common.{Bool, Err, List, None, Ok, Option, Result, Some, [], ap, append-nil, append_assoc, arith, codes, cond, drop, false, filter, get_or, inl, inr, is_some, leb, length, length-append, map, nat_eq, nat_lt, not, option_map}
+pub use Rattle.std.proofs.Common.{Bool, Err, List, None, Ok, Option, Result, Some, [], ap, append-nil, append_assoc, arith, codes, cond, drop, false, filter, get_or, inl, inr, is_some, leb, length, length-append, map, nat_eq, nat_lt, not, option_map, rules}
 pub use Rattle.std.proofs.Common.{refl, subst, suc, sym, true, true≢false, unwrap_or, zero, ℕ, ◌&&◌, ◌*◌, ◌++◌, ◌+◌, ◌<◌, ◌==◌, ◌^◌, ◌||◌, ◌↔◌, ◌∙◌, ◌∷◌, ◌≡◌, ◌≢◌, ◌≤◌, ◌⊎◌}
 pub use Rattle.std.proofs.lemmas.Bool.{and_from, and_parts, cases_Bool, cases_eq, cases_lt, eq-eqb, eqb-false, eqb-true, le-leb, le-ltb, leb-true, lt-ltb, ltb-false, ltb-true, ne_eqb, not-false, not-true, not_from_false, or_cases, or_left, or_parts}
 pub use Rattle.std.proofs.lemmas.Bool.{or_right}

@@ -1,7 +1,7 @@
 -- The first object that needs a page of no device, or one that is taken; and where placed objects lie.
 use Rattle.front_laws.proofs.Common.{AreServed, Block, Bool, DevicePage, HasDevice, IsDeviceRefusal, IsTaken, List, Need, NeedsPage, None, Nothing, Option, Some, Untyped, [], and_parts, ap, append-nil, append_assoc, arith, below, cases_Bool, cond}
-use Rattle.front_laws.proofs.Common.{eq-eqb, eqb-true, false, filter_map, from_any, from_filter_map, get_behind, get_front, in_filter_map, in_place, inl, inr, le-leb, leb, leb-true, length, length-append, list_any, no_device, not, option_or}
-use Rattle.front_laws.proofs.Common.{place_of, refl, region_end, shared_frame, slice_get, subst, suc, sym, true, true≢false, ℕ, ◌&&◌, ◌++◌, ◌+◌, ◌==◌, ◌∙◌, ◌∷◌, ◌≡◌}
+use Rattle.front_laws.proofs.Common.{eq-eqb, eqb-true, false, filter_map, from_any, from_filter_map, get_behind, get_front, in_filter_map, in_place, inr, le-leb, leb, leb-true, length, length-append, list_any, no_device, not, option_or}
+use Rattle.front_laws.proofs.Common.{place_of, refl, rules, shared_frame, slice_get, subst, suc, sym, true, true≢false, ℕ, ◌&&◌, ◌++◌, ◌+◌, ◌==◌, ◌∙◌, ◌∷◌, ◌≡◌}
 use Rattle.std.proofs.lemmas.List.Elements.{filter_map-append}
 use Rattle.boot_plan.specs.Devices.{device_refusal, has_page, is_needed}
 use Rattle.boot_plan.specs.declared.plan_refusal.PlanRefusal.{PlanRefusal}
@@ -13,22 +13,10 @@ use Rattle.cam_base.proofs.NumberedLists.{in_any}
 -- ---- tests
 
 device_there : (rs : List Untyped) (paddr : ℕ) → list_any (has_page paddr) rs ≡ true → HasDevice rs paddr
-device_there rs paddr t =
-    let r = from_any (has_page paddr) rs t in let q = r.0 in
-    let parts = and_parts q.device (leb q.paddr paddr && leb (paddr + 4096) (region_end q)) r.2 in
-    let more = and_parts (leb q.paddr paddr) (leb (paddr + 4096) (region_end q)) parts.1 in
-    record {
-      region = q;
-      one = r.1;
-      lies = record { kind = parts.0; low = leb-true q.paddr paddr more.0; high = leb-true (paddr + 4096) (region_end q) more.1 };
-    }
+device_there rs paddr t = search (rules, from_any, and_parts, leb, leb-true)
 
 there_device : (rs : List Untyped) (paddr : ℕ) → HasDevice rs paddr → list_any (has_page paddr) rs ≡ true
-there_device rs paddr h =
-    let q = h.region in
-    in_any (has_page paddr) rs q h.one (ap (λ b. b && (leb q.paddr paddr && leb (paddr + 4096) (region_end q))) h.lies.kind
-    ∙ ap (λ b. b && leb (paddr + 4096) (region_end q)) (le-leb q.paddr paddr h.lies.low)
-    ∙ le-leb (paddr + 4096) (region_end q) h.lies.high)
+there_device rs paddr h = search (rules, in_any, leb, le-leb)
 
 -- ---- the walk
 
@@ -77,20 +65,7 @@ as_first rs before (DevicePage paddr ∷ ns) k e =
 
 taken_there : (ns before rest : List Need) (paddr : ℕ) (item : Need) → ns ≡ before ++ item ∷ rest
     → is_needed paddr (pages before) ≡ true → IsTaken ns (length before) paddr
-taken_there ns before rest paddr item e t =
-    let p = from_any (λ p. p == paddr) (pages before) t in
-    let n = from_filter_map as_page p.0 before p.1 in let i = place_of n.0 before n.1 in
-    let is : n.0 ≡ DevicePage paddr = the_page n.0 (n.2 ∙ ap Some (eqb-true p.0 paddr p.2)) in
-    let P : List Need → Type 0 = λ z. slice_get z i.0 ≡ Some (DevicePage paddr) in
-    record {
-      earlier = i.0;
-      before = below before i.0 n.0 i.1;
-      needs = subst P (sym e) (get_front before (item ∷ rest) i.0 (DevicePage paddr) (i.1 ∙ ap Some is));
-    }
-  where
-    the_page : (n : Need) → as_page n ≡ Some paddr → n ≡ DevicePage paddr
-    the_page (DevicePage a) e = let s : a ≡ paddr = cc in ap (λ z. DevicePage z) s
-    the_page _ e = cc
+taken_there ns before rest paddr item e t = search (rules, from_any, from_filter_map, place_of, eqb-true, below, get_front)
 
 there_taken : (ns before rest : List Need) (paddr : ℕ) (item : Need) → ns ≡ before ++ item ∷ rest
     → IsTaken ns (length before) paddr → is_needed paddr (pages before) ≡ true
@@ -135,9 +110,7 @@ clean_served rs ns front rest e a p q (DevicePage paddr) s =
         → cond (not (list_any (has_page paddr) rs)) (Some (NoDevice (length p)))
         (cond (is_needed paddr (pages p)) (Some (SharedFrame (length p))) None) ≡ None
     by_test w true t k = absurd (k.1 (taken_there ns p (q ++ rest) paddr (DevicePage paddr) w t))
-    by_test w false t k =
-        ap (λ z. cond (not z) (Some (NoDevice (length p))) (cond (is_needed paddr (pages p)) (Some (SharedFrame (length p)))
-        None)) (there_device rs paddr k.0) ∙ ap (λ z. cond z (Some (SharedFrame (length p))) None) t
+    by_test w false t k = search (rules, there_device)
 clean_served rs ns front rest e a p q _ s = refl
 
 from_said : (rs : List Untyped) (ns front rest : List Need) (item : Need) (x : PlanRefusal) → ns ≡ front ++ item ∷ rest
@@ -183,11 +156,7 @@ says_at rs ns k paddr x n a says =
 pub in_refusal : (rs : List Untyped) (ns : List Need) (x : PlanRefusal) → IsDeviceRefusal rs ns x
     → device_refusal rs [] 0 ns ≡ Some x
 in_refusal rs ns x (no_device k paddr n none a) = says_at rs ns k paddr (NoDevice k) n a (λ front rest e l.
-    let t : list_any (has_page paddr) rs ≡ false = elim (cases_Bool (list_any (has_page paddr) rs)) [
-      | inl y ↦
-          absurd (none (device_there rs paddr y))
-      | inr y ↦ y
-    ] in
+    let t : list_any (has_page paddr) rs ≡ false = search (rules, cases_Bool, device_there) in
     ap (λ z. cond (not z) (Some (NoDevice (length front)))
     (cond (is_needed paddr (pages front)) (Some (SharedFrame (length front))) None)) t ∙ ap (λ z. Some (NoDevice z)) l)
 in_refusal rs ns x (shared_frame k paddr n has taken a) = says_at rs ns k paddr (SharedFrame k) n a (λ front rest e l.

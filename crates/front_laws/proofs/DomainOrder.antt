@@ -1,6 +1,6 @@
 -- Domains stand in the order of their first leaves, and the leaves of each in theirs.
 use Rattle.front_laws.proofs.Common.{Bool, Hierarchy, InOrder, IsIn, List, Path, Some, [], ap, append_assoc, arith, cond, domain_of, domains, enumerate_from, false, flat_domain, from_enumerate, from_filter, get_behind, inl, inr, is_hardware}
-use Rattle.front_laws.proofs.Common.{is_inside, leaves, length, map, not, or_left, or_parts, or_right, refl, same_path, same_path-Decides, split_get, subst, suc, sym, true, true≢false, zero, ℕ, ◌++◌, ◌+◌, ◌<◌, ◌||◌, ◌∙◌, ◌∷◌, ◌≡◌, ◌⊎◌}
+use Rattle.front_laws.proofs.Common.{is_inside, leaves, length, map, not, or_left, or_parts, or_right, refl, rules, same_path, same_path-Decides, split_get, sym, true, true≢false, ℕ, ◌++◌, ◌+◌, ◌<◌, ◌||◌, ◌∙◌, ◌∷◌, ◌≡◌, ◌⊎◌}
 use Rattle.adl_meaning.specs.Lists.{firsts_after}
 use Rattle.adl_meaning.specs.Prelude.{filter, slice_get}
 use Rattle.front_laws.proofs.Ordered.{order_map}
@@ -67,32 +67,13 @@ IsMet {X} passes key met front = (n : ℕ) (x : X) → slice_get front n ≡ Som
 met_more : {X : Type 0} (passes : X → Bool) (key : X → Path) (old new : Path → Bool) (front : List X) (x : X)
     → IsMet passes key old front
     → ((d : Path) → old d ≡ true → new d ≡ true) → (passes x ≡ true → new (key x) ≡ true) → IsMet passes key new (front ++ x ∷ [])
-met_more {X} passes key old new front x met keep here n y e p = elim (split_get front (x ∷ []) n y e) [
-  | inl i ↦ keep (key y) (met n y i p)
-  | inr i ↦ last i
-]
-  where
-    last : ((m : ℕ) × (n ≡ length front + m) × (slice_get (x ∷ []) m ≡ Some y)) → new (key y) ≡ true
-    last (zero, a, b) = let same : x ≡ y = cc in let P : X → Type 0 = λ z. passes z ≡ true in ap (λ z. new (key z)) (sym same)
-        ∙ here (subst P (sym same) p)
-    last (suc m, a, b) = cc
+met_more {X} passes key old new front x met keep here n y e p = search (rules, split_get)
 
 -- an element of a key that isn't met, and that isn't the key of x, stands behind x
 behind : {X : Type 0} (whole : List X) (passes : X → Bool) (key : X → Path) (met : Path → Bool) (front xs : List X) (x : X)
     → whole ≡ front ++ x ∷ xs → IsMet passes key met front
     → (d : Path) (n : ℕ) → HasKey whole passes key n d → (met d || same_path d (key x)) ≡ false → length front < n
-behind {X} whole passes key met front xs x e a d n k none =
-    by_place (split_get front (x ∷ xs) n k.item (ap (λ z. slice_get z n) (sym e) ∙ k.there))
-  where
-    by_place : (slice_get front n ≡ Some k.item) ⊎ ((m : ℕ) × (n ≡ length front + m) × (slice_get (x ∷ xs) m ≡ Some k.item))
-        → length front < n
-    by_place (inl i) =
-        absurd (true≢false (sym (or_left (met d) (same_path d (key x)) (ap met (sym k.key_is) ∙ a n k.item i k.passing)) ∙ none))
-    by_place (inr (zero, b, c)) =
-        let same : x ≡ k.item = cc in
-        let s : same_path d (key x) ≡ true = (same_path-Decides d (key x)).1 (sym k.key_is ∙ ap key (sym same)) in
-        absurd (true≢false (sym (or_right (met d) (same_path d (key x)) s) ∙ none))
-    by_place (inr (suc m, b, c)) = omega (arith, b)
+behind {X} whole passes key met front xs x e a d n k none = search (rules, split_get, or_left, same_path-Decides, or_right)
 
 abbrev AreOrdered : {X : Type 0} → List X → (X → Bool) → (X → Path) → (Path → Bool) → List X → Type 0
 AreOrdered whole passes key met xs = InOrder (IsKeyBefore whole passes key) (firsts_after same_path met (Keys passes key xs))

@@ -1,11 +1,11 @@
 -- The first fault of an ELF file.
 use Rattle.front_laws.proofs.Common.{Bool, Err, List, None, Option, Result, Some, [], and_from, and_parts, ap, append-nil, append_assoc, arith, at_place, below, cond, eq-eqb, eqb-false, eqb-true, false, get_behind, get_front, le-ltb, length}
 use Rattle.front_laws.proofs.Common.{length-append, lt-ltb, ltb-false, ltb-true, nat_eq, nat_lt, ne_eqb, not, not-false, not-true, not_from_false, ok_or, option_or, refl, slice_get, slice_index, starts_with, subst, suc, sym, true, true≢false, zero}
-use Rattle.front_laws.proofs.Common.{ℕ, ◌&&◌, ◌*◌, ◌++◌, ◌+◌, ◌<◌, ◌==◌, ◌∙◌, ◌∷◌, ◌≡◌, ◌≢◌, ◌≤◌}
+use Rattle.front_laws.proofs.Common.{ℕ, rules, ◌&&◌, ◌*◌, ◌++◌, ◌+◌, ◌<◌, ◌==◌, ◌∙◌, ◌∷◌, ◌≡◌, ◌≢◌, ◌≤◌}
 use Rattle.sect_table.specs.Classes.{class_of, fields_end, header_length, length_at}
 use Rattle.sect_table.specs.Faults.{fault, fault_behind, fault_if, fault_within, first_fault, header_fault, headers_fault, is_aligned, is_of_another_length, is_past, is_sized, is_whole, limit_fault, magic, short}
 use Rattle.sect_table.specs.ElfHeaders.{file_header, headers, headers_from, program_header}
-use Rattle.sect_table.specs.ElfSections.{is_used, sections_of_all}
+use Rattle.sect_table.specs.ElfSections.{sections_of_all}
 use Rattle.sect_table.specs.declared.class.Class.{Class}
 use Rattle.sect_table.specs.declared.class.Class.TheVariants.{Bits32, Bits64}
 use Rattle.sect_table.specs.declared.fault.ElfCode.TheVariants as code
@@ -29,10 +29,7 @@ this_place Bits64 first = omega arith
 headers_at : (c : Class) (bytes : List ℕ) (n first left k : ℕ) → k < left
     → slice_get (headers_from c bytes n first left) k ≡ Some (program_header c bytes (n + k) (first + k * header_length c))
 headers_at c bytes n first zero k l = absurd (omega (arith, l))
-headers_at c bytes n first (suc left) zero l =
-    let number : n ≡ n + 0 = omega arith in
-    ap (λ z. Some (program_header c bytes z first)) number ∙ ap (λ z. Some (program_header c bytes (n + 0) z))
-    (this_place c first)
+headers_at c bytes n first (suc left) zero l = search (rules, this_place)
 headers_at c bytes n first (suc left) (suc k) l =
     let number : n + 1 + k ≡ n + suc k = omega arith in
     headers_at c bytes (n + 1) (first + header_length c) left k (omega (arith, l))
@@ -45,10 +42,7 @@ headers_many c bytes n first (suc left) = let e = headers_many c bytes (n + 1) (
 
 header_there : (c : Class) (bytes : List ℕ) (k : ℕ) → k < (file_header c bytes).count
     → slice_get (headers c bytes) k ≡ Some (header_at c bytes k)
-header_there c bytes k l =
-    let number : 0 + k ≡ k = omega arith in
-    headers_at c bytes 0 (file_header c bytes).table (file_header c bytes).count k l
-    ∙ ap (λ z. Some (program_header c bytes z ((file_header c bytes).table + k * header_length c))) number
+header_there c bytes k l = search (rules, headers_at)
 
 -- ---- one program header
 
@@ -58,27 +52,10 @@ told h size used sized whole aligned =
     (cond (not whole) (Some (short size)) (fault_if (not aligned) (fault code.Align h.first h.end)))) None
 
 sound_from : (size : ℕ) (h : ProgramHeader) → header_fault size h ≡ None → IsSoundHeader size h
-sound_from size h e = by_tests (is_used h) (is_sized h) (is_whole size h) (is_aligned h) refl refl refl refl e
-  where
-    by_tests : (a b c d : Bool) → is_used h ≡ a → is_sized h ≡ b → is_whole size h ≡ c → is_aligned h ≡ d
-        → told h size a b c d ≡ None → IsSoundHeader size h
-    by_tests false b c d p q r s e = record {
-      sized = λ u. absurd (true≢false (sym u ∙ p));
-      whole = λ u. absurd (true≢false (sym u ∙ p));
-      aligned = λ u. absurd (true≢false (sym u ∙ p));
-    }
-    by_tests true true true true p q r s e = record { sized = λ u. q; whole = λ u. r; aligned = λ u. s }
-    by_tests true _ _ _ p q r s e = cc
+sound_from size h e = search (rules)
 
 fault_from : (size : ℕ) (h : ProgramHeader) (f : ElfFault) → header_fault size h ≡ Some f → IsHeaderFault size h f
-fault_from size h f e = by_tests (is_used h) (is_sized h) (is_whole size h) (is_aligned h) refl refl refl refl e
-  where
-    by_tests : (a b c d : Bool) → is_used h ≡ a → is_sized h ≡ b → is_whole size h ≡ c → is_aligned h ≡ d
-        → told h size a b c d ≡ Some f → IsHeaderFault size h f
-    by_tests true false c d p q r s e = let same : fault code.Size h.first h.end ≡ f = cc in not_sized p q (sym same)
-    by_tests true true false d p q r s e = let same : short size ≡ f = cc in not_whole p q r (sym same)
-    by_tests true true true false p q r s e = let same : fault code.Align h.first h.end ≡ f = cc in not_aligned p q r s (sym same)
-    by_tests _ _ _ _ p q r s e = cc
+fault_from size h f e = search (rules)
 
 -- ---- all of them
 
@@ -156,17 +133,7 @@ from_behind bytes c f table e = by_headers (headers_fault (length bytes) (header
 has_table : (bytes : List ℕ) (c : Class) → IsOfClass bytes c → nat_lt (length bytes) (fields_end c) ≡ false
     → is_of_another_length c (file_header c bytes) ≡ false
     → is_past (length bytes) c (file_header c bytes) ≡ false → HasTable bytes c
-has_table bytes c kind a b d =
-    let h = file_header c bytes in
-    record {
-      kind = kind;
-      fields = ltb-false (length bytes) (fields_end c) a;
-      size = λ n. is_equal h.length (header_length c) (second_false (not (h.count == 0)) (not (h.length == header_length c))
-          (not_from_false _ (ne_eqb h.count 0 n)) b);
-      whole = λ n. ltb-false (length bytes) (h.table + h.count * header_length c)
-          (second_false (not (h.count == 0)) (nat_lt (length bytes) (h.table + h.count * header_length c))
-          (not_from_false _ (ne_eqb h.count 0 n)) d);
-    }
+has_table bytes c kind a b d = search (rules, ltb-false, is_equal, second_false, not_from_false, ne_eqb, nat_lt)
 
 from_class : (bytes : List ℕ) (c : Class) (f : ElfFault) → IsOfClass bytes c → fault_within bytes c ≡ Some f → IsElfFault bytes f
 from_class bytes c f kind e =
@@ -189,8 +156,7 @@ from_class bytes c f kind e =
         let h = file_header c bytes in
         let parts = and_parts (not (h.count == 0)) (nat_lt (length bytes) (h.table + h.count * header_length c)) r in
         let same : short (length bytes) ≡ f = cc in
-        let equal : h.length ≡ header_length c =
-        is_equal h.length (header_length c) (second_false (not (h.count == 0)) (not (h.length == header_length c)) parts.0 q) in
+        let equal : h.length ≡ header_length c = search (rules, is_equal, second_false) in
         no_table c kind (ltb-false (length bytes) (fields_end c) p) (eqb-false h.count 0 (not-true _ parts.0)) equal
         (ltb-true (length bytes) (h.table + h.count * header_length c) parts.1) (sym same)
     by_fields false false false p q r e = from_behind bytes c f (has_table bytes c kind p q r) e
@@ -213,11 +179,7 @@ from_elf_fault bytes f e = by_tests (starts_with nat_eq bytes magic) (nat_lt (le
         no_class_bytes p (ltb-true (length bytes) 6 q) (sym same)
     by_tests true false None p q r e = let same : fault code.Class 4 6 ≡ f = cc in
         no_class p (ltb-false (length bytes) 6 q) r (sym same)
-    by_tests true false (Some c) p q r e = from_class bytes c f (record {
-      begins = p;
-      long = ltb-false (length bytes) 6 q;
-      says = r;
-    }) e
+    by_tests true false (Some c) p q r e = search (rules, from_class, ltb-false)
 
 -- a file without a fault
 pub from_no_elf_fault : (bytes : List ℕ) → first_fault bytes ≡ None → IsSoundElf bytes
@@ -227,12 +189,7 @@ from_no_elf_fault bytes e = by_tests (starts_with nat_eq bytes magic) (nat_lt (l
     by_behind : (c : Class) → HasTable bytes c → (o : Option ElfFault) → headers_fault (length bytes) (headers c bytes) ≡ o
         → (b : Bool) → nat_lt sections_limit (length (sections_of_all (headers c bytes))) ≡ b
         → option_or o (fault_if b (fault code.Limit 0 0)) ≡ None → IsSoundElf bytes
-    by_behind c table None s false t e = record {
-      class = c;
-      table = table;
-      sound = all_sound bytes c s;
-      few = ltb-false sections_limit (length (sections_of_all (headers c bytes))) t;
-    }
+    by_behind c table None s false t e = search (rules, all_sound, ltb-false)
     by_behind c table _ s _ t e = cc
 
     by_fields : (c : Class) → IsOfClass bytes c → (x y z : Bool) → nat_lt (length bytes) (fields_end c) ≡ x
@@ -247,33 +204,19 @@ from_no_elf_fault bytes e = by_tests (starts_with nat_eq bytes magic) (nat_lt (l
     by_tests : (a b : Bool) (o : Option Class) → starts_with nat_eq bytes magic ≡ a → nat_lt (length bytes) 6 ≡ b
         → class_of (slice_index bytes 4) (slice_index bytes 5) ≡ o
         → fault_behind bytes (behind_magic bytes a b o) ≡ None → IsSoundElf bytes
-    by_tests true false (Some c) p q r e =
-        by_fields c (record { begins = p; long = ltb-false (length bytes) 6 q; says = r }) (nat_lt (length bytes) (fields_end c))
-        (is_of_another_length c (file_header c bytes)) (is_past (length bytes) c (file_header c bytes)) refl refl refl e
+    by_tests true false (Some c) p q r e = search (rules, by_fields, ltb-false, nat_lt)
     by_tests _ _ _ p q r e = cc
 
 -- ---- and back
 
 sound_header : (size : ℕ) (h : ProgramHeader) → IsSoundHeader size h → header_fault size h ≡ None
-sound_header size h s = by_use (is_used h) refl
-  where
-    by_use : (b : Bool) → is_used h ≡ b → told h size b (is_sized h) (is_whole size h) (is_aligned h) ≡ None
-    by_use false u = refl
-    by_use true u =
-        ap (λ z. told h size true z (is_whole size h) (is_aligned h)) (s.sized u)
-        ∙ ap (λ z. told h size true true z (is_aligned h)) (s.whole u) ∙ ap (λ z. told h size true true true z) (s.aligned u)
+sound_header size h s = search (rules)
 
 header_refused : (size : ℕ) (h : ProgramHeader) (f : ElfFault) → IsHeaderFault size h f → header_fault size h ≡ Some f
 header_refused size h f (not_sized u a e) = ap (λ z. told h size z (is_sized h) (is_whole size h) (is_aligned h)) u
     ∙ ap (λ z. told h size true z (is_whole size h) (is_aligned h)) a ∙ ap Some (sym e)
-header_refused size h f (not_whole u a b e) =
-    ap (λ z. told h size z (is_sized h) (is_whole size h) (is_aligned h)) u
-    ∙ ap (λ z. told h size true z (is_whole size h) (is_aligned h)) a
-    ∙ ap (λ z. told h size true true z (is_aligned h)) b ∙ ap Some (sym e)
-header_refused size h f (not_aligned u a b c e) =
-    ap (λ z. told h size z (is_sized h) (is_whole size h) (is_aligned h)) u
-    ∙ ap (λ z. told h size true z (is_whole size h) (is_aligned h)) a
-    ∙ ap (λ z. told h size true true z (is_aligned h)) b ∙ ap (λ z. told h size true true true z) c ∙ ap Some (sym e)
+header_refused size h f (not_whole u a b e) = search (rules)
+header_refused size h f (not_aligned u a b c e) = search (rules)
 
 -- a front of the headers, each of which is sound
 sound_front : (bytes : List ℕ) (c : Class) (front rest : List ProgramHeader) → headers c bytes ≡ front ++ rest
@@ -317,13 +260,7 @@ class_told bytes c x y z = option_or (table_told bytes c x y z) (behind_table by
 
 -- what is told of a file of a class, by the tests of its table
 of_class : (bytes : List ℕ) (c : Class) → IsOfClass bytes c → first_fault bytes ≡ fault_within bytes c
-of_class bytes c k =
-    let short_test : nat_lt (length bytes) 6 ≡ false = le-ltb (length bytes) 6 k.long in
-    ap
-    (λ a. fault_behind bytes (behind_magic bytes a (nat_lt (length bytes) 6)
-    (class_of (slice_index bytes 4) (slice_index bytes 5)))) k.begins
-    ∙ ap (λ b. fault_behind bytes (behind_magic bytes true b (class_of (slice_index bytes 4) (slice_index bytes 5)))) short_test
-    ∙ ap (λ o. fault_behind bytes (behind_magic bytes true false o)) k.says
+of_class bytes c k = search (rules, nat_lt, le-ltb)
 
 none_of_both : (x y : Bool) → ((x ≡ true) → y ≡ false) → (x && y) ≡ false
 none_of_both true y f = f refl
@@ -335,58 +272,21 @@ with_table bytes c t =
     let a : nat_lt (length bytes) (fields_end c) ≡ false = le-ltb (length bytes) (fields_end c) t.fields in
     let b : is_of_another_length c h ≡ false = none_of_both (not (h.count == 0)) (not (h.length == header_length c))
     (λ n. ap not (eq-eqb h.length (header_length c) (t.size (eqb-false h.count 0 (not-true _ n))))) in
-    let d : is_past (length bytes) c h ≡ false =
-    none_of_both (not (h.count == 0)) (nat_lt (length bytes) (h.table + h.count * header_length c))
-    (λ n. le-ltb (length bytes) (h.table + h.count * header_length c) (t.whole (eqb-false h.count 0 (not-true _ n)))) in
+    let d : is_past (length bytes) c h ≡ false = search (rules, none_of_both, nat_lt, le-ltb, eqb-false, not-true) in
     of_class bytes c t.kind ∙ ap (λ x. class_told bytes c x (is_of_another_length c h) (is_past (length bytes) c h)) a
     ∙ ap (λ y. class_told bytes c false y (is_past (length bytes) c h)) b ∙ ap (λ z. class_told bytes c false false z) d
 
 pub in_elf_fault : (bytes : List ℕ) (f : ElfFault) → IsElfFault bytes f → first_fault bytes ≡ Some f
-in_elf_fault bytes f (no_magic a e) =
-    ap
-    (λ a. fault_behind bytes (behind_magic bytes a (nat_lt (length bytes) 6)
-    (class_of (slice_index bytes 4) (slice_index bytes 5)))) a ∙ ap Some (sym e)
-in_elf_fault bytes f (no_class_bytes a l e) =
-    ap
-    (λ a. fault_behind bytes (behind_magic bytes a (nat_lt (length bytes) 6)
-    (class_of (slice_index bytes 4) (slice_index bytes 5)))) a
-    ∙ ap (λ b. fault_behind bytes (behind_magic bytes true b (class_of (slice_index bytes 4) (slice_index bytes 5))))
-    (lt-ltb (length bytes) 6 l) ∙ ap Some (sym e)
-in_elf_fault bytes f (no_class a l o e) =
-    ap
-    (λ a. fault_behind bytes (behind_magic bytes a (nat_lt (length bytes) 6)
-    (class_of (slice_index bytes 4) (slice_index bytes 5)))) a
-    ∙ ap (λ b. fault_behind bytes (behind_magic bytes true b (class_of (slice_index bytes 4) (slice_index bytes 5))))
-    (le-ltb (length bytes) 6 l) ∙ ap (λ z. fault_behind bytes (behind_magic bytes true false z)) o ∙ ap Some (sym e)
-in_elf_fault bytes f (no_fields c k l e) =
-    let h = file_header c bytes in
-    of_class bytes c k ∙ ap (λ x. class_told bytes c x (is_of_another_length c h) (is_past (length bytes) c h))
-    (lt-ltb (length bytes) (fields_end c) l) ∙ ap Some (sym e)
-in_elf_fault bytes f (another_length c k l n w e) =
-    let h = file_header c bytes in
-    let other : not (h.length == header_length c) ≡ true = not_from_false _ (ne_eqb h.length (header_length c) w) in
-    of_class bytes c k ∙ ap (λ x. class_told bytes c x (is_of_another_length c h) (is_past (length bytes) c h))
-    (le-ltb (length bytes) (fields_end c) l) ∙ ap (λ y. class_told bytes c false y (is_past (length bytes) c h))
-    (and_from (not (h.count == 0)) (not (h.length == header_length c)) (not_from_false _ (ne_eqb h.count 0 n)) other)
-    ∙ ap Some (sym e)
+in_elf_fault bytes f (no_magic a e) = search (rules, nat_lt)
+in_elf_fault bytes f (no_class_bytes a l e) = search (rules, nat_lt, lt-ltb)
+in_elf_fault bytes f (no_class a l o e) = search (rules, nat_lt, le-ltb)
+in_elf_fault bytes f (no_fields c k l e) = search (rules, of_class, lt-ltb)
+in_elf_fault bytes f (another_length c k l n w e) = search (rules, not_from_false, ne_eqb, of_class, le-ltb, and_from)
 in_elf_fault bytes f (no_table c k l n s p e) =
-    let h = file_header c bytes in
-    let b : is_of_another_length c h ≡ false = none_of_both (not (h.count == 0)) (not (h.length == header_length c))
-    (λ t. ap not (eq-eqb h.length (header_length c) s)) in
-    of_class bytes c k ∙ ap (λ x. class_told bytes c x (is_of_another_length c h) (is_past (length bytes) c h))
-    (le-ltb (length bytes) (fields_end c) l) ∙ ap (λ y. class_told bytes c false y (is_past (length bytes) c h)) b
-    ∙ ap (λ z. class_told bytes c false false z)
-    (and_from (not (h.count == 0)) (nat_lt (length bytes) (h.table + h.count * header_length c))
-    (not_from_false _ (ne_eqb h.count 0 n)) (lt-ltb (length bytes) (h.table + h.count * header_length c) p)) ∙ ap Some (sym e)
+    search (rules, none_of_both, eq-eqb, of_class, le-ltb, and_from, nat_lt, not_from_false, ne_eqb, lt-ltb)
 in_elf_fault bytes f (in_header c k t low sound wrong) =
     with_table bytes c t ∙ ap (λ o. option_or o (limit_fault (headers c bytes))) (in_headers bytes c k f low sound wrong)
-in_elf_fault bytes f (many_sections c t sound l e) =
-    with_table bytes c t ∙ ap (λ o. option_or o (limit_fault (headers c bytes))) (none_in_headers bytes c sound)
-    ∙ ap (λ b. fault_if b (fault code.Limit 0 0)) (lt-ltb sections_limit (length (sections_of_all (headers c bytes))) l)
-    ∙ ap Some (sym e)
+in_elf_fault bytes f (many_sections c t sound l e) = search (rules, with_table, none_in_headers, lt-ltb)
 
 pub in_no_elf_fault : (bytes : List ℕ) → IsSoundElf bytes → first_fault bytes ≡ None
-in_no_elf_fault bytes s =
-    let c = s.class in
-    with_table bytes c s.table ∙ ap (λ o. option_or o (limit_fault (headers c bytes))) (none_in_headers bytes c s.sound)
-    ∙ ap (λ b. fault_if b (fault code.Limit 0 0)) (le-ltb sections_limit (length (sections_of_all (headers c bytes))) s.few)
+in_no_elf_fault bytes s = search (rules, with_table, none_in_headers, le-ltb)

@@ -1,5 +1,5 @@
 -- The first thing that is said of the elements of a list, each by those in front of it.
-use Rattle.front_laws.proofs.Common.{List, None, Option, Some, [], ap, append-nil, append_assoc, option_or, refl, sym, ◌++◌, ◌∙◌, ◌∷◌, ◌≡◌}
+use Rattle.front_laws.proofs.Common.{List, None, Option, Some, [], ap, append-nil, append_assoc, option_or, refl, rules, sym, ◌++◌, ◌∙◌, ◌∷◌, ◌≡◌}
 
 abbrev pub first_of : {X F : Type 0} → (List X → X → Option F) → List X → List X → Option F
 first_of g before [] = None
@@ -19,13 +19,8 @@ pub record First {X F : Type 0} (g : List X → X → Option F) (before xs : Lis
 
 clean_more : {X F : Type 0} (g : List X → X → Option F) (before : List X) (x : X) (xs : List X) → g before x ≡ None
     → IsClean g (before ++ x ∷ []) xs → IsClean g before (x ∷ xs)
-clean_more {X} g before x xs none clean [] q y e =
-    let same : x ≡ y = cc in
-    ap (λ z. g z y) (append-nil before) ∙ ap (g before) (sym same) ∙ none
-clean_more {X} g before x xs none clean (z ∷ p) q y e =
-    let same : x ≡ z = cc in
-    let more : xs ≡ p ++ y ∷ q = cc in
-    ap (λ u. g (before ++ u ∷ p) y) (sym same) ∙ ap (λ u. g u y) (sym (append_assoc before (x ∷ []) p)) ∙ clean p q y more
+clean_more {X} g before x xs none clean [] q y e = search (rules, append-nil)
+clean_more {X} g before x xs none clean (z ∷ p) q y e = search (rules, append_assoc)
 
 clean_head : {X F : Type 0} (g : List X → X → Option F) (before : List X) (x : X) (xs : List X) → IsClean g before (x ∷ xs)
     → g before x ≡ None

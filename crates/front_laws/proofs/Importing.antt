@@ -1,7 +1,7 @@
 -- The files of a source are those that imports reach, in the order in which they are met.
 use Rattle.front_laws.proofs.Common.{Bool, Import, InOrder, IsOnce, IsSource, List, Meeting, None, Option, Some, SourceFile, [], ap, append_assoc, arith, bytes_eq, bytes_eq-Decides, cond, false, filter, firsts, from_any, from_filter, from_flat_map}
 use Rattle.front_laws.proofs.Common.{from_map, imports_of, in_filter, in_flat_map, in_map, in_right, inl, inr, is_built_in, length, length-append, map, meeting_at, meeting_of, meetings_of, met, name_given, not, once_filter, refl, root_place}
-use Rattle.front_laws.proofs.Common.{split_in, subst, suc, sym, true, true≢false, zero, ℕ, ◌++◌, ◌+◌, ◌∙◌, ◌∷◌, ◌≡◌, ◌≤◌, ◌⊎◌}
+use Rattle.front_laws.proofs.Common.{rules, split_in, subst, suc, sym, true, true≢false, zero, ℕ, ◌++◌, ◌+◌, ◌∙◌, ◌∷◌, ◌≡◌, ◌≤◌, ◌⊎◌}
 use Rattle.std.specs.List.{flat_map}
 use Rattle.cam_base.specs.Gather.{IsIn}
 use Rattle.front_laws.specs.Importing.{AreReached, ImportsName, IsMetBefore, IsReached, by_import, names_met, the_root}
@@ -17,11 +17,7 @@ from_other name n t e = let k : bytes_eq name n.0 ≡ true = (bytes_eq-Decides n
 
 -- whether a name is another's is told
 either : (name : List ℕ) (n : Meeting) → (name ≡ n.0) ⊎ (other name n ≡ true)
-either name n = by_test (bytes_eq name n.0) refl
-  where
-    by_test : (b : Bool) → bytes_eq name n.0 ≡ b → (name ≡ n.0) ⊎ (other name n ≡ true)
-    by_test true e = inl ((bytes_eq-Decides name n.0).0 e)
-    by_test false e = inr (ap not e)
+either name n = search (rules, bytes_eq-Decides)
 
 abbrev key : Meeting → List ℕ
 key m = m.0
@@ -38,11 +34,7 @@ in_firsts [] name i = i
 in_firsts (x ∷ xs) name (inl e) = inl e
 in_firsts (x ∷ xs) name (inr i) =
     let k = from_map key name (firsts xs) (in_firsts xs name i) in
-    elim (either x.0 k.0) [
-      | inl same ↦ inl (same ∙ k.2)
-      | inr t ↦ inr (let P : List ℕ → Type 0 = λ z. IsIn z (map key (filter (other x.0) (firsts xs))) in
-          subst P k.2 (in_map key k.0 (filter (other x.0) (firsts xs)) (in_filter (other x.0) (firsts xs) k.0 k.1 t)))
-    ]
+    search (rules, either, filter, in_map, in_filter)
 
 firsts_once : (ms : List Meeting) → IsOnce (map key (firsts ms))
 firsts_once [] = tt

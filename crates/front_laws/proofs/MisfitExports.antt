@@ -2,7 +2,7 @@
 use Rattle.front_laws.proofs.Common.{Bool, Composition, End, Export, Fault, HasComposition, HasItem, Holding, Interface, IsIn, Item, ItemAt, Known, List, Name, None, Option, Port, Some, Source, Types, [], and_from, and_parts, ap, bytes_eq-Decides}
 use Rattle.front_laws.proofs.Common.{compositions, cond, connections_in, differs, eq-eqb, eqb-true, export_fault, exports_in, false, flat_map, from_flat_map, held_as, in_append, in_flat_map, in_left, in_right, inl, inr, interface_at, is_port}
 use Rattle.front_laws.proofs.Common.{is_some, is_there, is_unled, items_of, known_in, known_of, misfit_exports, misfits_after, misfits_in_composition, misfits_in_item, not, not-true, not_from_false, of_assembly, of_component, option_and_then}
-use Rattle.front_laws.proofs.Common.{option_map_or, or_cases, or_left, or_right, port_of, refl, subst, sym, true, where_true, ◌&&◌, ◌++◌, ◌==◌, ◌||◌, ◌∙◌, ◌∷◌, ◌≡◌, ◌⊎◌}
+use Rattle.front_laws.proofs.Common.{option_map_or, or_cases, or_left, or_right, port_of, refl, rules, subst, sym, true, where_true, ◌&&◌, ◌++◌, ◌==◌, ◌||◌, ◌∙◌, ◌∷◌, ◌≡◌, ◌⊎◌}
 use Rattle.adl_ast.specs.declared.file.Item.TheVariants as items
 use Rattle.adl_meaning.specs.Export.{ends_in, inner_of, is_misfit, same_interface, same_port, unled_end, unled_ends}
 use Rattle.adl_meaning.specs.Prelude.{bytes_eq, is_none}
@@ -12,9 +12,7 @@ use Rattle.front_laws.proofs.Tested.{from_true, in_true}
 -- ---- tests
 
 from_same_port : (p q : Port) → same_port p q ≡ true → IsSamePort p q
-from_same_port p q e =
-    let parts = and_parts (p.0.id.place.first == q.0.id.place.first) (bytes_eq p.1 q.1) e in
-    record { instance = eqb-true p.0.id.place.first q.0.id.place.first parts.0; interface = (bytes_eq-Decides p.1 q.1).0 parts.1 }
+from_same_port p q e = search (rules, and_parts, eqb-true, bytes_eq-Decides)
 
 in_same_port : (p q : Port) → IsSamePort p q → same_port p q ≡ true
 in_same_port p q s = and_from (p.0.id.place.first == q.0.id.place.first) (bytes_eq p.1 q.1)
@@ -42,33 +40,17 @@ from_ends_in types p c t e =
 
 from_unled : (types : Types) (o : Option Port) → is_unled types o ≡ true → (p : Port) × (o ≡ Some p) × IsUnled types p
 from_unled types None e = cc
-from_unled types (Some p) e = (p, refl, by_type (types p.0.component.name) refl e)
-  where
-    by_type : (t : Option Known) → types p.0.component.name ≡ t → option_map_or (λ c. ends_in c p.1) t false ≡ true
-        → IsUnled types p
-    by_type None k e = cc
-    by_type (Some c) k e = from_ends_in types p c k e
+from_unled types (Some p) e = search (rules, from_ends_in)
 
 in_unled : (types : Types) (o : Option Port) (p : Port) → o ≡ Some p → IsUnled types p → is_unled types o ≡ true
-in_unled types o p e u =
-    subst (λ z. is_unled types z ≡ true) (sym e) (subst (λ t. option_map_or (λ c. ends_in c p.1) t false ≡ true) (sym u.known)
-    (and_from (is_some (u.component.interface p.1)) (is_some u.component.holds && not (u.component.exports p.1))
-    (ap is_some u.declared)
-    (and_from (is_some u.component.holds) (not (u.component.exports p.1)) (ap is_some u.composite)
-    (not_from_false (u.component.exports p.1) u.no_export))))
+in_unled types o p e u = search (rules, and_from, is_some, not_from_false)
 
 -- ---- ports whose interface is known
 
 from_inner : (types : Types) (o : Option Port) (inners : Port → Bool) → option_map_or inners (inner_of types o) false ≡ true
     → (p : Port) × (o ≡ Some p) × ((i : Interface) × (interface_at types p ≡ Some i)) × (inners p ≡ true)
 from_inner types None inners e = cc
-from_inner types (Some p) inners e = by_interface (interface_at types p) refl e
-  where
-    by_interface : (i : Option Interface) → interface_at types p ≡ i
-        → option_map_or inners (cond (is_some i) (Some p) None) false ≡ true
-        → (q : Port) × (Some p ≡ Some q) × ((i : Interface) × (interface_at types q ≡ Some i)) × (inners q ≡ true)
-    by_interface None k e = cc
-    by_interface (Some i) k e = (p, refl, (i, k), e)
+from_inner types (Some p) inners e = search (rules, is_some)
 
 inner_there : (types : Types) (o : Option Port) (p : Port) (i : Interface) → o ≡ Some p → interface_at types p ≡ Some i
     → inner_of types o ≡ Some p
@@ -193,9 +175,7 @@ from_after types owner held targets inners (y ∷ xs) f i =
     narrower before x (inr (inr t)) =
         let q = from_inner types (port_of held x.words) (λ p. inners p || is_port (inner_of types (port_of held y.words)) p) t in
         elim (or_cases (inners q.0) (is_port (inner_of types (port_of held y.words)) q.0) q.3) [
-          | inl k ↦
-              inr (inr (ap (λ z. option_map_or inners z false) (inner_there types (port_of held x.words) q.0 q.2.0 q.1 q.2.1)
-              ∙ k))
+          | inl k ↦ search (rules, inner_there)
           | inr k ↦ let p = from_port (inner_of types (port_of held y.words)) q.0 k in
               let there = from_inner_of types (port_of held y.words) p.0 p.1 in
               inl (port_again y p.0 q.0 there.1.0 q.2.0 (inl refl) there.0 there.1.1 q.1 q.2.1 p.2)
@@ -205,46 +185,12 @@ from_after types owner held targets inners (y ∷ xs) f i =
 
 in_misfit : (types : Types) (owner : Option Known) (held : Holding) (targets : Name → Bool) (inners : Port → Bool) (x : Export)
     → Why types owner held targets inners [] x → is_misfit types owner held targets inners x ≡ true
-in_misfit types owner held targets inners x why = by_why why
-  where
-    unlike : Bool
-    unlike = differs (option_and_then (interface_at types) (port_of held x.words))
-        (option_and_then (λ c. c.interface x.target.name) owner)
-
-    by_why : Why types owner held targets inners [] x → is_misfit types owner held targets inners x ≡ true
-    by_why (inl (in_an_assembly o)) = or_left (is_none owner) _ (ap is_none o)
-    by_why (inl (unlike_target c p i j o e k l d)) =
-        let P : Option Known → Type 0 = λ z. differs (option_and_then (interface_at types) (port_of held x.words))
-        (option_and_then (λ c. c.interface x.target.name) z) ≡ true in
-        let Q : Option Port → Type 0 = λ z. differs (option_and_then (interface_at types) z) (c.interface x.target.name) ≡ true in
-        let R : Option Interface → Type 0 = λ z. differs z (c.interface x.target.name) ≡ true in
-        let S : Option Interface → Type 0 = λ z. differs (Some i) z ≡ true in
-        or_right (is_none owner) _
-        (or_left _ _
-        (subst P (sym o) (subst Q (sym e) (subst R (sym k) (subst S (sym l) (not_from_false (same_interface i j) d))))))
-    by_why (inl (target_again y i e)) = absurd i
-    by_why (inl (port_again y p q i j k a b c d s)) = absurd k
-    by_why (inl (unled p e u)) =
-        or_right (is_none owner) _
-        (or_right _ _
-        (or_right (targets x.target.name) _ (or_right (option_map_or inners (inner_of types (port_of held x.words)) false)
-        (is_unled types (port_of held x.words)) (in_unled types (port_of held x.words) p e u))))
-    by_why (inr (inl t)) = or_right (is_none owner) _ (or_right _ _ (or_left (targets x.target.name) _ t))
-    by_why (inr (inr t)) =
-        or_right (is_none owner) _
-        (or_right _ _
-        (or_right (targets x.target.name) _ (or_left (option_map_or inners (inner_of types (port_of held x.words)) false)
-        (is_unled types (port_of held x.words)) t)))
+in_misfit types owner held targets inners x why = search (rules, or_left, or_right, not_from_false, in_unled)
 
 into_after : (types : Types) (owner : Option Known) (held : Holding) (targets : Name → Bool) (inners : Port
     → Bool) (before : List Export) (x : Export) (after : List Export) → Why types owner held targets inners before x
     → IsIn (export_fault x.words x.place) (misfits_after types owner held targets inners (before ++ x ∷ after))
-into_after types owner held targets inners [] x after why =
-    in_left (export_fault x.words x.place) (where_true (is_misfit types owner held targets inners x)
-    (export_fault x.words x.place)) (misfits_after types owner held (λ n. targets n || bytes_eq n x.target.name)
-    (λ p. inners p || is_port (inner_of types (port_of held x.words)) p) after)
-    (in_true (is_misfit types owner held targets inners x) (export_fault x.words x.place)
-    (in_misfit types owner held targets inners x why))
+into_after types owner held targets inners [] x after why = search (rules, in_left, in_true, in_misfit)
 into_after types owner held targets inners (y ∷ before) x after why =
     let more_targets : Name → Bool = λ n. targets n || bytes_eq n y.target.name in
     let more_inners : Port → Bool = λ p. inners p || is_port (inner_of types (port_of held y.words)) p in
@@ -263,32 +209,19 @@ into_after types owner held targets inners (y ∷ before) x after why =
         (λ p. inners p || is_port (inner_of types (port_of held y.words)) p) before x
     known (inl (in_an_assembly o)) = inl (in_an_assembly o)
     known (inl (unlike_target c p i j o e k l d)) = inl (unlike_target c p i j o e k l d)
-    known (inl (target_again z (inl e) same)) =
-        inr
-        (inl (or_right (targets x.target.name) (bytes_eq x.target.name y.target.name)
-        ((bytes_eq-Decides x.target.name y.target.name).1 (sym same ∙ ap (λ (u : Export). u.target.name) (sym e)))))
+    known (inl (target_again z (inl e) same)) = search (rules, or_right, bytes_eq-Decides)
     known (inl (target_again z (inr i) same)) = inl (target_again z i same)
-    known (inl (port_again z p q i j (inl e) a b c d s)) =
-        let a' : port_of held y.words ≡ Some p = ap (λ (u : Export). port_of held u.words) e ∙ a in
-        let P : Option Port → Type 0 = λ u. is_port u q ≡ true in
-        inr
-        (inr (known_port q j c d (or_right (inners q) (is_port (inner_of types (port_of held y.words)) q)
-        (subst P (sym (inner_there types (port_of held y.words) p i a' b)) (in_same_port q p (turned p q s))))))
+    known (inl (port_again z p q i j (inl e) a b c d s)) = search (rules, known_port, or_right, inner_there, in_same_port, turned)
     known (inl (port_again z p q i j (inr k) a b c d s)) = inl (port_again z p q i j k a b c d s)
     known (inl (unled p e u)) = inl (unled p e u)
     known (inr (inl t)) = inr (inl (or_left (targets x.target.name) (bytes_eq x.target.name y.target.name) t))
-    known (inr (inr t)) =
-        let q = from_inner types (port_of held x.words) inners t in
-        inr
-        (inr (known_port q.0 q.2.0 q.1 q.2.1 (or_left (inners q.0) (is_port (inner_of types (port_of held y.words)) q.0) q.3)))
+    known (inr (inr t)) = search (rules, from_inner, known_port, or_left)
 
 -- ---- in a source
 
 from_end : (types : Types) (held : Holding) (e : End) (f : Fault) → IsIn f (unled_end types held e)
     → (p : Port) × (port_of held e.words ≡ Some p) × IsUnled types p × (f ≡ export_fault e.words e.place)
-from_end types held e f i =
-    let k = from_true (is_unled types (port_of held e.words)) (export_fault e.words e.place) f i in
-    let p = from_unled types (port_of held e.words) k.0 in (p.0, p.1, p.2, sym k.1)
+from_end types held e f i = search (rules, from_true, from_unled)
 
 from_composition : (s : Source) (owner : Option Known) (k : Composition) (f : Fault) → HasComposition s owner k
     → IsIn f (misfits_in_composition (known_in s) owner k) → IsMisfitIn s f
@@ -328,9 +261,7 @@ in_items s x f h i = in_flat_map (λ (y : ItemAt × Item). misfits_in_item (know
 
 in_owned : (s : Source) (owner : Option Known) (k : Composition) (f : Fault) → HasComposition s owner k
     → IsIn f (misfits_in_composition (known_in s) owner k) → IsIn f (misfit_exports s)
-in_owned s owner k f (of_component c k' h j) i =
-    in_items s (items.Component c) f h (in_flat_map (misfits_in_composition (known_in s) (Some (known_of c))) k' f
-    (compositions c) j i)
+in_owned s owner k f (of_component c k' h j) i = search (rules, in_items, in_flat_map)
 in_owned s owner k f (of_assembly a h) i = in_items s (items.Assembly a) f h i
 
 pub in_misfits : (s : Source) (f : Fault) → IsMisfitIn s f → IsIn f (misfit_exports s)

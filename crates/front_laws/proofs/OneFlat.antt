@@ -1,11 +1,10 @@
 -- Only one flat system is as the relations of a hierarchy have it.
 use Rattle.front_laws.proofs.Common.{AreConnections, AreDomains, AreLeaves, AreNamesSound, Bool, Component, Domain, End, FlatConnection, FlatEnd, Hierarchy, IsByHierarchy, IsConnectionBefore, IsDomainBefore, IsDomainOf, IsEndOf, IsIn, IsInside}
-use Rattle.front_laws.proofs.Common.{IsLeafOf, IsPathBefore, IsWireBefore, IsWireOf, ItemAt, Leaf, List, Member, Name, Option, Part, Path, Place, Reached, Role, Some, Source, Strung, Wire, [], ap, arith, body, cases_Bool, cases_lt, connections}
-use Rattle.front_laws.proofs.Common.{connections_stand, domain_of, false, from_get_map, from_map, get_map, hierarchy_of, in_map, in_place, inl, inr, is_hardware, joined_by, joins_joined, length, map, names_once, part_at, refl, subst, suc, sym}
-use Rattle.front_laws.proofs.Common.{top_number, true, wires_once, ℕ, ◌++◌, ◌<◌, ◌∙◌, ◌∷◌, ◌≡◌, ◌⊎◌}
+use Rattle.front_laws.proofs.Common.{IsLeafOf, IsPathBefore, IsWireBefore, IsWireOf, Leaf, List, Member, Name, Option, Part, Path, Reached, Some, Source, Strung, Wire, [], ap, arith, body, cases_Bool, cases_lt, connections}
+use Rattle.front_laws.proofs.Common.{connections_stand, domain_of, false, from_get_map, from_map, get_map, hierarchy_of, in_map, in_place, inl, inr, joined_by, joins_joined, length, map, names_once, part_at, refl, subst, suc, sym}
+use Rattle.front_laws.proofs.Common.{rules, top_number, true, wires_once, ℕ, ◌++◌, ◌<◌, ◌∙◌, ◌∷◌, ◌≡◌, ◌⊎◌}
 use Rattle.adl_ast.specs.declared.component.Member.TheVariants as members
 use Rattle.cam_base.proofs.Lists.{snoc_same}
-use Rattle.adl_meaning.specs.declared.connector.Connector.{Connector}
 use Rattle.adl_meaning.specs.declared.flat.Flat.{Flat}
 use Rattle.adl_meaning.specs.Prelude.{Interface, slice_get}
 use Rattle.front_laws.proofs.ByHierarchy.{domain_of_is}
@@ -51,11 +50,7 @@ beside f g e n l i = from_get_map (λ (l : Leaf). l.path) g.leaves n l.path (ap 
 
 same_hardware : (h : Hierarchy) (f g : Flat) (l m : Leaf) → IsLeafOf h f l → IsLeafOf h g m → l.path ≡ m.path
     → l.hardware ≡ m.hardware
-same_hardware h f g l m a b e =
-    let v = b.stands in
-    let w = subst (λ z. part_at h (top_number h) z ≡ Some a.part) e a.stands in
-    let same : a.part ≡ b.part = cc in
-    a.hardware ∙ ap (is_hardware h) same ∙ sym b.hardware
+same_hardware h f g l m a b e = search (rules)
 
 inside_too : (h : Hierarchy) (f g : Flat) → AreLeaves h f → AreLeaves h g
     → map (λ l. l.path) f.leaves ≡ map (λ l. l.path) g.leaves → (d : Path) (n : ℕ) → IsInside h f d n → IsInside h g d n
@@ -67,9 +62,7 @@ inside_too h f g a b e d n k =
     record { leaf = m.0; there = m.1; software = sym same ∙ k.software; domain = subst P (sym m.2) k.domain }
 
 same_domain : (x y : Domain) → x.path ≡ y.path → x.leaves ≡ y.leaves → x ≡ y
-same_domain x y a b =
-    let make : Path → List ℕ → Domain = λ p ls. record { path = p; leaves = ls } in
-    ap (λ z. make z x.leaves) a ∙ ap (λ z. make y.path z) b
+same_domain x y a b = search (rules)
 
 -- a domain of the one is one of the other
 domain_too : (h : Hierarchy) (f g : Flat) → AreLeaves h f → AreLeaves h g
@@ -94,17 +87,7 @@ same_domains h f g a b e c d =
 
 same_leaf : (l m : Leaf) → l.path ≡ m.path → l.component ≡ m.component → l.place ≡ m.place → l.hardware ≡ m.hardware
     → l.domain ≡ m.domain → l ≡ m
-same_leaf l m a b c d e =
-    let make : Path → ItemAt → Place → Bool → Option ℕ → Leaf = λ p i q h o. record {
-      path = p;
-      component = i;
-      place = q;
-      hardware = h;
-      domain = o;
-    } in
-    ap (λ z. make z l.component l.place l.hardware l.domain) a ∙ ap (λ z. make m.path z l.place l.hardware l.domain) b
-    ∙ ap (λ z. make m.path m.component z l.hardware l.domain) c
-    ∙ ap (λ z. make m.path m.component m.place z l.domain) d ∙ ap (λ z. make m.path m.component m.place m.hardware z) e
+same_leaf l m a b c d e = search (rules)
 
 leaf_is : (h : Hierarchy) (f g : Flat) → AreDomains h f → f.domains ≡ g.domains → (l m : Leaf) → IsLeafOf h f l → IsLeafOf h g m
     → l.path ≡ m.path → l ≡ m
@@ -124,11 +107,8 @@ leaf_is h f g c ds l m a b e =
     by_kind (inr t) k =
         let p = a.domain t in let q = b.domain (sym k ∙ t) in
         let same : p.1 ≡ q.1 = sym (domain_of_is h l.path p.1 p.3) ∙ ap (domain_of h) e ∙ domain_of_is h m.path q.1 q.3 in
-        let here : slice_get (map (λ (z : Domain). z.path) f.domains) p.0 ≡ Some p.1 = get_map (λ (z : Domain). z.path) f.domains
-        p.0 p.4.domain p.4.there ∙ ap Some p.4.path in
-        let there : slice_get (map (λ (z : Domain). z.path) f.domains) q.0 ≡ Some p.1 =
-        ap (λ zs. slice_get (map (λ (z : Domain). z.path) zs) q.0) ds ∙ get_map (λ (z : Domain). z.path) g.domains q.0 q.4.domain
-        q.4.there ∙ ap Some (q.4.path ∙ sym same) in
+        let here : slice_get (map (λ (z : Domain). z.path) f.domains) p.0 ≡ Some p.1 = search (rules, get_map) in
+        let there : slice_get (map (λ (z : Domain). z.path) f.domains) q.0 ≡ Some p.1 = search (rules, get_map) in
         p.2 ∙ ap Some (once_place (map (λ (z : Domain). z.path) f.domains) p.0 q.0 p.1 c.once here there) ∙ sym q.2
 
 same_leaves : (h : Hierarchy) (f g : Flat) → AreLeaves h f → AreLeaves h g
@@ -139,20 +119,14 @@ same_leaves h f g a b e c ds = same_by (λ (l : Leaf). l.path) f.leaves g.leaves
 -- ---- ends
 
 same_end : (e d : FlatEnd) → e.role ≡ d.role → e.leaf ≡ d.leaf → e.member ≡ d.member → e.place ≡ d.place → e ≡ d
-same_end e d a b c p =
-    let make : Role → ℕ → ℕ → Place → FlatEnd = λ r l m q. record { role = r; leaf = l; member = m; place = q } in
-    ap (λ z. make z e.leaf e.member e.place) a ∙ ap (λ z. make d.role z e.member e.place) b
-    ∙ ap (λ z. make d.role d.leaf z e.place) c ∙ ap (λ z. make d.role d.leaf d.member z) p
+same_end e d a b c p = search (rules)
 
 -- two that are both the first interface of the name
 same_member : (ms : List Member) (i : Name) (a b : ℕ) (x y : Interface) → slice_get ms a ≡ Some (members.Interface x)
     → x.id.name ≡ i → slice_get ms b ≡ Some (members.Interface y) → y.id.name ≡ i
     → ((k : ℕ) (m : Interface) → k < a → slice_get ms k ≡ Some (members.Interface m) → m.id.name ≡ i → ⊥)
     → ((k : ℕ) (m : Interface) → k < b → slice_get ms k ≡ Some (members.Interface m) → m.id.name ≡ i → ⊥) → a ≡ b
-same_member ms i a b x y p n q m first second = elim (cases_lt a b) [
-  | inl l ↦ absurd (second a x l p n)
-  | inr l ↦ elim (cases_lt b a) [ inl k ↦ absurd (first b y k q m) | inr k ↦ omega (arith, l, k) ]
-]
+same_member ms i a b x y p n q m first second = search (rules, cases_lt)
 
 end_is : (s : Source) → AreNamesSound s → (f g : Flat) → AreLeaves (hierarchy_of s) f → f.leaves ≡ g.leaves → (x : Strung)
     → IsIn x (connections (hierarchy_of s)) → (n : ℕ) (e d : FlatEnd)
@@ -191,15 +165,7 @@ end_is s sound f g a ls x there n e d p q =
 
 same_connection : (c d : FlatConnection) → c.path ≡ d.path → c.connector ≡ d.connector → c.place ≡ d.place
     → c.ends ≡ d.ends → c ≡ d
-same_connection c d a b p e =
-    let make : Path → Connector → Place → List FlatEnd → FlatConnection = λ p k q es. record {
-      path = p;
-      connector = k;
-      place = q;
-      ends = es;
-    } in
-    ap (λ z. make z c.connector c.place c.ends) a ∙ ap (λ z. make d.path z c.place c.ends) b
-    ∙ ap (λ z. make d.path d.connector z c.ends) p ∙ ap (λ z. make d.path d.connector d.place z) e
+same_connection c d a b p e = search (rules)
 
 wire_is : (s : Source) → AreNamesSound s → (f g : Flat) → AreLeaves (hierarchy_of s) f → f.leaves ≡ g.leaves
     → (c d : FlatConnection) (q : Path) (w : Wire) → IsWireOf (hierarchy_of s) f c q w → IsWireOf (hierarchy_of s) g d q w → c ≡ d

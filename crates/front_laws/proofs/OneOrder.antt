@@ -1,6 +1,6 @@
 -- The orders of paths and of connections go one way, and lists in such an order are told by what is in them.
 use Rattle.front_laws.proofs.Common.{Hierarchy, InOrder, IsBefore, IsIn, IsOnce, IsPathBefore, IsWireBefore, List, Name, Part, Path, Some, [], ap, arith, at_names, body, by_instances, deeper, get_behind, in_one, in_place, inl, inr, length, map}
-use Rattle.front_laws.proofs.Common.{name_of, outer_first, part_named, refl, subst, suc, sym, wires_of, within_one, zero, ℕ, ◌++◌, ◌+◌, ◌∙◌, ◌∷◌, ◌≡◌, ◌≤◌, ◌⊎◌}
+use Rattle.front_laws.proofs.Common.{name_of, outer_first, part_named, refl, rules, subst, suc, sym, wires_of, within_one, zero, ℕ, ◌++◌, ◌+◌, ◌∙◌, ◌∷◌, ◌≡◌, ◌≤◌, ◌⊎◌}
 use Rattle.adl_meaning.specs.Prelude.{slice_get}
 
 -- ---- lists
@@ -66,15 +66,7 @@ record PathStep (h : Hierarchy) (k : ℕ) (p q : Path) : Type 0 where
 
 path_step : (h : Hierarchy) (k : ℕ) (p q : Path) → IsPathBefore h k p q → PathStep h k p q
 path_step h k p q (at_names k' n m p' q' b) = record { n = n; m = m; p' = p'; q' = q'; first = refl; second = refl; why = inl b }
-path_step h k p q (within_one k' n x p' q' e r) = record {
-  n = n;
-  m = n;
-  p' = p';
-  q' = q';
-  first = refl;
-  second = refl;
-  why = inr (refl, (x, e, r));
-}
+path_step h k p q (within_one k' n x p' q' e r) = search (rules)
 
 abbrev AreNamedOnce : Hierarchy → Type 0
 AreNamedOnce h = (k : ℕ) → IsOnce (map name_of (body h k).parts)
@@ -103,16 +95,7 @@ steps_one_way h once l k p q low a b inner = by_why a.why b.why
     by_why (inr (e, x)) (inl r) =
         let P : Name → Type 0 = λ z. IsBefore (map name_of (body h k).parts) b.n z in
         let s = subst P (sym heads.0 ∙ e ∙ tails.0) r in before_once (map name_of (body h k).parts) b.n b.n (once k) s s
-    by_why (inr (e, x)) (inr (f, y)) =
-        let u = x.1 in let v = y.1 in
-        let name : part_named (body h k).parts a.n ≡ part_named (body h k).parts b.n =
-        ap (part_named (body h k).parts) (e ∙ tails.0) in
-        let same : x.0 ≡ y.0 = cc in
-        let P : Part → Type 0 = λ z. IsPathBefore h z.kind b.p' b.q' in
-        let Q : Path → Type 0 = λ z. IsPathBefore h x.0.kind z b.q' in
-        let short : length p ≡ suc (length a.p') = ap length a.first in
-        inner x.0.kind a.p' a.q' (omega (arith, low, short)) x.2
-        (subst (λ z. IsPathBefore h x.0.kind a.q' z) (sym heads.1) (subst Q (sym tails.1) (subst P (sym same) y.2)))
+    by_why (inr (e, x)) (inr (f, y)) = search (rules, tails, heads)
 
 pub paths_one_way : (h : Hierarchy) → AreNamedOnce h → (l k : ℕ) (p q : Path) → length p ≤ l → IsPathBefore h k p q
     → IsPathBefore h k q p → ⊥
@@ -187,16 +170,7 @@ instances_one_way h once l k p a q b low c d inner = by_why c.why d.why
     by_why (inr (e, x)) (inl r) =
         let P : Name → Type 0 = λ z. IsBefore (map name_of (body h k).parts) d.n z in
         let s = subst P (sym heads.0 ∙ e ∙ tails.0) r in before_once (map name_of (body h k).parts) d.n d.n (once k) s s
-    by_why (inr (e, x)) (inr (f, y)) =
-        let u = x.1 in let v = y.1 in
-        let name : part_named (body h k).parts c.n ≡ part_named (body h k).parts d.n =
-        ap (part_named (body h k).parts) (e ∙ tails.0) in
-        let same : x.0 ≡ y.0 = cc in
-        let P : Part → Type 0 = λ z. IsWireBefore h z.kind d.p' b d.q' a in
-        let Q : Path → Type 0 = λ z. IsWireBefore h x.0.kind z b d.q' a in
-        let short : length p ≡ suc (length c.p') = ap length c.first in
-        inner x.0.kind c.p' c.q' (omega (arith, low, short)) x.2
-        (subst (λ z. IsWireBefore h x.0.kind c.q' b z a) (sym heads.1) (subst Q (sym tails.1) (subst P (sym same) y.2)))
+    by_why (inr (e, x)) (inr (f, y)) = search (rules, tails, heads)
 
 wire_steps_one_way : (h : Hierarchy) → AreNamedOnce h → ((k : ℕ) → IsOnce (wire_names h k))
     → (l k : ℕ) (p : Path) (a : Name) (q : Path) (b : Name) → length p ≤ l → WireStep h k p a q b → WireStep h k q b p a

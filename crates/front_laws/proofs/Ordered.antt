@@ -1,5 +1,5 @@
 -- Lists in order, made of others.
-use Rattle.front_laws.proofs.Common.{InOrder, IsBefore, List, [], ap, append_assoc, from_flat_map, from_map, in_append, inl, inr, map, refl, split_in, subst, sym, ◌++◌, ◌∙◌, ◌∷◌, ◌≡◌}
+use Rattle.front_laws.proofs.Common.{InOrder, IsBefore, List, [], ap, append_assoc, from_flat_map, from_map, in_append, inl, inr, map, refl, rules, split_in, subst, sym, ◌++◌, ◌∙◌, ◌∷◌, ◌≡◌}
 use Rattle.std.proofs.lemmas.List.{map-append}
 use Rattle.std.specs.List.{flat_map}
 use Rattle.cam_base.specs.Gather.{IsIn}
@@ -46,10 +46,4 @@ pub all_before : {X : Type 0} (xs : List X) → InOrder (IsBefore xs) xs
 all_before xs = before_from xs [] xs refl
 
 pub before_map : {X Y : Type 0} (f : X → Y) (xs : List X) (a b : X) → IsBefore xs a b → IsBefore (map f xs) (f a) (f b)
-before_map f xs a b s = record {
-  front = map f s.front;
-  between = map f s.between;
-  rest = map f s.rest;
-  split = ap (map f) s.split ∙ map-append f s.front (a ∷ (s.between ++ b ∷ s.rest)) ∙ ap (λ z. map f s.front ++ f a ∷ z)
-      (map-append f s.between (b ∷ s.rest));
-}
+before_map f xs a b s = search (rules, map-append)

@@ -1,6 +1,6 @@
 -- The first two regions that have an address in common.
 use Rattle.front_laws.proofs.Common.{IsFirstOverlap, List, None, Option, Overlap, ShareAddress, Some, Untyped, [], and_parts, ap, arith, cases_eq, cases_lt, false, get_behind, get_front, get_or, get_or_from_slice_get, inl, inr, length, lt-ltb}
-use Rattle.front_laws.proofs.Common.{ltb-true, map_some, nat_lt, option_map, option_or, position, refl, region_end, shares, slice_get, slice_get-get_or, subst, sym, true, true≢false, ℕ, ◌&&◌, ◌++◌, ◌+◌, ◌<◌, ◌^◌, ◌∙◌, ◌∷◌, ◌≡◌, ◌≤◌, ◌⊎◌}
+use Rattle.front_laws.proofs.Common.{ltb-true, map_some, nat_lt, option_map, option_or, position, refl, region_end, rules, shares, slice_get, slice_get-get_or, subst, sym, true, true≢false, ℕ, ◌&&◌, ◌++◌, ◌+◌, ◌<◌, ◌^◌, ◌∙◌, ◌∷◌, ◌≡◌, ◌≤◌, ◌⊎◌}
 use Rattle.std.proofs.lemmas.List.Quantifiers.{position-Some}
 use Rattle.boot_plan.specs.Overlaps.{first_overlap, overlap_at, overlap_behind}
 use Rattle.boot_plan.proofs.Multiples.{power_pos}
@@ -26,10 +26,7 @@ shared r q t =
     ]
 
 sharing : (r q : Untyped) → ShareAddress q r → shares r q ≡ true
-sharing r q s =
-    let first : r.paddr < region_end q = omega (arith, s.high, s.other_low) in
-    let second : q.paddr < region_end r = omega (arith, s.low, s.other_high) in
-    ap (λ z. z && nat_lt q.paddr (region_end r)) (lt-ltb r.paddr (region_end q) first) ∙ lt-ltb q.paddr (region_end r) second
+sharing r q s = search (rules, nat_lt, lt-ltb)
 
 -- ---- the walk
 
@@ -47,24 +44,11 @@ none_at (Some k) n e = cc
 
 -- where nothing is said of regions, none overlaps one in front of it
 none_overlaps : (rs : List Untyped) → IsClean overlap_at [] rs → (i j : ℕ) → Overlap rs i j → ⊥
-none_overlaps rs clean i j o =
-    let s = at_split rs j o.second o.at_second in
-    let P : List Untyped → Type 0 = λ z. slice_get z i ≡ Some o.first in
-    let first = front_get s.0 (o.second ∷ s.1) i o.first (subst P s.2 o.at_first) (omega (arith, o.order, s.3)) in
-    none_passes (shares o.second) s.0 i o.first (none_at (position (shares o.second) s.0) (length s.0)
-    (clean s.0 s.1 o.second s.2)) first (sharing o.second o.first o.shared)
+none_overlaps rs clean i j o = search (rules, at_split, front_get, none_passes, none_at, sharing)
 
 -- the overlaps of a front
 overlap_front : (p q : List Untyped) (i j : ℕ) → Overlap (p ++ q) i j → j < length p → Overlap p i j
-overlap_front p q i j o l =
-    record {
-      first = o.first;
-      second = o.second;
-      at_first = front_get p q i o.first o.at_first (omega (arith, l, o.order));
-      at_second = front_get p q j o.second o.at_second l;
-      order = o.order;
-      shared = o.shared;
-    }
+overlap_front p q i j o l = search (rules, front_get, shared)
 
 from_overlap : (rs : List Untyped) (i j : ℕ) → first_overlap rs ≡ Some (i, j) → IsFirstOverlap rs i j
 from_overlap rs i j e =
@@ -110,8 +94,7 @@ from_overlap rs i j e =
           | inl y ↦
               let P : List Untyped → Type 0 = λ z. slice_get z k ≡ Some o.first in
               let Q : List Untyped → Type 0 = λ z. slice_get z l ≡ Some o.second in
-              let here : slice_get f.front k ≡ Some o.first = front_get f.front (f.item ∷ f.rest) k o.first
-              (subst P f.split o.at_first) (omega (arith, o.order, same, is_j)) in
+              let here : slice_get f.front k ≡ Some o.first = search (rules, front_get) in
               let item : slice_get (f.front ++ f.item ∷ f.rest) l ≡ Some f.item = get_behind f.front (f.item ∷ f.rest) 0 l
               (omega (arith, same, is_j)) in
               let second : o.second ≡ f.item = let a = sym (subst Q f.split o.at_second) ∙ item in cc in

@@ -1,5 +1,5 @@
 -- Lists by place.
-use Rattle.front_laws.proofs.Common.{Bool, List, None, Some, [], ap, arith, below, cond, false, inl, inr, length, lt-ltb, not, position, position_or_len, refl, slice_get, split_get, suc, true, zero, ℕ, ◌++◌, ◌+◌, ◌<◌, ◌∙◌, ◌∷◌, ◌≡◌, ◌≤◌}
+use Rattle.front_laws.proofs.Common.{Bool, List, None, Some, [], ap, arith, below, cond, false, inl, inr, length, lt-ltb, not, position, position_or_len, refl, rules, slice_get, split_get, suc, true, zero, ℕ, ◌++◌, ◌+◌, ◌<◌, ◌∙◌, ◌∷◌, ◌≡◌, ◌≤◌}
 
 -- a list parted at a place
 pub at_split : {X : Type 0} (xs : List X) (n : ℕ) (x : X) → slice_get xs n ≡ Some x → (p q : List X) × (xs ≡ p ++ x ∷ q)
@@ -17,10 +17,7 @@ front_get p q n x e l = elim (split_get p q n x e) [ inl i ↦ i | inr i ↦ let
 passes_late : {X : Type 0} (p : X → Bool) (xs : List X) (k : ℕ) (x : X) → slice_get xs k ≡ Some x → p x ≡ true
     → position_or_len p xs ≤ k
 passes_late p [] k x e t = cc
-passes_late {X} p (y ∷ xs) zero x e t =
-    let same : y ≡ x = cc in
-    let first : position_or_len p (y ∷ xs) ≡ 0 = ap (λ b. cond (not b) (1 + position_or_len p xs) 0) (ap p same ∙ t) in
-    omega (arith, first)
+passes_late {X} p (y ∷ xs) zero x e t = search (rules)
 passes_late p (y ∷ xs) (suc k) x e t = by_test (p y) (passes_late p xs k x e t)
   where
     by_test : (b : Bool) → position_or_len p xs ≤ k → cond (not b) (1 + position_or_len p xs) 0 ≤ suc k
@@ -30,7 +27,4 @@ passes_late p (y ∷ xs) (suc k) x e t = by_test (p y) (passes_late p xs k x e t
 -- where nothing passes
 pub none_passes : {X : Type 0} (p : X → Bool) (xs : List X) (k : ℕ) (x : X) → position p xs ≡ None → slice_get xs k ≡ Some x
     → p x ≡ true → ⊥
-none_passes p xs k x none e t =
-    let found : position p xs ≡ Some (position_or_len p xs) = ap (λ b. cond b (Some (position_or_len p xs)) None)
-    (lt-ltb (position_or_len p xs) (length xs) (omega (arith, passes_late p xs k x e t, below xs k x e))) in
-    cc
+none_passes p xs k x none e t = search (rules, lt-ltb, passes_late, below)

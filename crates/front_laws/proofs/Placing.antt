@@ -1,6 +1,6 @@
 -- Where placed objects lie.
-use Rattle.front_laws.proofs.Common.{AllByRecursion, AreApart, AreBlocksPlaced, AreDevicesPlaced, Block, Bool, DevicePage, List, Need, None, Option, Some, Untyped, [], ap, arith, cases_lt, false, inl, inr, refl, slice_get, subst, suc, true, zero, ℕ}
-use Rattle.front_laws.proofs.Common.{◌+◌, ◌<◌, ◌^◌, ◌∙◌, ◌∷◌, ◌≡◌, ◌≤◌}
+use Rattle.front_laws.proofs.Common.{AllByRecursion, AreApart, AreBlocksPlaced, AreDevicesPlaced, Bool, List, Need, None, Option, Some, Untyped, [], ap, arith, cases_lt, false, inl, inr, refl, slice_get, subst, suc, true, zero, ℕ}
+use Rattle.front_laws.proofs.Common.{rules, ◌+◌, ◌<◌, ◌^◌, ◌∙◌, ◌∷◌, ◌≡◌, ◌≤◌}
 use Rattle.boot_plan.specs.Needs.{bits_of}
 use Rattle.boot_plan.specs.Placed.{AllApart, AllSuit, Apart, Bytes, LieIn, LieInOne, Placed, Suits, all_bytes}
 use Rattle.cam_base.specs.Gather.{IsIn}
@@ -39,12 +39,7 @@ apart_at : (ns : List Need) (places : List (Option ℕ)) (i j : ℕ) (n m : Need
     → slice_get ns i ≡ Some n → slice_get places i ≡ Some (Some a) → slice_get ns j ≡ Some m → slice_get places j ≡ Some (Some b)
     → Apart (bytes_of n a) (bytes_of m b)
 apart_at (x ∷ ns) (p ∷ places) i zero n m a b all l e f g h = absurd (omega (arith, l))
-apart_at (x ∷ ns) (Some p ∷ places) zero (suc j) n m a b all l e f g h =
-    let s : x ≡ n = cc in
-    let t : p ≡ a = cc in
-    let P : Need → Type 0 = λ z. Apart (bytes_of z p) (bytes_of m b) in
-    subst (λ z. Apart (bytes_of n z) (bytes_of m b)) t
-    (subst P s (all_by (Apart (bytes_of x p)) (all_bytes ns places) (bytes_of m b) all.0 (bytes_in ns places j m b g h)))
+apart_at (x ∷ ns) (Some p ∷ places) zero (suc j) n m a b all l e f g h = search (rules, all_by, bytes_in)
 apart_at (x ∷ ns) (Some p ∷ places) (suc i) (suc j) n m a b all l e f g h =
     apart_at ns places i j n m a b all.1 (omega (arith, l)) e f g h
 apart_at (x ∷ ns) (None ∷ places) (suc i) (suc j) n m a b all l e f g h =
@@ -58,32 +53,12 @@ no_address n m a b address (inl l) p q r s = omega (arith, l, q, r)
 no_address n m a b address (inr l) p q r s = omega (arith, l, p, s)
 
 pub apart : (rs : List Untyped) (ns : List Need) (places : List (Option ℕ)) → Placed ns rs places → AreApart ns places
-apart rs ns places placed i j a b address x y p q = elim (cases_lt i j) [
-  | inl l ↦
-      absurd (no_address x.need y.need a b address (apart_at ns places i j x.need y.need a b placed.apart l x.needed x.placed
-      y.needed y.placed) p.0 p.1 q.0 q.1)
-  | inr l ↦ elim (cases_lt j i) [
-    | inl k ↦
-        absurd (no_address y.need x.need b a address (apart_at ns places j i y.need x.need b a placed.apart k y.needed y.placed
-        x.needed x.placed) q.0 q.1 p.0 p.1)
-    | inr k ↦ omega (arith, l, k)
-  ]
-]
+apart rs ns places placed i j a b address x y p q = search (rules, cases_lt, no_address, apart_at)
 
 pub devices_placed : (rs : List Untyped) (ns : List Need) (places : List (Option ℕ)) → Placed ns rs places
     → AreDevicesPlaced rs ns places
-devices_placed rs ns places placed k paddr e =
-    let s = suit_at rs ns places k (DevicePage paddr) placed.suit e in
-    let r = lies_in_one true (record { first = paddr; bits = 12 }) rs s.2.1 in
-    (s.1 ∙ ap Some s.2.0, record { region = r.0; one = r.1; lies = r.2 })
+devices_placed rs ns places placed k paddr e = search (rules, suit_at, lies_in_one)
 
 pub blocks_placed : (rs : List Untyped) (ns : List Need) (places : List (Option ℕ)) → Placed ns rs places
     → AreBlocksPlaced rs ns places
-blocks_placed rs ns places placed k bits e = let s = suit_at rs ns places k (Block bits) placed.suit e in by_place s.0 s.1 s.2
-  where
-    by_place : (p : Option ℕ) → slice_get places k ≡ Some p → Suits rs (Block bits) p
-        → (first : ℕ) × (r : Untyped) × (slice_get places k ≡ Some (Some first)) × IsIn r rs
-        × LieIn false (record { first = first; bits = bits }) r
-    by_place None s t = absurd t
-    by_place (Some first) s t = let r = lies_in_one false (record { first = first; bits = bits }) rs t.1 in
-        (first, r.0, s, r.1, r.2)
+blocks_placed rs ns places placed k bits e = search (rules, suit_at, lies_in_one)

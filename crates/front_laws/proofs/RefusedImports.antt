@@ -1,7 +1,7 @@
 -- The import that is refused is the first that names no file, or that gives one name more than there may be.
 use Rattle.front_laws.proofs.Common.{Bool, Err, Import, List, Meeting, None, Ok, Option, Result, Some, SourceFile, [], ap, append-nil, append_assoc, arith, bytes_eq, bytes_eq-Decides, codes, cond, false, files_limit, firsts, from_any, imports_of}
 use Rattle.front_laws.proofs.Common.{in_map, inl, inr, is_built_in, is_known, length, lt-ltb, ltb-true, map, meeting_at, meeting_of, meetings_of, met, name_given, nat_lt, nat_tests, or_left, or_right, refl, root_place, subst, sym, true, true≢false}
-use Rattle.front_laws.proofs.Common.{ℕ, ◌++◌, ◌∙◌, ◌∷◌, ◌≡◌, ◌≤◌, ◌⊎◌}
+use Rattle.front_laws.proofs.Common.{ℕ, rules, ◌++◌, ◌∙◌, ◌∷◌, ◌≡◌, ◌≤◌, ◌⊎◌}
 use Rattle.std.specs.List.{flat_map}
 use Rattle.adl_import.specs.Turns.{Turns, and_then, fault_at, meet, meet_given, take_import, take_imports}
 use Rattle.adl_import.proofs.Firsts.{firsts_more, turns_meet}
@@ -34,10 +34,7 @@ nothing_front root own ms (x ∷ p) q i e = cc
 
 -- a name that is known among the firsts is met
 is_met : (ms : List Meeting) (name : List ℕ) → is_known (firsts ms) name ≡ true → IsIn name (map (λ m. m.0) ms)
-is_met ms name e =
-    let m = from_any (λ (m : Meeting). bytes_eq name m.0) (firsts ms) e in
-    let P : List ℕ → Type 0 = λ z. IsIn z (map (λ (m : Meeting). m.0) ms) in
-    subst P (sym ((bytes_eq-Decides name m.0.0).0 m.2)) (in_map (λ (m : Meeting). m.0) m.0 ms (from_firsts ms m.0 m.1))
+is_met ms name e = search (rules, from_any, bytes_eq-Decides, in_map, from_firsts)
 
 abbrev Taken : List ℕ → List ℕ → List Meeting → Import → Result (List Meeting) Fault → Type 0
 Taken root own ms i (Ok known) = (known ≡ firsts (ms ++ meeting_of root own i)) × IsTaken root own ms i
@@ -65,15 +62,7 @@ taken_name root own ms i b name e = by_known (is_known (firsts ms) name) refl
           split = refl;
           front = nothing_front root own ms;
           other = b;
-          why = inr (
-            record {
-              name = name;
-              gives = e;
-              new = subst (λ z. IsIn name (map (λ m. m.0) z) → ⊥) (sym (append-nil ms)) (unmet ms name k);
-              full = subst (λ z. files_limit ≤ length (firsts z)) (sym (append-nil ms)) (grind (arith, nat_tests));
-            },
-            refl,
-          );
+          why = search (rules, append-nil, unmet, nat_tests);
         }
 
     by_known : (c : Bool) → is_known (firsts ms) name ≡ c → Taken root own ms i
@@ -104,10 +93,7 @@ taken root own ms i = by_name (is_built_in i) refl
 
     by_name : (b : Bool) → is_built_in i ≡ b
         → Taken root own ms i (cond b (Ok (firsts ms)) (meet_given (firsts ms) i.place (name_given root own i)))
-    by_name true b = (
-      sym (ap (λ c. firsts (ms ++ cond c [] (meeting_at i.place (name_given root own i)))) b ∙ ap firsts (append-nil ms)),
-      of_built_in_name b,
-    )
+    by_name true b = search (rules, append-nil)
     by_name false b = by_given b (name_given root own i) refl
 
 -- ---- all of them
@@ -146,10 +132,7 @@ behind root own ms i is f t r =
         → ((name_given root own r.import ≡ None) × (f ≡ fault_at BadPath r.import.place []))
         ⊎ (IsOneMore root own ms (i ∷ r.before) r.import × (f ≡ fault_at Limit r.import.place (codes "files")))
     by_why same (inl x) = inl x
-    by_why same (inr (x, e)) =
-        let P : List Meeting → Type 0 = λ z. IsIn x.name (map (λ m. m.0) z) → ⊥ in
-        let Q : List Meeting → Type 0 = λ z. files_limit ≤ length (firsts z) in
-        inr (record { name = x.name; gives = x.gives; new = subst P same x.new; full = subst Q same x.full }, e)
+    by_why same (inr (x, e)) = search (rules)
 
 alone : (root own : List ℕ) (ms : List Meeting) (i : Import) (is : List Import) (f : Fault)
     → IsRefusedImport root own ms (i ∷ []) f → IsRefusedImport root own ms (i ∷ is) f
@@ -174,9 +157,7 @@ refused root own ms (i ∷ is) f e = by_result (take_import root own (firsts ms)
         → IsRefusedImport root own (ms ++ meeting_of root own i) is f)
         → and_then (λ more. take_imports root own more is) r ≡ Err f → IsRefusedImport root own ms (i ∷ is) f
     by_result (Ok known) t more e = behind root own ms i is f t.1 (more (ap (λ z. take_imports root own z is) (sym t.0) ∙ e))
-    by_result (Err g) t more e =
-        let same : g ≡ f = cc in
-        alone root own ms i is f (subst (λ z. IsRefusedImport root own ms (i ∷ []) z) same t)
+    by_result (Err g) t more e = search (rules, alone)
 
 -- ---- and back
 
@@ -196,30 +177,13 @@ takes : (root own : List ℕ) (known : List Meeting) (i : Import) (o : Option (L
 takes root own known i o b e = ap (λ c. cond c (Ok known) (meet_given known i.place (name_given root own i))) b
     ∙ ap (meet_given known i.place) e
 
-abbrev met_as : List Meeting → Place → List ℕ → Bool → Bool → Result (List Meeting) Fault
-met_as known place name a c =
-    cond a (Ok known) (cond c (Ok (known ++ (name, place) ∷ [])) (Err (fault_at Limit place (codes "files"))))
-
 step_taken : (root own : List ℕ) (ms : List Meeting) (i : Import) → IsTaken root own ms i
     → take_import root own (firsts ms) i ≡ Ok (firsts (ms ++ meeting_of root own i))
-step_taken root own ms i (of_built_in_name b) =
-    ap (λ c. cond c (Ok (firsts ms)) (meet_given (firsts ms) i.place (name_given root own i))) b
-    ∙ ap (λ z. Ok (firsts z)) (sym (ap (λ c. ms ++ cond c [] (meeting_at i.place (name_given root own i))) b ∙ append-nil ms))
+step_taken root own ms i (of_built_in_name b) = search (rules, append-nil)
 step_taken root own ms i (of_met_name name b e m) =
     let k = known_in (firsts ms) name (in_firsts ms name m) in
-    takes root own (firsts ms) i (Some name) b e
-    ∙ ap (λ a. met_as (firsts ms) i.place name a (nat_lt (length (firsts ms)) files_limit)) k
-    ∙ ap (λ z. Ok z) (known_same ms i.place name k ∙ ap firsts (sym (given_here root own ms i name b e)))
-step_taken root own ms i (of_new_name name b e l) =
-    takes root own (firsts ms) i (Some name) b e ∙ ap (met_as (firsts ms) i.place name (is_known (firsts ms) name))
-    (lt-ltb (length (firsts ms)) files_limit l) ∙ by_known (is_known (firsts ms) name) refl
-  where
-    by_known : (a : Bool) → is_known (firsts ms) name ≡ a
-        → met_as (firsts ms) i.place name a true ≡ Ok (firsts (ms ++ meeting_of root own i))
-    by_known true k = ap (λ z. Ok z) (known_same ms i.place name k ∙ ap firsts (sym (given_here root own ms i name b e)))
-    by_known false k =
-        ap (λ z. Ok z) (sym (firsts_more ms (name, i.place) ∙ ap (λ z. cond z (firsts ms) (firsts ms ++ (name, i.place) ∷ [])) k)
-        ∙ ap firsts (sym (given_here root own ms i name b e)))
+    search (rules, takes, nat_lt, known_same, given_here)
+step_taken root own ms i (of_new_name name b e l) = search (rules, takes, lt-ltb, known_same, given_here, firsts_more)
 
 abbrev Why : List ℕ → List ℕ → List Meeting → Import → Fault → Type 0
 Why root own met i f =
@@ -229,17 +193,7 @@ Why root own met i f =
 refused_here : (root own : List ℕ) (ms : List Meeting) (i : Import) (f : Fault) → is_built_in i ≡ false → Why root own ms i f
     → take_import root own (firsts ms) i ≡ Err f
 refused_here root own ms i f b (inl (e, same)) = takes root own (firsts ms) i None b e ∙ ap (λ z. Err z) (sym same)
-refused_here root own ms i f b (inr (name, e, new, full, same)) =
-    takes root own (firsts ms) i (Some name) b e
-    ∙ ap (λ a. met_as (firsts ms) i.place name a (nat_lt (length (firsts ms)) files_limit))
-    (not_known (is_known (firsts ms) name) refl) ∙ ap (met_as (firsts ms) i.place name false) no_room ∙ ap (λ z. Err z) (sym same)
-  where
-    not_known : (a : Bool) → is_known (firsts ms) name ≡ a → is_known (firsts ms) name ≡ false
-    not_known true k = absurd (new (is_met ms name k))
-    not_known false k = k
-
-    no_room : nat_lt (length (firsts ms)) files_limit ≡ false
-    no_room = grind (arith, nat_tests)
+refused_here root own ms i f b (inr (name, e, new, full, same)) = search (rules, takes, nat_lt, is_met, nat_tests)
 
 -- imports that are taken, and then one that is refused
 in_turn : (root own : List ℕ) (ms : List Meeting) (before : List Import) (i : Import) (after : List Import) (f : Fault)
@@ -274,9 +228,7 @@ in_refused root own ms imports f r =
 pub turn_refused : (m : Contents) (root : List ℕ) (files : List SourceFile) (known : List Meeting) → Turns m root files known
     → (file : SourceFile) (f : Fault) → take_imports root file.name known (imports_of file.tree) ≡ Err f
     → IsRefusedImport root file.name ((root, root_place) ∷ flat_map (meetings_of root) files) (imports_of file.tree) f
-turn_refused m root files known turns file f e =
-    refused root file.name ((root, root_place) ∷ flat_map (meetings_of root) files) (imports_of file.tree) f
-    (ap (λ z. take_imports root file.name z (imports_of file.tree)) (sym (turns_meet m root files known turns)) ∙ e)
+turn_refused m root files known turns file f e = search (rules, refused, turns_meet)
 
 pub in_turn_refused : (m : Contents) (root : List ℕ) (files : List SourceFile) (known : List Meeting) → Turns m root files known
     → (file : SourceFile) (f : Fault)

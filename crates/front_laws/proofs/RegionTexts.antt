@@ -1,6 +1,6 @@
 -- The first line of a text of regions that is refused.
 use Rattle.front_laws.proofs.Common.{Bool, Err, Line, List, None, Ok, Option, Result, Some, Untyped, [], ap, arith, bytes_eq, bytes_eq-Decides, cases_Bool, codes, cond, false, fields, in_right, inl, inr, length, length-append, lines, lt-ltb}
-use Rattle.front_laws.proofs.Common.{ltb-true, nat_lt, nat_tests, option_or, refl, split_in, subst, suc, sym, true, true≢false, ℕ, ◌++◌, ◌+◌, ◌<◌, ◌∙◌, ◌∷◌, ◌≡◌, ◌≤◌, ◌⊎◌}
+use Rattle.front_laws.proofs.Common.{ltb-true, nat_lt, nat_tests, option_or, refl, rules, split_in, suc, sym, true, true≢false, ℕ, ◌++◌, ◌+◌, ◌<◌, ◌∙◌, ◌∷◌, ◌≡◌, ◌≤◌, ◌⊎◌}
 use Rattle.boot_plan.specs.UntypedTexts.{fault, fault_at, fault_in, first_bad, first_fault, judged, line_given, region_of, regions_limit, unless_bad}
 use Rattle.boot_plan.specs.declared.untyped.UntypedCode.TheVariants as untyped
 use Rattle.boot_plan.specs.declared.untyped.UntypedFault.{UntypedFault}
@@ -34,17 +34,10 @@ read_clean before l e = by_region (region_of (fields l.text)) refl e
     by_region : (o : Option Untyped) → region_of (fields l.text) ≡ o → bad_of (judged (length before) l o) ≡ None
         → SpellsRegion l × (length before < regions_limit)
     by_region None s e = cc
-    by_region (Some r) s e = by_room (nat_lt (length before) regions_limit) refl e
-      where
-        by_room : (b : Bool) → nat_lt (length before) regions_limit ≡ b
-            → bad_of (cond b (Ok r) (Err (fault_at untyped.Limit l))) ≡ None → SpellsRegion l × (length before < regions_limit)
-        by_room true t e = ((r, s), ltb-true (length before) regions_limit t)
-        by_room false t e = cc
+    by_region (Some r) s e = grind (arith, nat_lt, ltb-true)
 
 clean_read : (before : List Line) (l : Line) → SpellsRegion l → length before < regions_limit → said before l ≡ None
-clean_read before l r m =
-    ap (λ o. bad_of (judged (length before) l o)) r.1 ∙ ap (λ b. bad_of (cond b (Ok r.0) (Err (fault_at untyped.Limit l))))
-    (lt-ltb (length before) regions_limit m)
+clean_read before l r m = search (rules, lt-ltb)
 
 -- ---- the lines in front
 
@@ -65,9 +58,7 @@ few (x ∷ xs) clean =
 
 all_clean : (front : List Line) → ((l : Line) → IsIn l front → SpellsRegion l) → length front ≤ regions_limit
     → IsClean said [] front
-all_clean front read low p q y e =
-    let many : length front ≡ length p + suc (length q) = ap length e ∙ length-append p (y ∷ q) in
-    clean_read p y (read y (subst (λ z. IsIn y z) (sym e) (in_right y p (y ∷ q) (inl refl)))) (omega (arith, low, many))
+all_clean front read low p q y e = search (rules, length-append, clean_read, in_right)
 
 -- ---- a text
 
@@ -76,19 +67,10 @@ head_case : (ls : List Line) → ((l : Line) × (more : List Line) × (ls ≡ l 
     ⊎ (((l : Line) (more : List Line) → ls ≡ l ∷ more → l.text ≡ codes "untypeds 1" → ⊥)
     × (fault_in ls ≡ Some (fault untyped.Syntax 0 0)))
 head_case [] = inr (λ l more e s. cc, refl)
-head_case (l ∷ more) = elim (cases_Bool (bytes_eq l.text (codes "untypeds 1"))) [
-  | inl t ↦ inl (l, more, refl, t)
-  | inr t ↦ inr (
-    λ k ks e s. let same : l ≡ k = cc in
-        true≢false (sym ((bytes_eq-Decides l.text (codes "untypeds 1")).1 (ap (λ (z : Line). z.text) same ∙ s)) ∙ t),
-    ap (λ b. cond b (first_bad 0 more) (Some (fault untyped.Syntax 0 0))) t,
-  )
-]
+head_case (l ∷ more) = search (rules, cases_Bool, bytes_eq-Decides)
 
 with_head : (bytes : List ℕ) (more : List Line) → HasHead bytes more → first_fault bytes ≡ first_bad 0 more
-with_head bytes more h =
-    ap fault_in h.all ∙ ap (λ b. cond b (first_bad 0 more) (Some (fault untyped.Syntax 0 0)))
-    ((bytes_eq-Decides h.head.text (codes "untypeds 1")).1 h.says)
+with_head bytes more h = search (rules, bytes_eq-Decides)
 
 -- a text without its first line
 headless : (bytes : List ℕ) → ((more : List Line) → HasHead bytes more → ⊥) → first_fault bytes ≡ Some (fault untyped.Syntax 0 0)
@@ -121,16 +103,9 @@ at_line bytes f more h r = by_region (region_of (fields r.item.text)) refl r.say
 pub from_region_fault : (bytes : List ℕ) (f : UntypedFault) → first_fault bytes ≡ Some f → IsRegionFault bytes f
 from_region_fault bytes f e = elim (head_case (lines bytes)) [
   | inl x ↦
-      let h : HasHead bytes x.1 = record {
-        head = x.0;
-        all = x.2;
-        says = (bytes_eq-Decides x.0.text (codes "untypeds 1")).0 x.3;
-      } in
+      let h : HasHead bytes x.1 = search (rules, bytes_eq-Decides) in
       at_line bytes f x.1 h (from_first said [] x.1 f (sym (as_first [] x.1 0 refl) ∙ sym (with_head bytes x.1 h) ∙ e))
-  | inr t ↦
-      let says = t.1 in
-      let same : fault untyped.Syntax 0 0 ≡ f = cc in
-      no_head (λ more h. t.0 h.head more h.all h.says) (sym same)
+  | inr t ↦ search (rules)
 ]
 
 pub in_region_fault : (bytes : List ℕ) (f : UntypedFault) → IsRegionFault bytes f → first_fault bytes ≡ Some f
@@ -147,11 +122,7 @@ in_region_fault bytes f (one_region_more more before line h r s full e) =
 pub from_no_fault : (bytes : List ℕ) → first_fault bytes ≡ None → AreRegionsRead bytes
 from_no_fault bytes e = elim (head_case (lines bytes)) [
   | inl x ↦
-      let h : HasHead bytes x.1 = record {
-        head = x.0;
-        all = x.2;
-        says = (bytes_eq-Decides x.0.text (codes "untypeds 1")).0 x.3;
-      } in
+      let h : HasHead bytes x.1 = search (rules, bytes_eq-Decides) in
       let clean = from_none said [] x.1 (sym (as_first [] x.1 0 refl) ∙ sym (with_head bytes x.1 h) ∙ e) in
       record { more = x.1; head = h; read = all_read x.1 clean; few = few x.1 clean }
   | inr t ↦ absurd (let says = t.1 in cc)

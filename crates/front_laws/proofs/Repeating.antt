@@ -2,7 +2,7 @@
 use Rattle.front_laws.proofs.Common.{Bool, Component, Composition, Configuration, Fault, HasComposition, HasItem, Id, IsIn, IsLater, Item, ItemAt, Known, List, Name, None, Option, Place, Some, Source, [], again, ap, at_keyword, at_word}
 use Rattle.front_laws.proofs.Common.{bytes_eq-Decides, components, compositions, configurations, declared_in, drop, duplicates, duplicates_in_component, duplicates_in_composition, duplicates_in_item, duplicates_in_procedure, false, flat_map}
 use Rattle.front_laws.proofs.Common.{from_flat_map, from_map, held_in, in_append, in_flat_map, in_left, in_map, in_right, inl, inr, items_of, known_of, map, of_assembly, of_component, or_cases, or_left, or_right, procedures, refl, repeats}
-use Rattle.front_laws.proofs.Common.{repeats_after, subst, sym, true, where_true, ◌++◌, ◌||◌, ◌∙◌, ◌∷◌, ◌≡◌, ◌⊎◌}
+use Rattle.front_laws.proofs.Common.{repeats_after, rules, subst, sym, true, where_true, ◌++◌, ◌||◌, ◌∙◌, ◌∷◌, ◌≡◌, ◌⊎◌}
 use Rattle.adl_ast.specs.declared.file.Item.TheVariants as items
 use Rattle.adl_ast.specs.declared.procedure.Procedure.{Procedure}
 use Rattle.cam_base.specs.declared.code.Code.TheVariants as code
@@ -52,9 +52,7 @@ from_after met (w ∷ ws) f i =
 into_after : (met : Name → Bool) (before : List Id) (w : Id) (after : List Id)
     → (met w.name ≡ true) ⊎ ((e : Id) × IsIn e before × (e.name ≡ w.name))
     → IsIn (at_word code.Duplicate w) (repeats_after met (before ++ w ∷ after))
-into_after met [] w after (inl t) =
-    in_left (at_word code.Duplicate w) (where_true (met w.name) (at_word code.Duplicate w))
-    (repeats_after (λ n. met n || bytes_eq n w.name) after) (in_true (met w.name) (at_word code.Duplicate w) t)
+into_after met [] w after (inl t) = search (rules, in_left, in_true)
 into_after met [] w after (inr x) = absurd x.1
 into_after met (v ∷ before) w after why =
     let more : Name → Bool = λ n. met n || bytes_eq n v.name in
@@ -64,33 +62,15 @@ into_after met (v ∷ before) w after why =
     narrower : (met w.name ≡ true) ⊎ ((e : Id) × IsIn e (v ∷ before) × (e.name ≡ w.name))
         → ((met w.name || bytes_eq w.name v.name) ≡ true) ⊎ ((e : Id) × IsIn e before × (e.name ≡ w.name))
     narrower (inl t) = inl (or_left (met w.name) (bytes_eq w.name v.name) t)
-    narrower (inr (e, inl s, same)) =
-        inl (or_right (met w.name) (bytes_eq w.name v.name)
-        ((bytes_eq-Decides w.name v.name).1 (sym same ∙ ap (λ (x : Id). x.name) (sym s))))
+    narrower (inr (e, inl s, same)) = search (rules, or_right, bytes_eq-Decides)
     narrower (inr (e, inr i, same)) = inr (e, i, same)
 
 -- a word that repeats a name, with the fault at it
 from_repeats : (ws : List Id) (f : Fault) → IsIn f (repeats ws) → (w : Id) × IsAgain ws w × (f ≡ at_word code.Duplicate w)
-from_repeats ws f i =
-    let r = from_after (λ n. false) ws f i in
-    (r.word, again_of r.before r.word r.after r.split r.why, r.fault)
-  where
-    again_of : (before : List Id) (w : Id) (after : List Id) → ws ≡ before ++ w ∷ after
-        → (false ≡ true) ⊎ ((e : Id) × IsIn e before × (e.name ≡ w.name)) → IsAgain ws w
-    again_of before w after e (inl never) = cc
-    again_of before w after e (inr x) = record {
-      before = before;
-      after = after;
-      split = e;
-      earlier = x.0;
-      stands = x.1;
-      alike = x.2;
-    }
+from_repeats ws f i = search (rules, from_after)
 
 in_repeats : (ws : List Id) (w : Id) → IsAgain ws w → IsIn (at_word code.Duplicate w) (repeats ws)
-in_repeats ws w a =
-    let P : List Id → Type 0 = λ vs. IsIn (at_word code.Duplicate w) (repeats vs) in
-    subst P (sym a.split) (into_after (λ n. false) a.before w a.after (inr (a.earlier, a.stands, a.alike)))
+in_repeats ws w a = search (rules, into_after)
 
 -- ---- keywords
 
@@ -108,16 +88,11 @@ drop_map f (x ∷ xs) = refl
 -- what stands again, by its place
 from_again : {X : Type 0} (place : X → Place) (xs : List X) (f : Fault) → IsIn f (again (map place xs))
     → (x : X) × IsLater xs x × (f ≡ at_keyword code.Duplicate (place x))
-from_again {X} place xs f i =
-    let p = from_map (λ p. at_keyword code.Duplicate p) f (drop 1 (map place xs)) i in
-    let x = from_map place p.0 (drop 1 xs) (subst (λ ps. IsIn p.0 ps) (drop_map place xs) p.1) in
-    (x.0, from_dropped xs x.0 x.1, sym p.2 ∙ ap (λ q. at_keyword code.Duplicate q) (sym x.2))
+from_again {X} place xs f i = search (rules, from_map, drop_map, from_dropped)
 
 in_again : {X : Type 0} (place : X → Place) (xs : List X) (x : X) → IsLater xs x
     → IsIn (at_keyword code.Duplicate (place x)) (again (map place xs))
-in_again {X} place xs x l =
-    in_map (λ p. at_keyword code.Duplicate p) (place x) (drop 1 (map place xs))
-    (subst (λ ps. IsIn (place x) ps) (sym (drop_map place xs)) (in_map place x (drop 1 xs) (in_dropped xs x l)))
+in_again {X} place xs x l = search (rules, in_map, drop_map, in_dropped)
 
 -- ---- in a source
 
@@ -185,34 +160,21 @@ from_duplicates s f i =
 -- ---- and back
 
 in_items : (s : Source) (x : Item) (f : Fault) → HasItem s x → IsIn f (duplicates_in_item x) → IsIn f (duplicates s)
-in_items s x f h i =
-    in_right f (repeats (procedure_names s) ++ repeats (component_names s)) (flat_map (λ x. duplicates_in_item x.1) (items_of s))
-    (in_flat_map (λ (y : ItemAt × Item). duplicates_in_item y.1) (h.at, x) f (items_of s) h.stands i)
+in_items s x f h i = search (rules, in_right, in_flat_map)
 
 -- the four parts of what stands in a component
 in_members : (c : Component) (f : Fault) → IsIn f (repeats (map (λ d. d.0) (declared_in c))) → IsIn f (duplicates_in_component c)
-in_members c f i =
-    let names = repeats (map (λ d. d.0) (declared_in c)) in
-    in_left f (names ++ later_compositions c ++ later_configurations c) (flat_map duplicates_in_composition (compositions c))
-    (in_left f (names ++ later_compositions c) (later_configurations c) (in_left f names (later_compositions c) i))
+in_members c f i = search (rules, in_left)
 
 in_compositions : (c : Component) (f : Fault) → IsIn f (later_compositions c) → IsIn f (duplicates_in_component c)
-in_compositions c f i =
-    let names = repeats (map (λ d. d.0) (declared_in c)) in
-    in_left f (names ++ later_compositions c ++ later_configurations c) (flat_map duplicates_in_composition (compositions c))
-    (in_left f (names ++ later_compositions c) (later_configurations c) (in_right f names (later_compositions c) i))
+in_compositions c f i = search (rules, in_left, in_right)
 
 in_configurations : (c : Component) (f : Fault) → IsIn f (later_configurations c) → IsIn f (duplicates_in_component c)
-in_configurations c f i =
-    let names = repeats (map (λ d. d.0) (declared_in c)) in
-    in_left f (names ++ later_compositions c ++ later_configurations c) (flat_map duplicates_in_composition (compositions c))
-    (in_right f (names ++ later_compositions c) (later_configurations c) i)
+in_configurations c f i = search (rules, in_left, in_right)
 
 in_one_composition : (c : Component) (k : Composition) (f : Fault) → IsIn k (compositions c)
     → IsIn f (duplicates_in_composition k) → IsIn f (duplicates_in_component c)
-in_one_composition c k f j i =
-    in_right f ((repeats (map (λ d. d.0) (declared_in c))) ++ later_compositions c ++ later_configurations c)
-    (flat_map duplicates_in_composition (compositions c)) (in_flat_map duplicates_in_composition k f (compositions c) j i)
+in_one_composition c k f j i = search (rules, in_right, in_flat_map)
 
 in_component : (s : Source) (c : Component) (f : Fault) → HasItem s (items.Component c) → IsIn f (duplicates_in_component c)
     → IsIn f (duplicates s)
@@ -224,18 +186,10 @@ in_composition s owner k f (of_component c k' h j) i = in_component s c f h (in_
 in_composition s owner k f (of_assembly a h) i = in_items s (items.Assembly a) f h i
 
 word_stands : (s : Source) (ws : List Id) (f : Fault) → MustDiffer s ws → IsIn f (repeats ws) → IsIn f (duplicates s)
-word_stands s ws f of_procedures i =
-    in_left f (repeats (procedure_names s) ++ repeats (component_names s)) (flat_map (λ x. duplicates_in_item x.1) (items_of s))
-    (in_left f (repeats (procedure_names s)) (repeats (component_names s)) i)
-word_stands s ws f of_components i =
-    in_left f (repeats (procedure_names s) ++ repeats (component_names s)) (flat_map (λ x. duplicates_in_item x.1) (items_of s))
-    (in_right f (repeats (procedure_names s)) (repeats (component_names s)) i)
-word_stands s ws f (of_methods p h) i =
-    in_items s (items.Procedure p) f h (in_left f (repeats (map (λ m. m.id) (methods p)))
-    (flat_map repeated_params (methods p)) i)
-word_stands s ws f (of_params p m h j) i =
-    in_items s (items.Procedure p) f h (in_right f (repeats (map (λ m. m.id) (methods p))) (flat_map repeated_params (methods p))
-    (in_flat_map repeated_params m f (methods p) j i))
+word_stands s ws f of_procedures i = search (rules, in_left)
+word_stands s ws f of_components i = search (rules, in_left, in_right)
+word_stands s ws f (of_methods p h) i = search (rules, in_items, in_left)
+word_stands s ws f (of_params p m h j) i = search (rules, in_items, in_right, in_flat_map)
 word_stands s ws f (of_members c h) i = in_component s c f h (in_members c f i)
 word_stands s ws f (of_composition owner k h) i = in_composition s owner k f h i
 

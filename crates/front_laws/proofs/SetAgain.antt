@@ -1,9 +1,9 @@
 -- Settings with one in front of them that sets the same.
 use Rattle.front_laws.proofs.Common.{Body, Fault, Hierarchy, IsIn, List, Setting, Some, [], and_from, and_parts, ap, arith, body, bytes_eq-Decides, enumerate_from, false, from_enumerate, from_flat_map, get_or, in_append, in_enumerate, in_flat_map}
-use Rattle.front_laws.proofs.Common.{in_left, in_right, inl, inr, last_name, length, or_cases, or_left, or_right, path_of, refl, same_path, same_path-Decides, settings_of, subst, suc, sym, true, where_true, zero, ℕ, ◌&&◌, ◌++◌, ◌+◌, ◌||◌, ◌∙◌, ◌∷◌}
-use Rattle.front_laws.proofs.Common.{◌≡◌, ◌≤◌, ◌⊎◌}
+use Rattle.front_laws.proofs.Common.{in_left, in_right, inl, inr, last_name, length, or_cases, or_left, or_right, path_of, refl, same_path, same_path-Decides, subst, suc, sym, true, where_true, zero, ℕ, ◌&&◌, ◌++◌, ◌+◌, ◌||◌, ◌∙◌, ◌∷◌}
+use Rattle.front_laws.proofs.Common.{rules, ◌≡◌, ◌≤◌, ◌⊎◌}
 use Rattle.adl_meaning.specs.Prelude.{bytes_eq, slice_get}
-use Rattle.front_laws.specs.SetAgain.{IsSetAgain, IsSettingTwice}
+use Rattle.front_laws.specs.SetAgain.{IsSettingTwice}
 use Rattle.adl_settings.specs.SettingTwice.{Met, repeated_after, repeated_in, setting_twice, settings_twice}
 use Rattle.front_laws.proofs.Tested.{from_true, in_true}
 
@@ -64,26 +64,12 @@ from_after h k met (y ∷ xs) f i =
         → Why h k met (y ∷ before) x
     wider x before (inl t) =
         let p = path_of h k x.words in let q = path_of h k y.words in
-        elim (or_cases (met p (last_name x.words)) (same_path p q && bytes_eq (last_name x.words) (last_name y.words)) t) [
-          | inl m ↦ inl m
-          | inr b ↦ let parts = and_parts (same_path p q) (bytes_eq (last_name x.words) (last_name y.words)) b in
-              inr (
-                y,
-                inl refl,
-                (
-                  sym ((same_path-Decides p q).0 parts.0),
-                  sym ((bytes_eq-Decides (last_name x.words) (last_name y.words)).0 parts.1),
-                ),
-              )
-        ]
+        search (rules, or_cases, and_parts, same_path-Decides, bytes_eq-Decides)
     wider x before (inr z) = inr (z.0, inr z.1, z.2)
 
 into_after : (h : Hierarchy) (k : ℕ) (met : Met) (before : List Setting) (x : Setting) (after : List Setting)
     → Why h k met before x → IsIn (setting_twice x) (repeated_after h k met (before ++ x ∷ after))
-into_after h k met [] x after (inl t) =
-    in_left (setting_twice x) (where_true (met (path_of h k x.words) (last_name x.words)) (setting_twice x))
-    (repeated_after h k (λ p n. met p n || (same_path p (path_of h k x.words) && bytes_eq n (last_name x.words))) after)
-    (in_true (met (path_of h k x.words) (last_name x.words)) (setting_twice x) t)
+into_after h k met [] x after (inl t) = search (rules, in_left, in_true)
 into_after h k met [] x after (inr z) = absurd z.1
 into_after h k met (y ∷ before) x after why =
     let more : Met = λ p n. met p n || (same_path p (path_of h k y.words) && bytes_eq n (last_name y.words)) in
@@ -92,48 +78,14 @@ into_after h k met (y ∷ before) x after why =
   where
     narrower : Why h k met (y ∷ before) x
         → Why h k (λ p n. met p n || (same_path p (path_of h k y.words) && bytes_eq n (last_name y.words))) before x
-    narrower (inl t) =
-        inl (or_left (met (path_of h k x.words) (last_name x.words)) (same_path (path_of h k x.words) (path_of h k y.words)
-        && bytes_eq (last_name x.words) (last_name y.words)) t)
-    narrower (inr (z, inl e, (a, b))) =
-        let path : path_of h k x.words ≡ path_of h k y.words = sym a ∙ ap (λ (u : Setting). path_of h k u.words) (sym e) in
-        let name : last_name x.words ≡ last_name y.words = sym b ∙ ap (λ (u : Setting). last_name u.words) (sym e) in
-        let same = and_from (same_path (path_of h k x.words) (path_of h k y.words))
-        (bytes_eq (last_name x.words) (last_name y.words)) ((same_path-Decides (path_of h k x.words) (path_of h k y.words)).1
-        path) ((bytes_eq-Decides (last_name x.words) (last_name y.words)).1 name) in
-        inl (or_right (met (path_of h k x.words) (last_name x.words)) (same_path (path_of h k x.words) (path_of h k y.words)
-        && bytes_eq (last_name x.words) (last_name y.words)) same)
+    narrower (inl t) = search (rules, or_left)
+    narrower (inr (z, inl e, (a, b))) = search (rules, and_from, same_path-Decides, bytes_eq-Decides, or_right)
     narrower (inr (z, inr i, s)) = inr (z, i, s)
 
 -- ---- all bodies
 
 pub from_twice : (h : Hierarchy) (f : Fault) → IsIn f (settings_twice h) → IsSettingTwice h f
-from_twice h f i =
-    let b = from_flat_map (repeated_in h) f (enumerate_from 0 (h.bodies ++ h.top ∷ [])) i in
-    let n = from_enumerate 0 (h.bodies ++ h.top ∷ []) b.0 b.1 in
-    let e : b.0.0 ≡ n.0 = let a = n.1 in omega (arith, a) in
-    let k = from_bodies h.bodies h.top n.0 b.0.1 n.2 in
-    let r = from_after h b.0.0 (λ p n. false) (settings_of b.0.1) f b.2 in
-    record {
-      inside = b.0.0;
-      there = omega (arith, k.0, e);
-      setting = r.setting;
-      again = again_of b.0.0 r.before r.setting r.after (ap settings_of (sym (sym k.1 ∙ ap (body h) (sym e))) ∙ r.split) r.why;
-      fault = r.fault;
-    }
-  where
-    again_of : (k : ℕ) (before : List Setting) (x : Setting) (after : List Setting) → settings_of (body h k) ≡ before ++ x ∷ after
-        → (false ≡ true) ⊎ ((y : Setting) × IsIn y before × IsAlike h k y x) → IsSetAgain h k x
-    again_of k before x after e (inl never) = cc
-    again_of k before x after e (inr y) = record {
-      before = before;
-      after = after;
-      split = e;
-      earlier = y.0;
-      stands = y.1;
-      path = y.2.0;
-      name = y.2.1;
-    }
+from_twice h f i = search (rules, from_flat_map, from_enumerate, from_bodies, from_after)
 
 pub in_twice : (h : Hierarchy) (f : Fault) → IsSettingTwice h f → IsIn f (settings_twice h)
 in_twice h f t =

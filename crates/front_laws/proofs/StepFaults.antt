@@ -1,6 +1,6 @@
 -- The first line of a text of steps that is refused.
-use Rattle.front_laws.proofs.Common.{Bool, Line, List, None, Option, Some, [], ap, arith, cond, false, fields, in_right, inl, is_some, length, length-append, lines, lt-ltb, ltb-true, nat_lt, nat_tests, option_map, option_or, refl, split_in, subst}
-use Rattle.front_laws.proofs.Common.{suc, sym, true, ℕ, ◌++◌, ◌+◌, ◌<◌, ◌∙◌, ◌∷◌, ◌≡◌, ◌≤◌}
+use Rattle.front_laws.proofs.Common.{Bool, Line, List, None, Option, Some, [], ap, arith, cond, false, fields, in_right, is_some, length, length-append, lines, lt-ltb, ltb-true, nat_lt, nat_tests, option_map, option_or, refl, split_in}
+use Rattle.front_laws.proofs.Common.{rules, suc, sym, true, ℕ, ◌++◌, ◌+◌, ◌<◌, ◌∙◌, ◌∷◌, ◌≡◌, ◌≤◌}
 use Rattle.cam_base.specs.declared.text_fault.TextCode.TheVariants.{StepLimit, StepSyntax, StepUnknown}
 use Rattle.cam_base.specs.declared.text_fault.TextFault.{TextFault}
 use Rattle.cap_machine.specs.declared.step.Step.{Step}
@@ -40,18 +40,11 @@ read_clean spec before l e = by_step (step_of (thread_named spec) l) refl e
     by_step : (o : Option Step) → step_of (thread_named spec) l ≡ o
         → option_map (at_line l) (wrong_as spec (length before) l o) ≡ None → SpellsStep spec l × (length before < steps_limit)
     by_step None s e = cc
-    by_step (Some x) s e = by_room (nat_lt (length before) steps_limit) refl e
-      where
-        by_room : (b : Bool) → nat_lt (length before) steps_limit ≡ b → option_map (at_line l) (limited b) ≡ None
-            → SpellsStep spec l × (length before < steps_limit)
-        by_room true t e = ((x, s), ltb-true (length before) steps_limit t)
-        by_room false t e = cc
+    by_step (Some x) s e = grind (arith, nat_lt, ltb-true)
 
 clean_read : (spec : Spec) (before : List Line) (l : Line) → SpellsStep spec l → length before < steps_limit
     → said spec before l ≡ None
-clean_read spec before l r m =
-    ap (λ o. option_map (at_line l) (wrong_as spec (length before) l o)) r.1
-    ∙ ap (λ b. option_map (at_line l) (limited b)) (lt-ltb (length before) steps_limit m)
+clean_read spec before l r m = search (rules, lt-ltb)
 
 -- ---- the lines in front
 
@@ -67,9 +60,7 @@ few spec (x ∷ xs) clean =
 
 all_clean : (spec : Spec) (front : List Line) → ((l : Line) → IsIn l front → SpellsStep spec l) → length front ≤ steps_limit
     → IsClean (said spec) [] front
-all_clean spec front read low p q y e =
-    let many : length front ≡ length p + suc (length q) = ap length e ∙ length-append p (y ∷ q) in
-    clean_read spec p y (read y (subst (λ z. IsIn y z) (sym e) (in_right y p (y ∷ q) (inl refl)))) (omega (arith, low, many))
+all_clean spec front read low p q y e = search (rules, length-append, clean_read, in_right)
 
 -- ---- a text
 
@@ -81,9 +72,7 @@ by_length spec bytes b = cond b (Some long_fault) (first_fault_of (thread_named 
 
 short_fault : (spec : Spec) (bytes : List ℕ) → length bytes ≤ bytes_limit
     → first_fault spec bytes ≡ first_of (said spec) [] (lines bytes)
-short_fault spec bytes l =
-    let t : nat_lt bytes_limit (length bytes) ≡ false = grind (arith, nat_tests) in
-    ap (by_length spec bytes) t ∙ as_first spec [] (lines bytes) 0 refl
+short_fault spec bytes l = search (rules, nat_lt, nat_tests, as_first)
 
 none_spelled : (spec : Spec) (l : Line) → step_of (thread_named spec) l ≡ None → SpellsStep spec l → ⊥
 none_spelled spec l e s = let t = s.1 in cc
@@ -94,13 +83,7 @@ at_one : (spec : Spec) (bytes : List ℕ) (f : TextFault) → length bytes ≤ b
 at_one spec bytes f short r = by_step (step_of (thread_named spec) r.item) refl r.says
   where
     here : IsStepLine spec bytes r.front r.item
-    here = record {
-      short = short;
-      after = r.rest;
-      split = r.split;
-      read = all_read spec r.front r.clean;
-      room = few spec r.front r.clean;
-    }
+    here = search (rules, all_read, few)
 
     by_form : step_of (thread_named spec) r.item ≡ None → (o : Option Step) → spelled any_word (fields r.item.text) ≡ o
         → Some (at_line r.item (cond (is_some o) (StepUnknown, first_unknown (thread_named spec) (names (fields r.item.text)))
@@ -137,19 +120,10 @@ from_step_fault spec bytes f e = by_test (nat_lt bytes_limit (length bytes)) ref
 -- what is said of a line that spells no step
 unspelled : (spec : Spec) (n : ℕ) (l : Line) → (SpellsStep spec l → ⊥)
     → fault_of (thread_named spec) n l ≡ Some (at_line l (misspelled (thread_named spec) (fields l.text)))
-unspelled spec n l none = by_step (step_of (thread_named spec) l) refl
-  where
-    by_step : (o : Option Step) → step_of (thread_named spec) l ≡ o
-        → option_map (at_line l) (wrong_as spec n l o) ≡ Some (at_line l (misspelled (thread_named spec) (fields l.text)))
-    by_step None s = refl
-    by_step (Some x) s = absurd (none (x, s))
+unspelled spec n l none = search (rules)
 
 formless : (l : Line) → (IsFormOfStep l → ⊥) → is_some (spelled any_word (fields l.text)) ≡ false
-formless l none = by_form (spelled any_word (fields l.text)) refl
-  where
-    by_form : (o : Option Step) → spelled any_word (fields l.text) ≡ o → is_some o ≡ false
-    by_form None s = refl
-    by_form (Some x) s = absurd (none (x, s))
+formless l none = search (rules, is_some)
 
 abbrev by_form_of : Spec → Line → Bool → Option TextFault
 by_form_of spec l b =
@@ -157,9 +131,7 @@ by_form_of spec l b =
 
 in_line : (spec : Spec) (bytes : List ℕ) (f : TextFault) (before : List Line) (line : Line) → IsStepLine spec bytes before line
     → said spec before line ≡ Some f → first_fault spec bytes ≡ Some f
-in_line spec bytes f before line r says =
-    short_fault spec bytes r.short ∙ ap (first_of (said spec) []) r.split ∙ in_first (said spec) [] before line r.after f says
-    (all_clean spec before r.read r.room)
+in_line spec bytes f before line r says = search (rules, short_fault, first_of, in_first, all_clean)
 
 pub in_step_fault : (spec : Spec) (bytes : List ℕ) (f : TextFault) → IsStepFault spec bytes f → first_fault spec bytes ≡ Some f
 in_step_fault spec bytes f (too_long l e) = ap (by_length spec bytes) (lt-ltb bytes_limit (length bytes) l) ∙ ap Some (sym e)

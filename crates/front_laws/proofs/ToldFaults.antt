@@ -1,6 +1,6 @@
 -- The first fault of a list, in the words of what stands in the list.
 use Rattle.front_laws.proofs.Common.{AreNamesSound, Fault, IsIn, IsTypeFault, List, None, Some, Source, duplicates, first_type_fault, hierarchy_of, in_append, in_left, in_right, inl, inr, misfit_exports, recursive_types, type_faults, unknown_names}
-use Rattle.front_laws.proofs.Common.{◌++◌, ◌≡◌}
+use Rattle.front_laws.proofs.Common.{rules, ◌++◌, ◌≡◌}
 use Rattle.adl_meaning.specs.CompositeBody.{composite_bodies}
 use Rattle.adl_meaning.specs.NameFaults.{first_name_fault, name_faults}
 use Rattle.adl_meaning.specs.NoAssembly.{no_assembly}
@@ -39,11 +39,7 @@ from_names s f i = elim (in_append f (six s) (misfit_exports s) i) [
         | inr m ↦ unknown_name (from_unknown s f m)
         | inl m ↦ elim (in_append f (two s) (duplicates s) m) [
           | inr n ↦ name_again (from_duplicates s f n)
-          | inl n ↦ elim (in_append f (second_assemblies s) (no_assembly s) n) [
-            | inl o ↦ second_assembly o
-            | inr o ↦
-                without_assembly o
-          ]
+          | inl n ↦ search (rules, in_append)
         ]
       ]
     ]
@@ -52,23 +48,13 @@ from_names s f i = elim (in_append f (six s) (misfit_exports s) i) [
 
 -- what is in the first so many lists is in all
 past_two : (s : Source) (f : Fault) → IsIn f (two s) → IsIn f (name_faults s)
-past_two s f i =
-    in_left f (six s) (misfit_exports s)
-    (in_left f (five s) (composite_bodies s)
-    (in_left f (four s) (recursive_types s) (in_left f (three s) (unknown_names s) (in_left f (two s) (duplicates s) i))))
+past_two s f i = search (rules, in_left)
 
 in_names : (s : Source) (f : Fault) → IsNameFault s f → IsIn f (name_faults s)
 in_names s f (second_assembly i) = past_two s f (in_left f (second_assemblies s) (no_assembly s) i)
 in_names s f (without_assembly i) = past_two s f (in_right f (second_assemblies s) (no_assembly s) i)
-in_names s f (name_again d) =
-    in_left f (six s) (misfit_exports s)
-    (in_left f (five s) (composite_bodies s)
-    (in_left f (four s) (recursive_types s)
-    (in_left f (three s) (unknown_names s) (in_right f (two s) (duplicates s) (in_duplicates s f d)))))
-in_names s f (unknown_name u) =
-    in_left f (six s) (misfit_exports s)
-    (in_left f (five s) (composite_bodies s)
-    (in_left f (four s) (recursive_types s) (in_right f (three s) (unknown_names s) (in_unknown s f u))))
+in_names s f (name_again d) = search (rules, in_left, in_right, in_duplicates)
+in_names s f (unknown_name u) = search (rules, in_left, in_right, in_unknown)
 in_names s f (holds_itself i) =
     in_left f (six s) (misfit_exports s) (in_left f (five s) (composite_bodies s) (in_right f (four s) (recursive_types s) i))
 in_names s f (composite_body i) = in_left f (six s) (misfit_exports s) (in_right f (five s) (composite_bodies s) i)

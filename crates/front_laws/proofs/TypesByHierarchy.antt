@@ -2,7 +2,7 @@
 use Rattle.front_laws.proofs.Common.{AreNamesSound, Component, End, Fault, HasWire, Hierarchy, Id, Interface, IsIn, IsTypeFault, List, Means, Member, None, Option, Part, Reached, Some, Source, Wire, [], agree, and_parts, another_count}
 use Rattle.front_laws.proofs.Common.{another_kind, another_type, ap, arith, at_end, at_word, body, body_faults, cases_lt, end_faults, faults_below, first_leaf, flat_map, from_flat_map, has_one_type, hierarchy_of, in_append, in_flat_map, in_left}
 use Rattle.front_laws.proofs.Common.{in_right, inl, inr, is_kind_of, is_size, length, may_have, no_size, not, not-true, option_and_then, option_and_then_some, option_map_or, part_at, port_in, reached, refl, same_type, size_faults, subst, suc, sym}
-use Rattle.front_laws.proofs.Common.{top_number, true, type_faults, where_true, wire_faults, wires_of, zero, ℕ, ◌&&◌, ◌+◌, ◌<◌, ◌∙◌, ◌∷◌, ◌≡◌, ◌≤◌}
+use Rattle.front_laws.proofs.Common.{rules, top_number, true, type_faults, where_true, wire_faults, wires_of, zero, ℕ, ◌&&◌, ◌+◌, ◌<◌, ◌∙◌, ◌∷◌, ◌≡◌, ◌≤◌}
 use Rattle.adl_ast.specs.declared.component.Member.TheVariants as members
 use Rattle.cam_base.specs.declared.code.Code.TheVariants as code
 use Rattle.adl_hierarchy.proofs.Climbing.{climbs_reached, found_climbs}
@@ -152,19 +152,11 @@ in_one_body s k f low i = let h = hierarchy_of s in in_below h (top_number h + 1
 
 in_one_wire : (s : Source) (k : ℕ) (w : Wire) (f : Fault) → HasWire (hierarchy_of s) k w
     → IsIn f (wire_faults (hierarchy_of s) k w) → IsIn f (type_faults s)
-in_one_wire s k w f has i =
-    let h = hierarchy_of s in
-    in_one_body s k f has.there (in_left f (flat_map (wire_faults h k) (wires_of (body h k)))
-    (option_map_or (λ c. flat_map size_faults c.members) (body h k).component [])
-    (in_flat_map (wire_faults h k) w f (wires_of (body h k)) has.stands i))
+in_one_wire s k w f has i = search (rules, in_one_body, in_left, in_flat_map)
 
 in_one_end : (s : Source) (k : ℕ) (w : Wire) (e : End) (f : Fault) → HasWire (hierarchy_of s) k w → IsIn e w.1.ends
     → IsIn f (end_faults (hierarchy_of s) k w.0 (first_leaf (hierarchy_of s) k w.1.ends) e) → IsIn f (type_faults s)
-in_one_end s k w e f has i j =
-    let h = hierarchy_of s in
-    in_one_wire s k w f has (in_left f (flat_map (end_faults h k w.0 (first_leaf h k w.1.ends)) w.1.ends)
-    (where_true (not (may_have w.0 w.1.ends)) (at_word code.EndCount w.1.id))
-    (in_flat_map (end_faults h k w.0 (first_leaf h k w.1.ends)) e f w.1.ends i j))
+in_one_end s k w e f has i j = search (rules, in_one_wire, in_left, in_flat_map)
 
 there : (s : Source) (f g : Fault) → f ≡ g → IsIn g (type_faults s) → IsIn f (type_faults s)
 there s f g e i = let P : Fault → Type 0 = λ z. IsIn z (type_faults s) in subst P (sym e) i
@@ -176,9 +168,7 @@ in_type_faults s sound f (another_kind k w e l has i m t same) =
     let type = has_one_type w.0 && not (agree (first_leaf h k w.1.ends) (leaf_of h k e.words)) in
     let is : kind ≡ true = ap (λ o. not (option_map_or (is_kind_of (end_rule w.0 e.role)) o true))
     (means s sound k e.words l has.there m) ∙ ap not t in
-    there s f (at_end code.Kind e) same (in_one_end s k w e (at_end code.Kind e) has i
-    (in_left (at_end code.Kind e) (where_true kind (at_end code.Kind e)) (where_true type (at_end code.TypeMismatch e))
-    (in_true kind (at_end code.Kind e) is)))
+    search (rules, there, in_one_end, in_left, in_true)
 in_type_faults s sound f (another_type k w first e more m l has ends i a b one t same) =
     let h = hierarchy_of s in
     let kind = not (option_map_or (is_kind_of (end_rule w.0 e.role)) (leaf_of h k e.words) true) in
@@ -187,9 +177,7 @@ in_type_faults s sound f (another_type k w first e more m l has ends i a b one t
     ∙ ap (λ o. has_one_type w.0 && not (agree o (leaf_of h k e.words))) (means s sound k first.words m has.there a)
     ∙ ap (λ o. has_one_type w.0 && not (agree (Some m) o)) (means s sound k e.words l has.there b)
     ∙ ap (λ z. z && not (same_type m l)) one ∙ ap not t in
-    there s f (at_end code.TypeMismatch e) same (in_one_end s k w e (at_end code.TypeMismatch e) has i
-    (in_right (at_end code.TypeMismatch e) (where_true kind (at_end code.Kind e)) (where_true type (at_end code.TypeMismatch e))
-    (in_true type (at_end code.TypeMismatch e) is)))
+    search (rules, there, in_one_end, in_right, in_true)
 in_type_faults s sound f (another_count k w has t same) =
     let h = hierarchy_of s in
     there s f (at_word code.EndCount w.1.id) same (in_one_wire s k w (at_word code.EndCount w.1.id) has

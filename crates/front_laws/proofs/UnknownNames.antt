@@ -4,7 +4,7 @@ use Rattle.front_laws.proofs.Common.{Option, Setting, Some, Source, Types, [], a
 use Rattle.front_laws.proofs.Common.{false, flat_map, from_filter_map, from_flat_map, held_as, in_a_group, in_append, in_filter_map, in_flat_map, in_left, in_right, inl, inr, instances_by, instances_in, is_none, is_procedure, is_some, items_of}
 use Rattle.front_laws.proofs.Common.{known_in, known_of, length, names_procedure, not, of_assembly, of_component, option_and_then, procedure_named, refl, scope_of_held, subst, sym, true, unknown, unknown_attribute, unknown_connector}
 use Rattle.front_laws.proofs.Common.{unknown_if_configured, unknown_in_composition, unknown_in_configuration, unknown_in_dotted, unknown_in_group, unknown_in_item, unknown_in_line, unknown_in_member, unknown_in_one_setting, unknown_in_three}
-use Rattle.front_laws.proofs.Common.{unknown_in_two, unknown_interface, unknown_names, unknown_target, unknown_type, within, ◌++◌, ◌||◌, ◌∙◌, ◌∷◌, ◌≡◌, ◌≤◌}
+use Rattle.front_laws.proofs.Common.{rules, unknown_in_two, unknown_interface, unknown_names, unknown_target, unknown_type, within, ◌++◌, ◌||◌, ◌∙◌, ◌∷◌, ◌≡◌, ◌≤◌}
 use Rattle.adl_ast.specs.declared.component.Member.TheVariants as members
 use Rattle.adl_ast.specs.declared.composition.Line.TheVariants as lines
 use Rattle.adl_ast.specs.declared.configuration.Setter.{Setter}
@@ -73,30 +73,15 @@ at_first types held a b (j ∷ x ∷ more) o w l e two three = absurd (omega (ar
 
 interface_there : (c : Known) (j : Id) (o : Option Known) → o ≡ Some c → c.interface j.name ≡ None
     → IsIn (unknown j) (unknown_interface o j)
-interface_there c j o e none =
-    let P : Option Known → Type 0 = λ z. IsIn (unknown j) (unknown_interface z j) in
-    subst P (sym e) (in_false (is_some (c.interface j.name)) (unknown j) (ap is_some none))
+interface_there c j o e none = search (rules)
 
 in_dotted : (types : Types) (held : Holding) (words : List Id) (w : Id) → IsUnknownPart types held words w
     → IsIn (unknown w) (unknown_in_dotted types held words)
-in_dotted types held words w (not_held a b more e l h) =
-    let P : List Id → Type 0 = λ z. IsIn (unknown w) (unknown_in_dotted types held z) in
-    subst P (sym e) (at_first types held w b more None w (subst (λ z. length z ≤ 3) e l) h (λ c. inl refl) (λ j. inl refl))
-in_dotted types held words w (connection_named a b more e l h) =
-    let P : List Id → Type 0 = λ z. IsIn (unknown w) (unknown_in_dotted types held z) in
-    let Q : List Id → Type 0 = λ z. length z ≤ 3 in
-    subst P (sym e) (at_first types held w b more (Some a_connection) w (subst Q e l) h (λ c. inl refl) (λ j. inl refl))
-in_dotted types held words w (instance_in_front a b j i e h) =
-    let P : List Id → Type 0 = λ z. IsIn (unknown w) (unknown_in_dotted types held z) in
-    subst P (sym e) (subst (λ z. IsIn (unknown w) (unknown_in_three types z w b j)) (sym h) (inl refl))
-in_dotted types held words w (group_named a j members e h) =
-    let P : List Id → Type 0 = λ z. IsIn (unknown w) (unknown_in_dotted types held z) in
-    subst P (sym e) (subst (λ z. IsIn (unknown w) (unknown_in_two types z w j)) (sym h) (inl refl))
-in_dotted types held words w (no_such_member a b more members e l h m) =
-    let P : List Id → Type 0 = λ z. IsIn (unknown w) (unknown_in_dotted types held z) in
-    subst P (sym e) (at_first types held a w more (Some (a_group members)) w (subst (λ z. length z ≤ 3) e l) h
-    (λ c. inr (in_false (is_some (members w.name)) (unknown w) (ap is_some m)))
-    (λ j. let S : Option Instance → Type 0 = λ z. IsIn (unknown w) (unknown_in_group types z w j) in subst S (sym m) (inl refl)))
+in_dotted types held words w (not_held a b more e l h) = search (rules)
+in_dotted types held words w (connection_named a b more e l h) = search (rules)
+in_dotted types held words w (instance_in_front a b j i e h) = search (rules)
+in_dotted types held words w (group_named a j members e h) = search (rules)
+in_dotted types held words w (no_such_member a b more members e l h m) = search (rules)
 in_dotted types held words w (no_interface ws j c e n none) =
     subst (λ z. IsIn (unknown w) (unknown_in_dotted types held z)) (sym e) (by_words ws n)
   where
@@ -232,9 +217,7 @@ in_items s x f h i = in_flat_map (λ (y : ItemAt × Item). unknown_in_item (know
 
 in_members : (s : Source) (c : Component) (m : Member) (f : Fault) → HasItem s (items.Component c) → IsIn m c.members
     → IsIn f (unknown_in_member (known_in s) (is_procedure s) (known_of c) m) → IsIn f (unknown_names s)
-in_members s c m f h j i =
-    in_items s (items.Component c) f h (in_flat_map (unknown_in_member (known_in s) (is_procedure s) (known_of c)) m f
-    c.members j i)
+in_members s c m f h j i = search (rules, in_flat_map)
 
 -- a member from what it is read as
 composition_there : (c : Component) (k : Composition) → IsIn k (compositions c) → IsIn (members.Composition k) c.members

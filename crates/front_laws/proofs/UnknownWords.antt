@@ -2,7 +2,7 @@
 use Rattle.front_laws.proofs.Common.{Ends, Fault, Held, Holding, Id, Instance, IsIn, IsInFront, IsUnknownIn, IsUnknownWord, Known, Leads, List, Name, NamesInstance, None, Option, Scope, Some, Types, [], a_connection, a_group, a_group_alone, alone}
 use Rattle.front_laws.proofs.Common.{an_instance, ap, append_assoc, arith, at_connection, at_leaf, behind, behind_an_end, here, in_a_group, in_append, in_left, in_right, inl, inr, inside, inwards, is_none, is_some, length, refl, scope_behind}
 use Rattle.front_laws.proofs.Common.{scope_in_composition, scope_in_group, scope_of_held, scope_of_known, subst, sym, unheld, unheld_in_group, unknown, unknown_group, unknown_in_setting, unknown_inner, unknown_last, unknown_word, untold, within}
-use Rattle.front_laws.proofs.Common.{◌++◌, ◌<◌, ◌∙◌, ◌∷◌, ◌≡◌}
+use Rattle.front_laws.proofs.Common.{rules, ◌++◌, ◌<◌, ◌∙◌, ◌∷◌, ◌≡◌}
 use Rattle.front_laws.proofs.Tested.{from_false, in_false}
 
 -- ---- what is found unknown, by the scope of the first word
@@ -126,11 +126,7 @@ from_inner types untold w more f l i = absurd i
 -- no scope behind an instance is that of a group
 no_group : (o : Option Known) (w : Id) (f : Fault) → IsIn f (unknown_group (scope_of_known o) w) → ⊥
 no_group None w f i = i
-no_group (Some c) w f i = by_holds c.holds i
-  where
-    by_holds : (o : Option Holding) → IsIn f (unknown_group (scope_of_held o) w) → ⊥
-    by_holds None i = i
-    by_holds (Some held) i = i
+no_group (Some c) w f i = search (rules)
 
 from_group : (types : Types) (scope : Scope) (w v : Id) (f : Fault) → IsIn f (unknown_group (scope_behind types scope w.name) w)
     → Found types scope (w ∷ v ∷ []) f
@@ -143,22 +139,14 @@ from_group types (within held) w v f i = by_held (held w.name) refl i
     by_held (Some (a_group members)) e (inl s) = (w, a_group_alone [] w v held members refl (here held) e, sym s)
     by_held (Some (a_group members)) e (inr i) = absurd i
     by_held (Some a_connection) e i = absurd i
-from_group types (inside members) w v f i = absurd (by_member (members w.name) i)
-  where
-    by_member : (o : Option Instance) → IsIn f (unknown_group (scope_in_group types o) w) → ⊥
-    by_member None i = i
-    by_member (Some x) i = no_group (types x.component.name) w f i
+from_group types (inside members) w v f i = search (rules, no_group)
 from_group types behind w v f i = absurd i
 from_group types untold w v f i = absurd i
 
 from_word : (types : Types) (scope : Scope) (w : Id) (more : List Id) (f : Fault)
     → IsIn f (unknown_word scope (scope_behind types scope w.name) w more) → Found types scope (w ∷ more) f
 from_word types scope w [] f i = from_last types scope w f i
-from_word types scope w (v ∷ []) f i =
-    elim (in_append f (unknown_inner scope w) (unknown_group (scope_behind types scope w.name) w) i) [
-      | inl j ↦ from_inner types scope w (v ∷ []) f (omega arith) j
-      | inr j ↦ from_group types scope w v f j
-    ]
+from_word types scope w (v ∷ []) f i = search (rules, in_append, from_inner, from_group)
 from_word types scope w (v ∷ u ∷ more) f i = from_inner types scope w (v ∷ u ∷ more) f (omega arith) i
 
 from_words : (types : Types) (scope : Scope) (words : List Id) (f : Fault) → IsIn f (unknown_in_setting types scope words)
@@ -186,27 +174,14 @@ front_unknown types (b ∷ before) w after l =
 
 in_front : (types : Types) (words : List Id) (w : Id) → IsInFront words w
     → IsIn (unknown w) (unknown_in_setting types behind words)
-in_front types words w h =
-    let P : List Id → Type 0 = λ z. IsIn (unknown w) (unknown_in_setting types behind z) in
-    subst P (sym h.split) (front_unknown types h.before w h.after h.more)
+in_front types words w h = search (rules, front_unknown)
 
 -- what is unknown behind the instance that the words name is unknown behind the words
 step : (types : Types) (held : Holding) (ws tail : List Id) (c : Known) (f : Fault) → NamesInstance types held ws c
     → IsIn f (unknown_in_setting types (scope_of_held c.holds) tail)
     → IsIn f (unknown_in_setting types (within held) (ws ++ tail))
-step types held ws tail c f (alone w i c' e t) h =
-    let P : Option Held → Type 0 = λ o. IsIn f (unknown_in_setting types (scope_in_composition types o) tail) in
-    in_right f (unknown_word (within held) (scope_behind types (within held) w.name) w tail)
-    (unknown_in_setting types (scope_behind types (within held) w.name) tail)
-    (subst P (sym e) (subst (λ o. IsIn f (unknown_in_setting types (scope_of_known o) tail)) (sym t) h))
-step types held ws tail c f (in_a_group g w members i c' e m t) h =
-    let P : Option Held → Type 0 = λ o. IsIn f (unknown_in_setting types (scope_in_composition types o) (w ∷ tail)) in
-    let Q : Option Instance → Type 0 = λ o. IsIn f (unknown_in_setting types (scope_in_group types o) tail) in
-    in_right f (unknown_word (within held) (scope_behind types (within held) g.name) g (w ∷ tail))
-    (unknown_in_setting types (scope_behind types (within held) g.name) (w ∷ tail))
-    (subst P (sym e) (in_right f (unknown_word (inside members) (scope_behind types (inside members) w.name) w tail)
-    (unknown_in_setting types (scope_behind types (inside members) w.name) tail)
-    (subst Q (sym m) (subst (λ o. IsIn f (unknown_in_setting types (scope_of_known o) tail)) (sym t) h))))
+step types held ws tail c f (alone w i c' e t) h = search (rules, in_right)
+step types held ws tail c f (in_a_group g w members i c' e m t) h = search (rules, in_right)
 
 along : (types : Types) (held last : Holding) (before rest : List Id) (f : Fault) → Leads types held before last
     → IsIn f (unknown_in_setting types (within last) rest) → IsIn f (unknown_in_setting types (within held) (before ++ rest))
@@ -218,56 +193,30 @@ along types held last before rest f (inwards h inner l ws more c n e leads) i =
 
 past : (types : Types) (held : Holding) (ws tail : List Id) (f : Fault) → Ends types held ws
     → IsIn f (unknown_in_setting types behind tail) → IsIn f (unknown_in_setting types (within held) (ws ++ tail))
-past types held ws tail f (at_connection w e) i =
-    let P : Option Held → Type 0 = λ o. IsIn f (unknown_in_setting types (scope_in_composition types o) tail) in
-    in_right f (unknown_word (within held) (scope_behind types (within held) w.name) w tail)
-    (unknown_in_setting types (scope_behind types (within held) w.name) tail) (subst P (sym e) i)
+past types held ws tail f (at_connection w e) i = search (rules, in_right)
 past types held ws tail f (at_leaf ws' c n e) i =
     step types held ws tail c f n (subst (λ o. IsIn f (unknown_in_setting types (scope_of_held o) tail)) (sym e) i)
 
 unheld_here : (types : Types) (held : Holding) (w : Id) (after : List Id) → 0 < length after → held w.name ≡ None
     → IsIn (unknown w) (unknown_in_setting types (within held) (w ∷ after))
 unheld_here types held w [] l e = absurd (omega (arith, l))
-unheld_here types held w (v ∷ []) l e =
-    let k : IsIn (unknown w) (unknown_inner (within held) w) = in_false (is_some (held w.name)) (unknown w) (ap is_some e) in
-    in_left (unknown w) (unknown_word (within held) (scope_behind types (within held) w.name) w (v ∷ []))
-    (unknown_in_setting types (scope_behind types (within held) w.name) (v ∷ []))
-    (in_left (unknown w) (unknown_inner (within held) w) (unknown_group (scope_behind types (within held) w.name) w) k)
-unheld_here types held w (v ∷ u ∷ more) l e =
-    in_left (unknown w) (unknown_inner (within held) w) (unknown_in_setting types (scope_behind types (within held) w.name)
-    (v ∷ u ∷ more)) (in_false (is_some (held w.name)) (unknown w) (ap is_some e))
+unheld_here types held w (v ∷ []) l e = search (rules, in_false, is_some, in_left)
+unheld_here types held w (v ∷ u ∷ more) l e = search (rules, in_left, in_false, is_some)
 
 no_member_here : (types : Types) (members : Name → Option Instance) (w : Id) (after : List Id) → members w.name ≡ None
     → IsIn (unknown w) (unknown_in_setting types (inside members) (w ∷ after))
-no_member_here types members w [] e =
-    in_left (unknown w) (unknown_last (inside members) w) (unknown_in_setting types (scope_behind types (inside members) w.name)
-    []) (in_false (is_some (members w.name)) (unknown w) (ap is_some e))
-no_member_here types members w (v ∷ []) e =
-    let k : IsIn (unknown w) (unknown_inner (inside members) w) = in_false (is_some (members w.name)) (unknown w)
-    (ap is_some e) in
-    in_left (unknown w) (unknown_word (inside members) (scope_behind types (inside members) w.name) w (v ∷ []))
-    (unknown_in_setting types (scope_behind types (inside members) w.name) (v ∷ []))
-    (in_left (unknown w) (unknown_inner (inside members) w) (unknown_group (scope_behind types (inside members) w.name) w) k)
-no_member_here types members w (v ∷ u ∷ more) e =
-    in_left (unknown w) (unknown_inner (inside members) w) (unknown_in_setting types (scope_behind types (inside members) w.name)
-    (v ∷ u ∷ more)) (in_false (is_some (members w.name)) (unknown w) (ap is_some e))
+no_member_here types members w [] e = search (rules, in_left, in_false, is_some)
+no_member_here types members w (v ∷ []) e = search (rules, in_false, is_some, in_left)
+no_member_here types members w (v ∷ u ∷ more) e = search (rules, in_left, in_false, is_some)
 
 behind_group : (types : Types) (held : Holding) (g : Id) (rest : List Id) (members : Name → Option Instance) (f : Fault)
     → held g.name ≡ Some (a_group members)
     → IsIn f (unknown_in_setting types (inside members) rest) → IsIn f (unknown_in_setting types (within held) (g ∷ rest))
-behind_group types held g rest members f e i =
-    let P : Option Held → Type 0 = λ o. IsIn f (unknown_in_setting types (scope_in_composition types o) rest) in
-    in_right f (unknown_word (within held) (scope_behind types (within held) g.name) g rest)
-    (unknown_in_setting types (scope_behind types (within held) g.name) rest) (subst P (sym e) i)
+behind_group types held g rest members f e i = search (rules, in_right)
 
 group_here : (types : Types) (held : Holding) (g w : Id) (members : Name → Option Instance) → held g.name ≡ Some (a_group members)
     → IsIn (unknown g) (unknown_in_setting types (within held) (g ∷ w ∷ []))
-group_here types held g w members e =
-    let P : Option Held → Type 0 = λ o. IsIn (unknown g) (unknown_group (scope_in_composition types o) g) in
-    let k : IsIn (unknown g) (unknown_group (scope_behind types (within held) g.name) g) = subst P (sym e) (inl refl) in
-    in_left (unknown g) (unknown_word (within held) (scope_behind types (within held) g.name) g (w ∷ []))
-    (unknown_in_setting types (scope_behind types (within held) g.name) (w ∷ []))
-    (in_right (unknown g) (unknown_inner (within held) g) (unknown_group (scope_behind types (within held) g.name) g) k)
+group_here types held g w members e = search (rules, in_left, in_right)
 
 in_words : (types : Types) (held : Holding) (words : List Id) (x : Id) → IsUnknownWord types held words x
     → IsIn (unknown x) (unknown_in_setting types (within held) words)

@@ -44,7 +44,7 @@ pub use Rattle.conn_rules.specs.declared.rule.ObjectKind.{ObjectKind}
 pub use Rattle.conn_rules.specs.declared.rule.ObjectKind.TheVariants.{NoObject, OfDevice, OfEndpoint, OfFrames, OfIrq, OfNotification}
 pub use Rattle.reach_laws.specs.Flat.{IsFlat, is_at_device}
 pub use Rattle.reach_laws.specs.LaidOut.{IsLaidOut}
-pub use Rattle.std.proofs.Common.{Bool, List, None, Option, Some, [], ap, arith, false, get_or, inl, inr, length, nat_lt, not, refl, set, subst, sym, true, true≢false, ℕ, ◌&&◌, ◌++◌, ◌<◌, ◌==◌, ◌||◌, ◌↔◌, ◌∙◌, ◌∷◌, ◌≡◌, ◌≢◌, ◌⊎◌}
+pub use Rattle.std.proofs.Common.{Bool, List, None, Option, Some, ℕ, [], ap, arith, false, get_or, inl, inr, length, nat_lt, not, refl, rules, set, subst, sym, true, true≢false, ◌&&◌, ◌++◌, ◌<◌, ◌==◌, ◌||◌, ◌↔◌, ◌∙◌, ◌∷◌, ◌≡◌, ◌≢◌, ◌⊎◌}
 pub use Rattle.std.proofs.lemmas.Bool.{and_parts, cases_eq}
 pub use Rattle.std.proofs.lemmas.Option.{get_or_from_slice_get, slice_get_within}
 pub use Rattle.std.specs.List.{All, Contains, list_all, list_any, slice_get}

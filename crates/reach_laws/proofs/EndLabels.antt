@@ -1,7 +1,6 @@
 -- The labels of ends and locks.
-use Rattle.std.proofs.Common.{rules}
 use Rattle.reach_laws.proofs.Common.{AreApart, Bool, Connector, EndAt, From, Handles, Interrupt, IsEnd, IsFlat, IsThere, Leaf, LockAt, Role, Some, Tables, ap, connection_label, domain_label, false, has_label, is_at_device, leaf_label, number_of}
-use Rattle.reach_laws.proofs.Common.{owner_in, refl, slice_get, sym, true, ℕ, ◌∙◌, ◌≡◌}
+use Rattle.reach_laws.proofs.Common.{owner_in, refl, rules, slice_get, sym, true, ℕ, ◌∙◌, ◌≡◌}
 use Rattle.std.specs.Option.{option_map_or}
 use Rattle.arch_policy.specs.declared.owner.Owner.TheVariants.{OfDomain, OfConnection, OfLeaf}
 use Rattle.conn_rules.specs.Ends.{end_rule}

@@ -1,8 +1,7 @@
 -- One call, and one binding, from the boot state.
 use Rattle.reach_laws.proofs.Common.{Acts, AsyncSend, Call, Capability, Endpoint, Entry, Handle, Held, Irq, Kind, List, None, Notification, Object, Option, Peer, Pending, Reaches, Receive, Reply, Rights, Some, Spec, State}
 use Rattle.reach_laws.proofs.Common.{ThreadState, [], ap, boot, boot_irq, boot_thread, called, entry_at, entry_object, inl, inr, is_at, is_kind, kind_at, label_of, length, no_thread, number_found, object_at, of_irq, of_reply, option_confers}
-use Rattle.reach_laws.proofs.Common.{refl, slice_get_within, subst, sym, thread_at, true, with_pending, ℕ, ◌&&◌, ◌<◌, ◌||◌, ◌∙◌, ◌∷◌, ◌≡◌, ◌≢◌, ◌⊎◌}
-use Rattle.std.proofs.Common.{slice_get}
+use Rattle.reach_laws.proofs.Common.{refl, slice_get, slice_get_within, subst, sym, thread_at, true, with_pending, ℕ, ◌&&◌, ◌<◌, ◌||◌, ◌∙◌, ◌∷◌, ◌≡◌, ◌≢◌, ◌⊎◌}
 use Rattle.std.specs.Prelude.{slice_set}
 use Rattle.std.proofs.lemmas.List.{get_or-set_same, get_or-set_other, length-map}
 use Rattle.cap_machine.specs.declared.step.Step.TheVariants as steps

@@ -1,7 +1,6 @@
 -- Which ends the connector table gives an authority, and over what.
-use Rattle.std.proofs.Common.{rules}
 use Rattle.reach_laws.proofs.Common.{AsyncSend, Bool, Call, Connector, Control, From, Grant, GrantBack, Handle, Interrupt, ObjectKind, OfEndpoint, OfIrq, OfNotification, Receive, Role, Rpc}
-use Rattle.reach_laws.proofs.Common.{To, and_parts, false, gives, has_label, implied, implies, inl, inr, over_object, refl, same_connector, same_object, same_role, sym, true, true≢false, ◌&&◌, ◌||◌, ◌≡◌, ◌⊎◌}
+use Rattle.reach_laws.proofs.Common.{To, and_parts, false, gives, has_label, implied, implies, inl, inr, over_object, refl, rules, same_connector, same_object, same_role, sym, true, true≢false, ◌&&◌, ◌||◌, ◌≡◌, ◌⊎◌}
 use Rattle.adl_meaning.specs.declared.connector.Connector.TheVariants.{Notification}
 use Rattle.arch_policy.proofs.Same.{is_connector, is_object}
 use Rattle.conn_rules.proofs.Roles.{is_role}

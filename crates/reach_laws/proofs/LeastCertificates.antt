@@ -1,7 +1,6 @@
 -- The certificate of a system is the least valid one.
-use Rattle.std.proofs.Common.{rules}
 use Rattle.reach_laws.proofs.Common.{AreApart, AsyncSend, Auth, Authority, Edge, Has, Held, IsCertificateOf, IsFlat, IsLaidOut, IsLockEdge, List, Reason, Receive, Reply, Spec, Tables, Valid, ap, boot, by_bind, by_call, by_direct, by_lock}
-use Rattle.reach_laws.proofs.Common.{connection_label, edge, inl, inr, leaf_label, refl, subst, sym, ℕ, ◌∙◌, ◌≡◌, ◌≢◌}
+use Rattle.reach_laws.proofs.Common.{connection_label, edge, inl, inr, leaf_label, refl, rules, subst, sym, ℕ, ◌∙◌, ◌≡◌, ◌≢◌}
 use Rattle.reach_laws.proofs.Reached.{calls, handles, receives, signals}
 
 module _ (t : Tables) (spec : Spec) (labels : List ℕ) (flat : IsFlat t.source t.flat) (apart : AreApart t)

@@ -1,7 +1,6 @@
 -- Every system has a certificate: the assigned edges, and those of locks.
-use Rattle.std.proofs.Common.{rules}
 use Rattle.reach_laws.proofs.Common.{AsyncSend, Authority, Edge, IsCertificateOf, IsLockEdge, Leaf, List, LockAt, None, Notification, Option, RW, Some, Tables, an_authority, ap, domain_label, edge, inl, inr, kind_confers, list_any, listed, lock_edge}
-use Rattle.reach_laws.proofs.Common.{lock_edges, lock_of_member, refl, slice_get, subst, sym, triples, true, ℕ, ◌++◌, ◌∙◌, ◌≡◌}
+use Rattle.reach_laws.proofs.Common.{lock_edges, lock_of_member, refl, rules, slice_get, subst, sym, triples, true, ℕ, ◌++◌, ◌∙◌, ◌≡◌}
 use Rattle.adl_ast.specs.declared.component.Member.TheVariants as members
 use Rattle.authorities.specs.Authorities.{authorities}
 use Rattle.cspace_layout.specs.Members.{is_lock, members_at}

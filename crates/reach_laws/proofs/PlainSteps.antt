@@ -1,8 +1,7 @@
 -- From the boot state of a plain spec only plain steps are ever legal.
-use Rattle.std.proofs.Common.{rules}
 use Rattle.reach_laws.proofs.Common.{All, Bool, Cap, Capability, Contains, Kind, List, Node, None, Object, Option, Own, Pending, Run, SavedReply, Some, Spec, State, StepTo, ThreadState, [], and_parts, ap, arith, boot, content_in, dropped, false}
 use Rattle.reach_laws.proofs.Common.{get_or, grown, grown_at, is_at, is_root_object, is_space_root, kind_at, no_node, no_thread, node_at, none_saved, not, nothing_pending, object_at, refl, set, subst, sym, thread_at, true, true≢false}
-use Rattle.reach_laws.proofs.Common.{waiting, with_pending, without, ℕ, ◌==◌, ◌∙◌, ◌∷◌, ◌≡◌}
+use Rattle.reach_laws.proofs.Common.{rules, waiting, with_pending, without, ℕ, ◌==◌, ◌∙◌, ◌∷◌, ◌≡◌}
 use Rattle.std.proofs.lemmas.Bool.{not-true}
 use Rattle.std.proofs.lemmas.List.Elements.{All-contains, All-push, All-filter, Contains-get_or}
 use Rattle.std.proofs.lemmas.Map.Views.{Contains-from_lookup}

@@ -1,8 +1,7 @@
 -- The certificate of a system keeps the rules.
-use Rattle.std.proofs.Common.{rules}
 use Rattle.reach_laws.proofs.Common.{AreApart, AsyncSend, AtOtherEnd, Authority, Call, Connector, Control, DirectReason, Edge, EndAt, From, Grant, GrantBack, Handle, Handles, Has, Held, IsCertificateOf, IsEnd, IsFlat, IsLaidOut, IsLockEdge}
 use Rattle.reach_laws.proofs.Common.{IsPolicyOf, IsReasoned, LeadsTo, List, ObjectKind, OfEndpoint, OfNotification, RW, Reason, Receive, Reply, Role, Rpc, Spec, Structural, Tables, Valid, ap, boot, by_bind, by_call, by_direct, by_lock, cases_eq}
-use Rattle.reach_laws.proofs.Common.{connection_label, edge, gives, has_label, inl, inr, kind_confers, leaf_label, opposite, refl, subst, sym, true, true≢false, ℕ, ◌∙◌, ◌≡◌, ◌≢◌, ◌⊎◌}
+use Rattle.reach_laws.proofs.Common.{connection_label, edge, gives, has_label, inl, inr, kind_confers, leaf_label, opposite, refl, rules, subst, sym, true, true≢false, ℕ, ◌∙◌, ◌≡◌, ◌≢◌, ◌⊎◌}
 use Rattle.adl_meaning.specs.declared.flat.FlatConnection.{FlatConnection}
 use Rattle.cap_model.specs.declared.kind.Kind.TheVariants as kinds
 use Rattle.reach_laws.proofs.Given.{no_control, no_grant, no_grant_back, who_calls, who_handles, who_receives, who_signals}

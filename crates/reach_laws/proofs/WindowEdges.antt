@@ -1,7 +1,6 @@
 -- The edges of page tables between different labels are what ends at memory are given directly.
-use Rattle.std.proofs.Common.{rules}
 use Rattle.reach_laws.proofs.Common.{Authority, Cap, Connector, DirectReason, EndAt, Frame, LeadsTo, List, ObjectKind, OfTable, Option, Read, Role, Spec, Tables, Write, ap, confers, edge, gives, implied, implies, inl, inr, kind_confers, leaf_label}
-use Rattle.reach_laws.proofs.Common.{leaves, option_confers, over_object, refl, subst, sym, true, true≢false, ℕ, ◌∙◌, ◌≡◌, ◌≢◌, ◌⊎◌}
+use Rattle.reach_laws.proofs.Common.{leaves, option_confers, over_object, refl, rules, subst, sym, true, true≢false, ℕ, ◌∙◌, ◌≡◌, ◌≢◌, ◌⊎◌}
 use Rattle.adl_meaning.specs.declared.settled.EndSetting.{EndSetting}
 use Rattle.cspace_layout.specs.Lookups.{setting_of}
 use Rattle.reach_laws.specs.Windows.{HasPage, HasWindows, IsWindow, window_rights}

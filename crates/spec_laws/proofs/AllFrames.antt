@@ -1,9 +1,8 @@
 -- Each frame is mapped
-use Rattle.std.proofs.Common.{rules}
 use Rattle.spec_laws.proofs.Common.{AreAllMapped, Bool, CanMap, Cap, Connector, Domain, FlatConnection, FlatEnd, FrameInfo, FrameOf, IsAt, IsRegionPage, List, MappedPage, Memory, Mmio, None, Option, Own, SharedMemory, Shown, Some, Spaces, Tables}
 use Rattle.spec_laws.proofs.Common.{Window, [], ap, arith, before, begins, below, cond, connection_frames, eqb-true, false, first_to, frame, frames, frames_at, from_place, in_map, in_right, inl, inr, is_first, is_shared, length, map, mapped_pages}
 use Rattle.spec_laws.proofs.Common.{memory_number, memory_pages, number_shown, option_map_or, own_frame, own_frames, own_number, own_part, place, place_of, range_with_len, refl, region_page, regions, register_frame, register_frames, register_part}
-use Rattle.spec_laws.proofs.Common.{registers, registers_in, registers_mmio, root_of, shared_frames, shared_part, slice_get, spec_of, split_get, subst, sym, system, true, window_region, windows_of, ℕ, ◌*◌, ◌+◌, ◌<◌, ◌==◌, ◌∙◌, ◌≡◌, ◌⊎◌, IsThere}
+use Rattle.spec_laws.proofs.Common.{registers, registers_in, registers_mmio, root_of, rules, shared_frames, shared_part, slice_get, spec_of, split_get, subst, sym, system, true, window_region, windows_of, ℕ, ◌*◌, ◌+◌, ◌<◌, ◌==◌, ◌∙◌, ◌≡◌, ◌⊎◌, IsThere}
 use Rattle.cap_model.specs.declared.object.Object.TheVariants as objects
 use Rattle.vspace_layout.specs.declared.owner.Owner.TheVariants.{OfConnection}
 use Rattle.spec_laws.proofs.Blocks.{as_long}
@@ -28,11 +27,7 @@ given_if false xs j x e = cc
 
 -- shared frames are of shared memory
 shared_of : (t : Tables) (k j : ℕ) (c : FlatConnection) → j < length (shared_frames t.settled k c) → c.connector ≡ SharedMemory
-shared_of t k j c l = by_test (is_shared c.connector) refl l where
-  by_test : (b : Bool) → is_shared c.connector ≡ b → j < length (cond b (connection_frames k (memory_pages t.settled k c)) [])
-      → c.connector ≡ SharedMemory
-  by_test true e l = shared_is c.connector e
-  by_test false e l = absurd (omega (arith, l))
+shared_of t k j c l = search (rules, shared_is)
 
 first_is : (o : Option ℕ) (k : ℕ) → option_map_or (λ n. n == k) o false ≡ true → o ≡ Some k
 first_is None k h = cc
@@ -89,8 +84,7 @@ module _ (t : Tables) (can : CanMap t) where
       let n = place_of r (regions s w.0) (in_right r _ (map (window_region t.flat t.settled) (windows_of s w.0))
       (in_map (window_region t.flat t.settled) w.1 (windows_of s w.0) w.2)) in
       let x = in_domain t w.0 n.0 r n.1 in
-      let pages : r.pages ≡ memory_pages t.settled k c = ap (λ o. option_map_or (memory_pages t.settled w.1.connection) o 0)
-      (subst (λ z. slice_get t.flat.connections z ≡ Some c) (sym w.3) h) ∙ ap (λ z. memory_pages t.settled z c) w.3 in
+      let pages : r.pages ≡ memory_pages t.settled k c = search (rules) in
       let at = begins t w.0 n.0 + 4096 * j in
       let p : IsRegionPage t w.0 n.0 at j r = record { here = n.1; within = omega (arith, pages, l); at = refl } in
       let q = region_page t.settled (Window w.1) at j in
@@ -129,9 +123,7 @@ module _ (t : Tables) (can : CanMap t) where
         by_place k j c p h kind r first l (MemoryPlace.at_shared n b) s = let no : SharedMemory ≡ Mmio =
             sym (shared_of t k j c b) ∙ kind in cc
         by_place k j c p h kind r first l (MemoryPlace.at_device x q y n b) s =
-            let number : y.number ≡ k =
-            some (first_to t.flat p) y.number k (ap (λ z. first_to t.flat z) (sym (some (registers c) x p q r))
-            ∙ y.first) first in
+            let number : y.number ≡ k = search (rules, some) in
             let front : before (register_frames t.flat t.settled) t.flat.connections y.number ≡ before
             (register_frames t.flat t.settled) t.flat.connections k =
             ap (λ z. before (register_frames t.flat t.settled) t.flat.connections z) number in

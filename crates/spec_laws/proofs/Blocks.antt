@@ -1,4 +1,5 @@
 -- In a gathered list what each element gives stands apart from what the others give
+use Rattle.std.proofs.Common.{rules}
 use Rattle.spec_laws.proofs.Common.{List, Some, [], ap, arith, before, cases_lt, gather, inl, inr, length, length_append, map, range_with_len, refl, slice_get, suc, take, zero, ℕ, ◌+◌, ◌<◌, ◌∷◌, ◌≡◌, ◌≤◌}
 
 pub behind : {X Y : Type 0} (f : ℕ → X → List Y) (xs : List X) (a b : ℕ) (x : X) → slice_get xs a ≡ Some x → a < b
@@ -26,9 +27,7 @@ apart f xs a b i j x y d e k l same = elim (cases_lt a b) [
   | inl h ↦ let m = behind f xs a b x d h in absurd (omega (arith, m, k, same))
   | inr h ↦ elim (cases_lt b a) [
     | inl g ↦ let m = behind f xs b a y e g in absurd (omega (arith, m, l, same))
-    | inr g ↦
-        let at : a ≡ b = omega (arith, g, h) in
-        let to : before f xs a ≡ before f xs b = ap (λ z. before f xs z) at in (at, omega (arith, to, same))
+    | inr g ↦ search (rules)
   ]
 ]
 

@@ -1,4 +1,5 @@
 -- How many capabilities page tables have: one for each page, and one for each table that isn't a root.
+use Rattle.std.proofs.Common.{rules}
 use Rattle.spec_laws.proofs.Common.{Bool, List, Mapping, Shape, [], ap, arith, caps_of, cond, false, gather_ones, layers, length, length-map, map, put_front, refl, runs, sizes, slot_of, span, table_of, true, under, upper, uppers, ℕ, ◌+◌, ◌∙◌, ◌∷◌}
 use Rattle.spec_laws.proofs.Common.{◌≡◌, ◌≤◌}
 use Rattle.std.specs.List.{slice_index_or}
@@ -9,11 +10,7 @@ use Rattle.spec_laws.proofs.Totals.{total, total_append, totals}
 in_front : (s : ℕ) (x : Mapping) (rs : List (List Mapping))
     → total (λ (r : List Mapping). length r) (put_front s x rs) ≡ 1 + total (λ (r : List Mapping). length r) rs
 in_front s x [] = refl
-in_front s x (r ∷ rs) = by_test (under s x r) where
-  by_test : (b : Bool) → total (λ (r : List Mapping). length r) (cond b ((x ∷ r) ∷ rs) ((x ∷ []) ∷ r ∷ rs)) ≡ 1 + total
-      (λ (r : List Mapping). length r) (r ∷ rs)
-  by_test true = omega arith
-  by_test false = omega arith
+in_front s x (r ∷ rs) = search (rules, total)
 
 in_runs : (s : ℕ) (xs : List Mapping) → total (λ (r : List Mapping). length r) (runs s xs) ≡ length xs
 in_runs s [] = refl

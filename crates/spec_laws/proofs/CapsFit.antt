@@ -1,9 +1,8 @@
 -- Capabilities of slots fit the objects that they lead to.
-use Rattle.std.proofs.Common.{rules}
 use Rattle.spec_laws.proofs.Common.{Bool, CNodeOf, Cap, Connector, Domain, EndpointOf, FlatConnection, FlatEnd, From, Handler, Interrupt, IrqOf, IsFit, IsIn, IsThere, Kind, List, LockOf, NONE, Notification, NotificationOf, OfEnd}
 use Rattle.spec_laws.proofs.Common.{OwnLock, RW, Rights, Role, Rpc, SlotUse, Some, Tables, To, What, [], and_from, ap, arith, badge_at, bits_from, cap, cond_both, end_in, end_of, end_rights, fits_as, from_gather, gather, inl}
 use Rattle.spec_laws.proofs.Common.{inr, is_at, is_kind, joint, joint_by, keeps, keeps_slots, kind_of_object, kind_rights, kind_there, le-leb, least, leb, length, list_all, lt-ltb, nat_lt, object, option_and_then, option_map_or, place, refl}
-use Rattle.spec_laws.proofs.Common.{rights_at, rise, slice_get, slice_get_within, slots_at, spec_of, subst, suc, sym, true, use_cap, uses_at, zero, ℕ, ◌&&◌, ◌+◌, ◌<◌, ◌==◌, ◌^◌, ◌||◌, ◌∙◌, ◌∷◌, ◌≡◌, ◌≤◌, true≢false}
+use Rattle.spec_laws.proofs.Common.{rights_at, rise, rules, slice_get, slice_get_within, slots_at, spec_of, subst, suc, sym, true, use_cap, uses_at, zero, ℕ, ◌&&◌, ◌+◌, ◌<◌, ◌==◌, ◌^◌, ◌||◌, ◌∙◌, ◌∷◌, ◌≡◌, ◌≤◌, true≢false}
 use Rattle.std.specs.Option.{option_map}
 use Rattle.cap_model.specs.Kept.{fits, within}
 use Rattle.cap_model.specs.Kinds.{has_badge}
@@ -115,16 +114,7 @@ module _ (t : Tables) where
     test slot = nat_lt slot.0 (2 ^ bits) && fits (spec_of t) slot.1
 
     slot_fits : (slot : Slot) → IsIn slot (slots_at t d) → test slot ≡ true
-    slot_fits slot i =
-        let g = from_gather (λ n u. (n + 1, use_cap t d n u) ∷ []) slot (uses_at t d) i in
-        elim g.3 [
-          | inl same ↦
-              let enough = (least (length (uses_at t d)) (fit.domains d x here).slots).above in
-              let few : g.0 + 1 < 2 ^ bits = omega (arith, slice_get_within (uses_at t d) g.0 g.1 g.2, enough) in
-              subst (λ (z : Slot). test z ≡ true) same (and_from (nat_lt (g.0 + 1) (2 ^ bits))
-              (fits (spec_of t) (use_cap t d g.0 g.1)) (lt-ltb (g.0 + 1) (2 ^ bits) few) (use_fits g.0 g.1 g.2))
-          | inr none ↦ absurd none
-        ]
+    slot_fits slot i = search (rules, from_gather, least, slice_get_within, and_from, lt-ltb, use_fits)
 
     pub cnode_kept : keeps (spec_of t) (object t (CNodeOf d)) ≡ true
     cnode_kept =

@@ -169,7 +169,7 @@ pub use Rattle.spec_laws.specs.Spaced.{ArePagesOf, AreTablesOf, IsAt, IsRegionPa
 pub use Rattle.spec_laws.specs.Standing.{HasNumber, StandInOrder, rank}
 pub use Rattle.spec_laws.specs.Threaded.{AreThreads, AreThreadsNumbered, HasThread, IsThreadOf, Serves}
 pub use Rattle.spec_laws.specs.Written.{IsFillWritten, IsFrameWritten, IsThreadWritten, IsWritten}
-pub use Rattle.std.proofs.Common.{Bool, List, None, Option, Some, [], ap, append_assoc, arith, codes, cond, decimal, drop, false, get_or, inl, inr, length, map, not, option_map, refl, subst, suc, sym, take, true, true≢false, unwrap_or, zero, ℕ}
+pub use Rattle.std.proofs.Common.{Bool, List, None, Option, Some, ℕ, [], ap, append_assoc, arith, codes, cond, decimal, drop, false, get_or, inl, inr, length, map, not, option_map, refl, rules, subst, suc, sym, take, true, true≢false, unwrap_or, zero}
 pub use Rattle.std.proofs.Common.{⊎_elim, ◌%◌, ◌&&◌, ◌*◌, ◌++◌, ◌+◌, ◌-◌, ◌/◌, ◌<◌, ◌^◌, ◌||◌, ◌↔◌, ◌∙◌, ◌∷◌, ◌≡◌, ◌≢◌, ◌≤◌, ◌⊎◌}
 pub use Rattle.std.proofs.Math.Nat.{div-add-mod, div-div-eq-div-mul, div-mul-le_self, le-max_left, le-max_right, mul-add, mul-div_cancel, mul-le-mul_right, mul-one, mul-suc, mul_assoc}
 pub use Rattle.std.proofs.lemmas.Bool.{and_from, and_parts, cases_lt, cases_order, cond_both, eq-eqb, eqb-true, false_from_ne_true, le-leb, le-ltb, leb-false, leb-true, lt-ltb, ltb-true, not_from_false, or_cases, or_from, or_right}

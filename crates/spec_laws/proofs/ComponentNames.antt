@@ -1,8 +1,7 @@
 -- The names of components are names, in files that tokens spell.
-use Rattle.std.proofs.Common.{rules}
 use Rattle.spec_laws.proofs.Common.{AreFilesShort, AreNamesSound, Body, Component, Ended, IsIn, IsOne, Item, ItemAt, Leaf, List, Option, Some, Source, [], ap, as_component, body_number, component_name, components, flat_of, from_filter_map}
 use Rattle.spec_laws.proofs.Common.{from_get_map, hierarchy_of, in_get, is_name, item_component, item_line, item_spelled, items_of, leaf_component, leaf_of, leaves, name_of_item, named_is, option_map_or, slice_get, subst, sym, true, unwrap_or}
-use Rattle.spec_laws.proofs.Common.{ℕ, ◌∙◌, ◌≡◌}
+use Rattle.spec_laws.proofs.Common.{ℕ, rules, ◌∙◌, ◌≡◌}
 use Rattle.adl_ast.specs.Forms.{component_line}
 use Rattle.adl_ast.specs.declared.file.Item.TheVariants as items
 use Rattle.adl_ast.specs.declared.id.Id.{Id}

@@ -1,9 +1,8 @@
 -- The spec of connected tables is laid out.
-use Rattle.std.proofs.Common.{rules}
 use Rattle.spec_laws.proofs.Common.{AreApart, Authority, CNodeOf, Cap, Directory, EndpointOf, Handler, HasPieces, Held, Holds, HoldsPlain, IrqOf, IsConnected, IsDomains, IsIn, IsKept, IsThere, Kind, Level, LockOf, NONE, None}
 use Rattle.spec_laws.proofs.Common.{NotificationOf, Object, OfEnd, Option, OwnLock, RW, RootOf, SlotUse, Some, Tables, ThreadOf, ap, boot, confers, connection_label, device_end, domain_label, domain_no_connection, domain_no_device}
 use Rattle.spec_laws.proofs.Common.{edge, has_label, inl, inr, irq_at, is_at, is_kind, kind_of_object, kind_there, label_of, members_of_leaf, object, object_at, object_there, one_connection, one_domain, option_confers, option_map, option_map_or}
-use Rattle.spec_laws.proofs.Common.{option_plain, place, place_of, plain_kind, policy_tables, refl, rights_at, slice_get, spec_of, subst, sym, tcb, thread, thread_place, threads_of, true, true≢false, use_cap, uses_at, ℕ, ◌+◌, ◌∙◌, ◌≡◌, ◌≢◌, ◌⊎◌}
+use Rattle.spec_laws.proofs.Common.{option_plain, place, place_of, plain_kind, policy_tables, refl, rights_at, rules, slice_get, spec_of, subst, sym, tcb, thread, thread_place, threads_of, true, true≢false, use_cap, uses_at, ℕ, ◌+◌, ◌∙◌, ◌≡◌, ◌≢◌, ◌⊎◌}
 use Rattle.arch_policy.specs.declared.owner.Owner.TheVariants as owners
 use Rattle.arch_policy.specs.Policies.{IsLockEdge}
 use Rattle.arch_policy.specs.Tables.{IsThere as HasLabel}
@@ -48,8 +47,7 @@ module _ (t : Tables) (h : IsConnected t) where
       let n = place_of x (threads_of g d) (in_threads g d f.0 listed) in
       let at = in_threads_at t h d n.0 b.found x b.here n.1 in
       let there : IsThere t (ThreadOf d n.0) = ((b.found, b.here), (thread_place g d n.0 x, at)) in
-      let is : object t (ThreadOf d n.0) ≡ objects.Thread (tcb t d (thread_place g d n.0 x)) =
-      ap (λ z. option_map_or (λ y. objects.Thread (tcb t d y)) z objects.Endpoint) at in
+      let is : object t (ThreadOf d n.0) ≡ objects.Thread (tcb t d (thread_place g d n.0 x)) = search (rules) in
       record {
         thread = place t (ThreadOf d n.0);
         tcb = tcb t d (thread_place g d n.0 x);
@@ -63,11 +61,7 @@ module _ (t : Tables) (h : IsConnected t) where
   holder_label : (c i : ℕ) (held : Cap) → Holds (spec_of t) c i held → IsDomains (policy_tables t) (label_of (labels t) c)
   holder_label c i held there =
       let b = holder t c i held there in
-      record {
-        domain = b.domain;
-        there = (b.found, b.here);
-        is = sym (ap (label_of (labels t)) b.node) ∙ node_label t h b.domain b.found b.here;
-      }
+      search (rules, labels, node_label)
 
   one_node : AreApart (policy_tables t) → (c d i j : ℕ) (a b : Cap) → Holds (spec_of t) c i a → Holds (spec_of t) d j b
       → label_of (labels t) c ≡ label_of (labels t) d → c ≡ d
@@ -81,11 +75,7 @@ module _ (t : Tables) (h : IsConnected t) where
   -- an object of a kind
   kinded : (o : ℕ) (k : Kind) (n : ℕ) → ((x : Object) → same_kind (kind_of_object x) k ≡ true → class_of x ≡ n)
       → is_at (spec_of t) k o ≡ true → (x : Object) × IsAt t o x × (class_of x ≡ n)
-  kinded o k n sort is = go (object_at (spec_of t) o) refl is where
-    go : (x : Option Object) → object_at (spec_of t) o ≡ x → is_kind (option_map kind_of_object x) k ≡ true
-        → (x : Object) × IsAt t o x × (class_of x ≡ n)
-    go None q e = absurd (true≢false (sym e))
-    go (Some x) q e = (x, object_stands t o x q, sort x e)
+  kinded o k n sort is = search (rules, class_of, object_stands)
 
   calls_sort : (x : Object) → same_kind (kind_of_object x) kinds.Endpoint ≡ true → class_of x ≡ 0
   calls_sort objects.Endpoint e = refl
@@ -114,10 +104,7 @@ module _ (t : Tables) (h : IsConnected t) where
   notification_here : (o : ℕ) → is_at (spec_of t) kinds.Notification o ≡ true → IsJoint o ⊎ IsLockHere o
   notification_here o is =
       let x = kinded o kinds.Notification 1 notices_sort is in let at = x.1 in
-      elim (of_notices at.what (at.sort ∙ x.2)) [
-        | inl w ↦ inl (w.0, subst (λ z. IsThere t z) w.1 at.there, subst (λ z. place t z ≡ o) w.1 at.stands)
-        | inr w ↦ inr (w.0, w.1, subst (λ z. IsThere t z) w.2 at.there, subst (λ z. place t z ≡ o) w.2 at.stands)
-      ]
+      search (rules, of_notices)
 
   -- its connection has a label
   calls_label : (k : ℕ) → IsThere t (EndpointOf k) → HasLabel t.flat (owners.OfConnection k)
@@ -157,55 +144,35 @@ module _ (t : Tables) (h : IsConnected t) where
   own_out apart l a (c, i, held, there, conf, from, to) =
       let b = holder t c i held there in let d = b.domain in
       let f = from_domain t.source t.flat b.found.leaves b.used (used_in t h d b.number b.found b.used b.here b.at) in
-      let is : l ≡ domain_label (policy_tables t) d = from ∙ sym (ap (label_of (labels t)) b.node)
-      ∙ node_label t h d b.found b.here in
+      let is : l ≡ domain_label (policy_tables t) d = search (rules, labels, node_label) in
       let mine : IsDomains (policy_tables t) l = record { domain = d; there = (b.found, b.here); is = is } in
-      let leads : l ≡ label_of (labels t) (use_cap t d b.number b.used).object =
-      to ∙ ap (λ (z : Cap). label_of (labels t) z.object) (sym b.is) in
+      let leads : l ≡ label_of (labels t) (use_cap t d b.number b.used).object = search (rules, labels) in
       elim f.2 [
         | inl o ↦
             let k = o.place in
             let w = from_end_uses o.connection.connector o.end.role k o.number b.used o.use_is in
             elim w.1 [
               | inl same ↦
-                  let label : l ≡ connection_label (policy_tables t) k =
-                  subst (λ z. l ≡ label_of (labels t) (use_cap t d b.number z).object) (sym same) leads
-                  ∙ joint_label t k o.connection o.end.role o.here w.0 in
+                  let label : l ≡ connection_label (policy_tables t) k = search (rules, labels, joint_label) in
                   absurd (domain_no_connection (policy_tables t) apart k mine (
                     o.connection,
                     o.here,
                     slot_labelled o.connection.connector o.end.role w.0,
                   ) label)
               | inr handler ↦
-                  let label : l ≡ label_of (labels t) (place t (IrqOf k)) =
-                  subst (λ z. l ≡ label_of (labels t) (use_cap t d b.number z).object) (sym handler.is) leads in
+                  let label : l ≡ label_of (labels t) (place t (IrqOf k)) = search (rules, labels) in
                   let v = device_here t h k o.connection o.here handler.interrupt in
                   let device = device_end (policy_tables t) h.flat v.at v.device in
-                  absurd (domain_no_device (policy_tables t) apart mine (record {
-                    device = device.device;
-                    there = device.there;
-                    is = label ∙ irq_label t h k o.connection o.here handler.interrupt ∙ device.is;
-                  }))
+                  absurd (domain_no_device (policy_tables t) apart mine (search (rules, irq_label)))
             ]
         | inr lock ↦
             let leaf = f.0 in let m = lock.0 in
             let x = h.flat.owned d leaf b.found b.here f.1 in
             let u : b.used ≡ OwnLock leaf m = lock.1 in
             let there : IsThere t (LockOf d b.number) = ((b.found, b.here), (leaf, m, b.at ∙ ap (λ z. Some z) u)) in
-            let conferred : confers (spec_of t) (use_cap t d b.number (OwnLock leaf m)) a ≡ true =
-            subst (λ z. confers (spec_of t) (use_cap t d b.number z) a ≡ true) u (subst (λ z. confers (spec_of t) z a ≡ true)
-            (sym b.is) conf) in
+            let conferred : confers (spec_of t) (use_cap t d b.number (OwnLock leaf m)) a ≡ true = search (rules) in
             record {
-              lock = record {
-                leaf = leaf;
-                found = x.0;
-                here = x.1;
-                domain = d;
-                inside = x.2;
-                member = m;
-                lock = lock.2;
-                declared = sym (ap (λ z. slice_get (members_of_leaf t.source z) m) x.1) ∙ lock.3;
-              };
+              lock = search (rules);
               from = is;
               conferred = sym (ap (λ z. option_confers z RW a) (kind_there t (LockOf d b.number) there)) ∙ conferred;
               to = is;
@@ -237,11 +204,7 @@ module _ (t : Tables) (h : IsConnected t) where
   signals apart c i d n held there is e =
       let b = bound t h d n is in let v = device_here t h b.connection b.found b.here b.interrupt in
       let device = device_end (policy_tables t) h.flat v.at v.device in
-      domain_no_device (policy_tables t) apart (holder_label c i held there) (record {
-        device = device.device;
-        there = device.there;
-        is = e ∙ sym (ap (label_of (labels t)) b.irq) ∙ irq_label t h b.connection b.found b.here b.interrupt ∙ device.is;
-      })
+      domain_no_device (policy_tables t) apart (holder_label c i held there) (search (rules, labels, irq_label))
 
   -- ---- what is held is plain
 
@@ -276,9 +239,4 @@ module _ (t : Tables) (h : IsConnected t) where
   -- ---- all
 
   pub laid_out : AreApart (policy_tables t) → IsKept (spec_of t) → IsLaidOut (policy_tables t) (spec_of t) (labels t)
-  laid_out apart kept = record {
-    arranged = record { kept = kept; rooted = rooted; one_node = one_node apart; one_endpoint = one_endpoint apart };
-    direct = pieces_direct (policy_tables t) (spec_of t) (labels t) pieces;
-    own = λ l a. (own_out apart l a, own_in l a);
-    signals = signals apart;
-  }
+  laid_out apart kept = search (rules, rooted, one_node, one_endpoint, pieces_direct, labels, pieces, own_out, own_in, signals)

@@ -1,9 +1,8 @@
 -- How many parts there are, and what a count of each kind of part comes to.
-use Rattle.std.proofs.Common.{rules}
 use Rattle.spec_laws.proofs.Common.{CNodeOf, Connector, Domain, EndpointOf, FlatConnection, FrameInfo, FrameOf, Interrupt, IrqOf, List, LockOf, Notification, NotificationOf, Object, OfDomain, OwnLock, Owned, Owner}
 use Rattle.spec_laws.proofs.Common.{PageTable, Part, Rpc, Series, SlotUse, Some, TableOf, Tables, ThreadOf, ThreadPlace, What, [], all_tables, ap, arith, cnodes, domain_tables, endpoint, endpoint_by}
 use Rattle.spec_laws.proofs.Common.{endpoints, frame_owner, frame_parts, irq_by, irq_owner, irqs, length, level_of, locks, notification, notification_by, notifications, numbered, owned, page_table, part, parts, refl, slice_get, sym, table_part}
-use Rattle.spec_laws.proofs.Common.{table_parts, tables_at, tcbs, thread_count, threads_at, use_count, uses_at, ℕ, ◌*◌, ◌++◌, ◌+◌, ◌∙◌, ◌∷◌, ◌≡◌, ◌≤◌}
+use Rattle.spec_laws.proofs.Common.{rules, table_parts, tables_at, tcbs, thread_count, threads_at, use_count, uses_at, ℕ, ◌*◌, ◌++◌, ◌+◌, ◌∙◌, ◌∷◌, ◌≡◌, ◌≤◌}
 use Rattle.system_spec.specs.declared.series.Series.TheVariants as series
 use Rattle.system_spec.specs.Parts.{irq as irq_of, lock as lock_of}
 use Rattle.spec_laws.proofs.Totals.{sum_ones, total, total_append, total_gather, total_ones, totals, totals_add, totals_each, totals_most, totals_same, totals_times}
@@ -87,18 +86,7 @@ module _ (t : Tables) (w : What → ℕ) where
       a + (total of_part
       b + (total of_part
       c + (total of_part d + (total of_part e + (total of_part f + (total of_part g + (total of_part h + 0)))))))
-  total_eight a b c d e f g h =
-      omega (
-        arith,
-        total_append of_part a (b ++ (c ++ (d ++ (e ++ (f ++ (g ++ (h ++ []))))))),
-        total_append of_part b (c ++ (d ++ (e ++ (f ++ (g ++ (h ++ [])))))),
-        total_append of_part c (d ++ (e ++ (f ++ (g ++ (h ++ []))))),
-        total_append of_part d (e ++ (f ++ (g ++ (h ++ [])))),
-        total_append of_part e (f ++ (g ++ (h ++ []))),
-        total_append of_part f (g ++ (h ++ [])),
-        total_append of_part g (h ++ []),
-        total_append of_part h [],
-      )
+  total_eight a b c d e f g h = search (rules, total_append)
 
   -- what all parts count
   pub parts_count : total of_part
@@ -163,11 +151,7 @@ module _ (t : Tables) (w : What → ℕ) where
           by_use _ d n = omega arith
 
     irqs_most : of_irqs ≤ irq * length t.flat.connections
-    irqs_most = totals_each (λ k (c : FlatConnection). total of_owned (irq_of k c)) irq t.flat.connections
-        (λ k c e. by_kind c.connector k (irq_owner k c)) where
-          by_kind : (c : Connector) (k : ℕ) (o : Owner) → total of_owned (irq_by k o c) ≤ irq
-          by_kind Interrupt k o = let l = most.irqs k in omega (arith, l)
-          by_kind _ k o = omega arith
+    irqs_most = search (rules, totals_each, total)
 
     pub parts_most : total of_part (parts t)
         ≤ totals (λ d (x : Domain). cnode d)

@@ -1,7 +1,6 @@
 -- The device that a connection joins.
-use Rattle.std.proofs.Common.{rules}
 use Rattle.spec_laws.proofs.Common.{Bool, FlatConnection, FlatEnd, HasDevice, IsFlat, List, None, OfConnection, OfLeaf, Some, Tables, [], ap, arith, cond, device_place, end_rule, false, irq_owner, is_at_device, leaf_label, length, lt-ltb, not}
-use Rattle.spec_laws.proofs.Common.{number_of, option_and_then, option_map_or, own_label, policy_tables, position, position_or_len, refl, slice_get, slice_get_within, subst, suc, sym, true, zero, ℕ, ◌+◌, ◌∙◌, ◌∷◌, ◌≡◌}
+use Rattle.spec_laws.proofs.Common.{number_of, option_and_then, option_map_or, own_label, policy_tables, position, position_or_len, refl, rules, slice_get, slice_get_within, subst, suc, sym, true, zero, ℕ, ◌+◌, ◌∙◌, ◌∷◌, ◌≡◌}
 use Rattle.arch_policy.specs.Ends.{EndAt}
 use Rattle.system_spec.specs.Tables.{device_end as first_device, is_hardware}
 use Rattle.spec_laws.proofs.Whose.{device_at}
@@ -19,9 +18,7 @@ first_found {X} p (z ∷ zs) (suc n) x e h = by_test (p z) refl (first_found p z
 
 pub position_found : {X : Type 0} (p : X → Bool) (xs : List X) (y : X) → slice_get xs (position_or_len p xs) ≡ Some y
     → position p xs ≡ Some (position_or_len p xs)
-position_found p xs y e =
-    ap (λ b. cond b (Some (position_or_len p xs)) None) (lt-ltb (position_or_len p xs) (length xs)
-    (slice_get_within xs (position_or_len p xs) y e))
+position_found p xs y e = search (rules, lt-ltb, slice_get_within)
 
 module _ (t : Tables) (flat : IsFlat t.source t.flat) where
   -- an end at the device, which is the first
@@ -55,6 +52,4 @@ module _ (t : Tables) (flat : IsFlat t.source t.flat) where
   -- its label is the device's
   pub device_label : (k : ℕ) (c : FlatConnection) → slice_get t.flat.connections k ≡ Some c → (d : DeviceOf k c)
       → number_of t.numbers (device_at t k) ≡ leaf_label (policy_tables t) d.at.end.leaf
-  device_label k c here d =
-      let own : device_at t k ≡ OfLeaf d.at.end.leaf = ap (λ z. option_map_or (irq_owner k) z (OfConnection k)) here ∙ d.owner in
-      ap (number_of t.numbers) own ∙ sym (own_label (policy_tables t) flat d.at d.device)
+  device_label k c here d = search (rules, device_at, own_label)

@@ -1,9 +1,8 @@
 -- What holds of the parts of what there is, of each sort, holds of every part.
-use Rattle.std.proofs.Common.{rules}
 use Rattle.spec_laws.proofs.Common.{CNodeOf, Connector, Domain, EndpointOf, FlatConnection, FrameInfo, FrameOf, Interrupt, IrqOf, IsIn, List, LockOf, Notification, NotificationOf, Object, OfConnection, OfDomain, OwnLock, Owned, PageTable}
 use Rattle.spec_laws.proofs.Common.{Part, Rpc, Series, SlotUse, Some, Tables, ThreadOf, ThreadPlace, [], all_tables, by_section, cnodes, domain_locks, domain_tables, domain_tcbs, endpoint, endpoint_by, endpoints, frame_owner, frame_parts, from_gather}
 use Rattle.spec_laws.proofs.Common.{in_place, irq, irq_by, irq_owner, irqs, lock, locks, notification, notification_by, notifications, numbered, owned, page_table, part, parts, single, slice_get, subst, table_part, table_parts, tables_at, tcbs, threads_at}
-use Rattle.spec_laws.proofs.Common.{uses_at, ℕ, ◌∷◌, ◌≡◌, before, from_ones, from_place, arith, inl, inr, refl, ◌+◌, ◌⊎◌}
+use Rattle.spec_laws.proofs.Common.{rules, uses_at, ℕ, ◌∷◌, ◌≡◌, before, from_ones, from_place, arith, inl, inr, refl, ◌+◌, ◌⊎◌}
 use Rattle.page_tables.specs.Levels.{level_of}
 use Rattle.system_spec.specs.declared.series.Series.TheVariants as series
 use Rattle.cam_base.proofs.NumberedLists.{single as the_one}
@@ -48,25 +47,10 @@ module _ (t : Tables) (P : Part → Type 0) where
         subst (Numbered series.Tcb n) (single (owned (OfDomain g.0) (ThreadOf g.0 h.0)) x h.3) (each.thread n g.0 h.0 h.1 h.2)
 
     of_endpoint : (p : Part) → IsIn p (endpoints t) → P p
-    of_endpoint p i = let g = from_gather endpoint p t.flat.connections i in by_kind g.1.connector g.0 g.1 g.2 refl g.3 where
-      by_kind : (m : Connector) (k : ℕ) (c : FlatConnection) → slice_get t.flat.connections k ≡ Some c → c.connector ≡ m
-          → IsIn p (endpoint_by k m) → P p
-      by_kind Rpc k c h e i = subst P (single (part series.Ep k (OfConnection k) (EndpointOf k)) p i) (each.endpoint k c h e)
-      by_kind _ k c h e i = absurd i
+    of_endpoint p i = search (rules, from_gather, single)
 
     of_notification : (p : Part) → IsIn p (notifications t) → P p
-    of_notification p i = let g = from_gather notification p t.flat.connections i in by_kind g.1.connector g.0 g.1 g.2 refl g.3
-      where
-        made : (k : ℕ) (c : FlatConnection) → slice_get t.flat.connections k ≡ Some c
-            → (c.connector ≡ Notification) ⊎ (c.connector ≡ Interrupt)
-            → IsIn p (part series.Ntfn k (OfConnection k) (NotificationOf k) ∷ []) → P p
-        made k c h e i = subst P (single (part series.Ntfn k (OfConnection k) (NotificationOf k)) p i) (each.notification k c h e)
-
-        by_kind : (m : Connector) (k : ℕ) (c : FlatConnection) → slice_get t.flat.connections k ≡ Some c → c.connector ≡ m
-            → IsIn p (notification_by k m) → P p
-        by_kind Notification k c h e i = made k c h (inl e) i
-        by_kind Interrupt k c h e i = made k c h (inr e) i
-        by_kind _ k c h e i = absurd i
+    of_notification p i = search (rules, from_gather, single)
 
     of_lock : (n : ℕ) (x : Owned) → slice_get (locks t) n ≡ Some x → Numbered series.Lock n x
     of_lock n x e =

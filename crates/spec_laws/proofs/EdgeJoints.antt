@@ -1,4 +1,5 @@
 -- What CNodes hold, and what interrupts may signal.
+use Rattle.std.proofs.Common.{rules}
 use Rattle.spec_laws.proofs.Common.{AsyncSend, AtOtherEnd, Authority, CNodeOf, Cap, Connector, Contains, DirectReason, Domain, EndpointOf, FlatConnection, FlatEnd, From, Handle, Handler, Held, Holds, Interrupt, IrqOf, IsAccess, IsConnected}
 use Rattle.spec_laws.proofs.Common.{IsIn, IsThere, LeadsTo, LockOf, NONE, Node, None, Notification, NotificationOf, Object, ObjectKind, OfEnd, OfIrq, OfJoints, OfNotification, OwnLock, Role, Rpc, SlotUse, Some, Spec, Tables, To}
 use Rattle.spec_laws.proofs.Common.{ap, arith, at_contains, at_entry, boot, boot_irq, boot_node, boot_slot, confers, connection_label, contains_at, domain_label, domain_uses, edge, end_rule, end_uses, false, from_ones, get_ones, gives, in_place, inl}
@@ -49,25 +50,14 @@ module _ (t : Tables) where
       let content : Capability s.0.1 ≡ Capability held = s.2 in
       let slot : s.0.1 ≡ held = cc in
       let own : use_cap t d k.0 u.0 ≡ s.0.1 = ap (λ (z : ℕ × Cap). z.1) {x = (k.0 + 1, use_cap t d k.0 u.0)} u.2 in
-      record {
-        domain = d;
-        found = here.0;
-        here = here.1;
-        node = subst (λ z. place t z ≡ c) w.1 at.stands;
-        number = k.0;
-        used = u.0;
-        at = u.1;
-        is = own ∙ slot;
-      }
+      search (rules)
   of_object c i held _ at there = absurd (let w = there.1 in omega arith)
 
   pub holder : (c i : ℕ) (held : Cap) → Holds spec c i held → HeldBy c held
   holder c i held there = elim (at_entry boot_node spec.entries c no_node) [
     | inl found ↦ of_object c i held found.0.object (entry_is t c found.0 found.1)
         (subst (λ (n : Node). Contains n.slots (i, Capability held)) found.2 there)
-    | inr none ↦
-        absurd (let here : Contains no_node.slots (i, Capability held) = subst
-        (λ (n : Node). Contains n.slots (i, Capability held)) none there in let w = here.1 in omega arith)
+    | inr none ↦ search (rules)
   ]
 
   pub slot_holds : (d n : ℕ) (x : Domain) (u : SlotUse) → slice_get t.flat.domains d ≡ Some x → slice_get (uses_at t d) n ≡ Some u
@@ -85,12 +75,7 @@ module _ (t : Tables) where
 
   pub joint_there : (k : ℕ) (c : FlatConnection) (r : Role) → slice_get t.flat.connections k ≡ Some c
       → has_slot c.connector r ≡ true → IsThere t (joint_by k c.connector)
-  joint_there k c r h s = go c.connector r refl s where
-    go : (y : Connector) (r : Role) → c.connector ≡ y → has_slot y r ≡ true → IsThere t (joint_by k y)
-    go Rpc r e s = (c, h, e)
-    go Notification r e s = (c, h, inl e)
-    go Interrupt r e s = (c, h, inr e)
-    go _ r e s = absurd cc
+  joint_there k c r h s = search (rules, has_slot)
 
   joint_kinds : (k : ℕ) (y : Connector) → kind_of_object (object t (joint_by k y)) ≡ joint_kind y
   joint_kinds k Notification = refl
@@ -103,9 +88,7 @@ module _ (t : Tables) where
 
   pub joint_kind_at : (k : ℕ) (c : FlatConnection) (r : Role) → slice_get t.flat.connections k ≡ Some c
       → has_slot c.connector r ≡ true → kind_at spec (place t (joint t k)) ≡ Some (joint_kind c.connector)
-  joint_kind_at k c r h s =
-      ap (λ z. kind_at spec (place t z)) (joint_is t k c h) ∙ kind_there t (joint_by k c.connector) (joint_there k c r h s)
-      ∙ ap (λ z. Some z) (joint_kinds k c.connector)
+  joint_kind_at k c r h s = search (rules, joint_is, kind_there, joint_there, joint_kinds)
 
   pub joint_label : (k : ℕ) (c : FlatConnection) (r : Role) → slice_get t.flat.connections k ≡ Some c
       → has_slot c.connector r ≡ true → label_of (labels t) (place t (joint t k)) ≡ connection_label (policy_tables t) k
@@ -165,10 +148,7 @@ module _ (t : Tables) where
 
     -- the device's end of an interrupt is its `from` end
     pub device_from : (k : ℕ) (c : FlatConnection) (d : DeviceOf t h.flat k c) → c.connector ≡ Interrupt → d.at.end.role ≡ From
-    device_from k c d i = elim (device_role d.at.connection.connector d.at.end.role d.device) [
-      | inl w ↦ w.1
-      | inr w ↦ absurd (let e = sym (ap (λ (z : FlatConnection). z.connector) d.connection ∙ i) ∙ w.0 in cc)
-    ]
+    device_from k c d i = search (rules, device_role)
 
     pub irq_label : (k : ℕ) (c : FlatConnection) (e : slice_get t.flat.connections k ≡ Some c) (i : c.connector ≡ Interrupt)
         → label_of (labels t) (place t (IrqOf k)) ≡ leaf_label policy (device_here k c e i).at.end.leaf
@@ -186,24 +166,19 @@ module _ (t : Tables) where
         let b = holder c i held there in let d = b.domain in
         let f = from_domain t.source t.flat b.found.leaves b.used (used_in d b.number b.found b.used b.here b.at) in
         let mine : l ≡ domain_label policy d = from ∙ ap (label_of (labels t)) (sym b.node) ∙ node_label d b.found b.here in
-        let conferred : confers spec (use_cap t d b.number b.used) a ≡ true =
-        subst (λ z. confers spec z a ≡ true) (sym b.is) conf in
-        let leads : m ≡ label_of (labels t) (use_cap t d b.number b.used).object =
-        to ∙ ap (λ (z : Cap). label_of (labels t) z.object) (sym b.is) in
+        let conferred : confers spec (use_cap t d b.number b.used) a ≡ true = search (rules) in
+        let leads : m ≡ label_of (labels t) (use_cap t d b.number b.used).object = search (rules, labels) in
         elim f.2 [
           | inl o ↦
               let x = end_used o in
-              let owned : l ≡ leaf_label policy o.end.leaf =
-              mine ∙ sym (ap (leaf_label policy) o.joins ∙ leaf_of_domain d f.0 b.found b.here f.1) in
+              let owned : l ≡ leaf_label policy o.end.leaf = search (rules, leaf_of_domain) in
               let w = from_end_uses o.connection.connector o.end.role o.place o.number b.used o.use_is in
               elim w.1 [
                 | inl same ↦
                     let given : gives o.connection.connector o.end.role (joint_object o.connection.connector) a ≡ true =
                     sym (end_confers x a w.0) ∙ subst (λ z. confers spec (use_cap t d b.number z) a ≡ true)
                     (sym same) conferred in
-                    let label : m ≡ connection_label policy o.place =
-                    subst (λ z. m ≡ label_of (labels t) (use_cap t d b.number z).object) (sym same) leads
-                    ∙ joint_label o.place o.connection o.end.role o.here w.0 in
+                    let label : m ≡ connection_label policy o.place = search (rules, labels, joint_label) in
                     record {
                       at = x;
                       object = joint_object o.connection.connector;
@@ -215,18 +190,15 @@ module _ (t : Tables) where
                     }
                 | inr handler ↦
                     let k = o.place in
-                    let is : confers spec (use_cap t d b.number (Handler k o.number)) a ≡ true =
-                    subst (λ z. confers spec (use_cap t d b.number z) a ≡ true) (sym handler.is) conferred in
+                    let is : confers spec (use_cap t d b.number (Handler k o.number)) a ≡ true = search (rules) in
                     let handle : a ≡ Handle =
                     only_handle a
                     (sym
                     (ap (λ z. option_confers z NONE a) (kind_there t (IrqOf k) (o.connection, o.here, handler.interrupt)))
                     ∙ is) in
-                    let label : m ≡ label_of (labels t) (place t (IrqOf k)) =
-                    subst (λ z. m ≡ label_of (labels t) (use_cap t d b.number z).object) (sym handler.is) leads in
+                    let label : m ≡ label_of (labels t) (place t (IrqOf k)) = search (rules, labels) in
                     let v = device_here k o.connection o.here handler.interrupt in
-                    let given : gives o.connection.connector o.end.role OfIrq a ≡ true = given_as o.connection.connector Interrupt
-                    o.end.role To OfIrq a Handle handler.interrupt handler.receives handle refl in
+                    let given : gives o.connection.connector o.end.role OfIrq a ≡ true = search (rules, given_as) in
                     record {
                       at = x;
                       object = OfIrq;
@@ -244,8 +216,7 @@ module _ (t : Tables) where
               ]
           | inr lock ↦
               let u : b.used ≡ OwnLock f.0 lock.0 = lock.1 in
-              let label : m ≡ label_of (labels t) (place t (LockOf d b.number)) =
-              subst (λ z. m ≡ label_of (labels t) (use_cap t d b.number z).object) u leads in
+              let label : m ≡ label_of (labels t) (place t (LockOf d b.number)) = search (rules, labels) in
               let own = label_there t (LockOf d b.number) ((b.found, b.here), (f.0, lock.0, b.at ∙ ap (λ z. Some z) u)) in
               absurd (differ (mine ∙ sym (label ∙ own)))
         ]
@@ -262,20 +233,7 @@ module _ (t : Tables) where
       pub notification : place t (NotificationOf connection) ≡ n
 
     of_irq_object : (o n : ℕ) (x : Object) → IsAt t o x → boot_irq x ≡ Some n → Bound o n
-    of_irq_object o n (objects.Irq notification) at there =
-        let w = of_interrupt at.what at.sort in
-        let here : IsThere t (IrqOf w.0) = subst (λ z. IsThere t z) w.1 at.there in
-        let is : object t (IrqOf w.0) ≡ objects.Irq notification = subst (λ z. object t z ≡ objects.Irq notification) w.1 at.is in
-        let same : Some (place t (NotificationOf w.0)) ≡ notification = cc in
-        let both : Some (place t (NotificationOf w.0)) ≡ Some n = same ∙ there in
-        record {
-          connection = w.0;
-          found = here.0;
-          here = here.1;
-          interrupt = here.2;
-          irq = subst (λ z. place t z ≡ o) w.1 at.stands;
-          notification = cc;
-        }
+    of_irq_object o n (objects.Irq notification) at there = search (rules, of_interrupt)
     of_irq_object o n _ at there = absurd cc
 
     pub bound : (o n : ℕ) → irq_at (boot spec) o ≡ Some n → Bound o n
@@ -289,8 +247,7 @@ module _ (t : Tables) where
         let b = bound o n there in let k = b.connection in
         let v = device_here k b.found b.here b.interrupt in let r = device_from k b.found v b.interrupt in
         let i : v.at.connection.connector ≡ Interrupt = ap (λ (z : FlatConnection). z.connector) v.connection ∙ b.interrupt in
-        let given : gives v.at.connection.connector v.at.end.role OfNotification a ≡ true =
-        given_as v.at.connection.connector Interrupt v.at.end.role From OfNotification a AsyncSend i r is refl in
+        let given : gives v.at.connection.connector v.at.end.role OfNotification a ≡ true = search (rules, given_as) in
         record {
           at = v.at;
           object = OfNotification;
@@ -328,16 +285,7 @@ module _ (t : Tables) where
         → (n : ℕ) × Holds spec (place t (CNodeOf i.domain)) (n + 1) (use_cap t i.domain n u)
     use_held x u i e =
         let j = h.flat.joined x in
-        let o : UseOf t.flat.connections x.end.leaf u = record {
-          place = x.place;
-          connection = x.connection;
-          here = x.here;
-          number = x.number;
-          end = x.end;
-          stands = x.stands;
-          joins = refl;
-          use_is = e;
-        } in
+        let o : UseOf t.flat.connections x.end.leaf u = search (rules) in
         let there = in_domain t.source t.flat i.found.leaves u x.end.leaf j.leaf o j.member i.listed j.here j.joins in
         let n =
         place_of u (uses_at t i.domain) (subst (λ z. IsIn u z) (sym (uses_are t h.slots i.domain i.found i.here)) there) in
@@ -363,13 +311,7 @@ module _ (t : Tables) where
     -- the two ends at the device are one
     pub one_end : (x y : EndAt t.flat) → y.place ≡ x.place → is_at_device x ≡ true → is_at_device y ≡ true
         → y.end.leaf ≡ x.end.leaf
-    one_end x y e a b =
-        let both : Some y.connection ≡ Some x.connection = sym y.here ∙ ap (λ z. slice_get t.flat.connections z) e ∙ x.here in
-        let same : y.connection ≡ x.connection = cc in
-        let ends : Some y.end ≡ Some x.end = sym y.stands ∙ ap (λ (z : FlatConnection). slice_get z.ends y.number) same
-        ∙ ap (λ z. slice_get x.connection.ends z) (h.flat.one_device x y e a b) ∙ x.stands in
-        let end : y.end ≡ x.end = cc in
-        ap (λ (z : FlatEnd). z.leaf) end
+    one_end x y e a b = search (rules)
 
     from_device : (c : Connector) (r : Role) → c ≡ Interrupt → r ≡ From → (end_rule c r).hardware ≡ true
     from_device c r e f = ap (λ z. (end_rule z r).hardware) e ∙ ap (λ z. (end_rule Interrupt z).hardware) f

@@ -1,7 +1,6 @@
 -- The ends at a leaf
-use Rattle.std.proofs.Common.{rules}
 use Rattle.spec_laws.proofs.Common.{Bool, EndAt, FlatConnection, FlatEnd, IsIn, Leaf, List, Member, Some, Tables, [], and_parts, ap, at_place, cond, end_here, ends, ends_at, eq-eqb, eqb-true, from_gather, gather, in_gather}
-use Rattle.spec_laws.proofs.Common.{inl, joins, leaf_ends, leaf_members, length, member_ends, refl, slice_get, subst, sym, system, true, ℕ, ◌&&◌, ◌<◌, ◌==◌, ◌∙◌, ◌∷◌, ◌≡◌}
+use Rattle.spec_laws.proofs.Common.{inl, joins, leaf_ends, leaf_members, length, member_ends, refl, rules, slice_get, subst, sym, system, true, ℕ, ◌&&◌, ◌<◌, ◌==◌, ◌∙◌, ◌∷◌, ◌≡◌}
 use Rattle.spec_laws.proofs.Once.{Once, once_gather, once_if}
 use Rattle.spec_laws.proofs.SlotLists.{some}
 use Rattle.spec_laws.proofs.Lists.{shown_if}
@@ -31,21 +30,7 @@ module _ (cs : List FlatConnection) (leaf : ℕ) where
   of_connection m k c = gather (λ n x. end_here leaf m k n x) c.ends
 
   pub member_end : (m : ℕ) (e : EndAt) → IsIn e (member_ends cs leaf m) → JoinsLeaf cs leaf m e
-  member_end m e i =
-      let a = from_gather (of_connection m) e cs i in
-      let b = from_gather (λ n x. end_here leaf m a.0 n x) e a.1.ends a.3 in
-      let s = here_is leaf m a.0 b.0 b.1 e b.3 in
-      let q = and_parts (b.1.leaf == leaf) (b.1.member == m) s.0 in
-      let P : ℕ → Type 0 = λ z. slice_get cs z ≡ Some a.1 in
-      let Q : ℕ → Type 0 = λ z. slice_get a.1.ends z ≡ Some b.1 in
-      record {
-        connection = a.1;
-        here = subst P (ap (λ (z : EndAt). z.connection) s.1) a.2;
-        end = b.1;
-        stands = subst Q (ap (λ (z : EndAt). z.end) s.1) b.2;
-        leaf_is = eqb-true b.1.leaf leaf q.0;
-        member_is = eqb-true b.1.member m q.1;
-      }
+  member_end m e i = search (rules, from_gather, here_is, and_parts, eqb-true)
 
   pub in_member_ends : (m k n : ℕ) (c : FlatConnection) (x : FlatEnd) → slice_get cs k ≡ Some c → slice_get c.ends n ≡ Some x
       → x.leaf ≡ leaf → x.member ≡ m → IsIn (at k n) (member_ends cs leaf m)

@@ -1,4 +1,5 @@
 -- The ends of leaves, the windows of a domain, and its threads, read both ways.
+use Rattle.std.proofs.Common.{rules}
 use Rattle.spec_laws.proofs.Common.{Bool, Connector, Domain, Flat, FlatEnd, Given, IsFlat, IsIn, Leaf, List, Member, None, Option, Some, [], ap, cond, end_of, end_window, ends, ends_at, ends_in}
 use Rattle.spec_laws.proofs.Common.{false, from_flat_map, from_gather, from_ones, get_ones, in_flat_map, in_gather, inl, is_window, joins, leaf_ends, leaf_threads, leaf_windows, leaves_of, member_ends, members_at}
 use Rattle.spec_laws.proofs.Common.{option_map_or, refl, sees_memory, slice_get, subst, sym, thread, threads_of, true, windows_of, ℕ, ◌∙◌, ◌∷◌, ◌≡◌}
@@ -22,14 +23,7 @@ module _ (g : Given) where
       let m = from_gather (λ m (x : Member). member_ends g.flat.connections leaf m) e ms i in
       let j = member_end g.flat.connections leaf m.0 e m.3 in
       record {
-        at = record {
-          place = e.connection;
-          connection = j.connection;
-          here = j.here;
-          number = e.end;
-          end = j.end;
-          stands = j.stands;
-        };
+        at = search (rules);
         is = refl;
         leaf_is = j.leaf_is;
       }
@@ -50,10 +44,7 @@ module _ (g : Given) where
       → slice_get (members_at g.source leaf.component) x.end.member ≡ Some m → IsIn (joined x) (ends_at (ends g) x.end.leaf)
   in_its_ends x leaf m here there =
       let cs = g.flat.connections in
-      let among : IsIn (joined x) (of_leaf x.end.leaf leaf) =
-      in_gather (λ m (y : Member). member_ends cs x.end.leaf m) (joined x) (members_at g.source leaf.component)
-      x.end.member m there
-      (in_member_ends cs x.end.leaf x.end.member x.place x.number x.connection x.end x.here x.stands refl refl) in
+      let among : IsIn (joined x) (of_leaf x.end.leaf leaf) = search (rules, in_gather, in_member_ends) in
       subst (λ z. IsIn (joined x) (ends_in z)) (sym (get_ones of_leaf g.flat.leaves x.end.leaf leaf here)) among
 
   in_ends : IsFlat g.source g.flat → (x : EndAt g.flat) → IsIn (joined x) (ends_at (ends g) x.end.leaf)

@@ -1,4 +1,5 @@
 -- Objects and capabilities are few.
+use Rattle.std.proofs.Common.{rules}
 use Rattle.spec_laws.proofs.Common.{Cap, Domain, Entry, FrameInfo, FrameOf, IsSized, List, Mapping, None, Object, Option, Part, SlotUse, Some, TableOf, Tables, ThreadPlace, What, all_tables, arch, arith, as_many, cap_count, cap_sum, caps_of}
 use Rattle.spec_laws.proofs.Common.{domain_tables, entry, frame_object, gather_ones, layers, length, length-map, level_of, map, object, object_sum, option_map_or, page_mapping, page_table, pages_at, parts, place, shapes, slice_get, some, spec_of}
 use Rattle.spec_laws.proofs.Common.{sym, tables_at, tcb, threads_at, use_cap, uses_at, ℕ, ◌+◌, ◌∙◌, ◌≡◌, ◌≤◌}
@@ -90,8 +91,7 @@ module _ (t : Tables) where
       let uses = sum_ones (λ d (x : Domain). length (uses_at t d)) t.flat.domains in
       let pages = sum_ones (λ d (x : Domain). length (pages_at t d)) t.flat.domains in
       let both = totals_add (λ d (x : Domain). length (pages_at t d)) (λ d x. length (tables_at t 0 0 d)) t.flat.domains in
-      let all : cap_count (spec_of t) ≡ total (λ (p : Part). caps p.what) (parts t) = sum_map (λ (e : Entry). caps_of e.object)
-      (map (entry t) (parts t)) ∙ total_map (λ (e : Entry). caps_of e.object) (entry t) (parts t) in
+      let all : cap_count (spec_of t) ≡ total (λ (p : Part). caps p.what) (parts t) = search (rules, sum_map, total_map) in
       omega (arith, a, uses, pages, both, all, all_tables_are)
 
   -- ---- within the limits

@@ -1,10 +1,9 @@
 -- What is found at an address of a space is what is mapped there
-use Rattle.std.proofs.Common.{rules}
 use Rattle.spec_laws.proofs.Common.{Aarch64, Arch, Arm11, Buffer, CanMap, Cap, Content, Domain, IsAt, IsIn, IsRegionPage, List, MappedPage, Mapping, None, Object, Page, PagesRise, Region, SectionPage, SectionsStand, Some, Space, Spaces}
 use Rattle.spec_laws.proofs.Common.{Tables, Walk, Window, [], ap, arch, arith, base, begins, below, below_count, drop, each_all, each_in, ends, ends_at, few_at, flat_map, found_before, from_gather, from_map, gather, get_ones, in_append, in_gather}
 use Rattle.spec_laws.proofs.Common.{in_map, in_place, inl, inr, leaf_threads, leaves_of, length, map, mapped_pages, memory_rights, number_shown, objects_from, option_map_or, page, page_mapping, page_of, pages_at, pages_in, pages_of_region, place_of}
 use Rattle.spec_laws.proofs.Common.{range_with_len, refl, region, region_page, region_part, regions, regions_in, rising, root_of, root_span, root_spans, section_page, section_pages, section_part, sections_stand, server, shapes, slice_get, space}
-use Rattle.spec_laws.proofs.Common.{spec_of, subst, suc, sym, system, take, thread, threads_of, windows_of, zero, ℕ, ◌%◌, ◌*◌, ◌++◌, ◌+◌, ◌/◌, ◌<◌, ◌↔◌, ◌∙◌, ◌∷◌, ◌≡◌, ◌≤◌}
+use Rattle.spec_laws.proofs.Common.{rules, spec_of, subst, suc, sym, system, take, thread, threads_of, windows_of, zero, ℕ, ◌%◌, ◌*◌, ◌++◌, ◌+◌, ◌/◌, ◌<◌, ◌↔◌, ◌∙◌, ◌∷◌, ◌≡◌, ◌≤◌}
 use Rattle.vspace_layout.specs.declared.thread.ThreadOf.{ThreadOf}
 use Rattle.vspace_layout.specs.Threads.{domain_threads}
 use Rattle.spec_laws.proofs.Paging.{region_in}
@@ -88,8 +87,7 @@ module _ (t : Tables) (can : CanMap t) (d : ℕ) (x : Domain) (h : slice_get t.f
             let a = from_gather (pages_of_region t.settled (base s) (regions s d)) p (regions s d) j in
             let b = from_map (page_of t.settled (begins t d a.0) a.1) p (range_with_len 0 a.1.pages) a.3 in
             let l = region_below a.0 b.0 a.1 a.2 (below_count a.1.pages b.0 b.1) in
-            let e : begins t d a.0 + 4096 * b.0 ≡ p.at = sym (at_is t.settled a.1.content (begins t d a.0 + 4096 * b.0) b.0)
-            ∙ ap (λ (z : MappedPage). z.at) b.2 in
+            let e : begins t d a.0 + 4096 * b.0 ≡ p.at = search (rules, at_is) in
             let P : ℕ → Type 0 = λ z. z < root_span (shapes (arch t)) in subst P e l
       ]
 
@@ -146,15 +144,7 @@ module _ (t : Tables) (can : CanMap t) (d : ℕ) (x : Domain) (h : slice_get t.f
       (drop (length (tables_of_domain t d)) (objects_from (spec_of t) (root_of t d))) y.0 v cap y.1 maps_below l)
 
   pub found : (v : ℕ) (cap : Cap) → v < root_span (shapes (arch t)) → IsAt (spec_of t) (root_of t d) v cap → Found v cap
-  found v cap l i =
-      let m = (walk v cap l).0 i in let a = from_maps m.0 m.1 in
-      record {
-        number = a.number;
-        shown = a.shown;
-        here = a.here;
-        same = ap (λ (z : Mapping). z.at / 4096) a.is ∙ m.2;
-        is = m.3 ∙ ap (λ (z : Mapping). z.cap) (sym a.is);
-      }
+  found v cap l i = search (rules, walk, from_maps)
 
   pub finds : (v : ℕ) (cap : Cap) → v < root_span (shapes (arch t)) → Found v cap → IsAt (spec_of t) (root_of t d) v cap
   finds v cap l f = (walk v cap l).1 (mapping f.number f.shown, in_maps f.number f.shown f.here, f.same, f.is)

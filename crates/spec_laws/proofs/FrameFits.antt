@@ -1,9 +1,8 @@
 -- Each frame has the address of a page or none, and fills a part of it or nothing.
-use Rattle.std.proofs.Common.{rules}
 use Rattle.spec_laws.proofs.Common.{Content, FlatConnection, FlatEnd, FrameInfo, Given, IsIn, List, MappedPage, Memory, None, Option, Own, Region, Section, SectionPage, Settled, Shown, Some, Window, [], and_from, arith, base, by_address}
 use Rattle.spec_laws.proofs.Common.{device_frames, eq-eqb, fill_from, fill_of, frames, frames_at, from_flat_map, from_gather, from_map, from_range, in_append, in_place, inl, inr, keeps_fill, keeps_frame, le-leb, leaves_of, leb, lt-ltb, map}
 use Rattle.spec_laws.proofs.Common.{mapped_pages, memory_paddr, memory_part, min, nat_lt, option_map, option_map_or, own_frame, own_frames, own_part, page_at, page_count, page_of, pages_of, pages_of_region, range_with_len, refl, region_page}
-use Rattle.spec_laws.proofs.Common.{region_part, regions, register_frames, register_part, registers, section_page, section_pages, section_part, sections_of, shared_frames, shared_part, slice_get, subst, true, ℕ, ⊎_elim, ◌%◌, ◌*◌, ◌+◌, ◌-◌, ◌<◌, ◌≡◌}
+use Rattle.spec_laws.proofs.Common.{region_part, regions, register_frames, register_part, registers, rules, section_page, section_pages, section_part, sections_of, shared_frames, shared_part, slice_get, subst, true, ℕ, ⊎_elim, ◌%◌, ◌*◌, ◌+◌, ◌-◌, ◌<◌, ◌≡◌}
 use Rattle.source_images.specs.ByAddress.{name_of}
 use Rattle.spec_laws.proofs.Lists.{from_if}
 
@@ -13,15 +12,10 @@ Keeps f = keeps_frame f.paddr f.fill ≡ true
 -- ---- own frames
 
 fill_kept : (file : List ℕ) (s : Section) (j at : ℕ) → j < page_count s → keeps_fill (fill_from file s j at) ≡ true
-fill_kept file s j at l =
-    and_from (nat_lt 0 (min (s.size - 4096 * j) 4096)) (leb (0 + min (s.size - 4096 * j) 4096) 4096)
-    (lt-ltb 0 (min (s.size - 4096 * j) 4096) (omega (arith, l))) (le-leb (0 + min (s.size - 4096 * j) 4096) 4096 (omega arith))
+fill_kept file s j at l = search (rules, and_from, lt-ltb, le-leb)
 
 section_kept : (file : List ℕ) (s : Section) (j : ℕ) → j < page_count s → keeps_frame None (fill_of file s j) ≡ true
-section_kept file s j l = by_place s.at where
-  by_place : (o : Option ℕ) → keeps_frame None (option_map (fill_from file s j) o) ≡ true
-  by_place None = refl
-  by_place (Some at) = fill_kept file s j at l
+section_kept file s j l = search (rules, fill_kept)
 
 -- what a page shows
 abbrev IsFilled : Shown → Type 0
@@ -37,12 +31,7 @@ region_filled settled _ at j = refl
 
 module _ (g : Given) where
   section_filled : (leaves : List ℕ) (x : SectionPage) → IsIn x (section_pages g.images leaves) → keeps_frame None x.fill ≡ true
-  section_filled leaves x i =
-      let a = from_flat_map (pages_of g.images) x (by_address (sections_of g.images leaves)) i in
-      let file = name_of g.images a.0.image in
-      let b = from_map (page_at file a.0.section) x (range_with_len 0 (page_count a.0.section)) a.2 in
-      let l = from_range 0 (page_count a.0.section) b.0 b.1 in
-      subst (λ (z : SectionPage). keeps_frame None z.fill ≡ true) b.2 (section_kept file a.0.section b.0 (omega (arith, l)))
+  section_filled leaves x i = search (rules, from_flat_map, from_map, from_range, section_kept)
 
   page_filled : (d : ℕ) (p : MappedPage) → IsIn p (mapped_pages g d) → PageFilled p
   page_filled d p i =
@@ -75,10 +64,7 @@ device_kept leaf at count f aligned i = search (rules, from_map, and_from, eq-eq
 
 registers_kept : (g : Given) (k : ℕ) (c : FlatConnection) (f : FrameInfo) → memory_paddr g.settled k c % 4096 ≡ 0
     → IsIn f (register_frames g.flat g.settled k c) → Keeps f
-registers_kept g k c f aligned i = by_end (registers c) i where
-  by_end : (o : Option FlatEnd) → IsIn f (option_map_or (frames_at g.flat g.settled k c) o []) → Keeps f
-  by_end None i = absurd i
-  by_end (Some e) i = search (rules, from_if, device_kept)
+registers_kept g k c f aligned i = search (rules, from_if, device_kept)
 
 memory_kept : (g : Given) → ((k : ℕ) (c : FlatConnection) → slice_get g.flat.connections k ≡ Some c
     → memory_paddr g.settled k c % 4096 ≡ 0) → (f : FrameInfo) → IsIn f (memory_part g.flat g.settled) → Keeps f

@@ -1,9 +1,8 @@
 -- Own frames of domains stand by domain and address, behind them shared frames, and then registers of devices
-use Rattle.std.proofs.Common.{rules}
 use Rattle.spec_laws.proofs.Common.{AreFramesInOrder, CanMap, Cap, Domain, Fill, FlatConnection, FlatEnd, FrameInfo, FrameOf, IsBefore, IsNamed, IsOwn, IsOwnAt, IsRegisterAt, IsSharedAt, List, MappedPage, Mmio, Option, Own, Owned, Part, SharedMemory}
 use Rattle.spec_laws.proofs.Common.{Some, Tables, [], ap, arith, at_place, before, below, cases_lt, false, frame_owner, frame_parts, get_ones, get_or_from_slice_get, in_gather, in_together, inl, inr, is_shared, leads_to, length, mapped_pages}
 use Rattle.spec_laws.proofs.Common.{memory_number, name_at, number_shown, numbered, object_at, objects_stand, option_map_or, own_frames, own_number, own_part, own_port, owned, part, place, position-Some, refl, register_frames, registers}
-use Rattle.spec_laws.proofs.Common.{registers_in, root_of, same_port, sections, shared_frames, shared_part, slice_get, spec_of, subst, sym, system, true, true≢false, ℕ, ◌+◌, ◌/◌, ◌<◌, ◌∙◌, ◌∷◌, ◌≡◌, ◌≤◌, ◌⊎◌, IsThere}
+use Rattle.spec_laws.proofs.Common.{registers_in, root_of, rules, same_port, sections, shared_frames, shared_part, slice_get, spec_of, subst, sym, system, true, true≢false, ℕ, ◌+◌, ◌/◌, ◌<◌, ◌∙◌, ◌∷◌, ◌≡◌, ◌≤◌, ◌⊎◌, IsThere}
 use Rattle.cap_model.specs.declared.object.Object.TheVariants as objects
 use Rattle.system_spec.specs.declared.series.Series.TheVariants as series
 use Rattle.spec_laws.proofs.Whose.{object_stands, of_frame}
@@ -21,12 +20,7 @@ first_least : (t : Tables) (k : ℕ) (c : FlatConnection) (e : FlatEnd) → slic
     → registers c ≡ Some e → (f : FirstTo t e) → f.number ≤ k
 first_least t k c e h r f =
     let s = position-Some (leads_to e) t.flat.connections f.number c f.first in
-    elim (cases_lt k f.number) [
-      | inl l ↦
-          let yes : leads_to e c ≡ true = ap (λ o. option_map_or (same_port e) o false) r ∙ own_port e in
-          absurd (true≢false (sym yes ∙ ap (leads_to e) (sym (get_or_from_slice_get t.flat.connections k c c h)) ∙ s.2 k l))
-      | inr l ↦ omega (arith, l)
-    ]
+    search (rules, cases_lt, own_port, get_or_from_slice_get)
 
 module _ (t : Tables) (can : CanMap t) where
   abbrev pages : ℕ → List MappedPage
@@ -57,8 +51,7 @@ module _ (t : Tables) (can : CanMap t) where
       let f = found t can d w.leaves w.here v w.cap w.within w.mapped in
       let P : ℕ → Type 0 = λ z. IsOwn t (spec_of t) (root_of t) z in
       let fill = no_memory t can d w.leaves w.here v w.cap f (subst P (sym w.names) w.own) in
-      let is : w.cap.object ≡ frames_from t + own_number (system t) d f.number =
-      ap (λ (z : Cap). z.object) f.is ∙ ap (λ z. frames_from t + number_shown (system t) d f.number z) fill.1 in
+      let is : w.cap.object ≡ frames_from t + own_number (system t) d f.number = search (rules, frames_from) in
       record {
         leaves = w.leaves;
         here = w.here;
@@ -82,10 +75,7 @@ module _ (t : Tables) (can : CanMap t) where
           | inl l ↦
               let next = behind (own_of d) (pages d) a.number b.number a.page a.stands l in
               omega (arith, next, one_own d a.page a.fill a.shown, a.is, b.is)
-          | inr l ↦
-              let le = not_above (λ (z : MappedPage). z.at) (pages d) b.number a.number b.page a.page
-              (rise t can d a.leaves a.here).rise b.stands a.stands (omega (arith, l)) in
-              absurd (omega (arith, le, a.same, b.same, r.1))
+          | inr l ↦ search (rules, not_above, rise)
         ]
 
   own_below : (d v m : ℕ) → OwnNumber d v m → m < frames_from t + own
@@ -135,8 +125,7 @@ module _ (t : Tables) (can : CanMap t) where
         by_place is (MemoryPlace.at_device e r f n a) =
             let le = w.first f.number f.connection f.here (one_device t w.connection e r f) in
             let same : f.number ≡ k = omega (arith, le, first_least t k w.connection e w.here r f) in
-            let number : FrameNumber laid behind_shared f.number j at =
-            record { connection = f.connection; here = f.here; is = omega (arith, is, n); low = a } in
+            let number : FrameNumber laid behind_shared f.number j at = search (rules) in
             subst (λ z. FrameNumber laid behind_shared z j at) same number
 
   in_part : (f : ℕ → FlatConnection → List FrameInfo) (front k i m l j n : ℕ) → FrameNumber f front k i m

@@ -1,10 +1,9 @@
 -- The frame of each page that is mapped
-use Rattle.std.proofs.Common.{rules}
 use Rattle.spec_laws.proofs.Common.{Bool, CanMap, Connector, Content, Domain, EndAt, EndSetting, Endpoint, FlatConnection, FlatEnd, FrameInfo, FrameOf, IsIn, IsRegionPage, List, MappedPage, Memory, Mmio, None, OneDevice, Option, Own, Region, Role}
 use Rattle.spec_laws.proofs.Common.{SharedMemory, Shown, Some, Spaces, Tables, Window, [], and_parts, ap, arith, base, begins, below, below_count, eqb-true, false, first_to, frame, frame_object, frames, frames_stand, from_gather, from_map, get_or}
 use Rattle.spec_laws.proofs.Common.{in_append, in_place, inl, inr, is_shared, is_window, leads_to, leaves_of, mapped_pages, memory_number, memory_paddr, memory_pages, number_shown, object_at, option_map_or, own_port, page_of, pages_of_region, place}
 use Rattle.spec_laws.proofs.Common.{position, position-Some, position_found, range_with_len, refl, region_page, region_part, regions, registers, same_port, section_page, section_pages, section_part, slice_get, slice_get-get_or, spec_of, subst, sym}
-use Rattle.spec_laws.proofs.Common.{system, to_place, true, ℕ, ◌*◌, ◌+◌, ◌/◌, ◌<◌, ◌==◌, ◌∙◌, ◌∷◌, ◌≡◌, ◌⊎◌, object_there}
+use Rattle.spec_laws.proofs.Common.{rules, system, to_place, true, ℕ, ◌*◌, ◌+◌, ◌/◌, ◌<◌, ◌==◌, ◌∙◌, ◌∷◌, ◌≡◌, ◌⊎◌, object_there}
 use Rattle.system_spec.specs.declared.series.Series.TheVariants as series
 use Rattle.vspace_layout.specs.declared.owner.Owner.TheVariants.{OfConnection, OfDomain, OfLeaf}
 use Rattle.spec_laws.proofs.Paging.{window_of}
@@ -42,16 +41,7 @@ first_is t k c e h r =
     let hit = position_found (leads_to e) cs k c h (ap (λ o. option_map_or (same_port e) o false) r ∙ own_port e) in
     let s = position-Some (leads_to e) cs hit.0 c hit.1 in let d = get_or cs hit.0 c in
     let p = of_port (registers d) e s.1 in
-    record {
-      number = hit.0;
-      first = hit.1;
-      connection = d;
-      here = slice_get-get_or cs hit.0 c s.0;
-      end = p.0;
-      leads = p.1;
-      leaf = p.2;
-      member = p.3;
-    }
+    search (rules, slice_get-get_or)
 
 -- a connection and the first to its registers are of one device
 pub one_device : (t : Tables) (c : FlatConnection) (e : FlatEnd) → registers c ≡ Some e → (f : FirstTo t e)
@@ -75,10 +65,7 @@ pages_by o = option_map_or (λ (s : EndSetting). s.bytes / 4096) o 0
 -- where registers have a page, there is their end
 pub registers_there : (t : Tables) (k j : ℕ) (c : FlatConnection) → c.connector ≡ Mmio → j < memory_pages t.settled k c
     → (e : FlatEnd) × (registers c ≡ Some e)
-registers_there t k j c m l = by_place (to_place c.ends) refl where
-  by_place : (o : Option ℕ) → to_place c.ends ≡ o → (e : FlatEnd) × (registers c ≡ Some e)
-  by_place None g = grind (arith)
-  by_place (Some n) g = search (rules, place_get)
+registers_there t k j c m l = search (rules, place_get)
 
 -- the frame of page j of the memory of connection k
 pub data IsMemoryFrame (t : Tables) (k j : ℕ) (c : FlatConnection) (info : FrameInfo) : Type 0 where
@@ -120,12 +107,7 @@ pub memory_of : (t : Tables) (d : ℕ) (r : Region) (e : EndAt) → IsIn r (regi
     → MemoryOf t e r
 memory_of t d r e i c =
     let w = window_of t d r e i c in let v = seen (system t) d e w.0 in
-    record {
-      connection = v.connection;
-      here = v.there;
-      kind = has_memory v.connection.connector v.end.role v.window;
-      pages = ap (λ (z : Region). z.pages) (sym w.1) ∙ seen_pages (system t) e v;
-    }
+    search (rules, has_memory, seen_pages)
 
 -- the page of a window that shows page j of the memory of connection k
 pub record ShowsAt (t : Tables) (d at k j : ℕ) : Type 0 where
@@ -156,18 +138,7 @@ shows_at t d k j p e i =
           let f : Memory w.connection i ≡ Memory k j = ap (λ (z : MappedPage). z.shown) q ∙ e in
           let number : w.connection ≡ k = cc in
           let page : i ≡ j = cc in
-          record {
-            number = n;
-            region = r;
-            e = w;
-            content = c;
-            of_connection = number;
-            page = record {
-              here = h;
-              within = subst (λ z. z < r.pages) page l;
-              at = ap (λ (z : MappedPage). z.at) (sym q) ∙ ap (λ z. begins t d n + 4096 * z) page;
-            };
-          }
+          search (rules)
       by_content n r i _ c h l q = let f : Own None ≡ Memory k j = ap (λ (z : MappedPage). z.shown) q ∙ e in cc
 
 -- ---- the frame of a page
@@ -181,8 +152,7 @@ frame_by t can d x h n p e (Memory k j) f =
     let s = shows_at t d k j p f (in_place p (mapped_pages (system t) d) n e) in
     let m = memory_of t d s.region s.e (in_place s.region (regions (system t) d) s.number s.page.here) s.content in
     let P : ℕ → Type 0 = λ z. slice_get t.flat.connections z ≡ Some m.connection in
-    let pages : s.region.pages ≡ memory_pages t.settled k m.connection = m.pages ∙ ap (λ z. memory_pages t.settled z m.connection)
-    s.of_connection in
+    let pages : s.region.pages ≡ memory_pages t.settled k m.connection = search (rules) in
     let g = memory_frame t can k j m.connection (subst P s.of_connection m.here) m.kind (omega (arith, pages, s.page.within)) in
     (g.0, ap (λ z. slice_get (frames (system t)) (number_shown (system t) d n z)) f ∙ g.1)
 

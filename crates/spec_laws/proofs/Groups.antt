@@ -1,7 +1,6 @@
 -- The leaves of a domain: each once, and one at least.
-use Rattle.std.proofs.Common.{rules}
 use Rattle.spec_laws.proofs.Common.{Bool, Domain, IsIn, List, Some, Source, [], arith, domains, enumerate_from, filter, flat_domain, flat_of, from_get_map, hierarchy_of, in_get, leaves, length, map, place_in}
-use Rattle.spec_laws.proofs.Common.{slice_get, subst, ℕ, ◌+◌, ◌<◌, ◌∷◌, ◌≡◌, ◌≤◌}
+use Rattle.spec_laws.proofs.Common.{rules, slice_get, subst, ℕ, ◌+◌, ◌<◌, ◌∷◌, ◌≡◌, ◌≤◌}
 use Rattle.adl_hierarchy.proofs.DomainNames.{domains_are, leaves_of_domain}
 
 -- the numbers of the elements that pass, where the first has this one

@@ -1,8 +1,7 @@
 -- Each leaf of software has an image: its component stands in the source, and types list the component's name.
-use Rattle.std.proofs.Common.{rules}
 use Rattle.spec_laws.proofs.Common.{AreImagesOf, AreNamesSound, Body, Bool, Component, Contents, Ended, HaveImages, Images, IsIn, Item, ItemAt, Leaf, List, Name, None, Option, Some, Source, SourceFile, ap, arith, as_component, body_number, bytes_eq}
 use Rattle.spec_laws.proofs.Common.{bytes_eq-Decides, component_of, components, cond, enumerate_from, filter_map, flat_of, from_enumerate, from_filter_map, from_flat_map, from_get_map, from_map, get_map, hierarchy_of, image_number, in_filter_map}
-use Rattle.spec_laws.proofs.Common.{in_get, items_in, items_of, leaf_component, leaf_of, leaves, option_and_then, position, position_found, refl, slice_get, subst, sym, type_number, type_of, types, unwrap_or, ℕ, ◌∙◌, ◌≡◌}
+use Rattle.spec_laws.proofs.Common.{in_get, items_in, items_of, leaf_component, leaf_of, leaves, option_and_then, position, position_found, refl, rules, slice_get, subst, sym, type_number, type_of, types, unwrap_or, ℕ, ◌∙◌, ◌≡◌}
 use Rattle.adl_ast.specs.declared.file.Item.TheVariants as items
 use Rattle.adl_hierarchy.proofs.Places.{firsts_are}
 use Rattle.cam_base.proofs.Gathered.{place_of as listed_at}
@@ -13,28 +12,10 @@ use Rattle.spec_laws.proofs.StackPages.{soft_leaf}
 
 -- where an item stands, its component is named
 item_there : (s : Source) (x : ItemAt × Item) → IsIn x (items_of s) → component_name s x.0 ≡ component_of x.1
-item_there s x i =
-    let f = from_flat_map items_in x (enumerate_from 0 s.files) i in
-    let file = from_enumerate 0 s.files f.0 f.1 in
-    let e = from_map (λ (e : ℕ × Ended). let y : ItemAt × Item = (record { file = f.0.0; item = e.0 }, e.1.item) in
-    y) x (enumerate_from 0 f.0.1.tree.items) f.2 in let item = from_enumerate 0 f.0.1.tree.items e.0 e.1 in let of_item : Ended
-    → Option Name = λ z. component_of z.item in let of_file : ℕ → SourceFile → Option Name =
-    λ n z. option_and_then of_item (slice_get z.tree.items n) in let a : f.0.0 ≡ file.0 = file.1 ∙ omega arith in
-    let b : e.0.0 ≡ item.0 = item.1 ∙ omega arith in let here : component_name s (record {
-      file = f.0.0;
-      item = e.0.0;
-    }) ≡ component_of e.0.1.item = ap (λ n. option_and_then (of_file e.0.0) (slice_get s.files n)) a
-    ∙ ap (option_and_then (of_file e.0.0)) file.2 ∙ ap (λ n. option_and_then of_item (slice_get f.0.1.tree.items n)) b
-    ∙ ap (option_and_then of_item) item.2 in subst (λ (y : ItemAt × Item). component_name s y.0 ≡ component_of y.1) e.2 here
+item_there s x i = search (rules, from_flat_map, from_enumerate, from_map)
 
 name_there : (s : Source) (c : ItemAt × Component) → IsIn c (components s) → component_name s c.0 ≡ Some c.1.id.name
-name_there s c i =
-    let x = from_filter_map as_component c (items_of s) i in
-    by_item x.0 x.2 (item_there s x.0 x.1) where
-      by_item : (y : ItemAt × Item) → as_component y ≡ Some c → component_name s y.0 ≡ component_of y.1
-          → component_name s c.0 ≡ Some c.1.id.name
-      by_item (at, items.Component d) t m = search (rules)
-      by_item (at, _) t m = cc
+name_there s c i = search (rules, from_filter_map, item_there)
 
 leaf_named : (s : Source) → AreNamesSound s → (l : ℕ) (leaf : Leaf) → slice_get (flat_of s).leaves l ≡ Some leaf
     → (n : Name) × (component_name s leaf.component ≡ Some n)

@@ -1,4 +1,5 @@
 -- The images of a system, put together
+use Rattle.std.proofs.Common.{rules}
 use Rattle.spec_laws.proofs.Common.{AreImages, CanMap, CanSlot, List, Tables, [], ap, entry, labels_of, length, map, map_lines, part_label, parts, refl, root_of, spec_of, suc, ◌∷◌, ◌≡◌}
 use Rattle.spec_laws.proofs.AllFrames.{all_frames}
 use Rattle.spec_laws.proofs.DomainLines.{domains_are}
@@ -32,12 +33,7 @@ images_are t can slotted = record {
   regions = regions_are t can;
   tables = tables_are t can;
   frames = record { memory = memory_frames t can; own = own_frames_are t can; all = all_frames t can };
-  labels_are = record {
-    as_many = as_many (part_label t) (entry t) (parts t);
-    of_domains = domain_labels t can slotted;
-    of_joints = record { endpoints = endpoints_are t can; notifications = notifications_are t can; irqs = irqs_are t can };
-    of_frames = frame_labels t can;
-  };
+  labels_are = search (rules, as_many, domain_labels, endpoints_are, notifications_are, irqs_are, frame_labels);
   tables_ordered = tables_in_order t can;
   frames_ordered = frames_in_order t can;
 }

@@ -1,9 +1,8 @@
 -- An interrupt has an end at a device, and no two interrupts have one number.
-use Rattle.std.proofs.Common.{rules}
 use Rattle.spec_laws.proofs.Common.{AreDotted, AreNamesSound, AreSettingsSound, FlatConnection, FlatEnd, Found, From, Interrupt, IsIn, List, None, Option, Role, Some, Source, To, [], alone, and_from, ap, arith, bad_at_end, bad_unless, bad_value}
 use Rattle.spec_laws.proofs.Common.{cond, cond_both, count_by, counted, device_place, end_rule, ends_typed, eq-eqb, first_type_fault, flat_of, found_on, founds_in, get_map, hierarchy_of, in_filter_map, in_flat_map, in_map, in_place, irq_in}
 use Rattle.spec_laws.proofs.Common.{irq_number, irq_of, is_device_event, is_kind_of, is_some, is_there, le-leb, leb-true, leb_tells, map, map-append, meaning, missing_at, nat_le, none_in, none_right, option_and_then, option_map_or, or_right}
-use Rattle.spec_laws.proofs.Common.{place_of, position_found, refl, setting_of, settled_of, slice_get, so, some_end, subst, sum_by-append, sum_by-cons, sym, true, unwrap_or, ℕ, ◌+◌, ◌==◌, ◌∙◌, ◌∷◌, ◌≡◌, ◌≤◌}
+use Rattle.spec_laws.proofs.Common.{place_of, position_found, refl, rules, setting_of, settled_of, slice_get, so, some_end, subst, sum_by-append, sum_by-cons, sym, true, unwrap_or, ℕ, ◌+◌, ◌==◌, ◌∙◌, ◌∷◌, ◌≡◌, ◌≤◌}
 use Rattle.std.specs.Prelude.{option_map}
 use Rattle.adl_hierarchy.proofs.Exports.{not_so}
 use Rattle.adl_meaning.specs.Values.{Given}
@@ -100,19 +99,9 @@ module _ (s : Source) (sound : AreNamesSound s) (dotted : AreDotted (hierarchy_o
       let d = device_there s sound dotted types k c at int in
       let f = end_found s (ends_typed s sound dotted types) settings k d.0 c d.1 at d.3 in
       let es = found_on (hierarchy_of s) s (flat_of s) c in
-      let event : is_device_event f.found.joint ≡ true =
-      subst (λ r. is_kind_of (end_rule Interrupt r) (record {
-        interface = f.found.joint.interface;
-        hardware = f.found.joint.leaf.hardware;
-      }) ≡ true) (from_role d.1.role (ap (λ z. (end_rule z d.1.role).hardware) (sym int) ∙ d.4))
-      (subst (λ x. is_kind_of (end_rule x d.1.role) (record {
-        interface = f.found.joint.interface;
-        hardware = f.found.joint.leaf.hardware;
-      }) ≡ true) int f.kind) in
+      let event : is_device_event f.found.joint ≡ true = search (rules, from_role) in
       let n = settled_irq f.found event f.good f.present in
-      let is : irq_number (settled_of s) k c ≡ n.irq.number =
-      ap (λ o. option_map_or (λ z. z.irq) (option_and_then (setting_of (settled_of s) k) o) 0) d.2
-      ∙ ap (λ o. option_map_or (λ z. z.irq) o 0) f.setting ∙ ap (λ o. unwrap_or o 0) n.meant in
+      let is : irq_number (settled_of s) k c ≡ n.irq.number = search (rules) in
       record {
         ends = es;
         here = get_map (found_on (hierarchy_of s) s (flat_of s)) (flat_of s).connections k c at;

@@ -1,4 +1,5 @@
 -- The labels of interrupts
+use Rattle.std.proofs.Common.{rules}
 use Rattle.spec_laws.proofs.Common.{CanMap, Connector, FlatConnection, IrqOf, IsIn, IsIrqOf, IsOf, NotificationOf, OfConnection, Some, Tables, ap, arith, below, in_place, inl, irq_owner, labels_of, name_at, notification_by, object, objects_stand}
 use Rattle.spec_laws.proofs.Common.{option_map_or, part, parts, parts_are_there, place, place_is, refl, slice_get, spec_of, subst, sym, ℕ, ◌∙◌, ◌≡◌, there, IsThere}
 use Rattle.cap_model.specs.declared.object.Object.TheVariants as objects
@@ -16,8 +17,7 @@ module _ (t : Tables) where
       let i = in_place p.0 (parts t) at p.1 in let here = there t p.0 i in
       let q = of_interrupt p.0.what (sym (classed t p.0.what here) ∙ ap class_of p.2) in let j = q.0 in
       let u : IsThere t (IrqOf j) = subst (λ z. IsThere t z) q.1 here in
-      let is : object t (IrqOf j) ≡ objects.Irq (Some w.notification) =
-      subst (λ z. object t z ≡ objects.Irq (Some w.notification)) q.1 p.2 in
+      let is : object t (IrqOf j) ≡ objects.Irq (Some w.notification) = search (rules) in
       let holds : w.notification ≡ place t (NotificationOf j) = cc in
       let P : Connector → Type 0 = λ m. IsIn (part series.Ntfn j (OfConnection j) (NotificationOf j)) (notification_by j m) in
       let n = part series.Ntfn j (OfConnection j) (NotificationOf j) in

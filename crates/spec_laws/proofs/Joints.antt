@@ -1,4 +1,5 @@
 -- The labels of endpoints and notifications
+use Rattle.std.proofs.Common.{rules}
 use Rattle.spec_laws.proofs.Common.{CanMap, Directory, Entry, FlatConnection, Interrupt, IsIn, IsNamed, IsOf, Level, List, None, Notification, OfConnection, Option, Part, Rpc, Series, Some, Tables, [], ap, arith, below, endpoint, entry, entry_name}
 use Rattle.spec_laws.proofs.Common.{from_get_map, in_place, labels_of, length, level_series, map, name_of, notification, part_name, parts, place_is, refl, slice_get, spec_of, subst, sym, ℕ, ◌<◌, ◌∙◌, ◌∷◌, ◌≡◌, ◌⊎◌, true, false, true≢false, Bool}
 use Rattle.system_spec.specs.declared.series.Series.TheVariants as series
@@ -32,25 +33,12 @@ module _ (t : Tables) where
   Fits p = is_joint p.series ≡ true → IsNumbered p
 
   fits : (p : Part) → IsIn p (parts t) → Fits p
-  fits = of_every t Fits (record {
-    cnode = λ d x e f. absurd (true≢false (sym f));
-    thread = λ n d i x e f. absurd (true≢false (sym f));
-    endpoint = λ k c h e f. record { is = refl; low = below t.flat.connections k c h };
-    notification = λ k c h e f. record { is = refl; low = below t.flat.connections k c h };
-    lock = λ n d i leaf m x h s is f. absurd (true≢false (sym f));
-    irq = λ n k c h e is f. absurd (true≢false (sym f));
-    table = λ n d j o e f. absurd (true≢false (sym f ∙ no_level (level_of o)));
-    frame = λ n x e f. absurd (true≢false (sym f));
-  })
+  fits = of_every t Fits (search (rules, below, no_level))
 
   -- the part of a name
   named_part : (at n : ℕ) (s : Series) → (0 < first (name_of s n)) → IsNamed (spec_of t) at s n
       → (p : Part) × (slice_get (parts t) at ≡ Some p) × (part_name p ≡ name_of s n)
-  named_part at n s l h = by_entry (slice_get (map (entry t) (parts t)) at) refl h where
-    by_entry : (o : Option Entry) → slice_get (map (entry t) (parts t)) at ≡ o → entry_name o ≡ name_of s n
-        → (p : Part) × (slice_get (parts t) at ≡ Some p) × (part_name p ≡ name_of s n)
-    by_entry None g k = let z : 0 ≡ first (name_of s n) = ap first k in absurd (omega (arith, l, z))
-    by_entry (Some e) g k = let p = from_get_map (entry t) (parts t) at e g in (p.0, p.1, ap (λ (z : Entry). z.name) p.2 ∙ k)
+  named_part at n s l h = search (rules, from_get_map)
 
   labelled : (at : ℕ) (p : Part) → slice_get (parts t) at ≡ Some p → IsOf t (labels_of t) at p.owner
   labelled at p e = let P : ℕ → Type 0 = λ z. IsOf t (labels_of t) z p.owner in

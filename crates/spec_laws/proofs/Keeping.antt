@@ -1,8 +1,7 @@
 -- The spec of laid-out tables keeps what every spec keeps.
-use Rattle.std.proofs.Common.{rules}
 use Rattle.spec_laws.proofs.Common.{Bool, CNodeOf, Domain, EndpointOf, Entry, FrameOf, IrqOf, IsFit, IsIn, IsKept, IsThere, List, LockOf, None, NotificationOf, Option, Page, Part, RW, Some, TableOf, Tables, ThreadOf, ThreadPlace, What, [], and_from}
 use Rattle.spec_laws.proofs.Common.{ap, arith, buffer_cap, cap, entry, find, fits_as, frame_object, if_any, in_place, inr, is_at, is_space_root, keeps, keeps_tcb, le-leb, leb, length-map, list_all, list_all-map, object}
-use Rattle.spec_laws.proofs.Common.{option_map_or, pages_at, parts, place, priority, refl, slice_get, spec_of, tcb, there, threads_at, true, ℕ, ◌&&◌, ◌==◌, ◌∙◌, ◌∷◌, ◌≡◌}
+use Rattle.spec_laws.proofs.Common.{option_map_or, pages_at, parts, place, priority, refl, rules, slice_get, spec_of, tcb, there, threads_at, true, ℕ, ◌&&◌, ◌==◌, ◌∙◌, ◌∷◌, ◌≡◌}
 use Rattle.std.specs.Option.{option_map}
 use Rattle.cap_model.specs.declared.kind.Kind.TheVariants as kinds
 use Rattle.cap_model.specs.declared.object.Object.TheVariants as objects
@@ -38,9 +37,7 @@ module _ (t : Tables) (fit : IsFit t) where
         let space = and_from (is_space_root (spec_of t) (place t (TableOf d 0))) (if_any (fits_as (spec_of t) kinds.Frame)
         (buffer_cap t d y.buffer)) (root_kept t fit d x here m.0 m.1)
         (buffer_kept (find test (pages_at t d)) (λ p e. found_in test (pages_at t d) p e)) in
-        and_from (leb (priority t y.leaf) 255 && is_at (spec_of t) kinds.CNode (place t (CNodeOf d)))
-        (is_space_root (spec_of t) (place t (TableOf d 0)) && if_any (fits_as (spec_of t) kinds.Frame)
-        (buffer_cap t d y.buffer)) prio space
+        search (rules, and_from)
 
     thread_kept : (i : ℕ) (y : ThreadPlace) → slice_get (threads_at t d) i ≡ Some y → Kept (ThreadOf d i)
     thread_kept i y s = search (rules, tcb_kept, in_place)

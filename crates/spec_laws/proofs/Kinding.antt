@@ -1,4 +1,5 @@
 -- Each object is of the kind that its name says
+use Rattle.std.proofs.Common.{rules}
 use Rattle.spec_laws.proofs.Common.{Directory, Each, FrameOf, IsIn, Layer, Level, List, Mapping, Object, Part, Some, TableOf, Tables, [], addresses_same, ap, arch, each_append, endpoint, entry, entry_name, frame_object, get_map, in_place, irq}
 use Rattle.spec_laws.proofs.Common.{kind_of_object, layers, level_series, levels_of, levels_of_addresses, lock, map, notification, object, option_map_or, page_mapping, pages_at, parts, place, refl, same_Some, shapes, sizes, slice_get, spec_of, subst}
 use Rattle.spec_laws.proofs.Common.{suc, sym, table_of, tables_at, tcb, zero, ℕ, ◌+◌, ◌∙◌, ◌∷◌, ◌≡◌}
@@ -38,9 +39,7 @@ module _ (t : Tables) where
   levels_same first frames a b d j o p e f =
       let ms : ℕ → List Mapping = λ n. map (page_mapping n) (pages_at t d) in
       let same : map level_of (tables_at t first frames d) ≡ map level_of (tables_at t a b d) =
-      levels_of_addresses (arch t) first (ms frames)
-      ∙ ap (λ z. levels_of (shapes (arch t)) z) (addresses_same frames (pages_at t d) ∙ sym (addresses_same b (pages_at t d)))
-      ∙ sym (levels_of_addresses (arch t) a (ms b)) in
+      search (rules, levels_of_addresses, addresses_same) in
       same_Some (level_of o) (level_of p) (sym (get_map level_of (tables_at t first frames d) j o e)
       ∙ ap (λ z. slice_get z j) same ∙ get_map level_of (tables_at t a b d) j p f)
 
@@ -49,9 +48,7 @@ module _ (t : Tables) where
   table_kind d j o e =
       let first = place t (TableOf d 0) in let frames = place t (FrameOf 0) in
       let m = moved t 0 0 first frames d j o e in
-      ap kind_of_object (object_is t d j m.0 m.1) ∙ each_at OfLevel (standing t d) j m.0
-      (all_of_level first 0 (layers (shapes (arch t)) (map (page_mapping frames) (pages_at t d)))) m.1
-      ∙ ap (λ l. kinds.Pages l) (levels_same first frames 0 0 d j m.0 o m.1 e) ∙ series_kind (level_of o)
+      search (rules, object_is, each_at, standing, all_of_level, levels_same, series_kind)
 
   -- ---- parts
 
@@ -59,16 +56,7 @@ module _ (t : Tables) where
   Kinded p = kind_of_object (object t p.what) ≡ kind_of p.series
 
   kinded : (p : Part) → IsIn p (parts t) → Kinded p
-  kinded = of_every t Kinded (record {
-    cnode = λ d x e. refl;
-    thread = λ n d i x e. ap (λ o. kind_of_object (option_map_or (λ z. objects.Thread (tcb t d z)) o objects.Endpoint)) e;
-    endpoint = λ k c h e. refl;
-    notification = λ k c h e. refl;
-    lock = λ n d i leaf m x h s is. refl;
-    irq = λ n k c h e is. refl;
-    table = λ n d j o e. table_kind d j o e;
-    frame = λ f x e. ap (λ o. kind_of_object (option_map_or frame_object o objects.Endpoint)) e;
-  })
+  kinded = of_every t Kinded (search (rules, table_kind))
 
   pub kinds_are : SayKinds (spec_of t)
   kinds_are at n s o name is =

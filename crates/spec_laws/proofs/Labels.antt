@@ -1,8 +1,7 @@
 -- The labels of objects
-use Rattle.std.proofs.Common.{rules}
 use Rattle.spec_laws.proofs.Common.{AreDomainLabels, AreFrameLabels, CNodeOf, CanMap, CanSlot, Cap, Domain, EndAt, FlatConnection, FlatEnd, FrameInfo, FrameOf, IsAt, IsIn, IsNamed, IsOf, IsOwn, Leaf, List, LockOf, Mmio, None, Option, Owner, Part}
 use Rattle.spec_laws.proofs.Common.{SharedMemory, ShowsMemory, Some, Spaces, Tables, ThreadLine, ap, arch, arith, below, frame, frame_owner, frames_stand, get_map, labels_of, map_lines, memory_number, number_shown, object_at, part, part_label, parts}
-use Rattle.spec_laws.proofs.Common.{place, registers, registers_in, root_of, root_span, shapes, slice_get, spec_of, stands, subst, sym, system, ℕ, ◌+◌, ◌<◌, ◌∙◌, ◌≡◌, IsThere, What, has_part, number_of, option_map_or, thread_place}
+use Rattle.spec_laws.proofs.Common.{place, registers, registers_in, root_of, root_span, rules, shapes, slice_get, spec_of, stands, subst, sym, system, ℕ, ◌+◌, ◌<◌, ◌∙◌, ◌≡◌, IsThere, What, has_part, number_of, option_map_or, thread_place}
 use Rattle.arch_policy.specs.declared.owner.Owner.TheVariants as owners
 use Rattle.cap_model.specs.declared.object.Object.TheVariants as objects
 use Rattle.system_spec.specs.declared.part.What.TheVariants.{ThreadOf as OfThread}
@@ -28,10 +27,7 @@ moved t m n o e h = subst (λ z. IsOf t (labels_of t) z o) e h
 
 -- what there is has its owner's label
 pub label_at : (t : Tables) (w : What) → IsThere t w → IsOf t (labels_of t) (place t w) (owner_of t w)
-label_at t w h =
-    let p = has_part t w h in
-    subst (λ z. IsOf t (labels_of t) (place t z) (owner_of t z)) p.2
-    (subst (λ o. IsOf t (labels_of t) (place t p.0.what) o) (whose t p.0 p.1) (label_is t p.0 p.1))
+label_at t w h = search (rules, has_part, owner_of, whose, label_is)
 
 frame_label : (t : Tables) (f : ℕ) (info : FrameInfo) → slice_get t.spaces.frames f ≡ Some info
     → IsOf t (labels_of t) (place t (FrameOf f)) (frame_owner info.owner)

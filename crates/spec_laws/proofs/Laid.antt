@@ -1,10 +1,9 @@
 -- What is laid out is written in numbers of 64 bits and in plain texts.
-use Rattle.std.proofs.Common.{rules}
 use Rattle.spec_laws.proofs.Common.{Aarch64, Arch, Arm11, CNodeOf, Cap, Connector, Domain, Fill, FlatEnd, FrameInfo, FrameOf, From, IsFillWritten, IsFit, IsFrameWritten, IsIn, IsThere, IsThreadWritten, IsWritten, Layer, List, Mapping, None, Object}
 use Rattle.spec_laws.proofs.Common.{OfEnd, Option, Part, RW, Role, Series, Shape, SlotUse, Some, TableOf, Tables, ThreadOf, ThreadPlace, To, What, [], and_from, and_parts, ap, arch, are_slots, arith, cap, decimal, end_of, eqb-true, false}
 use Rattle.spec_laws.proofs.Common.{false_from_ne_true, frame_object, from_gather, from_map, if_any, in_place, inl, inr, is_fill, is_laid, is_name, is_name-numbered, is_number, is_plain, is_tcb, is_word, is_word_byte, layers, leaf_name, length}
 use Rattle.spec_laws.proofs.Common.{length-append, length-decimal-le, list_all, lt-ltb, map, name_short, not, not_from_false, object, option_map_or, part_name, place, prefix, refl, role_badge, same_Some, settled_badge, shape_of_layer, shapes}
-use Rattle.spec_laws.proofs.Common.{slice_get, slice_get_within, slot_of, slots_at, slots_below, slots_lead, subst, sym, table_of, tcb, threads_at, true, true≢false, use_cap, uses_at, ℕ, ◌&&◌, ◌++◌, ◌+◌, ◌<◌, ◌==◌, ◌^◌, ◌∙◌, ◌∷◌, ◌≡◌, ◌≤◌}
+use Rattle.spec_laws.proofs.Common.{rules, slice_get, slice_get_within, slot_of, slots_at, slots_below, slots_lead, subst, sym, table_of, tcb, threads_at, true, true≢false, use_cap, uses_at, ℕ, ◌&&◌, ◌++◌, ◌+◌, ◌<◌, ◌==◌, ◌^◌, ◌∙◌, ◌∷◌, ◌≡◌, ◌≤◌}
 use Rattle.std.specs.Option.{option_map}
 use Rattle.cap_model.specs.declared.object.Object.TheVariants as objects
 use Rattle.capdl_text.specs.TokenFaults.{is_left_out_word}
@@ -81,28 +80,14 @@ module _ (t : Tables) (fit : IsFit t) (written : IsWritten t) where
   badge_few : (k m : ℕ) (o : Option (Connector × FlatEnd))
       → option_map_or (λ (e : Connector × FlatEnd). role_badge e.1.role (settled_badge t.settled k m)) o 0 < 2 ^ 64
   badge_few k m None = omega arith
-  badge_few k m (Some e) = by_role e.1.role where
-    by_role : (r : Role) → role_badge r (settled_badge t.settled k m) < 2 ^ 64
-    by_role From = written.badges k m
-    by_role To = omega arith
+  badge_few k m (Some e) = search (rules)
 
   use_badge : (d n : ℕ) (u : SlotUse) → (use_cap t d n u).badge < 2 ^ 64
   use_badge d n (OfEnd k m) = badge_few k m (end_of t.flat k m)
   use_badge d n _ = omega arith
 
   cnode_laid : (d : ℕ) (x : Domain) → slice_get t.flat.domains d ≡ Some x → are_slots (slots_at t d) ≡ true
-  cnode_laid d x here = all_pass (λ (s : ℕ × Cap). is_number s.0 && is_number s.1.badge) (slots_at t d) each where
-    each : (s : ℕ × Cap) → IsIn s (slots_at t d) → is_number s.0 && is_number s.1.badge ≡ true
-    each s i =
-        let g = from_gather (λ n u. (n + 1, use_cap t d n u) ∷ []) s (uses_at t d) i in
-        elim g.3 [
-          | inl same ↦
-              let below = slice_get_within (uses_at t d) g.0 g.1 g.2 in
-              let at : ℕ × Cap = (g.0 + 1, use_cap t d g.0 g.1) in
-              subst (λ (z : ℕ × Cap). is_number z.0 && is_number z.1.badge ≡ true) {x = at} same
-              (slot_is at (omega (arith, below, (fit.domains d x here).slots)) (use_badge d g.0 g.1))
-          | inr none ↦ absurd none
-        ]
+  cnode_laid d x here = search (rules, all_pass, from_gather, slice_get_within, slot_is, use_badge)
 
   buffer_laid : (o : Option ℕ)
       → if_any (λ (c : Cap). is_number c.badge) (option_map (λ f. cap (place t (FrameOf f)) RW 0) o) ≡ true

@@ -1,8 +1,7 @@
 -- Interrupt lines rise by number, and each leads to an interrupt of its own.
-use Rattle.std.proofs.Common.{rules}
 use Rattle.spec_laws.proofs.Common.{Bool, Connector, FlatConnection, Interrupt, IrqOf, IsFit, IsIn, IsThere, List, Notification, Part, Some, Tables, What, [], and_from, and_parts, ap, arith, by_number, cases_order}
 use Rattle.spec_laws.proofs.Common.{cond, differ, eqb-true, false, false_from_ne_true, from_gather, gather, has_part, inl, inr, irq_number, is_at, keeps_lines, leb, leb-false, leb-true, length, line_by, lines, list_any, lt-ltb, ltb-true}
-use Rattle.spec_laws.proofs.Common.{map, nat_lt, parts, place, put_line, refl, rise, same_Some, slice_get, spec_of, stands, subst, suc, sym, true, ℕ, ◌++◌, ◌<◌, ◌==◌, ◌∙◌, ◌∷◌, ◌≡◌, ◌≤◌}
+use Rattle.spec_laws.proofs.Common.{map, nat_lt, parts, place, put_line, refl, rise, rules, same_Some, slice_get, spec_of, stands, subst, suc, sym, true, ℕ, ◌++◌, ◌<◌, ◌==◌, ◌∙◌, ◌∷◌, ◌≡◌, ◌≤◌}
 use Rattle.cap_model.specs.declared.kind.Kind.TheVariants as kinds
 use Rattle.spec_laws.proofs.CapsFit.{all_pass, is_at_of}
 use Rattle.spec_laws.proofs.SlotLists.{from_order, from_put}
@@ -94,10 +93,7 @@ module _ (t : Tables) (fit : IsFit t) where
   from_line l k c _ i = absurd i
 
   lines_rise : rise (lines t) ≡ true
-  lines_rise =
-      sorted_rise (λ k (c : FlatConnection). line_by t k c c.connector) t.flat.connections (λ k c. one_each t k c c.connector)
-      (λ j k a b l m p q i o s. let x = from_line l j a a.connector i in let y = from_line m k b b.connector o in
-      fit.one_line j k a b p q x.0 y.0 (ap (λ (z : Line). z.0) x.1 ∙ s ∙ sym (ap (λ (z : Line). z.0) y.1)))
+  lines_rise = search (rules, sorted_rise, one_each, from_line)
 
   -- the connection of a line
   pub record Lined (l : Line) : Type 0 where

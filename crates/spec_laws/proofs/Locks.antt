@@ -1,9 +1,8 @@
 -- No two uses have one lock
-use Rattle.std.proofs.Common.{rules}
 use Rattle.spec_laws.proofs.Common.{CNodeOf, CanSlot, Cap, Connector, Domain, Each, Entry, FlatConnection, Handler, Interrupt, IrqOf, IsIn, IsJoint, IsNamed, List, LockOf, None, Object, OfDomain, OfEnd, Option, OwnLock, OwnLocks, Owned, Part, Rpc}
 use Rattle.spec_laws.proofs.Common.{SlotPlan, SlotUse, Slots, Some, Spec, Tables, [], ap, arith, before, domain_locks, domain_uses, entry, entry_object, from_gather, from_get_map, in_gather, in_together, inl, interrupt, irq_owner, lock, locks, map}
 use Rattle.spec_laws.proofs.Common.{name_at, name_of, numbered, object, object_at, objects_stand, option_map_or, owned, part, parts, place, place_of, plan_of, refl, sections, single, slice_get, slots_at, spec_of, stands, subst, suc, sym, use_cap}
-use Rattle.spec_laws.proofs.Common.{uses_at, zero, ℕ, ◌+◌, ◌∙◌, ◌∷◌, ◌≡◌}
+use Rattle.spec_laws.proofs.Common.{rules, uses_at, zero, ℕ, ◌+◌, ◌∙◌, ◌∷◌, ◌≡◌}
 use Rattle.adl_meaning.specs.declared.connector.Connector.TheVariants.{Notification as Notifies}
 use Rattle.cap_model.specs.declared.object.Object.TheVariants as objects
 use Rattle.system_spec.specs.declared.series.Series.TheVariants as series
@@ -19,11 +18,7 @@ each_map P f (x ∷ xs) h = (h x, each_map P f xs h)
 
 pub part_there : (t : Tables) (m : ℕ) (o : Object) → object_at (spec_of t) m ≡ Some o
     → (p : Part) × (slice_get (parts t) m ≡ Some p) × (object t p.what ≡ o)
-part_there t m o h = by_entry (slice_get (map (entry t) (parts t)) m) refl h where
-  by_entry : (e : Option Entry) → slice_get (map (entry t) (parts t)) m ≡ e → entry_object e ≡ Some o
-      → (p : Part) × (slice_get (parts t) m ≡ Some p) × (object t p.what ≡ o)
-  by_entry None f k = cc
-  by_entry (Some e) f k = search (rules, from_get_map)
+part_there t m o h = search (rules, from_get_map)
 
 none_map : {X Y : Type 0} (f : X → Y) (xs : List X) (i : ℕ) → slice_get xs i ≡ None → slice_get (map f xs) i ≡ None
 none_map f [] i e = refl
@@ -103,19 +98,10 @@ module _ (t : Tables) (can : CanSlot t) where
       let j = irq_part t k c.connection c.here c.is_interrupt in
       absurd (no_irq n r (sym ((objects_stand t).name (part series.Irq n (irq_owner k c.connection) (IrqOf k)) j)
       ∙ ap (λ z. name_at spec z) (sym c.leads) ∙ name))
-  of_use d n r x (OwnLock leaf l) h e name = let j = lock_there d n leaf l x h e in record {
-    number = n;
-    slot = refl;
-    named = j.0;
-    there = j.1;
-    leads = refl;
-  }
+  of_use d n r x (OwnLock leaf l) h e name = search (rules, lock_there)
 
   no_uses : (d : ℕ) → slice_get t.flat.domains d ≡ None → uses_at t d ≡ []
-  no_uses d h =
-      ap (λ (s : Slots). option_map_or (λ (plan : SlotPlan). plan.uses) (slice_get s.domains d) []) can.slots
-      ∙ ap (λ o. option_map_or (λ (plan : SlotPlan). plan.uses) o [])
-      (none_map (λ (z : Domain). plan_of (domain_uses t.source t.flat z.leaves)) t.flat.domains d h)
+  no_uses d h = search (rules, none_map)
 
   in_domain : (d m r : ℕ) (a : Cap) (q : Option Domain) → slice_get t.flat.domains d ≡ q → IsIn (m, a) (slots_at t d)
       → IsNamed spec a.object series.Lock r → IsLockSlot d m a
@@ -128,13 +114,7 @@ module _ (t : Tables) (can : CanSlot t) where
       let cap : use_cap t d b.0 b.1 ≡ a = ap (λ (z : ℕ × Cap). z.1) eq in
       let slot : b.0 + 1 ≡ m = ap (λ (z : ℕ × Cap). z.0) eq in
       let k = of_use d b.0 r x b.1 h b.2 (ap (λ (z : Cap). name_at spec z.object) cap ∙ name) in
-      record {
-        number = k.number;
-        slot = sym slot ∙ k.slot;
-        named = k.named;
-        there = k.there;
-        leads = ap (λ (z : Cap). z.object) (sym cap) ∙ k.leads;
-      }
+      search (rules)
 
   pub slot_is : (d m r bits : ℕ) (slots : List (ℕ × Cap)) (a : Cap) → object_at spec d ≡ Some (objects.CNode bits slots)
       → IsIn (m, a) slots → IsNamed spec a.object series.Lock r → IsLockSlot d m a
@@ -142,8 +122,7 @@ module _ (t : Tables) (can : CanSlot t) where
       let p = object_stands t d (objects.CNode bits slots) o in let w = of_node p.what p.sort in
       let at : place t (CNodeOf w.0) ≡ d = subst (λ z. place t z ≡ d) w.1 p.stands in
       let same : w.0 ≡ d = omega (arith, at) in
-      let filled : slots_at t d ≡ slots = ap (λ z. slots_at t z) (sym same)
-      ∙ ap slots_of_cnode (ap (λ z. object t z) (sym w.1) ∙ p.is) in
+      let filled : slots_at t d ≡ slots = search (rules) in
       in_domain d m r a (slice_get t.flat.domains d) refl (subst (λ z. IsIn (m, a) z) (sym filled) i) name
 
   own : OwnLocks spec
@@ -151,8 +130,7 @@ module _ (t : Tables) (can : CanSlot t) where
       let x = slot_is d m r bits slots a o i u in let y = slot_is e n s more others b q j v in
       let p = part series.Lock x.named (OfDomain d) (LockOf d x.number) in
       let w = part series.Lock y.named (OfDomain e) (LockOf e y.number) in
-      let parts_same : p ≡ w = some (slice_get (parts t) (place t (LockOf e y.number))) p w
-      (subst (λ z. slice_get (parts t) z ≡ Some p) (sym x.leads ∙ eq ∙ y.leads) (stands t p x.there)) (stands t w y.there) in
+      let parts_same : p ≡ w = search (rules, some, stands) in
       let what : LockOf d x.number ≡ LockOf e y.number = ap (λ (z : Part). z.what) parts_same in
       ((lock_same d x.number e y.number what).0, x.slot ∙ ap (λ z. z + 1) ((lock_same d x.number e y.number what).1) ∙ sym y.slot)
 

@@ -1,7 +1,6 @@
 -- What holds of the lines of domains, of threads, of slots and of windows holds of each line of the map.
-use Rattle.std.proofs.Common.{rules}
 use Rattle.spec_laws.proofs.Common.{Domain, DomainLine, IsIn, List, MapLine, Some, Tables, [], domain_lines, from_gather, gather, in_append, map_lines, single, slice_get, slot_line, slot_lines, subst, thread_line, thread_lines}
-use Rattle.spec_laws.proofs.Common.{threads_at, use_cap, uses_at, window_line, window_lines, windows_at, ℕ, ◌++◌, ◌∷◌, ◌≡◌, inl, inr}
+use Rattle.spec_laws.proofs.Common.{rules, threads_at, use_cap, uses_at, window_line, window_lines, windows_at, ℕ, ◌++◌, ◌∷◌, ◌≡◌, inl, inr}
 
 module _ (t : Tables) (P : MapLine → Type 0) where
   -- what holds of the line of each item of each domain

@@ -1,11 +1,10 @@
 -- What the pages of a domain show, and whose frames they are.
-use Rattle.std.proofs.Common.{rules}
 use Rattle.spec_laws.proofs.Common.{AtOtherEnd, Bool, Buffer, Domain, Fill, FlatConnection, FlatEnd, FrameInfo, FrameOf, From, Given, IsConnected, IsIn, IsThere, LeadsTo, MappedPage, Memory, Mmio, None, ObjectKind, OfDevice, OfFrames, Option, Own}
 use Rattle.spec_laws.proofs.Common.{Page, Read, Region, Role, SectionPage, SharedMemory, Some, Space, Stack, Tables, ThreadPlace, To, [], ap, arith, base, end_rule, first_to_end, flat_map, frame, frame_owner, frames, frames_stand, from_flat_map}
 use Rattle.spec_laws.proofs.Common.{from_gather, from_map, from_ones, from_range, gather, get_ones, given_tables, gives, in_append, in_gather, in_map, in_place, in_right, inl, inr, is_at_device, is_shared, is_to, leaf_label, leaves_of, map}
 use Rattle.spec_laws.proofs.Common.{mapped_pages, may_read, may_write, memory_number, memory_pages, number_of, number_shown, opposite, option_and_then, option_map_or, own_label, page, page_of, pages_at, pages_of_region, place_of, policy_tables}
 use Rattle.spec_laws.proofs.Common.{position_or_len, range_with_len, refl, region, region_part, region_start, regions, register_frame, registers, registers_in, same_port, section_page, section_pages, section_part, setting_of, slice_get}
-use Rattle.spec_laws.proofs.Common.{slice_get_within, space, subst, sym, thread_place, thread_regions, threads_at, threads_of, true, window_pages, window_region, windows_of, ℕ, ◌+◌, ◌<◌, ◌∙◌, ◌∷◌, ◌≡◌, ◌⊎◌, and_from, eq-eqb}
+use Rattle.spec_laws.proofs.Common.{rules, slice_get_within, space, subst, sym, thread_place, thread_regions, threads_at, threads_of, true, window_pages, window_region, windows_of, ℕ, ◌+◌, ◌<◌, ◌∙◌, ◌∷◌, ◌≡◌, ◌⊎◌, and_from, eq-eqb}
 use lib.Dec.{eqb}
 use Rattle.arch_policy.specs.declared.owner.Owner.TheVariants as owners
 use Rattle.arch_policy.specs.Ends.{EndAt}
@@ -64,8 +63,7 @@ module _ (g : Given) (d : ℕ) where
   window_page_of : (start j : ℕ) (r : Region) (p : MappedPage) (o : IsOfEnd r) → j < r.pages → page_of g.settled start r j ≡ p
       → OfWindow g d p
   window_page_of start j r p o below is =
-      let here : page_of g.settled start (window_region g.flat g.settled o.0) j ≡ p =
-      ap (λ z. page_of g.settled start z j) o.2 ∙ is in
+      let here : page_of g.settled start (window_region g.flat g.settled o.0) j ≡ p = search (rules) in
       record {
         end = o.0;
         there = o.1;
@@ -99,8 +97,7 @@ module _ (g : Given) (d : ℕ) where
       → IsIn (page_of g.settled (region_start (base g) (regions g d) n) r 0) (mapped_pages g d)
   first_page n r e l =
       let p = page_of g.settled (region_start (base g) (regions g d) n) r 0 in
-      let inner : IsIn p (pages_of_region g.settled (base g) (regions g d) n r) =
-      in_map (page_of g.settled (region_start (base g) (regions g d) n) r) 0 (range_with_len 0 r.pages) (in_range 0 r.pages l) in
+      let inner : IsIn p (pages_of_region g.settled (base g) (regions g d) n r) = search (rules, in_map, in_range) in
       in_right p (section_part g.images (leaves_of g.flat d)) (region_part g.settled (base g) (regions g d))
       (in_gather (pages_of_region g.settled (base g) (regions g d)) p (regions g d) n r e inner)
 
@@ -211,16 +208,11 @@ module _ (t : Tables) (h : IsConnected t) where
       let v = h.flat.registers k c e m in let x = v.at in
       let same_some : Some x.connection ≡ Some c = sym x.here ∙ ap (λ z. slice_get t.flat.connections z) v.place ∙ e in
       let same : x.connection ≡ c = cc in
-      let role : x.end.role ≡ To = elim (device_role x.connection.connector x.end.role v.device) [
-        | inl w ↦ absurd (let i = sym (ap (λ (z : FlatConnection). z.connector) same ∙ m) ∙ w.0 in cc)
-        | inr w ↦ w.1
-      ] in
-      let stands : slice_get c.ends x.number ≡ Some x.end = subst (λ (z : FlatConnection). slice_get z.ends x.number ≡ Some x.end)
-      same x.stands in
+      let role : x.end.role ≡ To = search (rules, device_role) in
+      let stands : slice_get c.ends x.number ≡ Some x.end = search (rules) in
       let test : FlatEnd → Bool = λ e. is_to e.role in
       let f = first_found test c.ends x.number x.end stands (ap is_to role) in
-      let first : first_to_end c.ends ≡ Some f.0 = ap (λ z. option_and_then (slice_get c.ends) z)
-      (position_found test c.ends f.0 f.1) ∙ f.1 in
+      let first : first_to_end c.ends ≡ Some f.0 = search (rules, position_found) in
       let to : f.0.role ≡ To = to_is f.0.role f.2 in
       record {
         at = record { place = k; connection = c; here = e; number = position_or_len test c.ends; end = f.0; stands = f.1 };
@@ -237,19 +229,13 @@ module _ (t : Tables) (h : IsConnected t) where
       let k = x.place in let f = memory_number laid k j in
       let v = at_registers k x.connection x.here e in
       let b = first_is t k x.connection v.at.end x.here v.has in
-      let same : same_port v.at.end b.end ≡ true = and_from (eqb b.end.leaf v.at.end.leaf) (eqb b.end.member v.at.end.member)
-      (eq-eqb b.end.leaf v.at.end.leaf b.leaf) (eq-eqb b.end.member v.at.end.member b.member) in
+      let same : same_port v.at.end b.end ≡ true = search (rules, and_from, eqb, eq-eqb) in
       let y = register_frame t.settled b.number b.connection b.end j in
       let as_many = h.registers k b.number x.connection b.connection v.at.end b.end x.here b.here v.has b.leads same in
       let at : slice_get (frames laid) f ≡ Some y = (frames_stand laid).registers k j b.number x.connection b.connection v.at.end
       b.end x.here v.has b.first b.here b.leads (omega (arith, as_many, l)) in
       let label : number_of t.numbers (owner_of t (FrameOf f)) ≡ leaf_label (policy_tables t) v.at.end.leaf =
-      ap (number_of t.numbers) (frame_is f y at ∙ ap owners.OfLeaf b.leaf)
-      ∙ sym (own_label (policy_tables t) h.flat v.at v.device) in
+      search (rules, frame_is, own_label) in
       let other : AtOtherEnd (policy_tables t) x (number_of t.numbers (owner_of t (FrameOf f))) =
       record { at = v.at; same = v.place; role = v.role ∙ ap opposite (sym r); label_is = label } in
-      record {
-        there = (y, frame_there f y at);
-        memory = ap (λ c. gives c x.end.role OfDevice Read) e ∙ ap (λ z. gives Mmio z OfDevice Read) r;
-        leads = other;
-      }
+      search (rules, frame_there)

@@ -1,4 +1,5 @@
 -- The tables of a source without faults keep what the laws of images ask, where each leaf of software has an image.
+use Rattle.std.proofs.Common.{rules}
 use Rattle.spec_laws.proofs.Common.{AreFilesShort, AreNamesSound, AreNumbered, AreSound, CanMap, FlatEnd, HaveImages, Images, Leaf, None, Some, Source, and_from, below, end_rule, end_setting, ends_typed, eq-eqb, first_flat_fault, first_page_limit}
 use Rattle.spec_laws.proofs.Common.{first_setting_fault, first_slot_fault, first_space_fault, first_type_fault, flat_of, get_map, given, hardware_fits, hierarchy_of, inl, inr, leaf_found, leaf_listed, leaf_members, leaf_owned, leaf_setting}
 use Rattle.spec_laws.proofs.Common.{leaves_found, length, members_at, members_of_leaf, one_assembly, refl, settings_sound, settled_of, slice_get, subst, sym, tables_from, ⊎_elim, ◌<◌, ◌==◌, ◌∙◌, ◌≡◌}
@@ -31,12 +32,7 @@ tables_can_map s images short sound types flat settings numbered sections space 
       sound = sections;
       clean = space;
       few = (few_pages (given s (flat_of s) (settled_of s) images) one.0 one.1 pages).pages;
-      grouped = record {
-        listed = λ d leaf x at i. leaf_owned h d leaf x at i;
-        inside = λ leaf d found at own. leaf_listed h leaf d found at own;
-        once = leaves_once s;
-        some = leaves_some s;
-      };
+      grouped = search (rules, leaf_owned, leaf_listed, leaves_once, leaves_some);
       joined = record {
         member = λ k n c e at there. let t = typed k n c e at there in member_below s e t.leaf (members.Interface t.interface)
             t.here t.joined;

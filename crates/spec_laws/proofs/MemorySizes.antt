@@ -1,9 +1,8 @@
 -- The memory of connections: its pages, its address, and the registers of devices, in a source without faults.
-use Rattle.std.proofs.Common.{rules}
 use Rattle.spec_laws.proofs.Common.{AreDotted, AreNamesSound, AreSettingsSound, AreTyped, Connector, EndSetting, FlatConnection, FlatEnd, From, Hierarchy, Interface, Leaf, List, Mmio, None, Option, Role, Settled}
 use Rattle.spec_laws.proofs.Common.{SharedMemory, Some, Source, To, [], and_parts, ap, arith, codes, cond, default_bytes, end_rule, end_setting, eqb-true, first_type_fault, flat_of, hierarchy_of, is_device_memory, is_kind_of, is_to, is_window, meant}
 use Rattle.spec_laws.proofs.Common.{members_at, memory_paddr, memory_pages, memory_place, option_and_then, option_map_or, or_right, position_found, refl, registers, registers_in, same_Some, same_kind, same_port, setting_of, settled_of, size_in}
-use Rattle.spec_laws.proofs.Common.{slice_get, some_end, subst, sym, to_place, true, unwrap_or, value_at, where_set, ℕ, ◌%◌, ◌&&◌, ◌*◌, ◌++◌, ◌+◌, ◌/◌, ◌<◌, ◌==◌, ◌^◌, ◌||◌, ◌∙◌, ◌∷◌, ◌≡◌, ◌≤◌}
+use Rattle.spec_laws.proofs.Common.{rules, slice_get, some_end, subst, sym, to_place, true, unwrap_or, value_at, where_set, ℕ, ◌%◌, ◌&&◌, ◌*◌, ◌++◌, ◌+◌, ◌/◌, ◌<◌, ◌==◌, ◌^◌, ◌||◌, ◌∙◌, ◌∷◌, ◌≡◌, ◌≤◌}
 use Rattle.adl_ast.specs.declared.component.InterfaceKind.TheVariants as interfaces
 use Rattle.adl_ast.specs.declared.component.Member.TheVariants as members
 use Rattle.adl_meaning.specs.Values.{Given}
@@ -74,16 +73,7 @@ registers_of c t l = ap (λ z. registers_in z c.ends) t ∙ ap (λ o. option_and
 -- and only such a connection has one
 pub from_registers : (c : FlatConnection) (e : FlatEnd) → registers c ≡ Some e → (c.connector ≡ Mmio) × (n : ℕ)
     × (to_place c.ends ≡ Some n) × (slice_get c.ends n ≡ Some e)
-from_registers c e r = by_connector c.connector refl r where
-  by_place : (o : Option ℕ) → to_place c.ends ≡ o → option_and_then (slice_get c.ends) o ≡ Some e
-      → (n : ℕ) × (to_place c.ends ≡ Some n) × (slice_get c.ends n ≡ Some e)
-  by_place None is r = cc
-  by_place (Some n) is r = (n, is, r)
-
-  by_connector : (z : Connector) → c.connector ≡ z → registers_in z c.ends ≡ Some e → (c.connector ≡ Mmio) × (n : ℕ)
-      × (to_place c.ends ≡ Some n) × (slice_get c.ends n ≡ Some e)
-  by_connector Mmio is r = let p = by_place (to_place c.ends) refl r in (is, p.0, p.1, p.2)
-  by_connector _ is r = cc
+from_registers c e r = search (rules)
 
 -- ---- pages by the settings of an end
 

@@ -1,7 +1,6 @@
 -- The uses of slots name connections that there are.
-use Rattle.std.proofs.Common.{rules}
 use Rattle.spec_laws.proofs.Common.{AreNamed, Connector, Flat, Interrupt, IsIn, List, NamesOneOf, Notification, Role, Rpc, SlotPlan, SlotUse, Some, Source, To, below, domain_uses, end_uses, from_get_map, in_place, inl, inr, length, slice_get}
-use Rattle.spec_laws.proofs.Common.{slots_of, subst, ℕ, ◌<◌, ◌≡◌}
+use Rattle.spec_laws.proofs.Common.{rules, slots_of, subst, ℕ, ◌<◌, ◌≡◌}
 use Rattle.spec_laws.proofs.Used.{from_domain}
 
 of_end : (connector : Connector) (role : Role) (k n count : ℕ) (u : SlotUse) → k < count → IsIn u (end_uses connector role k n)

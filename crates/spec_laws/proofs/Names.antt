@@ -1,6 +1,5 @@
 -- A name tells its series and its number.
-use Rattle.std.proofs.Common.{rules}
-use Rattle.spec_laws.proofs.Common.{List, Series, [], ap, append_cancel_left, cond, decimal, decimal_injective, name_of, prefix, refl, sym, ℕ, ◌++◌, ◌<◌, ◌==◌, ◌^◌, ◌∙◌, ◌∷◌, ◌≡◌}
+use Rattle.spec_laws.proofs.Common.{List, Series, [], ap, append_cancel_left, cond, decimal, decimal_injective, name_of, prefix, refl, rules, sym, ℕ, ◌++◌, ◌<◌, ◌==◌, ◌^◌, ◌∙◌, ◌∷◌, ◌≡◌}
 use Rattle.system_spec.specs.declared.series.Series.TheVariants.{CNode, Tcb, Ep, Ntfn, Lock, Irq, Pgd, Pud, Pd, Pt, Frame}
 
 abbrev by_second : ℕ → Series

@@ -1,8 +1,7 @@
 -- Numbers are sums: which lock, which interrupt and which thread has which
-use Rattle.std.proofs.Common.{rules}
 use Rattle.spec_laws.proofs.Common.{Bool, Connector, Domain, FlatConnection, Handler, Interrupt, IrqOf, IsIn, IsLockNumber, List, LockOf, Member, OfDomain, OfEnd, OwnLock, Owned, Owner, Part, Role, SharedMemory, SlotUse, Some, Tables, To, [], ap}
 use Rattle.spec_laws.proofs.Common.{arith, before, cond, domain_uses, end_uses, false, flat_map, flat_map-gather, gather, gather_same, gathered, in_gather, in_together, inl, interrupt, irq, irq_by, irq_owner, irqs, is_lock, leaf_locks, leaf_members}
-use Rattle.spec_laws.proofs.Common.{leaf_uses, length, length_append, lock, lock_uses, locks, member_uses, numbered, owned, part, parts, refl, sections, slice_get, subst, suc, sym, take, true, uses_at, zero, ℕ, ◌++◌, ◌+◌, ◌∙◌, ◌∷◌, ◌≡◌}
+use Rattle.spec_laws.proofs.Common.{leaf_uses, length, length_append, lock, lock_uses, locks, member_uses, numbered, owned, part, parts, refl, rules, sections, slice_get, subst, suc, sym, take, true, uses_at, zero, ℕ, ◌++◌, ◌+◌, ◌∙◌, ◌∷◌, ◌≡◌}
 use Rattle.std.proofs.lemmas.List.Concat.{flat_map-append}
 use Rattle.system_spec.specs.declared.series.Series.TheVariants as series
 use Rattle.system_spec.specs.Parts.{domain_locks as parted_locks}
@@ -99,14 +98,7 @@ module _ (t : Tables) (uses_are : (d : ℕ) (x : Domain) → slice_get t.flat.do
       let own = before_same (lock d) (λ k u. lock_of u) us n (λ k u j. as_many d k u) in
       let stands : slice_get (gather (λ k u. lock_of u) us) i ≡ Some (leaf, m) = gathered (λ k u. lock_of u) us n (OwnLock leaf m)
       0 (leaf, m) i e refl (omega (arith, own)) in
-      record {
-        domain = d;
-        leaves = x;
-        here = h;
-        place = i;
-        stands = ap (λ z. slice_get z i) (sym (listed d x h)) ∙ stands;
-        is = omega (arith, sums);
-      }
+      search (rules)
 
   -- it is a part, under its number
   pub lock_part : IsIn (part series.Lock lock_number (OfDomain d) (LockOf d n)) (parts t)
@@ -115,8 +107,7 @@ module _ (t : Tables) (uses_are : (d : ℕ) (x : Domain) → slice_get t.flat.do
       let i = before (lock d) us n in
       let inner : slice_get (gather (lock d) us) i ≡ Some y = gathered (lock d) us n (OwnLock leaf m) 0 y i e refl
       (omega arith) in
-      let at : slice_get (locks t) lock_number ≡ Some y = gathered (parted_locks t) t.flat.domains d x i y lock_number h inner
-      refl in
+      let at : slice_get (locks t) lock_number ≡ Some y = search (rules, gathered) in
       let f : ℕ → Owned → List Part = λ n z. part series.Lock n z.owner z.what ∷ [] in
       let p = part series.Lock lock_number (OfDomain d) (LockOf d n) in
       in_together (sections t) 4 (numbered series.Lock (locks t)) p refl (in_gather f p (locks t) lock_number y at (inl refl))

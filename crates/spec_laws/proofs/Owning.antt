@@ -1,4 +1,5 @@
 -- Frames that no window shows are mapped once, and filled as their pages say
+use Rattle.std.proofs.Common.{rules}
 use Rattle.spec_laws.proofs.Common.{AreOwnFrames, Bool, Buffer, CanMap, Cap, Content, Domain, EndAt, Fill, Frame, FrameInfo, FrameOf, IsAt, IsIn, IsOwn, IsRegionPage, IsSectionPage, List, MappedPage, Memory, None, Option, Own, Region, Shown, Some}
 use Rattle.spec_laws.proofs.Common.{Spaces, Stack, Tables, Window, ap, arch, arith, before, begins, below, frame, frames_stand, in_left, in_map, in_place, leaves_of, length, mapped_pages, number_shown, object_at, own_frame, own_frames, own_number}
 use Rattle.spec_laws.proofs.Common.{place, place_of, refl, region_page, root_of, root_span, section_page, section_pages, section_part, shapes, slice_get, spec_of, subst, sym, system, ℕ, ◌*◌, ◌+◌, ◌/◌, ◌<◌, ◌∙◌, ◌≡◌}
@@ -111,10 +112,8 @@ module _ (t : Tables) (can : CanMap t) where
       let f = found t can d x h v a l i in let q = found t can e y g w b k j in
       let fill = no_memory d x h v a f own in
       let more = no_memory e y g w b q (subst (λ z. IsOwn t (spec_of t) (root_of t) z) same own) in
-      let first : a.object ≡ frames_from t + own_number (system t) d f.number = ap (λ (z : Cap). z.object) f.is
-      ∙ ap (λ z. frames_from t + number_shown (system t) d f.number z) fill.1 in
-      let second : b.object ≡ frames_from t + own_number (system t) e q.number = ap (λ (z : Cap). z.object) q.is
-      ∙ ap (λ z. frames_from t + number_shown (system t) e q.number z) more.1 in
+      let first : a.object ≡ frames_from t + own_number (system t) d f.number = search (rules, frames_from) in
+      let second : b.object ≡ frames_from t + own_number (system t) e q.number = search (rules, frames_from) in
       let number : own_number (system t) d f.number ≡ own_number (system t) e q.number = omega (arith, first, second, same) in
       let u = apart (own_frames (system t)) t.flat.domains d e (before (own_of d) (pages d) f.number)
       (before (own_of e) (pages e) q.number) x y h g

@@ -1,4 +1,5 @@
 -- What is mapped in the space of a domain is what the source and its images say
+use Rattle.std.proofs.Common.{rules}
 use Rattle.spec_laws.proofs.Common.{AreSettled, Bool, Buffer, Content, Domain, EndAt, EndSetting, Fill, IsIn, IsRegionPage, IsSectionPage, List, MappedPage, MapsPage, Option, Placed, Region, Section, SectionPage, Some, Stack, Tables, Window, [], ap}
 use Rattle.spec_laws.proofs.Common.{base, begins, below_count, by_address, eq-eqb, false, fill_of, from_flat_map, from_gather, from_map, image_number, in_any, in_append, in_flat_map, in_gather, in_left, in_map, in_place, in_right, inl, inr, is_run}
 use Rattle.spec_laws.proofs.Common.{leaves_of, map, mapped_pages, may_read, may_write, nat_eq, option_map_or, page_at, page_count, page_of, pages_of, pages_of_region, place_of, placed, range_with_len, refl, region_page, region_part, regions}
@@ -25,10 +26,7 @@ window_of t d r e i c = elim (in_append r _ (map (window_region t.flat t.settled
   | inl j ↦
       elim (from_flat_map (thread_regions t.settled) r (threads_of (system t) d) j).2 [
         | inl s ↦ let f : Stack ≡ Window e = ap (λ (z : Region). z.content) s ∙ c in cc
-        | inr h ↦ elim h [
-          | inl s ↦ let f : Buffer ≡ Window e = ap (λ (z : Region). z.content) s ∙ c in cc
-          | inr n ↦ absurd n
-        ]
+        | inr h ↦ search (rules)
       ]
   | inr j ↦
       let a = from_map (window_region t.flat t.settled) r (windows_of (system t) d) j in
@@ -49,20 +47,7 @@ module _ (t : Tables) (set : AreSettled t) where
       let c = comes_from t.images (leaves_of t.flat d) x.0 there in
       let r = run_by t.images (leaves_of t.flat d) x.0 there in
       let m = from_map (page_at (name_of t.images x.0.image) x.0.section) q (range_with_len 0 (page_count x.0.section)) x.2 in
-      record {
-        leaf = r.0;
-        inside = r.1;
-        image = c.image;
-        runs = record { number = x.0.image; numbered = r.2; listed = c.at };
-        section = x.0.section;
-        has = in_place x.0.section c.image.sections x.0.number c.section;
-        page = m.0;
-        within = below_count (page_count x.0.section) m.0 m.1;
-        at = ap (λ (z : SectionPage). z.vaddr) (sym m.2);
-        may_write = ap (λ (z : SectionPage). z.write) (sym m.2);
-        filled = ap (λ (z : SectionPage). z.fill) (sym m.2) ∙ ap (λ z. fill_of z x.0.section m.0)
-            (sym (name_is t.images x.0.image c.image c.at));
-      }
+      search (rules, in_place, below_count, name_is)
 
   is_run_by : (d m leaf : ℕ) → IsIn leaf (leaves_of t.flat d) → image_number t.images leaf ≡ Some m
       → is_run t.images (leaves_of t.flat d) m ≡ true

@@ -1,9 +1,8 @@
 -- Where slots and spaces are within their limits, what is made of them can be built.
-use Rattle.std.proofs.Common.{rules}
 use Rattle.spec_laws.proofs.Common.{AreNamed, CNodeOf, CanLay, Connector, Domain, FlatConnection, FrameInfo, FrameOf, Given, IsBuildable, IsIn, List, None, Notification, Object, OfDomain, Option, OwnLock, Page, PageTable, Rises, SectionsStand}
 use Rattle.spec_laws.proofs.Common.{SlotPlan, SlotUse, Some, Tables, ThreadOf, ThreadPlace, [], all_tables, arch, arith, as_many, cnodes, domain_locks, domain_tables, domain_tcbs, endpoint, endpoint_by, endpoints, few_tables, frame_owner}
 use Rattle.spec_laws.proofs.Common.{frame_parts, gather, gather_ones, irq, irq_by, irq_owner, irqs, layers, length, length-gather, length-map, level_of, lock, locks, map, notification, notification_by, notifications, numbered, option_map_or, owned}
-use Rattle.spec_laws.proofs.Common.{page_counts, page_mapping, page_table, pages_at, parts, refl, shapes, slice_get, slots_of, spaces_of, subst, sum, sym, table_part, table_parts, tables_at, tcbs, threads_at, uses_at, ℕ, ◌*◌, ◌+◌, ◌<◌, ◌≡◌, ◌≤◌}
+use Rattle.spec_laws.proofs.Common.{page_counts, page_mapping, page_table, pages_at, parts, refl, rules, shapes, slice_get, slots_of, spaces_of, subst, sum, sym, table_part, table_parts, tables_at, tcbs, threads_at, uses_at, ℕ, ◌*◌, ◌+◌, ◌<◌, ◌≡◌, ◌≤◌}
 use Rattle.spec_laws.proofs.SlotBounds.{AreFewSlots, few_uses}
 use Rattle.flat_laws.specs.Small.{IsSmall}
 use Rattle.system_spec.specs.declared.series.Series.TheVariants as series
@@ -20,29 +19,17 @@ from t = record { source = t.source; flat = t.flat; settled = t.settled; images 
 -- ---- connections have one part of a kind at most
 
 few_endpoints : (cs : List FlatConnection) → length (gather endpoint cs) ≤ length cs
-few_endpoints cs = length-gather endpoint cs (λ k c. one k c.connector) where
-  one : (k : ℕ) (c : Connector) → length (endpoint_by k c) ≤ 1
-  one k Notification = omega arith
-  one k _ = omega arith
+few_endpoints cs = search (rules, length-gather)
 
 few_notifications : (cs : List FlatConnection) → length (gather notification cs) ≤ length cs
-few_notifications cs = length-gather notification cs (λ k c. one k c.connector) where
-  one : (k : ℕ) (c : Connector) → length (notification_by k c) ≤ 1
-  one k Notification = omega arith
-  one k _ = omega arith
+few_notifications cs = search (rules, length-gather)
 
 few_irqs : (cs : List FlatConnection) → length (gather irq cs) ≤ length cs
-few_irqs cs = length-gather irq cs (λ k c. one k (irq_owner k c) c.connector) where
-  one : (k : ℕ) (o : _) (c : Connector) → length (irq_by k o c) ≤ 1
-  one k o Notification = omega arith
-  one k o _ = omega arith
+few_irqs cs = search (rules, length-gather)
 
 -- a use has one lock at most
 few_locks : (d : ℕ) (uses : List SlotUse) → length (gather (lock d) uses) ≤ length uses
-few_locks d uses = length-gather (lock d) uses (λ n u. one n u) where
-  one : (n : ℕ) (u : SlotUse) → length (lock d n u) ≤ 1
-  one n (OwnLock leaf m) = omega arith
-  one n _ = omega arith
+few_locks d uses = search (rules, length-gather)
 
 module _ (t : Tables) (slots_are : t.slots ≡ slots_of t.source t.flat) (spaces_are : t.spaces ≡ spaces_of (from t))
     (small : IsSmall t.flat) (slots : AreFewSlots t.source t.flat)
@@ -61,17 +48,10 @@ module _ (t : Tables) (slots_are : t.slots ≡ slots_of t.source t.flat) (spaces
   frames_few = subst (λ z. length z.frames ≤ 65536 + 2 * 268435456) (sym spaces_are) (frames_most (from t) can pages)
 
   pub uses_few : (d : ℕ) → length (uses_at t d) ≤ 4095
-  uses_few d = subst (λ z. length (option_map_or (λ (p : SlotPlan). p.uses) (slice_get z.domains d) []) ≤ 4095) (sym slots_are)
-      (by_plan (slice_get (slots_of t.source t.flat).domains d) refl) where
-        by_plan : (o : Option SlotPlan) → slice_get (slots_of t.source t.flat).domains d ≡ o
-            → length (option_map_or (λ (p : SlotPlan). p.uses) o []) ≤ 4095
-        by_plan None e = omega arith
-        by_plan (Some plan) e = few_uses t.source t.flat slots d plan e
+  uses_few d = search (rules, few_uses)
 
   tables_few : (d frames : ℕ) → table_count t frames d ≤ 262144
-  tables_few d frames =
-      let a = few_tables (arch t) (map (page_mapping frames) (pages_at t d)) in
-      omega (arith, a, length-map (pages_at t d) (page_mapping frames), pages_few d)
+  tables_few d frames = search (rules, few_tables, length-map, pages_few)
 
   -- ---- sections
 
@@ -104,19 +84,16 @@ module _ (t : Tables) (slots_are : t.slots ≡ slots_of t.source t.flat) (spaces
       a + (length b + (length c + (length d + (length e + (length f + (length g + (length h + 0))))))) =
       length-eight a b c d e f g h in
       let a1 = length-numbered series.CNode (cnodes t.flat.domains) in
-      let a2 : length (cnodes t.flat.domains) ≡ length t.flat.domains =
-      gather_ones (λ n (x : Domain). owned (OfDomain n) (CNodeOf n)) t.flat.domains in
+      let a2 : length (cnodes t.flat.domains) ≡ length t.flat.domains = search (rules, gather_ones) in
       let b1 = length-numbered series.Tcb (tcbs t) in let b2 = tcbs_few in
       let c1 : length c ≤ length t.flat.connections = few_endpoints t.flat.connections in
       let d1 : length d ≤ length t.flat.connections = few_notifications t.flat.connections in
       let e1 = length-numbered series.Lock (locks t) in let e2 = locks_few in
       let f1 = length-numbered series.Irq (irqs t) in
       let f2 : length (irqs t) ≤ length t.flat.connections = few_irqs t.flat.connections in
-      let g1 : length g ≡ length (all_tables t) = gather_ones (λ m (x : PageTable). table_part (all_tables t) m x)
-      (all_tables t) in
+      let g1 : length g ≡ length (all_tables t) = search (rules, gather_ones) in
       let g2 = all_tables_few in let h1 = length-numbered series.Frame (frame_parts t.spaces.frames) in
-      let h2 : length (frame_parts t.spaces.frames) ≡ length t.spaces.frames =
-      gather_ones (λ n (x : FrameInfo). owned (frame_owner x.owner) (FrameOf n)) t.spaces.frames in
+      let h2 : length (frame_parts t.spaces.frames) ≡ length t.spaces.frames = search (rules, gather_ones) in
       omega (arith, whole, a1, a2, b1, b2, c1, d1, e1, e2, f1, f2, g1, g2, h1, h2, frames_few, small.domains, small.connections)
 
   -- ---- what the making of a spec asks

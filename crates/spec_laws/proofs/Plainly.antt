@@ -1,12 +1,11 @@
 -- What is laid out plainly can be written.
-use Rattle.std.proofs.Common.{rules}
 use Rattle.spec_laws.proofs.Common.{Bool, CanLay, Content, Domain, Fill, Flat, FlatConnection, FlatEnd, FrameInfo, Given, Image, Images, IsFillWritten, IsFrameWritten, IsIn, IsPlain, IsThreadWritten, IsTrue, IsWritten, Leaf, List, MappedPage}
 use Rattle.spec_laws.proofs.Common.{Memory, None, Option, Own, Placed, Section, SectionPage, Settled, Shown, Some, Source, Space, Tables, ThreadPlace, Window, [], and_parts, ap, arch_of, arith, base, below_count, by_address, component_name}
 use Rattle.spec_laws.proofs.Common.{connection_frames, device_frame, device_frames, div-mul-le_self, entry_in, false, few_at, fill_from, fill_of, frame, frames, frames_at, from_flat_map, from_gather, from_map, from_ones, gather, given}
 use Rattle.spec_laws.proofs.Common.{image_number, in_append, in_place, inl, inr, is_first, is_name, is_run, is_shared, leaf_name, leaves_of, length_regions, ltb-true, mapped_pages, memory_paddr, memory_pages, option_map_or}
 use Rattle.spec_laws.proofs.Common.{own_frame, own_frames, own_part, page_at, page_count, page_counts, page_of, pages_of, pages_of_region, pages_upto, placed, range_with_len, refl, region_page, region_part, region_start, regions}
 use Rattle.spec_laws.proofs.Common.{register_frames, register_part, registers, same_Some, section_page, section_pages, section_part, sections_if, sections_of, shared_frames, shared_part, slice_get, slice_get_within, space, start_same, subst, sum}
-use Rattle.spec_laws.proofs.Common.{sym, tables_from, thread_place, threads_at, threads_of, true, windows_of, ℕ, ◌*◌, ◌+◌, ◌<◌, ◌^◌, ◌∙◌, ◌∷◌, ◌≡◌, ◌≤◌}
+use Rattle.spec_laws.proofs.Common.{rules, sym, tables_from, thread_place, threads_at, threads_of, true, windows_of, ℕ, ◌*◌, ◌+◌, ◌<◌, ◌^◌, ◌∙◌, ◌∷◌, ◌≡◌, ◌≤◌}
 use Rattle.std.specs.Option.{option_map}
 use Rattle.source_images.specs.ByAddress.{name_of}
 use Rattle.sect_table.specs.Sections.{is_placed, is_sound}
@@ -32,13 +31,7 @@ byte_there s j l = let a = div-mul-le_self (s.size + 4095) 4096 in omega (arith,
 
 section_fine : (file : List ℕ) (s : Section) (j : ℕ) → is_name file ≡ true → IsTrue (is_sound s) → j < page_count s
     → FillFine (fill_of file s j)
-section_fine file s j named sound l f e = by_at s.at (sound_at s sound) e where
-  sound_at : (s : Section) → is_sound s ≡ true → is_placed s.at s.size ≡ true
-  sound_at s h = search (rules, and_parts)
-
-  by_at : (o : Option ℕ) → is_placed o s.size ≡ true → option_map (fill_from file s j) o ≡ Some f → IsFillWritten f
-  by_at None h e = absurd cc
-  by_at (Some at) h e = search (rules, ltb-true, byte_there, same_Some)
+section_fine file s j named sound l f e = search (rules, and_parts, ltb-true, byte_there, same_Some)
 
 module _ (g : Given) (plain : IsPlain g) where
   placed_fine : (leaves : List ℕ) (x : Placed) → IsIn x (sections_of g.images leaves)
@@ -54,13 +47,8 @@ module _ (g : Given) (plain : IsPlain g) where
             let p = plain.images m image h in
             let f : ℕ → Section → List Placed = λ n section. placed m n section ∷ [] in
             let n = from_gather f x image.sections i in
-            let named : is_name (name_of g.images m) ≡ true = ap (λ o. is_name (option_map_or (λ (z : Image). z.name) o []))
-            h ∙ p.name in
-            elim n.3 [
-              | inl e ↦ subst (λ (z : Placed). (is_name (name_of g.images z.image) ≡ true) × IsTrue (is_sound z.section))
-                  {x = placed m n.0 n.1} e (named, p.sections n.1 (in_place n.1 image.sections n.0 n.2))
-              | inr none ↦ absurd none
-            ]
+            let named : is_name (name_of g.images m) ≡ true = search (rules) in
+            search (rules, in_place)
 
   section_pages_fine : (leaves : List ℕ) (q : SectionPage) → IsIn q (section_pages g.images leaves) → FillFine q.fill
   section_pages_fine leaves q i =
@@ -105,30 +93,11 @@ module _ (g : Given) (plain : IsPlain g) where
       own_written d.0 n.1.shown f (page_fine d.0 n.1 (in_place n.1 (mapped_pages g d.0) n.0 n.2)) n.3
 
   shared_written : (f : FrameInfo) → IsIn f (shared_part g.flat g.settled) → IsFrameWritten f
-  shared_written f i =
-      let k = from_gather (shared_frames g.settled) f g.flat.connections i in
-      let q = from_if (is_shared k.1.connector) (connection_frames k.0 (memory_pages g.settled k.0 k.1)) f k.3 in
-      let made : ℕ → FrameInfo = λ j. frame (OfConnection k.0) None None in
-      let j = from_map made f (range_with_len 0 (memory_pages g.settled k.0 k.1)) q.1 in
-      subst IsFrameWritten {x = made j.0} j.2 (record { paddr = λ at n. absurd cc; fill = λ z n. absurd cc })
+  shared_written f i = search (rules, from_gather, from_if, from_map)
 
   module _ (can : CanLay g) where
     register_written : (f : FrameInfo) → IsIn f (register_part g.flat g.settled) → IsFrameWritten f
-    register_written f i =
-        let k = from_gather (register_frames g.flat g.settled) f g.flat.connections i in
-        by_end k.0 k.1 k.2 (registers k.1) k.3 where
-          by_end : (k : ℕ) (c : FlatConnection) → slice_get g.flat.connections k ≡ Some c → (o : Option FlatEnd)
-              → IsIn f (option_map_or (frames_at g.flat g.settled k c) o []) → IsFrameWritten f
-          by_end k c h None i = absurd i
-          by_end k c h (Some e) i =
-              let frames = device_frames e.leaf (memory_paddr g.settled k c) (memory_pages g.settled k c) in
-              let j = from_map (device_frame e.leaf (memory_paddr g.settled k c)) f
-              (range_with_len 0 (memory_pages g.settled k c))
-              (from_if (is_first g.flat k e) frames f i).1 in
-              let at : ℕ = memory_paddr g.settled k c + 4096 * j.0 in
-              let few : at < 2 ^ 64 = omega (arith, below_count (memory_pages g.settled k c) j.0 j.1, can.addresses k c h) in
-              subst IsFrameWritten {x = device_frame e.leaf (memory_paddr g.settled k c) j.0} j.2
-              (record { paddr = λ n s. subst (λ z. z < 2 ^ 64) (same_Some at n s) few; fill = λ z n. absurd cc })
+    register_written f i = search (rules, from_gather, from_map, from_if, below_count, same_Some)
 
     pub frame_written : (f : FrameInfo) → IsIn f (frames g) → IsFrameWritten f
     frame_written f i = search (rules, in_append, own_part_written, shared_written, register_written)
@@ -172,8 +141,7 @@ module _ (source : Source) (flat : Flat) (settled : Settled) (images : Images) w
           let f : ℕ → ThreadOf → List ThreadPlace = λ n z. thread_place g d n z ∷ [] in
           let n = from_gather f y (threads_of g d) i in
           let p = plain.programs d n.1 (in_place n.1 (threads_of g d) n.0 n.2) in
-          let named : is_name (leaf_name t n.1.leaf) ≡ true =
-          ap (λ o. is_name (option_map_or (λ (z : Leaf). component_name source z.component) o [])) p.here ∙ p.named in
+          let named : is_name (leaf_name t n.1.leaf) ≡ true = search (rules) in
           let made : IsThreadWritten t (thread_place g d n.0 n.1) = record {
             buffer = buffer_few g plain can pages d x here n.0 n.1 n.2;
             stack = stack_few g plain can pages d x here n.0 n.1 n.2;
@@ -190,9 +158,4 @@ module _ (source : Source) (flat : Flat) (settled : Settled) (images : Images) w
           of_thread o.0 o.1 (subst (λ (z : Space). IsIn y z.threads) (sym o.2) i)
 
     pub tables_written : IsWritten t
-    tables_written = record {
-      badges = plain.badges;
-      numbers = plain.numbers;
-      threads = thread_written;
-      frames = frame_written g plain can;
-    }
+    tables_written = search (rules, thread_written, frame_written)

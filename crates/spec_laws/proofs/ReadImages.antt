@@ -1,4 +1,5 @@
 -- The images that are read for a source are plain.
+use Rattle.std.proofs.Common.{rules}
 use Rattle.spec_laws.proofs.Common.{Aarch64, AreFilesShort, AreImagesOf, Arm11, Bool, Contents, Ended, Image, Images, IsImagePlain, IsIn, IsOne, Item, ItemAt, Leaf, List, Name, None, Option, Some, Source, SourceFile, [], and_parts, ap, bytes_eq}
 use Rattle.spec_laws.proofs.Common.{codes, component_of, cond, digits_value, false, file_item, filter_map, flat_of, from_filter_map, in_get, inl, inr, is_name, item_component, item_line, ltb-true, map_some, nat_lt, option_and_then, option_map, refl}
 use Rattle.spec_laws.proofs.Common.{slice_get, subst, sym, true, type_of, types, zip, ℕ, ◌&&◌, ◌<◌, ◌==◌, ◌^◌, ◌||◌, ◌∙◌, ◌∷◌, ◌≡◌, arith}
@@ -20,9 +21,7 @@ use Rattle.spec_laws.proofs.ComponentNames.{component_named}
 -- ---- types are names
 
 component_spelled : (i : Item) (n : Name) → IsOne item_line i → component_of i ≡ Some n → is_name n ≡ true
-component_spelled (items.Component c) n w e =
-    let same : c.id.name ≡ n = cc in
-    subst (λ (z : Name). is_name z ≡ true) same (component_named c (item_component c w))
+component_spelled (items.Component c) n w e = search (rules, component_named, item_component)
 component_spelled _ n w e = cc
 
 type_named : (s : Source) → AreFilesShort s → (at : ItemAt) (n : Name) → component_name s at ≡ Some n → is_name n ≡ true
@@ -46,22 +45,12 @@ from_firsts {X} same met (y ∷ xs) x i =
     grind (arith, from_firsts same met xs x, from_firsts same (λ z. met z || same z y) xs x)
 
 types_named : (s : Source) → AreFilesShort s → (n : Name) → IsIn n (types s (flat_of s)) → is_name n ≡ true
-types_named s short n i =
-    let f = from_firsts bytes_eq _ (filter_map (type_of s) (flat_of s).leaves) n i in
-    let l = from_filter_map (type_of s) n (flat_of s).leaves f in
-    by_test l.0 l.0.hardware l.2 where
-      by_test : (leaf : Leaf) (b : Bool) → cond b None (component_name s leaf.component) ≡ Some n → is_name n ≡ true
-      by_test leaf true e = cc
-      by_test leaf false e = type_named s short leaf.component n e
+types_named s short n i = search (rules, from_firsts, from_filter_map, type_named)
 
 -- ---- programs begin at numbers of 64 bits
 
 fits_small : (b : Bool) (m n : ℕ) → fits b m ≡ Some n → n < 2 ^ 64
-fits_small b m n e = by_test (b && nat_lt m (2 ^ 64)) refl e where
-  by_test : (t : Bool) → (b && nat_lt m (2 ^ 64)) ≡ t → cond t (Some m) None ≡ Some n → n < 2 ^ 64
-  by_test true t e = let same : m ≡ n = cc in
-      subst (λ z. z < 2 ^ 64) same (ltb-true m (2 ^ 64) (and_parts b (nat_lt m (2 ^ 64)) t).1)
-  by_test false t e = cc
+fits_small b m n e = search (rules, ltb-true, and_parts)
 
 number_small : (bs : List ℕ) (n : ℕ) → number_value bs ≡ Some n → n < 2 ^ 64
 number_small [] n e = fits_small (is_decimal []) (digits_value 10 []) n e

@@ -1,10 +1,9 @@
 -- The regions of spaces, and the lines of windows
-use Rattle.std.proofs.Common.{rules}
 use Rattle.spec_laws.proofs.Common.{Bool, Buffer, CanMap, Cap, Domain, EndAt, FlatConnection, FrameOf, IsAt, IsIn, IsRegionPage, LeafSetting, List, MapLine, MappedPage, Option, OwnLock, Page, RW, Region, Settled, SlotUse}
 use Rattle.spec_laws.proofs.Common.{Some, Space, Spaces, Tables, Tcb, ThreadLine, WindowLine, [], ap, arith, begins, cap, domain_lines, domain_windows, ends, eq-eqb, eqb-true, find, flat_map}
 use Rattle.spec_laws.proofs.Common.{frame_at, from_ones, gather, get_map, get_ones, in_gather, in_place, in_right, inl, leaves_of, length, map, map_lines, mapped_pages, memory_pages, number_shown, object_at}
 use Rattle.spec_laws.proofs.Common.{option_map_or, page, pages_at, place, place_of, refl, region, region_page, root_of, slice_get, slot_line, slot_lines, space, spec_of, subst, suc, sym, system, tcb, thread_lines, thread_place}
-use Rattle.spec_laws.proofs.Common.{thread_regions, threads_of, true, use_cap, window_at, window_line, window_lines, window_region, windows_at, windows_of, zero, ℕ, ◌%◌, ◌*◌, ◌++◌, ◌+◌, ◌/◌, ◌==◌, ◌∙◌, ◌∷◌, ◌≡◌}
+use Rattle.spec_laws.proofs.Common.{rules, thread_regions, threads_of, true, use_cap, window_at, window_line, window_lines, window_region, windows_at, windows_of, zero, ℕ, ◌%◌, ◌*◌, ◌++◌, ◌+◌, ◌/◌, ◌==◌, ◌∙◌, ◌∷◌, ◌≡◌}
 use Rattle.std.specs.Prelude.{option_map}
 use Rattle.cap_model.specs.declared.object.Object.TheVariants as objects
 use Rattle.system_spec.specs.declared.part.What.TheVariants.{ThreadOf as OfThread}
@@ -50,10 +49,7 @@ same_thread a b o e f = cc
 module _ (t : Tables) (can : CanMap t) where
   window_domain : (d i : ℕ) (y : EndAt) → slice_get (windows_of (system t) d) i ≡ Some y
       → (x : Domain) × (slice_get t.flat.domains d ≡ Some x)
-  window_domain d i y e = has_domain t d not_none where
-    not_none : leaves_of t.flat d ≡ [] → ⊥
-    not_none leaves =
-        let f = subst (λ z. slice_get z i ≡ Some y) (ap (λ ls. windows_in t.flat (ends (system t)) ls) leaves) e in cc
+  window_domain d i y e = search (rules, has_domain)
 
   -- ---- the buffer of a thread
 
@@ -69,11 +65,7 @@ module _ (t : Tables) (can : CanMap t) where
     there =
         let b = buffer_at t.settled (threads_of (system t) d) (map (window_region t.flat t.settled) (windows_of (system t) d)) i y
         e in
-        let p : IsRegionPage t d (2 * i + 1) (start + 4096 * 0) 0 (region Buffer 1) = record {
-          here = b;
-          within = omega arith;
-          at = refl;
-        } in
+        let p : IsRegionPage t d (2 * i + 1) (start + 4096 * 0) 0 (region Buffer 1) = search (rules) in
         place_of q (mapped_pages (system t) d) (region_in t can.settled d (2 * i + 1) (start + 4096 * 0) 0 (region Buffer 1)
         Buffer p refl)
 
@@ -94,8 +86,7 @@ module _ (t : Tables) (can : CanMap t) where
         let at : u.0.at ≡ start + 4096 * 0 = ap (λ (z : Page). z.vaddr) u.2 ∙ eqb-true p.vaddr start k ∙ sym begin in
         let a = get_map (λ (z : MappedPage). z.at) pages m u.0 u.1 in
         let b = get_map (λ (z : MappedPage). z.at) pages there.0 q there.1 in
-        let number : m ≡ there.0 = rises_tell (map (λ (z : MappedPage). z.at) pages) m there.0 u.0.at (rise t can d x h).rise a
-        (b ∙ ap (λ z. Some z) (sym at)) in
+        let number : m ≡ there.0 = search (rules, rises_tell, there, rise) in
         let shown : u.0 ≡ q = some (slice_get pages there.0) u.0 q (ap (λ z. slice_get pages z) (sym number) ∙ u.1) there.1 in
         sym u.2 ∙ ap (λ z. laid z u.0) number ∙ ap (λ z. laid there.0 z) shown
 
@@ -153,15 +144,7 @@ module _ (t : Tables) (can : CanMap t) where
       let made : ℕ → EndAt → Window = λ n z. window_at (system t) d n z in
       let e = from_ones made (windows_of (system t) d) n w (ap (λ z. slice_get z n) (sym (windows_are d x h)) ∙ s) in
       let v = seen (system t) d e.0 (in_place e.0 (windows_of (system t) d) n e.1) in
-      record {
-        domain = d;
-        number = n;
-        e = e.0;
-        here = e.1;
-        connection = v.connection;
-        of_connection = v.there;
-        is = ap (λ z. window_line z) (sym e.2) ∙ said d n e.0 v.connection v.there;
-      }
+      search (rules, said)
 
   no_slot : (o n : ℕ) (u : SlotUse) → SaysWindow (slot_line o n u) → ⊥
   no_slot o n (OwnLock leaf m) s = s

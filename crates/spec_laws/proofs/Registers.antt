@@ -1,7 +1,6 @@
 -- Connections to one dataport of a device find its registers at one address.
-use Rattle.std.proofs.Common.{rules}
 use Rattle.spec_laws.proofs.Common.{AreSettingsSound, AreTyped, Connector, EndSetting, FlatConnection, FlatEnd, Hierarchy, Interface, Leaf, Mmio, None, Option, Settled, Some, Source, ap, codes, cond, default_bytes, end_setting, flat_of, hierarchy_of}
-use Rattle.spec_laws.proofs.Common.{meaning, meant, members_at, memory_paddr, paddr_in, registers, same_Some, same_kind, setting_of, settled_of, size_in, slice_get, sym, to_place, unwrap_or, value_at, where_set, ℕ, ◌&&◌, ◌++◌, ◌∙◌, ◌≡◌}
+use Rattle.spec_laws.proofs.Common.{meaning, meant, members_at, memory_paddr, paddr_in, registers, rules, same_Some, same_kind, setting_of, settled_of, size_in, slice_get, sym, to_place, unwrap_or, value_at, where_set, ℕ, ◌&&◌, ◌++◌, ◌∙◌, ◌≡◌}
 use Rattle.adl_ast.specs.declared.component.InterfaceKind.TheVariants as interfaces
 use Rattle.adl_ast.specs.declared.component.Member.TheVariants as members
 use Rattle.adl_meaning.specs.Values.{Given}
@@ -38,12 +37,6 @@ module _ (s : Source) (typed : AreTyped s (flat_of s)) (settings : AreSettingsSo
       let h = hierarchy_of s in let a = from_registers c e has in
       let b = from_registers d f also in let x = end_found s typed settings k a.1 c e at a.3 in
       let y = end_found s typed settings n b.1 d f there b.3 in
-      let leaf : x.found.joint.leaf ≡ y.found.joint.leaf =
-      same_Some _ _ (sym x.leaf ∙ ap (slice_get (flat_of s).leaves) leaf_is ∙ y.leaf) in
-      let interface : x.found.joint.interface ≡ y.found.joint.interface =
-      interface_same _ _ (sym x.interface ∙ ap (λ (z : Leaf). slice_get (members_at s z.component) e.member) leaf
-      ∙ ap (slice_get (members_at s y.found.joint.leaf.component)) member_is ∙ y.interface) in
-      paddr_by (settled_of s) k a.1 c (end_setting x.found) a.0 a.2 x.setting ∙ paddr_here k a.1 c e x a.0
-      ∙ ap (λ z. device_paddr h Mmio None z x.found.joint.interface) leaf
-      ∙ ap (λ z. device_paddr h Mmio None y.found.joint.leaf z) interface ∙ sym (paddr_here n b.1 d f y b.0)
-      ∙ sym (paddr_by (settled_of s) n b.1 d (end_setting y.found) b.0 b.2 y.setting)
+      let leaf : x.found.joint.leaf ≡ y.found.joint.leaf = search (rules, same_Some) in
+      let interface : x.found.joint.interface ≡ y.found.joint.interface = search (rules, interface_same) in
+      search (rules, paddr_by, paddr_here, device_paddr)

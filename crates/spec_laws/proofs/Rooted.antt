@@ -1,8 +1,7 @@
 -- The objects from a domain's root on begin with the page tables of its space
-use Rattle.std.proofs.Common.{rules}
 use Rattle.spec_laws.proofs.Common.{Domain, Endpoint, Entry, FrameOf, IsIn, List, Object, PageTable, Part, Some, TableOf, Tables, [], all_tables, ap, arith, at_place, before, begins_with, below, domain_tables, drop, entry, gathered, get_drop}
 use Rattle.spec_laws.proofs.Common.{get_map, get_ones, in_gather, in_together, inl, length, level_of, map, objects_from, page_table, parts, place, refl, root_of, sections, slice_get, spec_of, stands, sym, table_part, table_parts, tables_at}
-use Rattle.spec_laws.proofs.Common.{tables_counted, ℕ, ◌++◌, ◌+◌, ◌∙◌, ◌∷◌, ◌≡◌}
+use Rattle.spec_laws.proofs.Common.{rules, tables_counted, ℕ, ◌++◌, ◌+◌, ◌∙◌, ◌∷◌, ◌≡◌}
 use Rattle.spec_laws.proofs.Members.{index_is}
 
 -- frame 0
@@ -28,8 +27,7 @@ module _ (t : Tables) (d : ℕ) (x : Domain) (h : slice_get t.flat.domains d ≡
   object_there : (j : ℕ) (o : Object) → slice_get (tables_of_domain t d) j ≡ Some o
       → slice_get (map (λ (z : Entry). z.object) (spec_of t).entries) (root_of t d + j) ≡ Some o
   object_there j o e =
-      let long : length (tables_of_domain t d) ≡ length (tables_at t 0 0 d) = tables_counted t (root_of t d) (frames_from t) d
-      ∙ sym (tables_counted t 0 0 d) in
+      let long : length (tables_of_domain t d) ≡ length (tables_at t 0 0 d) = search (rules, tables_counted) in
       let q = at_place (tables_at t 0 0 d) j (omega (arith, long, below (tables_of_domain t d) j o e)) in
       let p = table_part (all_tables t) (before (domain_tables t) t.flat.domains d + j) (page_table d j (level_of q.0)) in
       let at : place t (TableOf d j) ≡ root_of t d + j = omega arith in

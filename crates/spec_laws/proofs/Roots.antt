@@ -1,8 +1,7 @@
 -- Each domain has a root of its own
-use Rattle.std.proofs.Common.{rules}
 use Rattle.spec_laws.proofs.Common.{AreRoots, CanMap, Domain, Endpoint, IsIn, IsRootOf, List, Mapping, Object, OfDomain, Pages, Part, Some, TableOf, Tables, [], all_tables, ap, arch, arith, before, below, count_by, domain_tables, from_map, in_map}
 use Rattle.spec_laws.proofs.Common.{is_of, level_of, level_series, map, name_at, name_of, object, object_at, objects_stand, of_level, page_mapping, page_table, pages_at, parts, place, refl, root_of, root_series, root_span, shapes, slice_get, spec_of}
-use Rattle.spec_laws.proofs.Common.{stands, subst, sym, table_part, ℕ, ◌+◌, ◌<◌, ◌∙◌, ◌∷◌, ◌≡◌}
+use Rattle.spec_laws.proofs.Common.{rules, stands, subst, sym, table_part, ℕ, ◌+◌, ◌<◌, ◌∙◌, ◌∷◌, ◌≡◌}
 use Rattle.spec_laws.proofs.Finding.{maps_below, some_map}
 use Rattle.spec_laws.proofs.Members.{index_is}
 use Rattle.spec_laws.proofs.Rooted.{frames_from, table_in, tables_of_domain}
@@ -45,9 +44,7 @@ module _ (t : Tables) (can : CanMap t) where
       let each : (n : ℕ) (y : Domain) → slice_get t.flat.domains n ≡ Some y
       → count_by (is_of (root_level a)) (domain_tables t n y) ≡ 1 =
       λ n y g. one_in_domain a n (map (page_mapping 0) (pages_at t n)) (fine 0 n y g) in
-      let number : of_level (root_level a) (all_tables t) m ≡ d = ap (λ z. of_level (root_level a) (all_tables t) z) at
-      ∙ ap (λ z. count_by (is_of (root_level a)) z) (take_before (domain_tables t) t.flat.domains d)
-      ∙ count_each (is_of (root_level a)) (domain_tables t) t.flat.domains d each (omega (arith, below t.flat.domains d x h)) in
+      let number : of_level (root_level a) (all_tables t) m ≡ d = search (rules, root_level, take_before, count_each, below) in
       record {
         part = table_part (all_tables t) m (page_table d 0 (level_of o));
         there = table_in t d x h 0 o first.1;

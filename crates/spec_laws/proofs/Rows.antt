@@ -1,8 +1,7 @@
 -- What ends are given over the objects of their connections, by the table and by the rights of their capabilities.
-use Rattle.std.proofs.Common.{rules}
 use Rattle.spec_laws.proofs.Common.{AsyncSend, Authority, Bool, Connector, EndSetting, From, Handle, Interrupt, Kind, Mmio, NONE, Notification, ObjectKind, OfDevice, OfEndpoint, OfFrames, OfIrq, OfNotification, Option, Read, Role, Rpc}
 use Rattle.spec_laws.proofs.Common.{SharedMemory, To, Write, and_parts, end_rights, end_rule, false, gives, has_label, inl, inr, is_object, is_window, kind_confers, not, or_cases, plain_kind, refl, same_object, sym, true, true≢false, ◌&&◌, ◌==◌}
-use Rattle.spec_laws.proofs.Common.{◌||◌, ◌∙◌, ◌≡◌, ◌⊎◌}
+use Rattle.spec_laws.proofs.Common.{rules, ◌||◌, ◌∙◌, ◌≡◌, ◌⊎◌}
 use Rattle.authorities.specs.Authorities.{number_of}
 use Rattle.cap_model.specs.declared.kind.Kind.TheVariants as kinds
 use Rattle.arch_policy.specs.Gives.{leaves}
@@ -118,29 +117,7 @@ by_signalling c r o a = fits c r o Interrupt From OfNotification && (number_of a
 
 pub given_by : (c : Connector) (r : Role) (o : ObjectKind) (a : Authority) → gives c r o a ≡ true
     → ((a ≡ Read) ⊎ (a ≡ Write)) ⊎ (OfSlot c r o ⊎ (IsHandling c r o a ⊎ IsSignalling c r o a))
-given_by c r o a h =
-    let w =
-    implied (gives c r o a) _
-    (over_all
-    (λ c r o a. implies (gives c r o a) (is_access a || (by_slot c r o || (by_handling c r o a || by_signalling c r o a))))
-    refl c r o a) h in
-    elim (or_cases (is_access a) _ w) [
-      | inl e ↦ inl (access_is a e)
-      | inr w ↦ elim (or_cases (by_slot c r o) _ w) [
-        | inl e ↦ (let q = and_parts (has_slot c r) (same_object o (joint_object c)) e in
-            inr (inl (record { slot = q.0; object = is_object o (joint_object c) q.1 })))
-        | inr w ↦ elim (or_cases (by_handling c r o a) (by_signalling c r o a) w) [
-          | inl e ↦
-              let q = and_parts (fits c r o Interrupt To OfIrq) (number_of a == number_of Handle) e in
-              let f = fitted c r o Interrupt To OfIrq q.0 in
-              inr (inr (inl (record { connector = f.0; role = f.1; object = f.2; authority = handle_is a q.1 })))
-          | inr e ↦
-              let q = and_parts (fits c r o Interrupt From OfNotification) (number_of a == number_of AsyncSend) e in
-              let f = fitted c r o Interrupt From OfNotification q.0 in
-              inr (inr (inr (record { connector = f.0; role = f.1; object = f.2; authority = send_is a q.1 })))
-        ]
-      ]
-    ]
+given_by c r o a h = search (rules, implied, over_all, implies, or_cases, access_is, and_parts, has_slot, is_object, fits)
 
 -- ---- who sees memory
 
@@ -155,15 +132,7 @@ pub record SeesDevice (c : Connector) (r : Role) (o : ObjectKind) : Type 0 where
   pub object : o ≡ OfDevice
 
 pub seen_by : (c : Connector) (r : Role) (o : ObjectKind) → gives c r o Read ≡ true → SeesShared c o ⊎ SeesDevice c r o
-seen_by c r o h =
-    let w =
-    implied (gives c r o Read) _
-    (over_object (λ c r o. implies (gives c r o Read) (fits c r o SharedMemory r OfFrames || fits c r o Mmio From OfDevice))
-    refl c r o) h in
-    elim (or_cases (fits c r o SharedMemory r OfFrames) (fits c r o Mmio From OfDevice) w) [
-      | inl e ↦ (let f = fitted c r o SharedMemory r OfFrames e in inl (record { connector = f.0; object = f.2 }))
-      | inr e ↦ (let f = fitted c r o Mmio From OfDevice e in inr (record { connector = f.0; role = f.1; object = f.2 }))
-    ]
+seen_by c r o h = search (rules, implied, over_object, implies, fits, or_cases, fitted)
 
 -- it is the ends that have a window
 pub window_sees : (c : Connector) (r : Role) → is_window c r ≡ true → ((c ≡ SharedMemory) × (gives c r OfFrames Read ≡ true))

@@ -1,9 +1,8 @@
 -- In each section the series and the number of a part tell its place.
-use Rattle.std.proofs.Common.{rules}
 use Rattle.spec_laws.proofs.Common.{Bool, Connector, Directory, EndpointOf, FlatConnection, Interrupt, Level, List, Notification, OfConnection, Owned, PageTable, Part, Rpc, Series, Some}
 use Rattle.spec_laws.proofs.Common.{Tables, [], all_tables, ap, arith, before, cases_order, cnodes, cond, count_by, count_by-le-length, endpoint, endpoint_by, endpoints, eq-eqb, flat_map, frame_parts, from_ones, from_place, gather_ones, inl}
 use Rattle.spec_laws.proofs.Common.{inr, irqs, length, length-take-le, length_append, level_number, level_series, locks, notification, notification_by, notifications, numbered, of_level, part, parts, rank, refl, same_Some, sections, slice_get}
-use Rattle.spec_laws.proofs.Common.{slice_get_within, split_get, subst, suc, sum_by-cons, sym, table_part, table_parts, take, tcbs, true, zero, ℕ, ◌+◌, ◌<◌, ◌==◌, ◌∙◌, ◌∷◌, ◌≡◌, ◌≤◌}
+use Rattle.spec_laws.proofs.Common.{rules, slice_get_within, split_get, subst, suc, sum_by-cons, sym, table_part, table_parts, take, tcbs, true, zero, ℕ, ◌+◌, ◌<◌, ◌==◌, ◌∙◌, ◌∷◌, ◌≡◌, ◌≤◌}
 use Rattle.cam_base.proofs.NumberedLists.{single}
 use Rattle.system_spec.specs.declared.series.Series.TheVariants as series
 use Rattle.spec_laws.proofs.Blocks.{behind}
@@ -180,8 +179,7 @@ module _ (t : Tables) (bound : ℕ) (few : length t.flat.connections ≤ bound) 
 
   few_tables : length (all_tables t) ≤ bound
   few_tables =
-      let m : length (table_parts (all_tables t)) ≡ length (all_tables t) =
-      gather_ones (λ k (x : PageTable). table_part (all_tables t) k x) (all_tables t) in
+      let m : length (table_parts (all_tables t)) ≡ length (all_tables t) = search (rules, gather_ones) in
       omega (arith, all, section_within (sections t) 6 (table_parts (all_tables t)) refl, m)
 
   abbrev Tells : ℕ → List Part → Type 0

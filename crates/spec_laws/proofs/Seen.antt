@@ -1,10 +1,9 @@
 -- Frames are no more than pages: own frames are pages of their own, and memory is seen through a window.
-use Rattle.std.proofs.Common.{rules}
 use Rattle.spec_laws.proofs.Common.{Bool, Connector, Content, Domain, EndAt, FlatConnection, FlatEnd, Given, HasMemory, IsIn, IsSeen, List, MappedPage, Memory, Mmio, None, Option, Own, Region, Settled}
 use Rattle.spec_laws.proofs.Common.{SharedMemory, Shown, Some, Window, [], ap, arith, base, cond, connection_frames, device_frame, eq-eqb, eqb-true, false, false_from_ne_true, first_to_end, flat_map, frames, frames_at, from_map, gather}
 use Rattle.spec_laws.proofs.Common.{in_gather, inr, is_first, is_shared, leaves_of, length, length_append, map, mapped_pages, memory_paddr, memory_pages, memory_part, option_map_or, own_frame, own_frames, own_part, page_counts, page_of}
 use Rattle.spec_laws.proofs.Common.{pages_from, pages_of_region, range_with_len, refl, region_part, region_start, regions, register_frames, register_part, registers_in, section_part, shared_frames, shared_part, slice_get, suc, sum, sym}
-use Rattle.spec_laws.proofs.Common.{thread_regions, threads_of, true, window_pages, window_region, windows_of, ℕ, ◌+◌, ◌==◌, ◌∙◌, ◌∷◌, ◌≡◌, ◌≤◌}
+use Rattle.spec_laws.proofs.Common.{rules, thread_regions, threads_of, true, window_pages, window_region, windows_of, ℕ, ◌+◌, ◌==◌, ◌∙◌, ◌∷◌, ◌≡◌, ◌≤◌}
 use Rattle.std.proofs.lemmas.List.FromFn.{length-map-range_with_len}
 use Rattle.spec_laws.proofs.Totals.{length_gather, length_is, sum_ones, total, total_append, total_gather, total_map, total_most, total_one, totals, totals_add, totals_each, totals_flat, totals_most, totals_same, totals_swap}
 
@@ -122,13 +121,7 @@ module _ (g : Given) where
   register_most : (k : ℕ) (c : FlatConnection) (o : Option FlatEnd)
       → length (option_map_or (frames_at g.flat g.settled k c) o []) ≤ memory_pages g.settled k c
   register_most k c None = omega arith
-  register_most k c (Some f) = by_test (is_first g.flat k f) where
-    by_test : (b : Bool) → length
-        (cond b (map (device_frame f.leaf (memory_paddr g.settled k c)) (range_with_len 0 (memory_pages g.settled k c))) [])
-        ≤ memory_pages g.settled k c
-    by_test true = let n = length-map-range_with_len (device_frame f.leaf (memory_paddr g.settled k c)) 0
-        (memory_pages g.settled k c) in omega (arith, n)
-    by_test false = omega arith
+  register_most k c (Some f) = search (rules, length-map-range_with_len)
 
   -- by connector
   abbrev by_connector : ℕ → FlatConnection → Connector → ℕ
@@ -153,9 +146,7 @@ module _ (g : Given) where
         let e = s.end in
         let i = in_gather (λ d (x : Domain). windows_of g d) e g.flat.domains s.place s.domain s.here s.window in
         let here : hit k e ≡ wide e = ap (λ b. cond b (wide e) 0) (eq-eqb e.connection k s.joins) in
-        let size : wide e ≡ memory_pages g.settled k c =
-        ap (λ j. option_map_or (memory_pages g.settled j) (slice_get g.flat.connections j) 0) s.joins
-        ∙ ap (λ o. option_map_or (memory_pages g.settled k) o 0) h in
+        let size : wide e ≡ memory_pages g.settled k c = search (rules) in
         omega (arith, total_one (hit k) all_windows e i, here, size)
 
   memory_few : ((k : ℕ) (c : FlatConnection) → slice_get g.flat.connections k ≡ Some c → HasMemory c.connector → IsSeen g k)

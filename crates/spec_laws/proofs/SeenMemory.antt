@@ -1,4 +1,5 @@
 -- The memory of each connection is seen in the domain of its first `from` end.
+use Rattle.std.proofs.Common.{rules}
 use Rattle.spec_laws.proofs.Common.{AreDotted, AreNamesSound, Connector, Domain, EndAt, FlatConnection, FlatEnd, From, HasMemory, Images, IsIn, IsSeen, Leaf, None, Some, Source, [], ap, cond, domain_number, domain_of, end_in, end_rule, end_window}
 use Rattle.spec_laws.proofs.Common.{ends, ends_at, ends_typed, false, first_type_fault, flat_of, from_get_map, given, hardware_fits, hierarchy_of, in_flat_map, inl, inr, is_hardware, is_window, joins, leaf_listed, leaf_of, leaf_windows, leaves}
 use Rattle.spec_laws.proofs.Common.{leaves_of, option_and_then, option_map, option_map_or, refl, sees_memory, settled_of, slice_get, some_end, subst, sym, true, ℕ, ◌∙◌, ◌∷◌, ◌≡◌}
@@ -33,23 +34,16 @@ memory_seen s images sound dotted none k c at t =
     let g = given s (flat_of s) (settled_of s) images in
     let f = some_end s sound dotted none k c at From in let e = f.1 in
     let y = ends_typed s sound dotted none k f.0 c e at f.2 in
-    let soft : y.leaf.hardware ≡ false = hardware_fits (end_rule c.connector e.role) (record {
-      interface = y.interface;
-      hardware = y.leaf.hardware;
-    }) y.kind ∙ ap (λ r. (end_rule c.connector r).hardware) f.3 ∙ soft_from c.connector t in
+    let soft : y.leaf.hardware ≡ false = search (rules, hardware_fits, soft_from) in
     let d = has_domain s e.leaf y.leaf y.here soft in
     let home = leaf_listed (hierarchy_of s) e.leaf d.0 y.leaf y.here d.1 in
     let x : EndAt = record { connection = k; end = f.0 } in
-    let sees : sees_memory g.flat x ≡ true =
-    ap (λ o. option_map_or (λ (z : Connector × FlatEnd). is_window z.0 z.1.role) (option_and_then (end_in f.0) o) false) at
-    ∙ ap (λ o. option_map_or (λ (z : Connector × FlatEnd). is_window z.0 z.1.role) (option_map (λ (i : FlatEnd). (c.connector, i))
-    o) false) f.2 ∙ ap (λ r. is_window c.connector r) f.3 ∙ window_from c.connector t in
+    let sees : sees_memory g.flat x ≡ true = search (rules, window_from) in
     let window : IsIn x (end_window g.flat x) = subst (λ b. IsIn x (cond b (x ∷ []) [])) (sym sees) (inl refl) in
     let among : IsIn x (leaf_windows g.flat (ends g) e.leaf) = in_flat_map (end_window g.flat) x x (ends_at (ends g) e.leaf)
     (in_its_ends g (record { place = k; connection = c; here = at; number = f.0; end = e; stands = f.2 }) y.leaf
     (members.Interface y.interface) y.here y.joined) window in
-    let inside : IsIn e.leaf (leaves_of g.flat d.0) = subst (λ o. IsIn e.leaf (option_map_or (λ (z : Domain). z.leaves) o []))
-    (sym home.1) home.2 in
+    let inside : IsIn e.leaf (leaves_of g.flat d.0) = search (rules) in
     record {
       place = d.0;
       domain = home.0;

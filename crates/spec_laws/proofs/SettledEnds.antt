@@ -1,9 +1,8 @@
 -- The settings of an end by its numbers, with what they are found at: where no fault of types or settings stands, its values
 -- are allowed, none is missing, and interface and leaf are as the connector table has them.
-use Rattle.std.proofs.Common.{rules}
 use Rattle.spec_laws.proofs.Common.{AreSettingsSound, AreTyped, EndSetting, EndSettings, FlatConnection, FlatEnd, Found, IsIn, Joint, None, Option, Some, Source, [], ap, bad_at_end, bad_in_connection, end_rule, end_setting, end_settings, faults_on}
 use Rattle.spec_laws.proofs.Common.{flat_of, found_at, found_on, founds_in, from_get_map, get_map, hierarchy_of, in_get, is_kind_of, members_at, missing_at, missing_in, none_in, none_left, none_right, option_and_then, refl, setting_of, settled_of}
-use Rattle.spec_laws.proofs.Common.{slice_get, true, ℕ, ◌++◌, ◌∙◌, ◌≡◌}
+use Rattle.spec_laws.proofs.Common.{rules, slice_get, true, ℕ, ◌++◌, ◌∙◌, ◌≡◌}
 use Rattle.adl_settings.specs.BadgeTwice.{badges_twice_in}
 use Rattle.adl_ast.specs.declared.component.Member.TheVariants as members
 use Rattle.flat_laws.proofs.SettledEnds.{found_there}
@@ -11,11 +10,7 @@ use Rattle.flat_laws.proofs.SettledEnds.{found_there}
 -- each settled setting is that of some end
 pub setting_from : (s : Source) (k n : ℕ) (e : EndSetting) → setting_of (settled_of s) k n ≡ Some e
     → (f : Found) × (end_setting f ≡ e)
-setting_from s k n e at = by_connection (slice_get (settled_of s).connections k) refl at where
-  by_connection : (o : Option EndSettings) → slice_get (settled_of s).connections k ≡ o
-      → option_and_then (λ z. slice_get z.ends n) o ≡ Some e → (f : Found) × (end_setting f ≡ e)
-  by_connection None is at = cc
-  by_connection (Some z) is at = search (rules, from_get_map)
+setting_from s k n e at = search (rules, from_get_map)
 
 -- end n of connection k, with its settings
 pub record IsEndFound (s : Source) (k n : ℕ) (c : FlatConnection) (e : FlatEnd) : Type 0 where

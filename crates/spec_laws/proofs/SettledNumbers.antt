@@ -1,4 +1,5 @@
 -- Settled priorities, badges and interrupts are small numbers.
+use Rattle.std.proofs.Common.{rules}
 use Rattle.spec_laws.proofs.Common.{EndSetting, EndSettings, FlatConnection, FlatEnd, Found, From, Interface, IsIn, Joint, Leaf, LeafFound, LeafSetting, List, None, Option, Role, Some, Source, To, [], and_parts, ap, arith, badge_in, badge_kind}
 use Rattle.spec_laws.proofs.Common.{badge_of, behind, cond_both, device_place, digits_value, end_setting, end_settings, flat_of, found_at, found_of, found_on, from_filter_map, from_get_map, has_badge, hierarchy_of, in_get, inl, inr}
 use Rattle.spec_laws.proofs.Common.{interface_at, irq_in, irq_number, irq_of, is_badge_text, joint_at, joint_of, leaf_setting, leb-true, length, map_some, meaning, meant, nat_le, number_in, option_and_then, option_map_or, positioned}
@@ -16,29 +17,20 @@ within_most greatest n = cond_both (nat_le 0 n && nat_le n greatest) (Some n) No
 
 priority_most : (o : Option Given) → unwrap_or (meant priority_in 254 o) 0 ≤ 255
 priority_most None = omega arith
-priority_most (Some g) = by_number (number_in g.value.kind) where
-  by_number : (o : Option ℕ) → unwrap_or (option_and_then (within 0 255) o) 0 ≤ 255
-  by_number None = omega arith
-  by_number (Some n) = within_most 255 n
+priority_most (Some g) = search (rules, within_most)
 
 priority_fits : (f : LeafFound) → (leaf_setting f).priority ≤ 255
 priority_fits f = cond_both f.leaf.hardware 0 (unwrap_or (meant priority_in 254 f.priority) 0) (λ z. z ≤ 255) (λ e. omega arith)
     (λ e. priority_most f.priority)
 
 pub priorities_fit : (s : Source) (leaf : ℕ) → option_map_or (λ z. z.priority) (slice_get (settled_of s).leaves leaf) 0 ≤ 255
-priorities_fit s leaf = by_setting (slice_get (settled_of s).leaves leaf) refl where
-  by_setting : (o : Option LeafSetting) → slice_get (settled_of s).leaves leaf ≡ o → option_map_or (λ z. z.priority) o 0 ≤ 255
-  by_setting None e = omega arith
-  by_setting (Some x) e = grind (arith, from_get_map, priority_fits)
+priorities_fit s leaf = search (rules, from_get_map, priority_fits)
 
 -- ---- interrupts
 
 irq_most : (o : Option Given) → unwrap_or (meaning irq_in o) 0 ≤ 1023
 irq_most None = omega arith
-irq_most (Some g) = by_number (number_in g.value.kind) where
-  by_number : (o : Option ℕ) → unwrap_or (option_and_then (within 0 1023) o) 0 ≤ 1023
-  by_number None = omega arith
-  by_number (Some n) = within_most 1023 n
+irq_most (Some g) = search (rules, within_most)
 
 pub numbers_small : (s : Source) (k : ℕ) (c : FlatConnection) → irq_number (settled_of s) k c < 2 ^ 64
 numbers_small s k c = by_place (device_place c.connector c.ends) where
@@ -62,11 +54,7 @@ kind_most (Text t) = cond_both (is_badge_text t) (within 0 268435455 (digits_val
 kind_most _ = omega arith
 
 badge_most : (f : Found) → badge_at f ≤ f.joint.position + 268435455
-badge_most f = cond_both (has_badge f.joint) (unwrap_or (badge_of f) 0) 0 (λ z. z ≤ f.joint.position + 268435455)
-    (λ e. by_given f.badge) (λ e. omega arith) where
-      by_given : (o : Option Given) → unwrap_or (meant badge_in f.joint.position o) 0 ≤ f.joint.position + 268435455
-      by_given None = omega arith
-      by_given (Some g) = let l = kind_most g.value.kind in omega (arith, l)
+badge_most f = search (rules, cond_both, kind_most)
 
 position_most : (p : ℕ) (es : List FlatEnd) (x : ℕ × FlatEnd) → IsIn x (positioned_after p es) → x.0 ≤ p + length es
 position_most p [] x i = absurd i
@@ -78,20 +66,7 @@ position_most p (e ∷ es) x (inr i) = by_role e.role (position_most (behind p e
 
 position_is : (s : Source) (c : FlatConnection) (x : ℕ × FlatEnd) (f : Found)
     → found_of (hierarchy_of s) s (flat_of s) c x ≡ Some f → f.joint.position ≡ x.0
-position_is s c x f e =
-    let j = map_some (found_at (hierarchy_of s)) (joint_of s (flat_of s) c x) f e in
-    ap (λ (z : Found). z.joint.position) (sym j.2) ∙ by_leaf j.0 (slice_get (flat_of s).leaves x.1.leaf) j.1 where
-      by_leaf : (j : Joint) (o : Option Leaf) → option_and_then (joint_at s c x) o ≡ Some j → j.position ≡ x.0
-      by_leaf j None e = cc
-      by_leaf j (Some leaf) e =
-          let i = map_some (λ (i : Interface). let z : Joint = record {
-            connection = c;
-            position = x.0;
-            end = x.1;
-            leaf = leaf;
-            interface = i;
-          } in z) (interface_at s leaf x.1.member) j e in
-          ap (λ (z : Joint). z.position) (sym i.2)
+position_is s c x f e = search (rules, map_some)
 
 pub badges_small : (s : Source) → ((k : ℕ) (c : FlatConnection) → slice_get (flat_of s).connections k ≡ Some c
     → length c.ends < 2 ^ 32) → (k n : ℕ) → settled_badge (settled_of s) k n < 2 ^ 64

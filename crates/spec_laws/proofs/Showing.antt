@@ -1,9 +1,8 @@
 -- The frames that windows show, and all others
-use Rattle.std.proofs.Common.{rules}
 use Rattle.spec_laws.proofs.Common.{AreMemoryFrames, CanMap, Cap, Domain, Flat, FlatConnection, FlatEnd, Frame, FrameInfo, FrameOf, List, Mmio, None, OneMemory, Option, Region, SharedMemory, ShowsMemory, Some, Spaces, Tables, Window, []}
 use Rattle.spec_laws.proofs.Common.{ap, arith, before, begins, cond, connection_frames, eq-eqb, false, first_to, frame, frame_object, in_place, inl, inr, is_shared, leaves_of, length, mapped_pages, memory_before, memory_number}
 use Rattle.spec_laws.proofs.Common.{memory_paddr, memory_pages, object_at, option_map_or, own_part, place, place_of, position, region_page, regions, register_frames, registers, registers_before}
-use Rattle.spec_laws.proofs.Common.{root_of, shared_frames, shared_part, slice_get, spec_of, subst, sym, system, ℕ, ◌&&◌, ◌*◌, ◌+◌, ◌/◌, ◌<◌, ◌==◌, ◌∙◌, ◌≡◌, ◌⊎◌}
+use Rattle.spec_laws.proofs.Common.{root_of, rules, shared_frames, shared_part, slice_get, spec_of, subst, sym, system, ℕ, ◌&&◌, ◌*◌, ◌+◌, ◌/◌, ◌<◌, ◌==◌, ◌∙◌, ◌≡◌, ◌⊎◌}
 use Rattle.vspace_layout.specs.declared.owner.Owner.TheVariants.{OfConnection}
 use Rattle.spec_laws.proofs.Blocks.{apart, as_long, inside}
 use Rattle.spec_laws.proofs.Framing.{FirstTo, IsMemoryFrame, first_is, frame_there, memory_frame, memory_of, one_device, registers_there}
@@ -15,9 +14,7 @@ use Rattle.spec_laws.proofs.Spaces.{cap_is}
 -- a region is one of a domain that there is
 pub in_domain : (t : Tables) (d n : ℕ) (r : Region) → slice_get (regions (system t) d) n ≡ Some r
     → (x : Domain) × (slice_get t.flat.domains d ≡ Some x)
-in_domain t d n r e = has_domain t d not_none where
-  not_none : leaves_of t.flat d ≡ [] → ⊥
-  not_none leaves = search (rules)
+in_domain t d n r e = search (rules, has_domain)
 
 -- ---- where the frames of memory stand
 
@@ -66,8 +63,7 @@ module _ (t : Tables) where
       let r = registers_there t k j c m l in let f = first_is t k c r.0 h r.1 in
       let pages = can.memory.pages k f.number c f.connection h f.here (one_device t c r.0 r.1 f) in
       let front : memory_before t.flat t.settled k c ≡ length (shared_part t.flat t.settled) + before registers_by cs f.number =
-      ap (λ o. option_map_or (registers_before t.flat t.settled) o (before shared_by cs k)) r.1
-      ∙ ap (λ o. length (shared_part t.flat t.settled) + option_map_or (before registers_by cs) o 0) f.first in
+      search (rules) in
       at_device r.0 r.1 f (number_at k j c h ∙ ap (λ z. own + z + j) front) (omega (arith, registers_long r.0 f, pages, l))
 
   one_memory : (k l i j : ℕ) (c e : FlatConnection) → slice_get cs k ≡ Some c → slice_get cs l ≡ Some e → MemoryPlace k i c
@@ -81,8 +77,7 @@ module _ (t : Tables) where
   one_memory k l i j c e h g (at_device p r f n a) (at_device q v w m b) same =
       let u = apart registers_by cs f.number w.number i j f.connection w.connection f.here w.here a b
       (omega (arith, n, m, same)) in
-      let conn : f.connection ≡ w.connection = some (slice_get cs w.number) f.connection w.connection
-      (subst (λ z. slice_get cs z ≡ Some f.connection) u.0 f.here) w.here in
+      let conn : f.connection ≡ w.connection = search (rules, some) in
       let end : f.end ≡ w.end = some (registers w.connection) f.end w.end (ap registers (sym conn) ∙ f.leads) w.leads in
       let leaf : p.leaf ≡ q.leaf = sym f.leaf ∙ ap (λ (z : FlatEnd). z.leaf) end ∙ w.leaf in
       let member : p.member ≡ q.member = sym f.member ∙ ap (λ (z : FlatEnd). z.member) end ∙ w.member in
@@ -115,20 +110,12 @@ module _ (t : Tables) (can : CanMap t) where
       let P : ℕ → Type 0 = λ z. slice_get t.flat.connections z ≡ Some m.connection in
       let same : m.connection ≡ c = some (slice_get t.flat.connections k) m.connection c (subst P w.of_connection m.here) h in
       let Q : FlatConnection → Type 0 = λ z. (z.connector ≡ SharedMemory) ⊎ (z.connector ≡ Mmio) in
-      let pages : w.region.pages ≡ memory_pages t.settled k c = m.pages ∙ ap (λ z. memory_pages t.settled z m.connection)
-      w.of_connection ∙ ap (λ z. memory_pages t.settled k z) same in
+      let pages : w.region.pages ≡ memory_pages t.settled k c = search (rules) in
       let q = region_page t.settled (Window w.e) (begins t d w.number + 4096 * j) j in
       let n = place_of q (mapped_pages (system t) d) (region_in t can.settled d w.number w.v j w.region (Window w.e) w.page
       w.content) in
       let cap = cap_is t can d x.0 x.1 w.v n.0 q w.cap n.1 (ap (λ z. z / 4096) (sym w.page.at)) w.mapped in
-      record {
-        domain = x.0;
-        here = x.1;
-        kind = subst Q same m.kind;
-        within = omega (arith, pages, w.page.within);
-        is = sym w.names ∙ ap (λ (z : Cap). z.object) cap ∙ ap (λ z. frames_from t + memory_number (system t) z j)
-            w.of_connection;
-      }
+      search (rules, frames_from)
 
   pub memory_object : (d k j at : ℕ) (c : FlatConnection) → slice_get t.flat.connections k ≡ Some c → MemoryShown t d k j at c
       → (info : FrameInfo) × (object_at (spec_of t) at ≡ Some (frame_object info)) × IsMemoryFrame t k j c info

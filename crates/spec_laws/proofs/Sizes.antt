@@ -1,8 +1,7 @@
 -- The sizes of memory and the addresses of registers that settings give: whole pages, within their bounds.
-use Rattle.std.proofs.Common.{rules}
 use Rattle.spec_laws.proofs.Common.{Bool, EndSetting, Found, Interface, None, Option, Some, Value, [], and_parts, arith, bad_at_end, bad_value, bytes_of, cond, cond_both, default_bytes, default_size, end_setting, eqb-true, false}
 use Rattle.spec_laws.proofs.Common.{is_device_memory, is_some, is_there, leb-true, meaning, meant, nat_le, none_left, none_right, number_in, option_and_then, option_map, paddr_in, refl, size_in, sized, so, subst, true, unwrap_or}
-use Rattle.spec_laws.proofs.Common.{whole_pages, ℕ, ◌%◌, ◌&&◌, ◌*◌, ◌+◌, ◌/◌, ◌==◌, ◌^◌, ◌||◌, ◌≡◌, ◌≤◌}
+use Rattle.spec_laws.proofs.Common.{rules, whole_pages, ℕ, ◌%◌, ◌&&◌, ◌*◌, ◌+◌, ◌/◌, ◌==◌, ◌^◌, ◌||◌, ◌≡◌, ◌≤◌}
 use Rattle.adl_meaning.specs.Values.{Given}
 use Rattle.adl_settings.specs.Allowed.{placed}
 use Rattle.adl_settings.specs.Joints.{is_shared}
@@ -17,29 +16,16 @@ rounded : (n : ℕ) → 1 ≤ n → n ≤ 268435456 → IsSize ((n + 4095) / 409
 rounded n low high = record { some = omega (arith, low); most = omega (arith, high); whole = omega arith }
 
 sized_is : (n b : ℕ) → sized n ≡ Some b → IsSize b
-sized_is n b e = by_test (nat_le 1 n && nat_le n 268435456) refl e where
-  by_test : (t : Bool) → (nat_le 1 n && nat_le n 268435456) ≡ t → option_map whole_pages (cond t (Some n) None) ≡ Some b
-      → IsSize b
-  by_test true t e = search (rules, and_parts, rounded, leb-true)
-  by_test false t e = cc
+sized_is n b e = search (rules, and_parts, rounded, leb-true)
 
 size_is : (v : Value) (b : ℕ) → size_in v ≡ Some b → IsSize b
-size_is v b e = by_number (number_in v.kind) e where
-  by_number : (o : Option ℕ) → option_and_then sized o ≡ Some b → IsSize b
-  by_number None e = cc
-  by_number (Some n) e = sized_is n b e
+size_is v b e = search (rules, sized_is)
 
 default_is : (i : Interface) → IsSize (default_bytes i)
-default_is i = by_sized (sized (unwrap_or i.size default_size)) refl where
-  by_sized : (o : Option ℕ) → sized (unwrap_or i.size default_size) ≡ o → IsSize (unwrap_or o 4096)
-  by_sized None e = record { some = omega arith; most = omega arith; whole = omega arith }
-  by_sized (Some b) e = sized_is (unwrap_or i.size default_size) b e
+default_is i = search (rules, sized_is)
 
 pub bytes_are : (f : Found) (b : ℕ) → bytes_of f ≡ Some b → IsSize b
-bytes_are f b e = by_given f.size e where
-  by_given : (o : Option Given) → meant size_in (default_bytes f.joint.interface) o ≡ Some b → IsSize b
-  by_given None e = let same : default_bytes f.joint.interface ≡ b = cc in subst IsSize same (default_is f.joint.interface)
-  by_given (Some g) e = size_is g.value b e
+bytes_are f b e = search (rules, default_is, size_is)
 
 -- where no value is bad, there is a size
 bytes_there : (f : Found) → bad_value size_in f.size ≡ [] → (b : ℕ) × (bytes_of f ≡ Some b)
@@ -72,19 +58,11 @@ at_zero : (bytes : ℕ) → bytes ≤ 268435456 → IsPlaced bytes 0
 at_zero bytes l = record { fits = omega (arith, l); aligned = omega arith }
 
 placed_is : (bytes n : ℕ) → bytes ≤ 268435456 → IsPlaced bytes (unwrap_or (placed bytes n) 0)
-placed_is bytes n l = by_test (n % 4096 == 0 && nat_le (n + bytes) (2 ^ 48)) refl where
-  by_test : (t : Bool) → (n % 4096 == 0 && nat_le (n + bytes) (2 ^ 48)) ≡ t
-      → IsPlaced bytes (unwrap_or (cond t (Some n) None) 0)
-  by_test true t = let p = and_parts (n % 4096 == 0) (nat_le (n + bytes) (2 ^ 48)) t in
-      record { fits = leb-true (n + bytes) (2 ^ 48) p.1; aligned = eqb-true (n % 4096) 0 p.0 }
-  by_test false t = at_zero bytes l
+placed_is bytes n l = search (rules, and_parts, leb-true, eqb-true, at_zero)
 
 paddr_is : (bytes : ℕ) (o : Option Given) → bytes ≤ 268435456 → IsPlaced bytes (unwrap_or (meaning (paddr_in bytes) o) 0)
 paddr_is bytes None l = at_zero bytes l
-paddr_is bytes (Some g) l = by_number (number_in g.value.kind) where
-  by_number : (o : Option ℕ) → IsPlaced bytes (unwrap_or (option_and_then (placed bytes) o) 0)
-  by_number None = at_zero bytes l
-  by_number (Some n) = placed_is bytes n l
+paddr_is bytes (Some g) l = search (rules, at_zero, placed_is)
 
 record IsRound (bytes : ℕ) : Type 0 where
   most : bytes ≤ 268435456
@@ -94,10 +72,7 @@ no_bytes : IsRound 0
 no_bytes = record { most = omega arith; whole = omega arith }
 
 bytes_round : (f : Found) → IsRound (unwrap_or (bytes_of f) 0)
-bytes_round f = by_bytes (bytes_of f) refl where
-  by_bytes : (o : Option ℕ) → bytes_of f ≡ o → IsRound (unwrap_or o 0)
-  by_bytes None e = no_bytes
-  by_bytes (Some b) e = let s = bytes_are f b e in record { most = s.most; whole = s.whole }
+bytes_round f = search (rules, no_bytes, bytes_are)
 
 record IsSettled (bytes at settled : ℕ) : Type 0 where
   most : settled ≤ 268435456

@@ -1,4 +1,5 @@
 -- What is laid out within the limits is sized.
+use Rattle.std.proofs.Common.{rules}
 use Rattle.spec_laws.proofs.Common.{Domain, Flat, Given, Images, IsIn, IsLimited, IsSized, List, MappedPage, Page, Settled, SlotPlan, Some, Source, Space, Tables, [], all_tables, ap, arch, arith, base, counts, domain_uses, flat_map, gather}
 use Rattle.spec_laws.proofs.Common.{gather_ones, get_ones, given, inl, inr, leaves_of, length, length-region_part, length_append, map, map_ones, mapped_pages, option_map_or, page, page_counts, pages_append, pages_at, pages_in, plan_of, refl}
 use Rattle.spec_laws.proofs.Common.{region_part, regions, section_part, shapes, slice_get, slots_of, space, stack_pages, sum, sym, table_count, table_counts, tables_at, tables_counted, tables_from, tables_needed, thread_count, thread_place}
@@ -79,25 +80,7 @@ module _ (source : Source) (flat : Flat) (settled : Settled) (images : Images) w
       ) where
         domain : (d : ℕ) (x : Domain) → slice_get flat.domains d ≡ Some x
             → 2 * length (threads_at t d) ≤ length (mapped_pages g d)
-        domain d x e =
-            omega (
-              arith,
-              threads_same d x e,
-              (two_each settled (threads_of g d) (stacks d)),
-              pages_append (flat_map (thread_regions settled) (threads_of g d))
-                  (map (window_region flat settled) (windows_of g d)),
-              (length_append (section_part images (leaves_of flat d)) (region_part settled (base g) (regions g d))),
-              length-region_part settled (base g) (regions g d),
-            )
+        domain d x e = grind (arith, threads_same, two_each, pages_append, length_append, length-region_part)
 
   pub tables_sized : IsLimited g → IsSized t
-  tables_sized limited =
-      record {
-        domains = limited.domains;
-        connections = limited.connections;
-        uses = (let u = limited.uses in omega (arith, u, use_sum));
-        pages = omega (arith, limited.pages, page_sum);
-        threads = (let h = threads_few limited.stacks in omega (arith, h, limited.pages));
-        tables = (let n = limited.tables in omega (arith, n, table_sum));
-        frames = (let f = frames_few g limited.seen in omega (arith, f, limited.pages));
-      }
+  tables_sized limited = search (rules, use_sum, page_sum, threads_few, table_sum, frames_few)

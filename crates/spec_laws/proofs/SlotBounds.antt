@@ -1,4 +1,5 @@
 -- How many slots there are, where no limit on slots is passed.
+use Rattle.std.proofs.Common.{rules}
 use Rattle.spec_laws.proofs.Common.{Assembly, Flat, ItemAt, List, None, SlotPlan, Some, Source, [], ap, arith, assemblies, counts, first_slot_fault, flat_map, greatest, le-max_left, le-max_right, least-empty, length, limit_passed, limits_passed, map}
 use Rattle.spec_laws.proofs.Common.{none_left, none_right, not_passed, slice_get, slot_faults, slots_of, suc, sum, sym, zero, ℕ, ◌∙◌, ◌∷◌, ◌≡◌, ◌≤◌}
 use Rattle.std.specs.Prelude.{codes}
@@ -10,15 +11,7 @@ pub record AreFewSlots (s : Source) (flat : Flat) : Type 0 where
 
 pub few_slots : (s : Source) (flat : Flat) (a : ItemAt × Assembly) → assemblies s ≡ a ∷ [] → first_slot_fault s flat ≡ None
     → AreFewSlots s flat
-few_slots s flat a one none =
-    let ns = counts (slots_of s flat) in let empty = least-empty (slot_faults s flat) none in
-    let both = none_left (limits_passed ns a) [] (sym (ap (λ xs. flat_map (limits_passed ns) xs) one) ∙ empty) in
-    let each = limit_passed a (codes "slots") 4095 (greatest ns) in
-    let all = limit_passed a (codes "all slots") 65536 (sum ns) in
-    record {
-      each = not_passed a (codes "slots") 4095 (greatest ns) (none_left each all both);
-      all = not_passed a (codes "all slots") 65536 (sum ns) (none_right each all both);
-    }
+few_slots s flat a one none = search (rules, least-empty, none_left, not_passed, none_right)
 
 below_greatest : (ns : List ℕ) (d n : ℕ) → slice_get ns d ≡ Some n → n ≤ greatest ns
 below_greatest [] d n e = cc

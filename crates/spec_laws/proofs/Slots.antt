@@ -1,8 +1,7 @@
 -- The slots of a system are those of its source
-use Rattle.std.proofs.Common.{rules}
 use Rattle.spec_laws.proofs.Common.{CanSlot, Cap, Connector, Domain, FlatConnection, HasSlots, Interrupt, IrqOf, IsIn, IsIrqLine, IsIrqOf, IsLineOf, IsSlotLine, IsUsed, List, MapLine, Object, Option, OwnLock, SlotUse, Some, Spec, Tables, [], ap}
 use Rattle.spec_laws.proofs.Common.{arith, bits_for, domain_lines, domain_slots, from_gather, gather, in_gather, in_left, in_right, inl, irq_number, length, line_by, lines, map_lines, place, refl, single, slice_get, slot_line, slot_lines, slots_at}
-use Rattle.spec_laws.proofs.Common.{spec_of, subst, sym, thread_lines, use_cap, uses_at, window_lines, ℕ, ◌++◌, ◌+◌, ◌∙◌, ◌∷◌, ◌≡◌}
+use Rattle.spec_laws.proofs.Common.{rules, spec_of, subst, sym, thread_lines, use_cap, uses_at, window_lines, ℕ, ◌++◌, ◌+◌, ◌∙◌, ◌∷◌, ◌≡◌}
 use Rattle.cap_model.specs.declared.object.Object.TheVariants as objects
 use Rattle.spec_laws.proofs.MapLines.{by_line}
 use Rattle.spec_laws.proofs.SlotLists.{from_order, some}
@@ -86,11 +85,9 @@ module _ (t : Tables) (can : CanSlot t) where
       let eq : slot ≡ (w.before + 1, w.cap) = single slot (w.before + 1, w.cap) a.3 in
       let number : a.0 + 1 ≡ w.before + 1 = ap (λ (z : ℕ × Cap). z.0) eq in
       let at : a.0 ≡ w.before = omega (arith, number) in
-      let mine : slice_get (uses_at t d) w.before ≡ Some w.used =
-      ap (λ z. slice_get z w.before) (uses_are t can.slots d w.leaves w.here) ∙ w.at in
+      let mine : slice_get (uses_at t d) w.before ≡ Some w.used = search (rules, uses_are) in
       let Q : ℕ → Type 0 = λ n. slice_get (uses_at t d) n ≡ Some a.1 in
-      let cap : use_cap t d w.before w.used ≡ w.cap = ap (λ n. use_cap t d n w.used) (sym at) ∙ ap (λ u. use_cap t d a.0 u)
-      (sym (some (slice_get (uses_at t d) w.before) a.1 w.used (subst Q at a.2) mine)) ∙ ap (λ (z : ℕ × Cap). z.1) eq in
+      let cap : use_cap t d w.before w.used ≡ w.cap = search (rules, some) in
       let is = line_is d w.before w.used line (subst (λ z. IsLineOf w.used (w.before + 1) z line) (sym cap) w.said) in
       let h : ℕ → SlotUse → List MapLine = λ n u. slot_line (use_cap t d n u).object n u ∷ [] in
       let F : ℕ → Domain → List MapLine = λ d x. domain_slots t d in

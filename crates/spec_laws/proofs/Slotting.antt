@@ -1,9 +1,8 @@
 -- CNodes have the capabilities of their uses
-use Rattle.std.proofs.Common.{rules}
 use Rattle.spec_laws.proofs.Common.{CNode, CNodeOf, CanSlot, Cap, Connector, Domain, EndSetting, EndpointOf, FlatConnection, FlatEnd, From, Handler, Interrupt, IrqOf, IsBadge, IsCNodeOf, IsCapOf, IsEndCap, IsIn, IsIrqOf, IsJoint, IsLockCap, IsNamed}
 use Rattle.spec_laws.proofs.Common.{List, LockOf, NONE, NotificationOf, OfConnection, OfDomain, OfEnd, OwnLock, Role, Rpc, SlotUse, Some, Spec, Tables, To, [], ap, arith, badge_at, before, bits_for, domain_uses, end_rights, first_rights, from_gather}
 use Rattle.spec_laws.proofs.Common.{gather, gather_ones, in_gather, inl, inr, interrupt, irq_number, irq_owner, joint_by, least, length, line_by, lines, name_at, notification_by, object_at, objects_stand, option_and_then, option_map_or, part}
-use Rattle.spec_laws.proofs.Common.{parts_are_there, place, refl, rights_at, rows_of, setting_of, slice_get, slots_at, spec_of, subst, sym, true, use_cap, uses_at, ℕ, ◌+◌, ◌<◌, ◌^◌, ◌∙◌, ◌∷◌, ◌≡◌}
+use Rattle.spec_laws.proofs.Common.{parts_are_there, place, refl, rights_at, rows_of, rules, setting_of, slice_get, slots_at, spec_of, subst, sym, true, use_cap, uses_at, ℕ, ◌+◌, ◌<◌, ◌^◌, ◌∙◌, ◌∷◌, ◌≡◌}
 use Rattle.adl_meaning.specs.declared.connector.Connector.TheVariants.{Notification as Notifies}
 use Rattle.conn_rules.specs.declared.rule.RuleRow.{RuleRow}
 use Rattle.system_spec.specs.declared.series.Series.TheVariants as series
@@ -52,27 +51,10 @@ module _ (t : Tables) (can : CanSlot t) where
 
   rights : (k n : ℕ) (c : FlatConnection) (e : FlatEnd) (row : RuleRow) → slice_get t.flat.connections k ≡ Some c
       → slice_get c.ends n ≡ Some e → slice_get (rows_of c.connector e.role) 0 ≡ Some row → rights_at t k n ≡ row.rights
-  rights k n c e row h s f = ap (λ o. option_map_or (λ (z : Connector × FlatEnd). end_rights z.0 z.1.role) o NONE)
-      (end_there t k n c e h s) ∙ first_of (rows_of c.connector e.role) row f where
-        first_of : (rows : List RuleRow) (row : RuleRow) → slice_get rows 0 ≡ Some row → first_rights rows ≡ row.rights
-        first_of [] row e = cc
-        first_of (r ∷ rs) row e = let same : r ≡ row = cc in ap (λ (z : RuleRow). z.rights) same
+  rights k n c e row h s f = search (rules, end_there)
 
   end_is : (d n k m : ℕ) → IsEnd t.flat.connections k m → IsEndCap t spec k m (use_cap t d n (OfEnd k m))
-  end_is d n k m o =
-      let row = first_row o.connection.connector o.end.role o.slot in
-      record {
-        connection = o.connection;
-        here = o.here;
-        end = o.end;
-        stands = o.stands;
-        row = row.0;
-        first = row.1;
-        joint = subst (λ w. IsJoint spec (place t w) o.connection.connector k) (sym (joint_is t k o.connection o.here))
-            (joint k o.connection o.end.role o.here o.slot);
-        rights = rights k m o.connection o.end row.0 o.here o.stands row.1;
-        badge = badge k m o.connection o.end o.here o.stands;
-      }
+  end_is d n k m o = search (rules, first_row, joint, joint_is, rights, badge)
 
   pub irq_is : (k : ℕ) (c : FlatConnection) → slice_get t.flat.connections k ≡ Some c → c.connector ≡ Interrupt
       → IsIrqOf t spec k (place t (IrqOf k))
@@ -81,9 +63,7 @@ module _ (t : Tables) (can : CanSlot t) where
       let p = part series.Irq (before interrupt t.flat.connections k) (irq_owner k c) (IrqOf k) in
       let v = can.devices k c h e in let s = can.settled k v.0 c v.1 h v.3 in
       let P : Connector → Type 0 = λ n. IsIn (part series.Ntfn k (OfConnection k) (NotificationOf k)) (notification_by k n) in
-      let set : irq_number t.settled k c ≡ s.0.irq =
-      ap (λ o. option_map_or (λ (z : EndSetting). z.irq) (option_and_then (setting_of t.settled k) o) 0) v.2
-      ∙ ap (λ o. option_map_or (λ (z : EndSetting). z.irq) o 0) s.1 in
+      let set : irq_number t.settled k c ≡ s.0.irq = search (rules) in
       let line : ℕ × ℕ = (irq_number t.settled k c, place t (IrqOf k)) in
       let Q : Connector → Type 0 = λ n. IsIn line (line_by t k c n) in
       let F : ℕ → FlatConnection → List (ℕ × ℕ) = λ k c. line_by t k c c.connector in
@@ -154,13 +134,7 @@ module _ (t : Tables) (can : CanSlot t) where
         only = λ slot i. (
             let a = from_gather F slot (uses_at t d) i in
             elim a.3 [
-              | inl e ↦ record {
-                before = a.0;
-                used = a.1;
-                at = a.2;
-                is = ap (λ (z : ℕ × Cap). z.0) (sym e);
-                cap = subst (λ (z : ℕ × Cap). IsCapOf t spec a.1 z.1) e (cap_is d a.0 x a.1 h a.2);
-              }
+              | inl e ↦ search (rules, cap_is)
               | inr n ↦ absurd n
             ]);
         every = λ n u e. (use_cap t d n u, in_gather F (f n u) (uses_at t d) n u e (inl refl));

@@ -1,8 +1,7 @@
 -- The flat system of a source in which no fault of names or types stands has its devices where the connector table has them.
-use Rattle.std.proofs.Common.{rules}
 use Rattle.spec_laws.proofs.Common.{AreDotted, Connector, FlatConnection, FlatEnd, HasDevice, Interrupt, IsFlat, IsIn, Leaf, Mmio, None, Some, allowed, allows, alone, and_parts, ap, arith, at_place, cond}
 use Rattle.spec_laws.proofs.Common.{count_of, end_rule, ends_typed, false, first_type_fault, from_get_map, hardware_fits, in_get, is_at_device, leaf_listed, leaf_owned, leb_tells, nat_le, refl, same_role, same_role_self, slice_get_within}
-use Rattle.spec_laws.proofs.Common.{some_end, strung_of, subst, sym, true, true≢false, ℕ, ◌<◌, ◌∙◌, ◌≡◌}
+use Rattle.spec_laws.proofs.Common.{rules, some_end, strung_of, subst, sym, true, true≢false, ℕ, ◌<◌, ◌∙◌, ◌≡◌}
 use Rattle.adl_meaning.specs.Prelude.{AreNamesSound, End, From, Role, Source, Strung, To, connections, domain_number, domain_of, flat_connection, flat_end, flat_ends, flat_of, hierarchy_of, is_hardware, leaf_of, leaves, slice_get}
 use Rattle.adl_ast.specs.declared.component.Member.TheVariants as members
 use Rattle.adl_hierarchy.proofs.Joining.{all_joined, end_numbers_kept, ends_kept}
@@ -85,28 +84,23 @@ module _ (s : Source) (sound : AreNamesSound s) (dotted : AreDotted (hierarchy_o
       → flat_connection (hierarchy_of s) y ≡ x.connection → EndOf y x
   end_of y i x same =
       let h = hierarchy_of s in
-      let stands : slice_get (flat_ends h y) x.number ≡ Some x.end = ap (λ (c : FlatConnection). slice_get c.ends x.number) same
-      ∙ x.stands in
+      let stands : slice_get (flat_ends h y) x.number ≡ Some x.end = search (rules) in
       let end = at_place y.wire.1.ends x.number (subst (λ n. x.number < n) (ends_kept s sound dotted y i)
       (slice_get_within (flat_ends h y) x.number x.end stands)) in
       let r = all_joined s sound dotted y end.0 i (in_get y.wire.1.ends x.number end.0 end.1) in
-      let both : Some (flat_end h y.path end.0 r.0) ≡ Some x.end =
-      sym (end_numbers_kept s sound dotted y x.number end.0 r.0 i end.1 r.1) ∙ stands in
+      let both : Some (flat_end h y.path end.0 r.0) ≡ Some x.end = search (rules, end_numbers_kept) in
       let is : flat_end h y.path end.0 r.0 ≡ x.end = cc in
       record { end = end.0; stands = end.1; role = ap (λ (z : FlatEnd). z.role) is }
 
   one_number : (x z : EndAt (flat_of s)) → z.place ≡ x.place → is_at_device x ≡ true → is_at_device z ≡ true → z.number ≡ x.number
   one_number x z place a b =
       let y = strung_of s x.place x.connection x.here in
-      let both : Some x.connection ≡ Some z.connection = sym x.here ∙ ap (slice_get (flat_of s).connections)
-      (sym place) ∙ z.here in
+      let both : Some x.connection ≡ Some z.connection = search (rules) in
       let connection : x.connection ≡ z.connection = cc in
       let e = end_of y.0 y.1 x y.2 in let f = end_of y.0 y.1 z (y.2 ∙ connection) in
-      let role : z.end.role ≡ x.end.role = one_role x.connection.connector z.end.role x.end.role
-      (ap (λ (c : FlatConnection). (end_rule c.connector z.end.role).hardware) connection ∙ b) a in
+      let role : z.end.role ≡ x.end.role = search (rules, one_role) in
       let one = one_end y.0 y.1 x.end.role (ap (λ c. (end_rule c x.end.role).hardware) (connector_is y.0 x.connection y.2) ∙ a) in
-      let is : (r : Role) → r ≡ x.end.role → same_role r x.end.role ≡ true = λ r e. ap (λ q. same_role q x.end.role) e
-      ∙ same_role_self x.end.role in
+      let is : (r : Role) → r ≡ x.end.role → same_role r x.end.role ≡ true = search (rules, same_role_self) in
       alone (λ (e : End). same_role e.role x.end.role) y.0.wire.1.ends z.number x.number f.end e.end (omega (arith, one)) f.stands
       e.stands (is f.end.role (f.role ∙ role)) (is e.end.role e.role)
 

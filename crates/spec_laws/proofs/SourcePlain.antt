@@ -1,4 +1,5 @@
 -- The layouts of a source without faults are plain, where the images of its programs are.
+use Rattle.std.proofs.Common.{rules}
 use Rattle.spec_laws.proofs.Common.{AreFilesShort, AreNamesSound, HasProgram, Image, Images, IsImagePlain, IsIn, IsPlain, None, Some, Source, ends, first_flat_fault, flat_of, from_flat_map, given, hierarchy_of, leaf_owned, leaf_threads, leaves_of}
 use Rattle.spec_laws.proofs.Common.{settled_of, slice_get, subst, sym, threads_of, ℕ, ◌≡◌}
 use Rattle.flat_laws.proofs.AreWithin.{flat_is_within}
@@ -15,11 +16,7 @@ programs_there s images short sound d x i =
     let g = given s (flat_of s) (settled_of s) images in
     let t = from_flat_map (leaf_threads g.flat (ends g)) x (leaves_of g.flat d) i in
     let y = domain_there g d t.0 t.1 in let own = leaf_owned (hierarchy_of s) d t.0 y.0 y.1 y.2 in
-    subst (HasProgram g) (sym (thread_leaf g t.0 x t.2)) (record {
-      found = own.0;
-      here = own.1;
-      named = leaves_named s short sound t.0 own.0 own.1;
-    })
+    subst (HasProgram g) (sym (thread_leaf g t.0 x t.2)) (search (rules, leaves_named))
 
 pub layouts_are_plain : (s : Source) (images : Images) → AreFilesShort s → AreNamesSound s → first_flat_fault s ≡ None
     → ((m : ℕ) (image : Image) → slice_get images.images m ≡ Some image → IsImagePlain image)

@@ -1,4 +1,5 @@
 -- Where no limit on pages is passed, each space has few threads and pages, and each page shows one of the frames.
+use Rattle.std.proofs.Common.{rules}
 use Rattle.spec_laws.proofs.Common.{Bool, CanLay, Connector, Domain, EndAt, Flat, FlatConnection, FlatEnd, Given, IsIn, List, MappedPage, Memory, MemoryFits, Mmio, None, Option, Own, Page, Rises, SectionsStand, Settled, SharedMemory, Shown, Some}
 use Rattle.spec_laws.proofs.Common.{Space, [], ap, arith, at_place, below, false, few_at, frames, frames_stand, from_ones, gather, gather_ones, get_or_from_slice_get, in_place, is_shared, is_window, leads_to, length, length_append, length_threads}
 use Rattle.spec_laws.proofs.Common.{map, map_ones, mapped_pages, memory_number, memory_pages, number_shown, option_map, option_map_or, own_few, own_port, page, page_counts, place_of, position, position-Some, position_found, refl, registers}
@@ -26,11 +27,7 @@ at_position is xs n d e =
 
 pub led_to : (e : FlatEnd) (c : FlatConnection) → leads_to e c ≡ true → (f : FlatEnd) × (registers c ≡ Some f)
     × (same_port e f ≡ true)
-led_to e c l = by_end (registers c) refl l where
-  by_end : (o : Option FlatEnd) → registers c ≡ o → option_map_or (same_port e) o false ≡ true
-      → (f : FlatEnd) × (registers c ≡ Some f) × (same_port e f ≡ true)
-  by_end None is l = cc
-  by_end (Some f) is l = (f, is, l)
+led_to e c l = search (rules)
 
 module _ (g : Given) (can : CanLay g) (few : sum (page_counts g) ≤ 65536) where
   pub frames_most : length (frames g) ≤ 65536 + 2 * 268435456

@@ -1,4 +1,5 @@
 -- What stands at the addresses of a space is what is mapped there
+use Rattle.std.proofs.Common.{rules}
 use Rattle.spec_laws.proofs.Common.{ArePagesOf, Bool, CanMap, Cap, Domain, FrameOf, IsAt, List, MappedPage, MapsPage, Rises, Some, Tables, [], ap, arith, get_map, in_place, map, mapped_pages, memory_rights, number_shown, object_at, place, place_of}
 use Rattle.spec_laws.proofs.Common.{refl, root_of, slice_get, spec_of, subst, suc, sym, system, zero, ℕ, ◌*◌, ◌+◌, ◌/◌, ◌<◌, ◌∙◌, ◌∷◌, ◌≡◌}
 use Rattle.spec_laws.proofs.Finding.{Found, finds, found, page_cap, rise, within}
@@ -41,13 +42,7 @@ module _ (t : Tables) (can : CanMap t) (d : ℕ) (x : Domain) (h : slice_get t.f
   pub cap_is : (v n : ℕ) (p : MappedPage) (cap : Cap) → slice_get (mapped_pages (system t) d) n ≡ Some p → p.at / 4096 ≡ v / 4096
       → IsAt (spec_of t) (root_of t d) v cap → cap ≡ page_cap t can d x h n p
   cap_is v n p cap e same i =
-      one_is v cap (page_cap t can d x h n p) (found t can d x h v cap (within t can d x h v n p e same) i) (record {
-        number = n;
-        shown = p;
-        here = e;
-        same = same;
-        is = refl;
-      })
+      one_is v cap (page_cap t can d x h n p) (found t can d x h v cap (within t can d x h v n p e same) i) (search (rules))
 
   pub is_at : (v n : ℕ) (p : MappedPage) → slice_get (mapped_pages (system t) d) n ≡ Some p → p.at / 4096 ≡ v / 4096
       → IsAt (spec_of t) (root_of t d) v (page_cap t can d x h n p)

@@ -1,9 +1,8 @@
 -- Each thread's stack has a page, where no fault of settings stands.
-use Rattle.std.proofs.Common.{rules}
 use Rattle.spec_laws.proofs.Common.{Bool, Domain, Given, Images, IsIn, Leaf, LeafFound, None, Option, Some, Source, Value, [], and_parts, ap, arith, bad_in_leaf, bad_value, cond, ends, ends_at, false}
 use Rattle.spec_laws.proofs.Common.{first_setting_fault, flat_of, from_flat_map, from_get_map, get_map, given, hierarchy_of, in_get, inl, inr, is_there, leaf_found, leaf_owned, leaf_setting, leaf_threads, leaves}
 use Rattle.spec_laws.proofs.Common.{leaves_found, leaves_of, leb-true, meant, nat_le, none_in, none_right, number_in, option_and_then, option_map, option_map_or, refl, server, serves, settings_sound, settled_of, slice_get, so, stack_in}
-use Rattle.spec_laws.proofs.Common.{stack_pages, subst, sym, thread, threads_of, true, unwrap_or, whole_pages, within, ℕ, ◌&&◌, ◌/◌, ◌≡◌, ◌≤◌}
+use Rattle.spec_laws.proofs.Common.{rules, stack_pages, subst, sym, thread, threads_of, true, unwrap_or, whole_pages, within, ℕ, ◌&&◌, ◌/◌, ◌≡◌, ◌≤◌}
 use Rattle.adl_meaning.specs.Values.{Given as Value_given}
 use Rattle.vspace_layout.specs.declared.thread.ThreadOf.{ThreadOf}
 use Rattle.spec_laws.proofs.Lists.{shown_if}
@@ -24,17 +23,10 @@ domain_there g d l i = grind (arith)
 -- ---- stacks
 
 stack_sized : (n b : ℕ) → option_map whole_pages (within 1 16777216 n) ≡ Some b → 4096 ≤ b
-stack_sized n b e = by_test (nat_le 1 n && nat_le n 16777216) refl e where
-  by_test : (t : Bool) → (nat_le 1 n && nat_le n 16777216) ≡ t → option_map whole_pages (cond t (Some n) None) ≡ Some b
-      → 4096 ≤ b
-  by_test true t e = grind (arith, leb-true, and_parts)
-  by_test false t e = cc
+stack_sized n b e = search (rules, leb-true, and_parts)
 
 stack_is : (v : Value) (b : ℕ) → stack_in v ≡ Some b → 4096 ≤ b
-stack_is v b e = by_number (number_in v.kind) e where
-  by_number : (o : Option ℕ) → option_map whole_pages (option_and_then (within 1 16777216) o) ≡ Some b → 4096 ≤ b
-  by_number None e = cc
-  by_number (Some n) e = stack_sized n b e
+stack_is v b e = search (rules, stack_sized)
 
 stack_meant : (o : Option Value_given) → bad_value stack_in o ≡ [] → 4096 ≤ unwrap_or (meant stack_in 16384 o) 0
 stack_meant None good = omega arith
@@ -55,8 +47,7 @@ stack_some s none l d leaf at own =
     let f = leaf_found h leaf in
     let found : slice_get fs l ≡ Some f = get_map (leaf_found h) (flat_of s).leaves l leaf at in
     let good = none_in bad_in_leaf fs f (settings_sound s none).leaves (in_get fs l f found) in
-    let is : stack_pages (settled_of s) l ≡ (leaf_setting f).stack / 4096 =
-    ap (λ o. option_map_or (λ z. z.stack / 4096) o 0) (get_map leaf_setting fs l f found) in
+    let is : stack_pages (settled_of s) l ≡ (leaf_setting f).stack / 4096 = search (rules, get_map) in
     omega (arith, leaf_stack f (soft_leaf s l d leaf at own) good, is)
 
 pub stacks_some : (s : Source) (images : Images) → first_setting_fault s ≡ None → (d : ℕ) (x : ThreadOf)

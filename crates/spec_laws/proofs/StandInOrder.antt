@@ -1,4 +1,5 @@
 -- Kind stands behind kind, and each kind by its numbers
+use Rattle.std.proofs.Common.{rules}
 use Rattle.spec_laws.proofs.Common.{CanSlot, Directory, FrameOf, HasNumber, IsIn, Level, List, OfDomain, Part, Some, StandInOrder, Tables, [], ap, arith, endpoint, entry, entry_name, get_map, get_or, in_place, inl, inr, irq, length, length-map}
 use Rattle.spec_laws.proofs.Common.{level_series, lock, notification, part, parts, place_of, rank, refl, sections, slice_get, slice_get-get_or, slice_get_within, spec_of, split_get, subst, suc, ℕ, ◌++◌, ◌+◌, ◌<◌, ◌∷◌, ◌≡◌, ◌≤◌, below, sym}
 use Rattle.spec_laws.proofs.Common.{table_part, all_tables, page_table}
@@ -63,10 +64,7 @@ parts_rise t = sections_rise 0 (sections t) (λ k ps e.
     let ranked : (p : Part) → IsIn p ps → rank p.series ≡ k = λ p i. let at = place_of p ps i in tells.series at.0 p at.1 in
     record {
       ranked = λ p i. let r = ranked p i in omega (arith, r);
-      rises = λ i j p q a b less. record {
-        kinds = let x = ranked p (in_place p ps i a) in let y = ranked q (in_place q ps j b) in omega (arith, x, y);
-        numbers = tells.rising i j p q a b less;
-      };
+      rises = search (rules, in_place);
     })
 
 -- ---- numbers
@@ -98,9 +96,7 @@ module _ (t : Tables) (can : CanSlot t) where
   part_of place = get_or (parts t) place (part series.Frame 0 (OfDomain 0) (FrameOf 0))
 
   part_at : (place : ℕ) → place < length (spec_of t).entries → slice_get (parts t) place ≡ Some (part_of place)
-  part_at place l =
-      let long = length-map (parts t) (entry t) in
-      slice_get-get_or (parts t) place (part series.Frame 0 (OfDomain 0) (FrameOf 0)) (omega (arith, l, long))
+  part_at place l = search (rules, length-map, slice_get-get_or)
 
   pub stand_in_order : StandInOrder t (spec_of t)
   stand_in_order = record {

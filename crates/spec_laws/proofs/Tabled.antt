@@ -1,4 +1,5 @@
 -- A space has a table of a level for an address exactly where a page is mapped under it, and tables have their domain's label
+use Rattle.std.proofs.Common.{rules}
 use Rattle.spec_laws.proofs.Common.{AreShapes, AreStacked, AreTableLabels, AreTables, AreTablesOf, Arrives, CanMap, Domain, IsIn, IsOf, List, Mapping, Object, Shape, Some, TableOf, Tables, [], above, ap, append_assoc, arch, arith}
 use Rattle.spec_laws.proofs.Common.{arrives, as_many, at_place, below, div-div-eq-div-mul, drop, from_gather, from_map, head_of, heads, in_gather, in_map, in_place, in_runs, inl, inr, labels_of, layers, length, map}
 use Rattle.spec_laws.proofs.Common.{mapped_pages, mul-div_cancel, mul-one, mul_assoc, objects_from, one_table, place, place_of, refl, root_of, root_span, runs, shapes, shapes_fit, shapes_stack, sizes, slice_get, span, span_some, spec_of}
@@ -51,10 +52,7 @@ lower_of l xs u i =
     let rs = runs (span l) xs in
     let g = from_gather (λ j r. upper l j r ∷ []) u rs i in
     let x = (tables_exact (span l) xs (head_of (span l) g.1)).0 (in_map (head_of (span l)) g.1 rs (in_place g.1 rs g.0 g.2)) in
-    elim g.3 [
-      | inl e ↦ (x.0, x.1, ap (λ (z : Mapping). z.at) (sym e) ∙ ap (λ z. z * span l) (sym x.2))
-      | inr n ↦ absurd n
-    ]
+    search (rules)
 
 -- ---- tables of a level
 
@@ -117,9 +115,7 @@ module _ (t : Tables) (can : CanMap t) where
       (sizes (layers (shapes (arch t)) (maps t can d x h)))
   there d j v x l ls h e b =
       let y = some_map t can d x h in
-      tabled j (shapes (arch t)) l ls (maps t can d x h) y.0 (root_of t d) 0 (objects_from (spec_of t) (root_of t d))
-      (drop (length (tables_of_domain t d)) (objects_from (spec_of t) (root_of t d))) v e
-      (shapes_stack (arch t)) (shapes_fit (arch t)) y.1 (maps_below t can d x h) b (from_root t d x h)
+      search (rules, tabled, maps, tables_of_domain, shapes_stack, shapes_fit, maps_below, from_root)
 
   pub tables_of_are : (d : ℕ) (x : Domain) → slice_get t.flat.domains d ≡ Some x → AreTablesOf t (spec_of t) d (root_of t d)
   tables_of_are d x h = λ j v l ls e b.
@@ -144,8 +140,7 @@ module _ (t : Tables) (can : CanMap t) where
   table_label : (d n : ℕ) (x : Domain) → slice_get t.flat.domains d ≡ Some x → n < length (tables_of_domain t d)
       → IsOf t (labels_of t) (root_of t d + n) (owners.OfDomain d)
   table_label d n x h l =
-      let long : length (tables_of_domain t d) ≡ length (tables_at t 0 0 d) = tables_counted t (root_of t d) (frames_from t) d
-      ∙ sym (tables_counted t 0 0 d) in
+      let long : length (tables_of_domain t d) ≡ length (tables_at t 0 0 d) = search (rules, tables_counted, frames_from) in
       moved t (place t (TableOf d n)) (root_of t d + n) (owners.OfDomain d) (omega arith)
       (label_at t (TableOf d n) ((x, h), at_place (tables_at t 0 0 d) n (omega (arith, long, l))))
 

@@ -1,8 +1,7 @@
 -- What the page tables of a domain hold: tables of the same domain, and its pages; and that each of its pages is held.
-use Rattle.std.proofs.Common.{rules}
 use Rattle.spec_laws.proofs.Common.{Aarch64, Arch, Arm11, Cap, Contains, Directory, Domain, FrameOf, Global, InTable, IsIn, IsThere, Level, List, Mapping, Object, Option, Page, Shape, Some, Table, TableOf, Tables, Upper, [], ap, arch, arith}
 use Rattle.spec_laws.proofs.Common.{at_contains, at_place, contains_at, domain_label, from_map, in_map, in_place, in_tables, inl, inr, label_of, linked_none, map, object, object_at, object_there, page_mapping, page_rights, pages_at, place, place_of}
-use Rattle.spec_laws.proofs.Common.{policy_tables, refl, shape, shapes, slice_get, slice_get_within, slot_of, slots_lead, spec_of, subst, sym, tables_at, tables_of, ℕ, ◌+◌, ◌^◌, ◌∙◌, ◌∷◌, ◌≡◌, ◌⊎◌}
+use Rattle.spec_laws.proofs.Common.{policy_tables, refl, rules, shape, shapes, slice_get, slice_get_within, slot_of, slots_lead, spec_of, subst, sym, tables_at, tables_of, ℕ, ◌+◌, ◌^◌, ◌∙◌, ◌∷◌, ◌≡◌, ◌⊎◌}
 use Rattle.cap_model.specs.Auth.{table_of as slots_of}
 use Rattle.cap_model.specs.declared.object.Object.TheVariants as objects
 use Rattle.spec_laws.proofs.TablesKept.{moved, object_is, stands_there, standing}
@@ -41,18 +40,7 @@ module _ (t : Tables) where
 
   of_slot : (d : ℕ) (x : Domain) (level : Level) (slots : List (ℕ × Cap)) (slot : ℕ × Cap) → slice_get t.flat.domains d ≡ Some x
       → IsIn (objects.Pages level slots) (standing t d) → IsIn slot slots → IsPageCap d slot.1 ⊎ IsTableCap d slot.1
-  of_slot d x level slots slot e there i =
-      let first = place t (TableOf d 0) in
-      elim (slots_lead (arch t) (mappings d) first level slots slot there i) [
-        | inl w ↦ inl (let m : Mapping = w.1.0 in subst (λ (z : Cap). IsPageCap d z) (sym w.1.2) (page_cap_of d m w.1.1))
-        | inr child ↦
-            let object : slot.1.object ≡ first + child.place = ap (λ (z : Cap). z.object) child.is in
-            inr (record {
-              number = child.place;
-              there = stands_there t d child.place x (objects.Pages child.below child.slots) e child.there;
-              object = omega (arith, object);
-            })
-      ]
+  of_slot d x level slots slot e there i = search (rules, slots_lead, page_cap_of, stands_there)
 
   from_pages : (o i : ℕ) (held : Cap) (level : Level) (slots : List (ℕ × Cap)) → IsAt t o (objects.Pages level slots)
       → Contains slots (i, held) → InDomain o held
@@ -60,11 +48,9 @@ module _ (t : Tables) where
       let w = of_pages at.what at.sort in let d = w.0 in
       let j = w.1 in
       let here : IsThere t (TableOf d j) = subst (λ z. IsThere t z) w.2 at.there in
-      let is : object t (TableOf d j) ≡ objects.Pages level slots =
-      subst (λ z. object t z ≡ objects.Pages level slots) w.2 at.is in
+      let is : object t (TableOf d j) ≡ objects.Pages level slots = search (rules) in
       let m = moved t 0 0 (place t (TableOf d 0)) (place t (FrameOf 0)) d j here.1.0 here.1.1 in
-      let table : IsIn (objects.Pages level slots) (standing t d) =
-      subst (λ z. IsIn z (standing t d)) (sym (object_is t d j m.0 m.1) ∙ is) (in_place m.0 (standing t d) j m.1) in
+      let table : IsIn (objects.Pages level slots) (standing t d) = search (rules, standing, object_is, in_place) in
       let k = contains_at slots (i, held) there in
       record {
         domain = d;

@@ -1,4 +1,5 @@
 -- Each page table is one that some page needs, and tables of a level stand by domain and address
+use Rattle.std.proofs.Common.{rules}
 use Rattle.spec_laws.proofs.Common.{AreShapes, AreStacked, AreTablesInOrder, Arrives, Ascends, Bool, CanMap, Cap, Directory, Domain, Global, IsBefore, IsIn, IsNamed, IsTableFor, IsTableOfSpace, IsThere, Level, List, MappedPage, Mapping, Object, Page}
 use Rattle.spec_laws.proofs.Common.{PageTable, Rises, Shape, Some, Table, TableOf, Tables, Upper, [], above, all_tables, ap, append_assoc, arch, arith, arrives, as_many, at_place, before, below, cases_lt, cond, count_by, domain_tables, drop, eq-eqb}
 use Rattle.spec_laws.proofs.Common.{eqb-true, false, first_of, from_ones, from_place, from_runs, gather, gather_ones, gathered, get_ones, head_of, heads, in_place, inl, inr, is_of, kind_of_object, layers, length, level_number, level_of, level_series}
@@ -47,13 +48,7 @@ here k ks xs y first link T back n stacked fit i h t low l =
       levels = refl;
       v = x.0.at;
       within = h x.0 there;
-      table = (arrives k ks xs y first link T back x.0.at stacked fit i h (h x.0 there) t n).1 (record {
-        number = p;
-        run = r.0;
-        at = r.1;
-        head = sym (o.same x.0 x.1);
-        is = is;
-      });
+      table = (arrives k ks xs y first link T back x.0.at stacked fit i h (h x.0 there) t n).1 (search (rules));
     }
 
 reached : (ks : List Shape) (xs : List Mapping) (y : Mapping) (first link : ℕ) (T back : List Object) (n : ℕ) → AreStacked ks
@@ -65,8 +60,7 @@ reached (k ∷ []) xs y first link T back n stacked fit i h t l = here k [] xs y
 reached (k ∷ m ∷ ks) xs y first link T back n stacked fit i h t l =
     let rs = runs (span k) xs in let U = uppers k rs in
     let next = first + sizes (layers (m ∷ ks) U) in let mine = map (table_of k link) rs in
-    let split : T ≡ numbered first next (layers (m ∷ ks) U) ++ (mine ++ back) =
-    t ∙ append_assoc (numbered first next (layers (m ∷ ks) U)) mine back in
+    let split : T ≡ numbered first next (layers (m ∷ ks) U) ++ (mine ++ back) = search (rules, append_assoc) in
     let bound : 0 < root_span (m ∷ ks) = omega (arith, h y i) in
     let up = upper_of k xs y i in
     elim (cases_lt n (above k (m ∷ ks) xs)) [
@@ -209,20 +203,7 @@ module _ (t : Tables) (can : CanMap t) where
       let x = is.0 in
       let r = needed w.0 w.1 x.0 x.1 (omega (arith, as_long w.0, below (tables_at t 0 0 w.0) w.1 is.1.0 is.1.1)) in
       let stands : place t (TableOf w.0 w.1) ≡ root_of t w.0 + w.1 = omega arith in
-      record {
-        domain = w.0;
-        leaves = x.0;
-        here = x.1;
-        level = r.level;
-        lowest = r.lowest;
-        higher = r.higher;
-        levels = r.levels;
-        v = r.v;
-        within = r.within;
-        number = w.1;
-        table = r.table;
-        at = sym p.stands ∙ ap (λ z. place t z) w.2 ∙ stands;
-      }
+      search (rules, here, lowest)
 
   -- ---- and they stand in order
 
@@ -230,8 +211,7 @@ module _ (t : Tables) (can : CanMap t) where
   before_next : (d e : ℕ) (x : Domain) → slice_get t.flat.domains d ≡ Some x → d < e
       → root_of t d + length (tables_of_domain t d) ≤ root_of t e
   before_next d e x h l =
-      let ones : length (domain_tables t d x) ≡ length (tables_at t 0 0 d) =
-      gather_ones (λ j (o : Object). page_table d j (level_of o)) (tables_at t 0 0 d) in
+      let ones : length (domain_tables t d x) ≡ length (tables_at t 0 0 d) = search (rules, gather_ones) in
       let mine : root_of t d ≡ first_of t 6 + before (domain_tables t) t.flat.domains d = omega arith in
       let other : root_of t e ≡ first_of t 6 + before (domain_tables t) t.flat.domains e = omega arith in
       omega (arith, ones, as_long d, behind (domain_tables t) t.flat.domains d e x h l, mine, other)
@@ -323,8 +303,7 @@ module _ (t : Tables) (can : CanMap t) where
       let sum : b.0 ≡ before (domain_tables t) t.flat.domains f.place + f.number = f.sum in
       let q = first_of t 6 + b.0 in
       let stand : place t w ≡ q = omega (arith, sum) in
-      let level : level_of e.0 ≡ l = ap (λ (z : PageTable). z.level) e.2
-      ∙ same_level b.1.level l (eqb-true (level_number b.1.level) (level_number l) b.3) in
+      let level : level_of e.0 ≡ l = search (rules, same_level, eqb-true) in
       let kind = table_kind t f.place f.number e.0 e.1 ∙ sym (series_kind (level_of e.0)) ∙ ap (λ z. kinds.Pages z) level in
       let is = from_kind (object t w) l kind in
       let index : q - first_of t 6 ≡ b.0 = omega arith in (

@@ -1,10 +1,9 @@
 -- Page tables hold frames and tables of the next level, each in a slot of its own, and the root of a space stands first.
-use Rattle.std.proofs.Common.{rules}
 use Rattle.spec_laws.proofs.Common.{Aarch64, Arch, Arm11, Bool, Cap, Directory, Domain, FrameOf, Global, IsChild, IsFit, IsIn, IsThere, Layer, Level, List, Mapping, NONE, Object, Page, Rights, Rises, Some, Table, TableOf, Tables, Upper, [], and_from}
 use Rattle.spec_laws.proofs.Common.{ap, arch, arith, at_place, cap, child, div-add-mod, eq-eqb, false, fits_as, frame_object, from_map, get_or_from_slice_get, in_append, in_place, inl, inr, is_root_object, is_space_root, keeps, keeps_table}
 use Rattle.spec_laws.proofs.Common.{kept_rise, kind_number, kind_of_object, kind_rights, layers, length, list_all, lt-ltb, map, nat_lt, object, object_there, option_map_or, page_mapping, page_rights, pages_at, place, refl, rise, root_first}
 use Rattle.spec_laws.proofs.Common.{root_span, shape, shape_of_layer, shapes, shapes_are_sized, size, sizes, slice_get, slice_get_within, slot_of, slots_below, slots_lead, spec_of, subst, sym, table_of, tables_at, tables_counted, tables_of, true, ℕ}
-use Rattle.spec_laws.proofs.Common.{◌&&◌, ◌+◌, ◌<◌, ◌^◌, ◌∙◌, ◌∷◌, ◌≡◌}
+use Rattle.spec_laws.proofs.Common.{rules, ◌&&◌, ◌+◌, ◌<◌, ◌^◌, ◌∙◌, ◌∷◌, ◌≡◌}
 use Rattle.std.specs.Prelude.{◌/◌, ◌%◌}
 use Rattle.cap_model.specs.declared.kind.Kind.TheVariants as kinds
 use Rattle.cap_model.specs.declared.object.Object.TheVariants as objects
@@ -134,29 +133,21 @@ module _ (t : Tables) where
 
     -- pages are read and written at most
     page_suits : (p : Page) → within (page_rights p) (kind_rights kinds.Frame) ≡ true
-    page_suits p = by_test p.read p.write where
-      by_test : (r w : Bool) → within (record { read = r; write = w; grant = false; reply = false })
-          (kind_rights kinds.Frame) ≡ true
-      by_test true true = refl
-      by_test true false = refl
-      by_test false true = refl
-      by_test false false = refl
+    page_suits p = search (rules)
 
     page_fits : (level : Level) (c : Cap) → level ≡ Table → (y : Mapping) → IsIn y mappings → c ≡ y.cap
         → fits_as (spec_of t) (child level) c ≡ true
     page_fits level c lowest y i same =
         let m = from_map (page_mapping (place t (FrameOf 0))) y (pages_at t d) i in
         let at : place t (FrameOf m.0.frame) ≡ place t (FrameOf 0) + m.0.frame = omega arith in
-        let moved_cap : cap (place t (FrameOf m.0.frame)) (page_rights m.0) 0 ≡ c = ap (λ o. cap o (page_rights m.0) 0) at
-        ∙ ap (λ (z : Mapping). z.cap) m.2 ∙ sym same in
+        let moved_cap : cap (place t (FrameOf m.0.frame)) (page_rights m.0) 0 ≡ c = search (rules) in
         subst (λ l. fits_as (spec_of t) (child l) c ≡ true) (sym lowest) (subst (λ z. fits_as (spec_of t) kinds.Frame z ≡ true)
         moved_cap (frame_fits m.0.frame (page_rights m.0) ((fit.domains d x here).pages m.0 m.1).frame (page_suits m.0)))
 
     table_fits : (level : Level) (c : Cap) → IsChild (place t (TableOf d 0)) (standing d) level c
         → fits_as (spec_of t) (child level) c ≡ true
     table_fits level c k =
-        let kind : kind_of_object (object t (TableOf d k.place)) ≡ kinds.Pages k.below =
-        ap kind_of_object (object_is d k.place (objects.Pages k.below k.slots) k.there) in
+        let kind : kind_of_object (object t (TableOf d k.place)) ≡ kinds.Pages k.below = search (rules, object_is) in
         let f = fits_as_of t (TableOf d k.place) (kinds.Pages k.below) (kinds.Pages k.below) NONE 0
         (stands_there d k.place x (objects.Pages k.below k.slots) here k.there) kind
         (eq-eqb (kind_number (kinds.Pages k.below)) (kind_number (kinds.Pages k.below)) refl) (refl, refl) in
@@ -171,8 +162,7 @@ module _ (t : Tables) where
         → level ≡ ys.shape.level → slots ≡ map (slot_of ys.shape link) r → keeps (spec_of t) (objects.Pages level slots) ≡ true
     table_kept level slots i y j r k link same are =
         let entries = y.shape.entries in
-        let sized : size (arch t) level ≡ Some entries = ap (λ l. size (arch t) l) same ∙ shapes_are_sized (arch t) y.shape
-        (shape_of_layer (shapes (arch t)) mappings y j) in
+        let sized : size (arch t) level ≡ Some entries = search (rules, shapes_are_sized, shape_of_layer) in
         let whole = (fit.domains d x here) in
         let risen = pages_rise (place t (FrameOf 0)) (pages_at t d) (λ p q. (whole.pages p q).aligned) whole.rise in
         let ordered : rise slots ≡ true = ap rise are ∙ kept_rise (arch t) mappings risen y j r k link in
@@ -191,9 +181,7 @@ module _ (t : Tables) where
     standing_kept j o e =
         let i = in_place o (standing d) j e in
         let r = from_tables (place t (TableOf d 0)) 0 (layers (shapes (arch t)) mappings) o i in
-        subst (λ z. IsIn z (standing d) → keeps (spec_of t) z ≡ true) r.is
-        (λ k. table_kept r.layer.shape.level (map (slot_of r.layer.shape r.link) r.run) k r.layer r.among r.run r.there
-        r.link refl refl) i
+        search (rules, table_kept)
 
     pub tables_kept : (j : ℕ) → IsThere t (TableOf d j) → keeps (spec_of t) (object t (TableOf d j)) ≡ true
     tables_kept j h =

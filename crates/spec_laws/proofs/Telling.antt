@@ -1,7 +1,6 @@
 -- No two parts have one name.
-use Rattle.std.proofs.Common.{rules}
 use Rattle.spec_laws.proofs.Common.{Bool, Entry, IsIn, List, Part, Some, Tables, [], and_from, ap, arith, bytes_eq, bytes_eq-Decides, differ, entry, false, false_from_ne_true, flat_map, from_get_map, length, list_any, map, names_differ, not}
-use Rattle.spec_laws.proofs.Common.{not_from_false, or_from, part_name, parts, place_of, rank, refl, same_Some, sections, slice_get, spec_of, subst, suc, sym, take, true, ℕ, ◌+◌, ◌<◌, ◌^◌, ◌∙◌, ◌∷◌, ◌≡◌}
+use Rattle.spec_laws.proofs.Common.{not_from_false, or_from, part_name, parts, place_of, rank, refl, rules, same_Some, sections, slice_get, spec_of, subst, suc, sym, take, true, ℕ, ◌+◌, ◌<◌, ◌^◌, ◌∙◌, ◌∷◌, ◌≡◌}
 use Rattle.spec_laws.proofs.Names.{same_number, same_series}
 use Rattle.spec_laws.proofs.Sections.{Told, in_section, told, told_place}
 
@@ -40,8 +39,7 @@ module _ (t : Tables) (few : length t.flat.connections < 2 ^ 32) (all : length (
       let k = same_number p.series q.series p.number q.number (omega (arith, la)) (omega (arith, lb)) same in
       let section : b.section ≡ a.section = sym (tb.series b.place q b.stands) ∙ ap rank (sym s) ∙ ta.series a.place p a.stands in
       let list : b.list ≡ a.list = same_Some _ _ (sym b.is ∙ ap (λ z. slice_get (sections t) z) section ∙ a.is) in
-      let place : a.place ≡ b.place = told_place a.list rank a.section (2 ^ 32) ta a.place b.place p q a.stands
-      (subst (λ (z : List Part). slice_get z b.place ≡ Some q) list b.stands) s k in
+      let place : a.place ≡ b.place = search (rules, told_place) in
       a.sum ∙ ap (λ z. length (flat_map (λ z. z) (take z (sections t))) + a.place) (sym section)
       ∙ ap (λ z. length (flat_map (λ z. z) (take b.section (sections t))) + z) place ∙ sym b.sum
 

@@ -1,4 +1,5 @@
 -- Thread lines and threads are one to one
+use Rattle.std.proofs.Common.{rules}
 use Rattle.spec_laws.proofs.Common.{AreThreads, AreThreadsNumbered, CNodeOf, CanMap, Domain, EndAt, HasThread, Image, IsIn, IsThreadOf, Leaf, LeafSetting, List, OfDomain, Option, Part, Some, Tables, Tcb, ThreadLine, ThreadPlace}
 use Rattle.spec_laws.proofs.Common.{[], ap, arith, at_place, component_name, ends, entry_in, from_ones, in_place, leaves_of, map_lines, name_at, object_at, objects_stand, option_map_or, part, parts, place, place_of, refl, root_of}
 use Rattle.spec_laws.proofs.Common.{slice_get, space, spec_of, stands, subst, sym, system, tcb, thread, thread_place, threads_of, ℕ, ◌∙◌, ◌≡◌, IsThere}
@@ -84,8 +85,7 @@ module _ (t : Tables) (can : CanMap t) where
       let a = domain_is at leaf end l in let b = domain_is again leaf end m in
       let found : a.0 ≡ b.0 = same_some a.0 b.0 (slice_get t.flat.leaves leaf) a.1 b.1 in
       let domain : l.domain ≡ m.domain = same_some l.domain m.domain a.0.domain a.2 (ap (λ (z : Leaf). z.domain) found ∙ b.2) in
-      let y : l.y ≡ m.y = ap (λ z. thread z l.y.end) (l.leaf_is ∙ sym m.leaf_is) ∙ ap (λ z. thread m.y.leaf z)
-      (l.end_is ∙ sym m.end_is) in
+      let y : l.y ≡ m.y = search (rules) in
       let P : ℕ → Type 0 = λ z. slice_get (threads_of (system t) z) m.number ≡ Some m.y in (
         domain,
         once_threads t can l.domain l.leaves l.here l.number m.number m.y (l.stands ∙ ap (λ z. Some z) y)
@@ -112,24 +112,19 @@ module _ (t : Tables) (can : CanMap t) where
       (stands t q (thread_part t can m.domain m.number m.leaves m.y m.here m.stands)) in
       let w = threads_same l.domain l.number m.domain m.number (ap (λ (z : Part). z.what) same) in
       let Q : ℕ → Type 0 = λ z. slice_get (threads_of (system t) z) l.number ≡ Some l.y in
-      let y : l.y ≡ m.y = some (slice_get (threads_of (system t) m.domain) m.number) l.y m.y
-      (subst (λ z. slice_get (threads_of (system t) m.domain) z ≡ Some l.y) w.1 (subst Q w.0 l.stands)) m.stands in
+      let y : l.y ≡ m.y = search (rules, some) in
       (sym l.leaf_is ∙ ap (λ (z : ThreadOf). z.leaf) y ∙ m.leaf_is, sym l.end_is ∙ ap (λ (z : ThreadOf). z.end) y ∙ m.end_is)
 
   -- ---- their numbers
 
   pub thread_domain : (d i : ℕ) (y : ThreadOf) → slice_get (threads_of (system t) d) i ≡ Some y
       → (x : Domain) × (slice_get t.flat.domains d ≡ Some x)
-  thread_domain d i y e = has_domain t d not_none where
-    not_none : leaves_of t.flat d ≡ [] → ⊥
-    not_none leaves =
-        let f = subst (λ z. slice_get z i ≡ Some y) (ap (λ ls. threads_in t.flat (ends (system t)) ls) leaves) e in cc
+  thread_domain d i y e = search (rules, has_domain)
 
   numbers_are : AreThreadsNumbered t (spec_of t) (map_lines t)
   numbers_are = λ d i at y e j.
       let x = thread_domain d i y e in
-      let same : at ≡ place t (OfThread d i) = one_line at (place t (OfThread d i)) y.leaf y.end j
-      (line_to t can d i x.0 y x.1 e) in
+      let same : at ≡ place t (OfThread d i) = search (rules, one_line, line_to) in
       ap (name_at (spec_of t)) same
       ∙ (objects_stand t).name (part series.Tcb (threads_before t can d i) (OfDomain d) (OfThread d i))
       (thread_part t can d i x.0 y x.1 e)

@@ -1,4 +1,5 @@
 -- Threads and their lines
+use Rattle.std.proofs.Common.{rules}
 use Rattle.spec_laws.proofs.Common.{CanMap, Connector, Domain, EndAt, FlatConnection, FlatEnd, HasThread, IsIn, Leaf, List, MapLine, None, OfDomain, Option, OwnLock}
 use Rattle.spec_laws.proofs.Common.{Owned, Part, Role, Rpc, Serves, SlotUse, Some, Space, Spaces, Tables, ThreadLine, ThreadPlace, To, [], ap, arith, before, cond, domain_lines, domain_tcbs, domain_threads}
 use Rattle.spec_laws.proofs.Common.{end_rule, ends, ends_at, false, flat_map, from_flat_map, from_ones, gather, gather_ones, gathered, get_ones, in_flat_map, in_gather, in_left, in_right, in_together, inl, inr, is_called}
@@ -43,26 +44,7 @@ module _ (t : Tables) (can : CanMap t) where
       let l = subst (λ z. IsIn a.0 z) (leaves_are (system t) d x h) a.1 in
       let g = can.grouped.listed d a.0 x h l in
       let Q : ThreadOf → Type 0 = λ z. HasThread t z.leaf z.end × IsIn z.leaf x.leaves in
-      elim a.2 [
-        | inl e ↦ subst Q e ((g.0, d, g.1, g.2), l)
-        | inr j ↦
-            let b = from_flat_map (server t.flat a.0) y (ends_at all a.0) j in
-            let s = server_is a.0 b.0 y b.2 in
-            let R : List EndAt → Type 0 = λ z. IsIn b.0 z in
-            let m = end_of_leaf t a.0 b.0 (leaf_members t.source t.flat a.0) (subst R (ends_are t a.0 g.0 g.1) b.1) in
-            let u = called m.1.connection.connector m.1.end.role (sym (serves_by t b.0 m.1.connection m.1.end m.1.here m.1.stands)
-            ∙ s.0) in
-            let v : Serves t a.0 b.0 = record {
-              connection = m.1.connection;
-              here = m.1.here;
-              is_rpc = u.0;
-              end = m.1.end;
-              stands = m.1.stands;
-              is_to = u.1;
-              joins = m.1.leaf_is;
-            } in
-            subst Q s.1 (v, l)
-      ]
+      search (rules, from_flat_map, server_is, end_of_leaf, ends_are, called, serves_by)
 
   pub record Home (leaf : ℕ) (end : Option EndAt) : Type 0 where
     pub domain : ℕ
@@ -89,8 +71,7 @@ module _ (t : Tables) (can : CanMap t) where
       ∙ ap (λ z. (end_rule Rpc z).hardware) v.is_to) in
       let j = subst (λ z. IsIn e z) (sym (ends_are t x.leaf w.0 w.2)) (in_leaf_ends t x.leaf e.connection e.end c x
       (leaf_members t.source t.flat x.leaf) v.here v.stands refl (can.joined.member e.connection e.end c x v.here v.stands)) in
-      let yes : serves t.flat e ≡ true = serves_by t e c x v.here v.stands ∙ ap (λ z. is_called z x.role) v.is_rpc
-      ∙ ap (λ z. is_called Rpc z) v.is_to in
+      let yes : serves t.flat e ≡ true = search (rules, serves_by) in
       in_home x.leaf (Some e) w.0 w.1 w.2 w.3
       (inr (in_flat_map (server t.flat x.leaf) e (thread x.leaf (Some e)) (ends_at all x.leaf) j
       (subst (λ b. IsIn (thread x.leaf (Some e)) (cond b (thread x.leaf (Some e) ∷ []) [])) (sym yes) (inl refl))))
@@ -162,17 +143,7 @@ module _ (t : Tables) (can : CanMap t) where
   of_thread d x h n z e =
       let made : ℕ → ThreadOf → ThreadPlace = λ n y. thread_place (system t) d n y in
       let y = from_ones made (threads_of (system t) d) n z (ap (λ zs. slice_get zs n) (sym (threads_are d x h)) ∙ e) in
-      record {
-        domain = d;
-        leaves = x;
-        here = h;
-        number = n;
-        y = y.0;
-        stands = y.1;
-        at_is = refl;
-        leaf_is = ap (λ (z : ThreadPlace). z.leaf) y.2;
-        end_is = ap (λ (z : ThreadPlace). z.end) y.2;
-      }
+      search (rules)
 
   of_slot : (o n : ℕ) (u : SlotUse) → SaysThread (slot_line o n u)
   of_slot o n (OwnLock leaf m) = tt

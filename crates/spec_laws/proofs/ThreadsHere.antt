@@ -1,9 +1,8 @@
 -- What threads have is of their own domains.
-use Rattle.std.proofs.Common.{rules}
 use Rattle.spec_laws.proofs.Common.{Authority, Buffer, CNodeOf, Cap, Domain, FrameOf, Given, IsConnected, IsIn, IsThere, List, MappedPage, None, Object, OfThreads, Option, Own, Page, RW, Region, Some, TableOf, Tables, Tcb, ThreadOf, ThreadPlace, []}
 use Rattle.spec_laws.proofs.Common.{ap, arith, at_entry, base, boot_thread, buffer_of, buffer_start, cap, domain_label, eqb-true, find, flat_map, found, frame_at, get_behind, get_front, inl, inr, label_of, map, mapped_pages, no_thread}
 use Rattle.spec_laws.proofs.Common.{number_of, number_shown, object, object_at, option_map, option_map_or, page, page_of, pages_at, place, place_of, policy_tables, refl, region, region_start, regions, slice_get, spec_of, subst, suc, sym, tcb}
-use Rattle.spec_laws.proofs.Common.{thread_regions, threads_at, threads_of, window_region, windows_of, zero, ℕ, ◌*◌, ◌+◌, ◌==◌, ◌∙◌, ◌∷◌, ◌≡◌}
+use Rattle.spec_laws.proofs.Common.{rules, thread_regions, threads_at, threads_of, window_region, windows_of, zero, ℕ, ◌*◌, ◌+◌, ◌==◌, ◌∙◌, ◌∷◌, ◌≡◌}
 use Rattle.cap_model.specs.declared.object.Object.TheVariants as objects
 use Rattle.cap_model.specs.declared.state.ThreadState.{ThreadState}
 use Rattle.vspace_layout.specs.declared.thread.ThreadOf.{ThreadOf as Described}
@@ -16,9 +15,7 @@ use Rattle.spec_laws.proofs.Whose.{IsAt, entry_is, label_there, labels, object_s
 buffer_region : (g : Given) (xs : List Described) (i n : ℕ) (x : Described) → slice_get xs i ≡ Some x → n ≡ 2 * i + 1
     → slice_get (flat_map (thread_regions g.settled) xs) n ≡ Some (region Buffer 1)
 buffer_region g [] i n x e s = cc
-buffer_region g (y ∷ ys) zero n x e s =
-    let one : 1 ≡ n = omega (arith, s) in
-    subst (λ z. slice_get (flat_map (thread_regions g.settled) (y ∷ ys)) z ≡ Some (region Buffer 1)) one refl
+buffer_region g (y ∷ ys) zero n x e s = search (rules)
 buffer_region g (y ∷ ys) (suc i) n x e s =
     get_behind (thread_regions g.settled y) (flat_map (thread_regions g.settled) ys) (2 * i + 1) n (omega (arith, s))
     ∙ buffer_region g ys i (2 * i + 1) x e refl
@@ -55,23 +52,7 @@ module _ (t : Tables) (h : IsConnected t) where
     pub label : label_of (labels t) o ≡ domain_label (policy_tables t) domain
 
   thread_is : (o : ℕ) (x : Tcb) → IsAt t o (objects.Thread x) → IsThread o x
-  thread_is o x at =
-      let w = of_tcb at.what at.sort in let d = w.0 in
-      let i = w.1 in
-      let here : IsThere t (ThreadOf d i) = subst (λ z. IsThere t z) w.2 at.there in
-      let is : object t (ThreadOf d i) ≡ objects.Thread x = subst (λ z. object t z ≡ objects.Thread x) w.2 at.is in
-      let both : objects.Thread (tcb t d here.1.0) ≡ objects.Thread x =
-      sym (ap (λ z. option_map_or (λ y. objects.Thread (tcb t d y)) z objects.Endpoint) here.1.1) ∙ is in
-      record {
-        domain = d;
-        found = here.0.0;
-        here = here.0.1;
-        number = i;
-        thread = here.1.0;
-        stands = here.1.1;
-        is = cc;
-        label = sym (ap (label_of (labels t)) (subst (λ z. place t z ≡ o) w.2 at.stands)) ∙ label_there t (ThreadOf d i) here;
-      }
+  thread_is o x at = search (rules, of_tcb, found, labels, label_there)
 
   -- ---- roots and spaces
 
@@ -110,8 +91,7 @@ module _ (t : Tables) (h : IsConnected t) where
     go None q = search (rules)
     go (Some p) q =
         let f = found (λ (p : Page). p.vaddr == at) pages p q in
-        let w : Some (cap (place t (FrameOf p.frame)) RW 0) ≡ Some held =
-        sym (ap (λ z. option_map (λ f. cap (place t (FrameOf f)) RW 0) (option_map (λ (p : Page). p.frame) z)) q) ∙ e in
+        let w : Some (cap (place t (FrameOf p.frame)) RW 0) ≡ Some held = search (rules) in
         let same : held ≡ cap (place t (FrameOf p.frame)) RW 0 = cc in
         (p, f.0, eqb-true p.vaddr at f.1, ap (λ (z : Cap). z.object) same)
 
@@ -125,8 +105,7 @@ module _ (t : Tables) (h : IsConnected t) where
       let q = from_pages t h d w.found p.0 w.here p.1 in
       let start : buffer_start g d w.number ≡ w.thread.buffer = ap (λ (z : ThreadPlace). z.buffer) f.2 in
       let address : q.mapped.at ≡ b.mapped.at = ap (λ (z : Page). z.vaddr) q.is ∙ p.2 ∙ sym start ∙ sym b.at in
-      let one : q.mapped ≡ b.mapped = rises_tell (λ (z : MappedPage). z.at) (mapped_pages g d) q.number b.number q.mapped b.mapped
-      (h.rise d).rise q.here b.here address in
+      let one : q.mapped ≡ b.mapped = search (rules, rises_tell) in
       let own = own_frame t h d q.number w.found q.mapped w.here q.here (None, ap (λ (z : MappedPage). z.shown) one ∙ b.own) in
       let n = number_shown g d q.number q.mapped.shown in
       let frame : n ≡ p.0.frame = ap (λ (z : Page). z.frame) q.is in

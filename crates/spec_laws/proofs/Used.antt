@@ -1,8 +1,7 @@
 -- The uses of a domain are those of the ends that join its leaves, and its locks.
-use Rattle.std.proofs.Common.{rules}
 use Rattle.spec_laws.proofs.Common.{Bool, Connector, Flat, FlatConnection, FlatEnd, Handler, Interrupt, IsIn, Leaf, List, Member, Notification, OfEnd, OwnLock, Role, Rpc, SlotUse, Some, Source, To, []}
 use Rattle.spec_laws.proofs.Common.{and_from, and_parts, ap, cond, domain_uses, end_uses, eq-eqb, eqb-true, false, from_gather, gather, in_append, in_gather, in_left, in_place, in_right, inl, inr, joined_uses, joins, leaf_members, leaf_uses}
-use Rattle.spec_laws.proofs.Common.{lock_uses, member_uses, members_at, members_of_leaf, place_of, refl, slice_get, subst, sym, true, true≢false, ℕ, ◌∙◌, ◌≡◌, ◌⊎◌}
+use Rattle.spec_laws.proofs.Common.{lock_uses, member_uses, members_at, members_of_leaf, place_of, refl, rules, slice_get, subst, sym, true, true≢false, ℕ, ◌∙◌, ◌≡◌, ◌⊎◌}
 use lib.Dec.{eqb}
 use Rattle.adl_ast.specs.declared.component.Lock.{Lock}
 use Rattle.adl_ast.specs.declared.component.Member.TheVariants as members

@@ -1,6 +1,5 @@
 -- What the slots of a domain lead to: ends of connections that have a slot, interrupts, and locks.
-use Rattle.std.proofs.Common.{rules}
-use Rattle.spec_laws.proofs.Common.{Domain, FlatConnection, FlatEnd, Handler, Interrupt, IsIn, List, OfEnd, OwnLock, SlotUse, Some, Tables, domain_uses, get_map, in_place, inl, inr, slice_get, slots_of, subst, true, uses_at, ℕ, ◌≡◌, sym}
+use Rattle.spec_laws.proofs.Common.{Domain, FlatConnection, FlatEnd, Handler, Interrupt, IsIn, List, OfEnd, OwnLock, SlotUse, Some, Tables, domain_uses, get_map, in_place, inl, inr, rules, slice_get, slots_of, subst, true, uses_at, ℕ, ◌≡◌, sym}
 use Rattle.spec_laws.proofs.Used.{UseOf, from_domain, from_end_uses, has_slot}
 
 pub record IsEnd (cs : List FlatConnection) (k n : ℕ) : Type 0 where
@@ -16,15 +15,7 @@ IsUse cs (Handler k n) = (c : FlatConnection) × (slice_get cs k ≡ Some c) × 
 IsUse cs (OwnLock leaf m) = Unit {0}
 
 of_end : (cs : List FlatConnection) (leaf : ℕ) (u : SlotUse) → UseOf cs leaf u → IsUse cs u
-of_end cs leaf u o =
-    let w = from_end_uses o.connection.connector o.end.role o.place o.number u o.use_is in
-    elim w.1 [
-      | inl same ↦
-          let end : IsEnd cs o.place o.number =
-          record { connection = o.connection; end = o.end; here = o.here; stands = o.stands; slot = w.0 } in
-          subst (IsUse cs) same end
-      | inr handler ↦ subst (IsUse cs) handler.is (o.connection, o.here, handler.interrupt)
-    ]
+of_end cs leaf u o = search (rules, from_end_uses)
 
 -- the uses of a domain are those of the flat system
 pub uses_are : (t : Tables) → t.slots ≡ slots_of t.source t.flat → (d : ℕ) (x : Domain) → slice_get t.flat.domains d ≡ Some x
@@ -36,7 +27,4 @@ pub is_use : (t : Tables) → t.slots ≡ slots_of t.source t.flat → (d : ℕ)
 is_use t laid d x h n u s =
     let f = from_domain t.source t.flat x.leaves u (subst (λ z. IsIn u z) (uses_are t laid d x h)
     (in_place u (uses_at t d) n s)) in
-    elim f.2 [
-      | inl o ↦ of_end t.flat.connections f.0 u o
-      | inr lock ↦ subst (IsUse t.flat.connections) (sym lock.1) tt
-    ]
+    search (rules, of_end)

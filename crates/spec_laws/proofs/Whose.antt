@@ -1,9 +1,8 @@
 -- What stands at a place of the spec, and whose label it has.
-use Rattle.std.proofs.Common.{rules}
 use Rattle.spec_laws.proofs.Common.{CNodeOf, EndpointOf, Entry, FrameInfo, FrameOf, IrqOf, IsIn, IsThere, Layer, List, LockOf, None, NotificationOf, Object, OfConnection, OfDomain, OfLeaf, Option, Owner, Part, Some, Spec, TableOf, Tables, ThreadOf}
 use Rattle.spec_laws.proofs.Common.{What, [], ap, arch, arith, endpoint, entry, entry_at, entry_object, frame_object, frame_owner, from_get_map, from_map, get_or, has_part, in_append, in_place, inl, inr, irq, irq_owner, label_of, labels_of, layers}
 use Rattle.spec_laws.proofs.Common.{lock, map, notification, number_of, object, object_at, option_map_or, page_mapping, pages_at, part_label, parts, place, place_is, refl, shapes, sizes, slice_get, slice_index, spec_of, stands, subst, suc, sym}
-use Rattle.spec_laws.proofs.Common.{table_of, tcb, there, zero, ℕ, ◌+◌, ◌∙◌, ◌∷◌, ◌≡◌, ◌⊎◌}
+use Rattle.spec_laws.proofs.Common.{rules, table_of, tcb, there, zero, ℕ, ◌+◌, ◌∙◌, ◌∷◌, ◌≡◌, ◌⊎◌}
 use Rattle.cap_model.specs.declared.object.Object.TheVariants as objects
 use Rattle.page_tables.specs.Levels.{numbered as tables_numbered}
 use Rattle.spec_laws.proofs.EachPart.{of_every}
@@ -31,16 +30,7 @@ abbrev Whose : Tables → Part → Type 0
 Whose t p = p.owner ≡ owner_of t p.what
 
 pub whose : (t : Tables) (p : Part) → IsIn p (parts t) → Whose t p
-whose t = of_every t (Whose t) (record {
-  cnode = λ d x e. refl;
-  thread = λ n d i x e. refl;
-  endpoint = λ k c h e. refl;
-  notification = λ k c h e. refl;
-  lock = λ n d i leaf m x h s is. refl;
-  irq = λ n k c h e is. ap (λ o. option_map_or (irq_owner k) o (OfConnection k)) (sym h);
-  table = λ n d j o e. refl;
-  frame = λ f x e. ap (λ o. option_map_or (λ (y : FrameInfo). frame_owner y.owner) o (OfLeaf 0)) (sym e);
-})
+whose t = of_every t (Whose t) (search (rules))
 
 -- ---- labels
 
@@ -54,11 +44,7 @@ label_found f (y ∷ xs) (suc o) x e = label_found f xs o x e
 
 -- the label of a part that there is
 pub label_there : (t : Tables) (w : What) → IsThere t w → label_of (labels t) (place t w) ≡ number_of t.numbers (owner_of t w)
-label_there t w h =
-    let p = has_part t w h in
-    let P : What → Type 0 = λ z. label_of (labels t) (place t z) ≡ number_of t.numbers (owner_of t z) in
-    let own : part_label t p.0 ≡ number_of t.numbers (owner_of t p.0.what) = ap (number_of t.numbers) (whose t p.0 p.1) in
-    subst P p.2 (label_found (part_label t) (parts t) (place t p.0.what) p.0 (stands t p.0 p.1) ∙ own)
+label_there t w h = search (rules, has_part, whose, label_found, stands)
 
 -- ---- objects
 
@@ -111,27 +97,15 @@ pub entry_is : (t : Tables) (o : ℕ) (e : Entry) → slice_get (spec_of t).entr
 entry_is t o e h =
     let p = from_get_map (entry t) (parts t) o e h in let i = in_place p.0 (parts t) o p.1 in
     let is : object t p.0.what ≡ e.object = ap (λ (z : Entry). z.object) p.2 in
-    record {
-      what = p.0.what;
-      there = there t p.0 i;
-      stands = place_is t o p.0 p.1;
-      is = is;
-      sort = sym (classed t p.0.what (there t p.0 i)) ∙ ap class_of is;
-    }
+    search (rules, there, stands, place_is, classed)
 
 pub object_stands : (t : Tables) (o : ℕ) (x : Object) → object_at (spec_of t) o ≡ Some x → IsAt t o x
-object_stands t o x h = go (slice_get (spec_of t).entries o) refl where
-  go : (e : Option Entry) → slice_get (spec_of t).entries o ≡ e → IsAt t o x
-  go None there = absurd (let w : entry_object None ≡ Some x = subst (λ z. entry_object z ≡ Some x) there h in cc)
-  go (Some entry) there = search (rules, entry_is)
+object_stands t o x h = search (rules, there, entry_is)
 
 -- what boot has for an object that stands
 pub boots : {A : Type 0} (spec : Spec) (f : Object → A) (o : ℕ) (x : Object) (d : A) → object_at spec o ≡ Some x
     → get_or (map (λ (e : Entry). f e.object) spec.entries) o d ≡ f x
-boots {A} spec f o x d h = go (slice_get spec.entries o) refl where
-  go : (e : Option Entry) → slice_get spec.entries o ≡ e → get_or (map (λ (e : Entry). f e.object) spec.entries) o d ≡ f x
-  go None there = absurd (let w : entry_object None ≡ Some x = subst (λ z. entry_object z ≡ Some x) there h in cc)
-  go (Some entry) there = search (rules, entry_at)
+boots {A} spec f o x d h = search (rules, there, entry_at)
 
 -- ---- which part it is, by the class of its object
 

@@ -1,8 +1,7 @@
 -- The ends that see memory, and the pages of a space that show it.
-use Rattle.std.proofs.Common.{rules}
 use Rattle.spec_laws.proofs.Common.{Connector, EndAt, FlatConnection, FlatEnd, Given, IsIn, List, MappedPage, Memory, None, Option, Own, Region, Shown, Some, [], ap, base, end_in, ends, false, flat_map, from_flat_map, from_gather, from_map}
 use Rattle.spec_laws.proofs.Common.{from_range, in_append, in_place, inl, inr, is_window, leaves_of, map, mapped_pages, memory_pages, option_and_then, option_map, option_map_or, page_of, pages_of_region, range_with_len, refl, region_part, regions}
-use Rattle.spec_laws.proofs.Common.{section_page, section_pages, section_part, sees_memory, slice_get, subst, thread_regions, threads_of, true, window_pages, window_region, windows_of, ℕ, ⊎_elim, ◌<◌, ◌∷◌, ◌≡◌}
+use Rattle.spec_laws.proofs.Common.{rules, section_page, section_pages, section_part, sees_memory, slice_get, subst, thread_regions, threads_of, true, window_pages, window_region, windows_of, ℕ, ⊎_elim, ◌<◌, ◌∷◌, ◌≡◌}
 use Rattle.vspace_layout.specs.declared.thread.ThreadOf.{ThreadOf}
 use Rattle.spec_laws.proofs.Lists.{shown_if}
 
@@ -15,18 +14,7 @@ pub record IsSeen (g : Given) (e : EndAt) : Type 0 where
   pub window : is_window connection.connector end.role ≡ true
 
 sees : (g : Given) (e : EndAt) → sees_memory g.flat e ≡ true → IsSeen g e
-sees g e s = by_connection (slice_get g.flat.connections e.connection) refl s where
-  by_end : (c : FlatConnection) → slice_get g.flat.connections e.connection ≡ Some c → (o : Option FlatEnd)
-      → slice_get c.ends e.end ≡ o → option_map_or (λ (x : Connector × FlatEnd). is_window x.0 x.1.role)
-      (option_map (λ f. (c.connector, f)) o) false ≡ true → IsSeen g e
-  by_end c at None is s = cc
-  by_end c at (Some f) is s = record { connection = c; there = at; end = f; joined = is; window = s }
-
-  by_connection : (o : Option FlatConnection) → slice_get g.flat.connections e.connection ≡ o
-      → option_map_or (λ (x : Connector × FlatEnd). is_window x.0 x.1.role) (option_and_then (end_in e.end) o) false ≡ true
-      → IsSeen g e
-  by_connection None at s = cc
-  by_connection (Some c) at s = by_end c at (slice_get c.ends e.end) refl s
+sees g e s = search (rules)
 
 pub seen : (g : Given) (d : ℕ) (e : EndAt) → IsIn e (windows_of g d) → IsSeen g e
 seen g d e i = search (rules, from_flat_map, shown_if, sees)

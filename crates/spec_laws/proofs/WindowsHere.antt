@@ -1,4 +1,5 @@
 -- Page tables hold pages of windows alone that lead to other labels, and a page of each window.
+use Rattle.std.proofs.Common.{rules}
 use Rattle.spec_laws.proofs.Common.{AtOtherEnd, Bool, Cap, Domain, FrameOf, From, HasPage, HasWindows, InTable, IsConnected, IsIn, IsWindow, LeadsTo, MappedPage, Mmio, ObjectKind, OfDevice, OfFrames, Page, Read, Some, TableOf, Tables}
 use Rattle.spec_laws.proofs.Common.{ap, arith, base, domain_label, false, frame_object, gives, in_place, inl, inr, is_at_device, is_window, kind_at, kind_of_object, kind_there, label_of, leaf_label, mapped_pages, may_read, may_write, memory_number}
 use Rattle.spec_laws.proofs.Common.{memory_pages, number_of, number_shown, object, option_map_or, page, page_mapping, page_of, page_rights, place, place_of, policy_tables, refl, region_start, regions, setting_of, slice_get, spec_of, subst}
@@ -32,8 +33,7 @@ module _ (t : Tables) (h : IsConnected t) where
       → label_of (labels t) p ≡ leaf_label (policy_tables t) x.end.leaf
       → IsWindow (policy_tables t) (spec_of t) (labels t) x o p held
   to_window x o f p held s leads rights from =
-      let kind : kind_of_object (object t (FrameOf f)) ≡ kinds.Frame =
-      ap (λ z. kind_of_object (option_map_or frame_object z objects.Endpoint)) s.there.1 in
+      let kind : kind_of_object (object t (FrameOf f)) ≡ kinds.Frame = search (rules) in
       record {
         memory = s.memory;
         frame = ap (kind_at (spec_of t)) leads ∙ kind_there t (FrameOf f) s.there ∙ ap (λ z. Some z) kind;
@@ -66,14 +66,10 @@ module _ (t : Tables) (h : IsConnected t) where
       let size : window_pages t.flat t.settled w.end ≡ memory_pages t.settled y.place y.connection =
       ap (window_pages t.flat t.settled) (sym v.is) ∙ window_size y in
       let s = seen y w.number v.sees (omega (arith, w.below, size)) in
-      let frame : g.frame ≡ memory_number (laid t h) y.place w.number =
-      ap (λ (z : Page). z.frame) (sym q.is) ∙ ap (number_shown (laid t h) d q.number) w.shown
-      ∙ ap (λ z. memory_number (laid t h) z w.number) (sym k) in
+      let frame : g.frame ≡ memory_number (laid t h) y.place w.number = search (rules, laid) in
       let setting = ap (λ (z : Joined). setting_of t.settled z.connection z.end) v.is in
-      let read : g.read ≡ may_read (setting_of t.settled y.place y.number) = ap (λ (z : Page). z.read) (sym q.is) ∙ w.read
-      ∙ sym (ap may_read setting) in
-      let write : g.write ≡ may_write (setting_of t.settled y.place y.number) = ap (λ (z : Page). z.write) (sym q.is) ∙ w.write
-      ∙ sym (ap may_write setting) in
+      let read : g.read ≡ may_read (setting_of t.settled y.place y.number) = search (rules) in
+      let write : g.write ≡ may_write (setting_of t.settled y.place y.number) = search (rules) in
       let mine : leaf_label (policy_tables t) y.end.leaf ≡ domain_label (policy_tables t) d =
       leaf_of_domain t h d y.end.leaf x e (subst (λ z. IsIn y.end.leaf z) (leaves_are (laid t h) d x e) v.listed) in (
         y,

@@ -1,4 +1,5 @@
 -- The spec of laid-out tables can be written and read back.
+use Rattle.std.proofs.Common.{rules}
 use Rattle.spec_laws.proofs.Common.{Entry, FlatConnection, FrameInfo, FrameOf, IsFit, IsIn, IsSized, IsWritable, IsWritten, List, None, Object, Option, Part, Some, TableOf}
 use Rattle.spec_laws.proofs.Common.{Tables, ThreadPlace, What, [], ap, arch, arith, by_number, canonical, cap_count, caps_of, entry, entry_line, entry_name, entry_text, flat_map, frame_object, gather, in_place, irq_line, irq_number}
 use Rattle.spec_laws.proofs.Common.{is_laid, is_number, is_word, layers, le-ltb, length, length-map, line_by, lines, list_all-map, map, name_at, object, option_map_or, page_mapping, pages_at, part_name, parts, place, put_line, refl, shapes}
@@ -60,16 +61,7 @@ module _ (t : Tables) where
       omega (arith, e)) in omega (arith, all, none)
 
   longer_most : Most t longer (λ d. 0) 209 0 0 0 (λ d. 0) 229
-  longer_most = record {
-    cnodes = λ d x e. omega arith;
-    threads = λ d i. thread_longer d (slice_get (threads_at t d) i);
-    endpoints = λ k. omega arith;
-    notifications = λ k. omega arith;
-    locks = λ d n. omega arith;
-    irqs = λ k. omega arith;
-    tables = λ d x e. table_longer d;
-    frames = λ f. frame_longer (slice_get t.spaces.frames f);
-  }
+  longer_most = search (rules, thread_longer, table_longer, frame_longer)
 
   longer_few : total (λ (p : Part). longer p.what) (parts t) ≤ 209 * thread_count t + 229 * length t.spaces.frames
   longer_few = omega (arith, parts_most t longer (λ d. 0) 209 0 0 0 (λ d. 0) 229 longer_most, totals_const 0 t.flat.domains)
@@ -117,8 +109,7 @@ module _ (t : Tables) where
         let c = total_most (λ p. text (entry t p)) (λ p. 21 + 73 * caps p) (parts t) text_of in
         let d = total_add (λ (p : Part). 21) (λ p. 73 * caps p) (parts t) in
         let e = total_const 21 (parts t) in
-        let g : cap_count (spec_of t) ≡ total caps (parts t) = sum_map (λ (e : Entry). caps_of e.object) (map (entry t) (parts t))
-        ∙ total_map (λ (e : Entry). caps_of e.object) (entry t) (parts t) in
+        let g : cap_count (spec_of t) ≡ total caps (parts t) = search (rules, sum_map, total_map) in
         omega (arith, a, total_map text (entry t) (parts t), c, d, e, total_times 73 caps (parts t), g, caps_within t sized, many)
 
     number_in : (l : ℕ × ℕ) → IsIn l (lines t) → l.0 < 2 ^ 64
@@ -145,9 +136,7 @@ module _ (t : Tables) where
       kept = spec_kept t fit;
       names = list_all-map (λ (e : Entry). is_word e.name) (entry t) (parts t) ∙ all_pass (λ (p : Part). is_word (part_name p))
           (parts t) (λ p i. part_word p (number_of p i));
-      objects = list_all-map (λ (e : Entry). is_laid e.object) (entry t) (parts t)
-          ∙ all_pass (λ (p : Part). is_laid (object t p.what)) (parts t)
-          (λ p i. (fine_there t fit written p.what (there t p i)).0);
+      objects = search (rules, list_all-map, all_pass, fine_there, there);
       lines = all_pass (λ (l : ℕ × ℕ). is_number l.0) (lines t) (λ l i. number_is l.0 (number_in l i));
       short = let s = canonical_short (spec_of t) short_at 34501632 26838016 159744 lines_long texts_long irqs_long in
           le-ltb most_bytes (length (canonical (spec_of t))) (omega (arith, s));

@@ -1,6 +1,5 @@
-use Rattle.std.proofs.Common.{rules}
 use Rattle.cam_io.proofs.Saying.{said_all}
-use Rattle.arch_compile.proofs.Common.{acts_one, arith, refl}
+use Rattle.arch_compile.proofs.Common.{acts_one, arith, refl, rules}
 use Rattle.arch_compile.proofs.Scripts.{acts_then, still_fresh}
 use Rattle.arch_compile.proofs.write.write_texts.Goals as goal
 
