@@ -1,8 +1,7 @@
 -- The bodies of a source's hierarchy, and their instances.
-use Rattle.std.proofs.Common.{rules}
 use Rattle.adl_hierarchy.proofs.Common.{AreNamesSound, Assembly, Body, Component, Composition, Hierarchy, Instance, IsIn, ItemAt, Line, List, Name, None, Option, Part, Some, Source, [], ap, assemblies, body, body_of, components, filter_map}
 use Rattle.adl_hierarchy.proofs.Common.{from_filter_map, from_flat_map, get_map, get_or_from_slice_get, get_or_last, get_or_map, graph, hierarchy_of, in_flat_map, inl, inr, instances_by, instances_in, is_composite, is_some, kind_named, length}
-use Rattle.adl_hierarchy.proofs.Common.{length-map, map, map_some, one_assembly, part_of, parts_by, parts_in, refl, slice_get, slice_get_within, subst, sym, top_number, top_of, true, ℕ, ◌∙◌, ◌∷◌, ◌≡◌, ◌≤◌, ◌⊎◌}
+use Rattle.adl_hierarchy.proofs.Common.{length-map, map, map_some, one_assembly, part_of, parts_by, parts_in, refl, rules, slice_get, slice_get_within, subst, sym, top_number, top_of, true, ℕ, ◌∙◌, ◌∷◌, ◌≡◌, ◌≤◌, ◌⊎◌}
 use Rattle.adl_meaning.specs.Prelude.{inner_of}
 use Rattle.adl_ast.specs.declared.composition.Line.TheVariants as lines
 

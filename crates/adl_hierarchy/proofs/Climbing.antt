@@ -1,8 +1,7 @@
 -- A search downwards finds an interface of a leaf exactly where the interface climbs up to the port.
-use Rattle.std.proofs.Common.{rules}
 use Rattle.adl_hierarchy.proofs.Common.{AreNamesSound, Bool, Climbs, Composition, Export, Hierarchy, IsIn, IsLeaf, IsOnce, Known, Name, None, Option, Part, Path, Reached, Some, Source, [], ap, arith, behind, body, bytes_eq, bytes_eq-Decides}
 use Rattle.adl_hierarchy.proofs.Common.{cond, export_named, exports_in, exports_of, false, found, hierarchy_of, is_composite, is_some, known_in, length, map, map_some, misfits_in_composition, name_of, option_and_then, option_and_then_some}
-use Rattle.adl_hierarchy.proofs.Common.{option_map, option_map_or, part_named, port_in, reached, reached_by, reached_within, refl, subst, suc, sym, true, zero, ℕ, ◌∙◌, ◌∷◌, ◌≡◌, ◌≤◌}
+use Rattle.adl_hierarchy.proofs.Common.{option_map, option_map_or, part_named, port_in, reached, reached_by, reached_within, refl, rules, subst, suc, sym, true, zero, ℕ, ◌∙◌, ◌∷◌, ◌≡◌, ◌≤◌}
 use Rattle.adl_hierarchy.proofs.Exports.{no_misfit, targets_once}
 use Rattle.adl_hierarchy.proofs.Finite.{sound_is_finite}
 use Rattle.adl_hierarchy.proofs.Leaves.{StandsIn}

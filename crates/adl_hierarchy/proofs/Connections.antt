@@ -1,7 +1,6 @@
 -- The walk to the connections meets each connection once, and nothing else.
-use Rattle.std.proofs.Common.{rules}
 use Rattle.adl_hierarchy.proofs.Common.{AreNamesSound, Hierarchy, IsIn, IsOnce, List, Name, Part, Path, Some, Source, Strung, Wire, [], ap, arith, at, body, connections, connections_within, flat_map, from_flat_map, from_map, further, hierarchy_of}
-use Rattle.adl_hierarchy.proofs.Common.{in_append, in_flat_map, in_left, in_map, in_right, inl, inr, length, map, map-append, name_of, refl, strung, strung_by, subst, suc, sym, top_number, wires_of, zero, ℕ, ◌++◌, ◌↔◌, ◌∷◌, ◌≡◌, ◌≤◌}
+use Rattle.adl_hierarchy.proofs.Common.{in_append, in_flat_map, in_left, in_map, in_right, inl, inr, length, map, map-append, name_of, refl, rules, strung, strung_by, subst, suc, sym, top_number, wires_of, zero, ℕ, ◌++◌, ◌↔◌, ◌∷◌, ◌≡◌, ◌≤◌}
 use Rattle.adl_hierarchy.proofs.Finite.{sound_is_finite}
 use Rattle.adl_hierarchy.proofs.PartNames.{names_once, wires_once}
 use Rattle.adl_hierarchy.proofs.PartsAt.{named_in, at_behind, first_on, path_short}

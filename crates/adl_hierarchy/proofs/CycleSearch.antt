@@ -1,7 +1,6 @@
 -- The search for cycles.
-use Rattle.std.proofs.Common.{rules}
 use Rattle.adl_hierarchy.proofs.Common.{AreCycleNumbers, AreHeldBy, AreRoots, Holds, InRange, IsTurned, List, TellCycles, Walk, [], arith, both_ways, cases_eq, eq-eqb, eqb-true, false≢true, get_or, get_or-set_other, get_or-set_same, has}
-use Rattle.adl_hierarchy.proofs.Common.{inner_of, is_held, length, length-set, refl, set, subst, suc, sym, true, zero, ℕ, ◌++◌, ◌<◌, ◌∷◌, ◌≡◌, ◌⊎◌}
+use Rattle.adl_hierarchy.proofs.Common.{inner_of, is_held, length, length-set, refl, rules, set, subst, suc, sym, true, zero, ℕ, ◌++◌, ◌<◌, ◌∷◌, ◌≡◌, ◌⊎◌}
 use lib.Dec.{eqb}
 use Rattle.adl_hierarchy.proofs.Cycling.{exact}
 use Rattle.adl_hierarchy.proofs.Marks.{has_new, has_old, has_pushed}
@@ -23,9 +22,6 @@ turned_walk g turned t zero a b w = (0, sym w)
 turned_walk g turned t (suc n) a b w =
     let k = turned_walk g turned t n w.0 b w.2 in
     (suc k.0, walk_more g k.0 b w.0 a k.1 (t.edges a w.0 w.1).1)
-
-pub turned_in_range : (g turned : List (List ℕ)) → IsTurned g turned → InRange turned
-turned_in_range g turned t c a l e = let s = t.size in omega (arith, (t.edges c a e).0)
 
 -- ---- roots
 

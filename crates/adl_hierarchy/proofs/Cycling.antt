@@ -1,6 +1,5 @@
 -- Components of one number hold each other.
-use Rattle.std.proofs.Common.{rules}
-use Rattle.adl_hierarchy.proofs.Common.{AreCycleNumbers, Holds, InRange, List, Walk, ap, arith, has, inl, inner_of, inr, length, subst, suc, sym, true, zero, ℕ, ◌<◌, ◌↔◌, ◌≡◌, ◌≤◌}
+use Rattle.adl_hierarchy.proofs.Common.{AreCycleNumbers, Holds, InRange, List, Walk, ap, arith, has, inl, inner_of, inr, length, rules, subst, suc, sym, true, zero, ℕ, ◌<◌, ◌↔◌, ◌≡◌, ◌≤◌}
 use Rattle.adl_hierarchy.proofs.Through.{walk_join}
 
 -- no walk leads to a smaller rank

@@ -1,8 +1,7 @@
 -- Where no export is at fault: exports stand once by target, and what is exported or joined leads on.
-use Rattle.std.proofs.Common.{rules}
 use Rattle.adl_hierarchy.proofs.Common.{AreNamesSound, Bool, Composition, Connection, End, Export, Fault, Held, IsIn, IsOnce, Known, List, Name, None, Option, Port, Some, Source, [], body, bytes_eq, bytes_eq-Decides, compositions, connections_in}
 use Rattle.adl_hierarchy.proofs.Common.{export_fault, exports_in, false, flat_map, held_as, hierarchy_of, inl, inr, is_misfit, is_port, is_unled, known_in, known_of, map, misfits_after, misfits_in_composition, misfits_in_item, none_in, none_left}
-use Rattle.adl_hierarchy.proofs.Common.{none_right, or_left, or_parts, or_right, port_of, refl, subst, true, unled_ends, where_true, ℕ, ◌||◌, ◌∷◌, ◌≡◌}
+use Rattle.adl_hierarchy.proofs.Common.{none_right, or_left, or_parts, or_right, port_of, refl, rules, subst, true, unled_ends, where_true, ℕ, ◌||◌, ◌∷◌, ◌≡◌}
 use Rattle.adl_meaning.specs.Export.{inner_of}
 use Rattle.adl_hierarchy.proofs.Lists.{in_get}
 use Rattle.adl_hierarchy.proofs.Sources.{composed, none_in_component, none_in_assembly}

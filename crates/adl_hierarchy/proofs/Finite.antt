@@ -1,7 +1,6 @@
 -- Where no fault of names stands, the hierarchy is finite: no component is recursive, and the assembly is no component.
-use Rattle.std.proofs.Common.{rules}
 use Rattle.adl_hierarchy.proofs.Common.{AreNamesSound, Body, Component, Hierarchy, IsFinite, IsIn, ItemAt, List, Part, Some, Source, ap, arith, body, body_of, components, from_map, get_map, graph, graph_of, hierarchy_of, inl, inr, instances_of}
-use Rattle.adl_hierarchy.proofs.Common.{kind_named, length, length-append, length-map, map, slice_get, subst, suc, sym, true, zero, ℕ, ◌<◌, ◌∙◌, ◌≡◌, ◌≤◌}
+use Rattle.adl_hierarchy.proofs.Common.{kind_named, length, length-append, length-map, map, rules, slice_get, subst, suc, sym, true, zero, ℕ, ◌<◌, ◌∙◌, ◌≡◌, ◌≤◌}
 use Rattle.adl_meaning.specs.Prelude.{Walk, has, inner_of}
 use Rattle.adl_hierarchy.proofs.ComponentNumbers.{numbers_below, composed_instance, listed, graph_in_range, acyclic_from_none}
 use Rattle.adl_hierarchy.proofs.Lists.{in_has}

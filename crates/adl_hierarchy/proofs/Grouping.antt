@@ -1,7 +1,6 @@
 -- The group above a path is the outermost.
-use Rattle.std.proofs.Common.{rules}
 use Rattle.adl_hierarchy.proofs.Common.{Hierarchy, Name, None, Option, Part, Path, Some, [], ap, body, group_above, group_or, map_some, option_and_then, option_and_then_some, option_map, part_at, part_named, refl, sym, ℕ, ◌++◌, ◌↔◌, ◌∙◌, ◌∷◌}
-use Rattle.adl_hierarchy.proofs.Common.{◌≡◌}
+use Rattle.adl_hierarchy.proofs.Common.{rules, ◌≡◌}
 use Rattle.adl_hierarchy.specs.OutermostGroup.{IsOutermostGroup}
 use Rattle.adl_hierarchy.proofs.PartsAt.{part_behind}
 use Rattle.adl_hierarchy.proofs.Repeats.{head_of, tail_of}

@@ -1,7 +1,6 @@
 -- What names stand for among what a composition holds: instances of it, each under its own name.
-use Rattle.std.proofs.Common.{rules}
 use Rattle.adl_hierarchy.proofs.Common.{Composition, Held, Id, Instance, IsIn, Line, List, Name, Option, Port, Some, [], a_connection, a_group, an_instance, ap, as_held, bytes_eq, bytes_eq-Decides, find, found, from_flat_map, from_map, held_as}
-use Rattle.adl_hierarchy.proofs.Common.{held_by, held_in, in_flat_map, inl, inr, instance_held, instances_by, instances_in, map_some, member_held, member_of, port_of, refl, subst, sym, ◌∙◌, ◌∷◌, ◌≡◌}
+use Rattle.adl_hierarchy.proofs.Common.{held_by, held_in, in_flat_map, inl, inr, instance_held, instances_by, instances_in, map_some, member_held, member_of, port_of, refl, rules, subst, sym, ◌∙◌, ◌∷◌, ◌≡◌}
 use Rattle.adl_ast.specs.declared.composition.Line.TheVariants as lines
 
 held_found : (k : Composition) (n : Name) (x : Held) → held_as k n ≡ Some x → (l : Line) × IsIn l k.lines × (h : Id × Held)

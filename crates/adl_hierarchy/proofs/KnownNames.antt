@@ -1,9 +1,8 @@
 -- Where no name is unknown: types have components with numbers, and dotted names have instances.
-use Rattle.std.proofs.Common.{rules}
 use Rattle.adl_hierarchy.proofs.Common.{AreNamesSound, Component, Composition, Connection, Connector, End, Export, Held, Id, Instance, IsDotted, IsIn, ItemAt, Known, Line, List, Member, Name, None, Option, Some, Source, [], a_group}
 use Rattle.adl_hierarchy.proofs.Common.{ap, arith, as_composition, as_export, body, component_named, components, compositions, connections_in, connector_of, exports_in, from_filter_map, from_flat_map, held_as}
 use Rattle.adl_hierarchy.proofs.Common.{hierarchy_of, inl, inr, instances_by, instances_in, is_some, kind_named, known_in, known_of, length, map_some, none_in, none_left, none_right, option_map, port_in, port_of, refl}
-use Rattle.adl_hierarchy.proofs.Common.{slice_get, subst, suc, sym, unknown_in_composition, unknown_interface, unless_known, ℕ, ◌∙◌, ◌∷◌, ◌≡◌, ◌≤◌}
+use Rattle.adl_hierarchy.proofs.Common.{rules, slice_get, subst, suc, sym, unknown_in_composition, unknown_interface, unless_known, ℕ, ◌∙◌, ◌∷◌, ◌≡◌, ◌≤◌}
 use Rattle.adl_ast.specs.declared.component.Member.TheVariants as members
 use Rattle.adl_ast.specs.declared.composition.Line.TheVariants as lines
 use Rattle.adl_meaning.specs.Unknown.{unknown_type, unknown_in_group, unknown_in_three, unknown_in_dotted, unknown_in_line, unknown_in_member, unknown_in_item, is_procedure}

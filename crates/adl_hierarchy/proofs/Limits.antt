@@ -1,7 +1,6 @@
 -- The limits of a hierarchy, where none is passed.
-use Rattle.std.proofs.Common.{rules}
 use Rattle.adl_hierarchy.proofs.Common.{AreNamesSound, Assembly, ItemAt, Name, None, Source, [], connections, depth, first_size_fault, hierarchy_of, leaves, length, ltb-false, none_in, none_left}
-use Rattle.adl_hierarchy.proofs.Common.{none_right, one_assembly, ℕ, ◌≡◌, ◌≤◌}
+use Rattle.adl_hierarchy.proofs.Common.{none_right, one_assembly, ℕ, rules, ◌≡◌, ◌≤◌}
 use Rattle.std.specs.Prelude.{nat_lt}
 use Rattle.adl_hierarchy.proofs.Exports.{not_so}
 use Rattle.adl_meaning.specs.SizeFaults.{all_ends, limit_passed}

@@ -1,8 +1,7 @@
 -- Sets of numbers: their marks, and what their lists have.
-use Rattle.std.proofs.Common.{rules}
 use Rattle.adl_hierarchy.proofs.Common.{AreMarks, Bool, IsDistinct-push, List, [], arith, cases_Bool, cases_eq, drop, eq-eqb, eqb-true, false, get_or, get_or-replicate, get_or-set_other, get_or-set_same, has, inl, inr, length}
 use Rattle.adl_hierarchy.proofs.Common.{length-append, length-le_from_distinct_below, length-replicate, length-set, list_any-append, list_any_at, ne_eqb, or_cases, or_left, or_right, refl, replicate, set, subst, take, take-append-drop}
-use Rattle.adl_hierarchy.proofs.Common.{take-append-le, true, with_number, ℕ, ◌++◌, ◌<◌, ◌^◌, ◌||◌, ◌∙◌, ◌∷◌, ◌≡◌, ◌≤◌, ◌⊎◌}
+use Rattle.adl_hierarchy.proofs.Common.{rules, take-append-le, true, with_number, ℕ, ◌++◌, ◌<◌, ◌^◌, ◌||◌, ◌∙◌, ◌∷◌, ◌≡◌, ◌≤◌, ◌⊎◌}
 use Rattle.std.specs.List.{IsDistinct}
 use Rattle.std.proofs.lemmas.Cmp.{nat_eq_equiv}
 use lib.Dec.{eqb}

@@ -1,8 +1,7 @@
 -- Where no name is a duplicate, the names of a body's instances stand once.
-use Rattle.std.proofs.Common.{rules}
 use Rattle.adl_hierarchy.proofs.Common.{AreNamesSound, Composition, Connection, Connector, Held, Id, Instance, IsIn, IsOnce, Line, List, Name, None, Option, Part, Some, Source, Wire, [], ap, as_connection, as_held, body, compositions, connections_in}
 use Rattle.adl_hierarchy.proofs.Common.{connector_of, cons_option, duplicates_in_composition, duplicates_in_item, filter_map, flat_map, held_by, held_in, hierarchy_of, inl, inr, items_of, kind_named, map, map_some, name_of, none_in, none_right}
-use Rattle.adl_hierarchy.proofs.Common.{option_map_or, part_of, parts_by, parts_in, refl, subst, sym, wire_of, wires_of, ℕ, ◌++◌, ◌∷◌, ◌≡◌}
+use Rattle.adl_hierarchy.proofs.Common.{option_map_or, part_of, parts_by, parts_in, refl, rules, subst, sym, wire_of, wires_of, ℕ, ◌++◌, ◌∷◌, ◌≡◌}
 use Rattle.adl_ast.specs.declared.composition.Line.TheVariants as lines
 use Rattle.adl_hierarchy.proofs.Bodies.{parts_of}
 use Rattle.adl_hierarchy.proofs.Lists.{in_get}

@@ -1,7 +1,6 @@
 -- Places in lists, and lists without what stands twice, where a test decides equality.
-use Rattle.std.proofs.Common.{rules}
 use Rattle.adl_hierarchy.proofs.Common.{Bool, Decides, IsIn, IsOnce, List, Some, [], ap, arith, both_ways, cond, enumerate_from, false, false_from_ne_true, filter, firsts_after, from_enumerate, from_map, in_map, inl, inr, map, or_from, or_parts}
-use Rattle.adl_hierarchy.proofs.Common.{place_by, refl, slice_get, subst, suc, sym, true, zero, ℕ, ◌+◌, ◌||◌, ◌↔◌, ◌∙◌, ◌∷◌, ◌≡◌, ◌⊎◌}
+use Rattle.adl_hierarchy.proofs.Common.{place_by, refl, rules, slice_get, subst, suc, sym, true, zero, ℕ, ◌+◌, ◌||◌, ◌↔◌, ◌∙◌, ◌∷◌, ◌≡◌, ◌⊎◌}
 use Rattle.adl_meaning.specs.Lists.{firsts}
 use Rattle.adl_hierarchy.proofs.Lists.{in_get}
 

@@ -1,7 +1,6 @@
 -- The search for all that a component holds.
-use Rattle.std.proofs.Common.{rules}
 use Rattle.adl_hierarchy.proofs.Common.{Bool, HasMore, Holds, List, Numbers, [], ap, arith, both_ways, cases_lt, eqb-true, false, false≢true, get_or, get_or-take, get_or_default, has, inl, inner_of, inr, length, list_any_more, or_cases, or_left}
-use Rattle.adl_hierarchy.proofs.Common.{or_right, refl, suc, sym, take, take-length, true, with_number, ℕ, ◌+◌, ◌<◌, ◌||◌, ◌∙◌, ◌∷◌, ◌≡◌, ◌≤◌, ◌⊎◌}
+use Rattle.adl_hierarchy.proofs.Common.{or_right, refl, rules, suc, sym, take, take-length, true, with_number, ℕ, ◌+◌, ◌<◌, ◌||◌, ◌∙◌, ◌∷◌, ◌≡◌, ◌≤◌, ◌⊎◌}
 use lib.Dec.{eqb}
 use Rattle.adl_hierarchy.proofs.Marks.{has_at, has-with_number, take-with_number, length-with_number}
 use Rattle.adl_hierarchy.proofs.Walks.{walk_more, closed_walk}

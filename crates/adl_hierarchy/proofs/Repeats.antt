@@ -1,7 +1,6 @@
 -- Lists in which nothing stands twice.
-use Rattle.std.proofs.Common.{rules}
 use Rattle.adl_hierarchy.proofs.Common.{Bool, Fault, Id, IsIn, IsOnce, List, Name, None, Option, Path, Some, [], ap, bytes_eq, bytes_eq-Decides, cond, cons_option, false, filter_map, find, flat_map, from_filter_map, from_flat_map, from_map}
-use Rattle.adl_hierarchy.proofs.Common.{in_append, in_left, in_map, in_right, inl, inr, map, map-append, none_right, or_left, or_right, refl, repeats, repeats_after, subst, sym, true, where_true, ◌++◌, ◌||◌, ◌∙◌, ◌∷◌, ◌≡◌}
+use Rattle.adl_hierarchy.proofs.Common.{in_append, in_left, in_map, in_right, inl, inr, map, map-append, none_right, or_left, or_right, refl, repeats, repeats_after, rules, subst, sym, true, where_true, ◌++◌, ◌||◌, ◌∙◌, ◌∷◌, ◌≡◌}
 
 -- ---- lists made of others
 

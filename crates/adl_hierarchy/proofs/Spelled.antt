@@ -1,7 +1,6 @@
 -- In trees that tokens spell, dotted names of ends and exports have two words or three.
-use Rattle.std.proofs.Common.{rules}
 use Rattle.adl_hierarchy.proofs.Common.{AreDotted, Assembly, Component, Composition, Connection, End, Ended, Export, File, Id, IsDotted, IsIn, Item, ItemAt, Line, List, Member, None, Option, Seen, Some, Source, [], arith, as_composition}
-use Rattle.adl_hierarchy.proofs.Common.{as_connection, as_export, body, compositions, enumerate_from, from_enumerate, from_filter_map, from_flat_map, from_map, hierarchy_of, inl, inr, items_in, items_of, subst, sym, ℕ, ◌∷◌, ◌≡◌}
+use Rattle.adl_hierarchy.proofs.Common.{as_connection, as_export, body, compositions, enumerate_from, from_enumerate, from_filter_map, from_flat_map, from_map, hierarchy_of, inl, inr, items_in, items_of, rules, subst, sym, ℕ, ◌∷◌, ◌≡◌}
 use Rattle.cam_base.specs.declared.token.Mark.TheVariants as marks
 use Rattle.cam_base.specs.Form.{behind}
 use Rattle.cam_base.specs.Spelling.{Each, Spells}

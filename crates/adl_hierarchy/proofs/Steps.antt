@@ -1,8 +1,7 @@
 -- The walks over a finite hierarchy, without their bounds: a bound past the depth changes nothing.
-use Rattle.std.proofs.Common.{rules}
-use Rattle.adl_hierarchy.proofs.Common.{Bool, Hierarchy, IsFinite, IsIn, List, Name, None, Option, Part, Placed, Reached, Some, Strung, [], ap, append-nil, arith, body, bytes_eq, cond, connections_within, empty}
-use Rattle.adl_hierarchy.proofs.Common.{false, flat_map, flat_map_same, found, from_flat_map, from_map, further, graph, in_flat_map, in_map, in_right, inl, inr, is_composite, leaves_in, leaves_within, length, map, name_of, option_and_then}
-use Rattle.adl_hierarchy.proofs.Common.{outside, part_named, placed_by, reached, reached_by, reached_within, refl, strung, strung_by, subst, suc, sym, true, wires_of, zero, ℕ, ◌++◌, ◌∙◌, ◌∷◌, ◌≡◌, ◌≤◌}
+use Rattle.adl_hierarchy.proofs.Common.{Bool, Hierarchy, IsFinite, IsIn, List, Name, None, Option, Part, Placed, Reached, Some, [], ap, append-nil, arith, body, bytes_eq, cond, connections_within, empty}
+use Rattle.adl_hierarchy.proofs.Common.{false, flat_map, flat_map_same, found, further, graph, in_map, inr, is_composite, leaves_in, leaves_within, length, map, name_of, option_and_then}
+use Rattle.adl_hierarchy.proofs.Common.{outside, part_named, placed_by, reached, reached_by, reached_within, refl, rules, strung, strung_by, suc, sym, true, wires_of, zero, ℕ, ◌++◌, ◌∙◌, ◌∷◌, ◌≡◌, ◌≤◌}
 use Rattle.adl_meaning.specs.Prelude.{Walk, has, inner_of}
 use Rattle.adl_meaning.specs.Joins.{connections_in}
 use Rattle.adl_hierarchy.proofs.Walks.{walks_short}
@@ -103,69 +102,3 @@ pub reached_step : (h : Hierarchy) → IsFinite h → (k : ℕ) → k ≤ length
 reached_step h f k l port = reached_stable h f (length h.bodies) k port l (shallow h f k l)
 
 -- ---- a bound past the length of each path
-
-placed_long : (x : Part) (ys : List Placed) (b : Bool) (z : Placed)
-    → IsIn z (cond b (map (outside (name_of x)) ys) (record { path = name_of x ∷ []; part = x } ∷ [])) → 1 ≤ length z.path
-placed_long x ys true z i = subst (λ (u : Placed). 1 ≤ length u.path) (from_map (outside (name_of x)) z ys i).2 (omega arith)
-placed_long x ys false z (inl e) = let P : Placed → Type 0 = λ u. 1 ≤ length u.path in subst P e (omega arith)
-placed_long x ys false z (inr i) = absurd i
-
--- where no path of an instance's leaves has more than one name and n, none inside has more than n
-placed_deep : (x : Part) (n : ℕ) (ys zs : List Placed) (b : Bool)
-    → ((z : Placed) → IsIn z (cond b (map (outside (name_of x)) ys) (record { path = name_of x ∷ []; part = x } ∷ []))
-    → length z.path ≤ suc n) → (((z : Placed) → IsIn z ys → length z.path ≤ n) → zs ≡ ys)
-    → cond b (map (outside (name_of x)) zs) (record { path = name_of x ∷ []; part = x } ∷ []) ≡ cond b
-    (map (outside (name_of x)) ys) (record { path = name_of x ∷ []; part = x } ∷ [])
-placed_deep x n ys zs true e ih =
-    ap (λ us. map (outside (name_of x)) us)
-    (ih (λ z i. let l : suc (length z.path) ≤ suc n = e (outside (name_of x) z) (in_map (outside (name_of x)) z ys i) in
-    omega (arith, l)))
-placed_deep x n ys zs false e ih = refl
-
-leaves_deep : (h : Hierarchy) → IsFinite h → (n m k : ℕ) → k ≤ length h.bodies → IsShallow h k m
-    → ((x : Placed) → IsIn x (leaves_within h m k) → length x.path ≤ n) → leaves_within h n k ≡ leaves_within h m k
-leaves_deep h f zero zero k l s e = refl
-leaves_deep h f (suc n) zero k l s e = ap (λ xs. flat_map (placed_by h (leaves_within h n)) xs) (no_parts h k l s)
-leaves_deep h f zero (suc m) k l s e = sym (empty (leaves_within h (suc m) k) (λ z i.
-    let x = from_flat_map (placed_by h (leaves_within h m)) z (body h k).parts i in
-    let long : 1 ≤ length z.path = placed_long x.0 (leaves_within h m x.0.kind) (is_composite h x.0.kind) z x.2 in
-    let short : length z.path ≤ 0 = e z i in
-    absurd (omega (arith, long, short))))
-leaves_deep h f (suc n) (suc m) k l s e =
-    flat_map_same (placed_by h (leaves_within h n)) (placed_by h (leaves_within h m)) (body h k).parts (λ x i.
-    placed_deep x n (leaves_within h m x.kind) (leaves_within h n x.kind) (is_composite h x.kind)
-    (λ z j. e z (in_flat_map (placed_by h (leaves_within h m)) x z (body h k).parts i j))
-    (λ d. leaves_deep h f n m x.kind (kind_in h f k x l i) (below h k m x l i s) d))
-
-pub leaves_deep_enough : (h : Hierarchy) → IsFinite h → (n k : ℕ) → k ≤ length h.bodies
-    → ((x : Placed) → IsIn x (leaves_in h k) → length x.path ≤ n) → leaves_within h n k ≡ leaves_in h k
-leaves_deep_enough h f n k l e = leaves_deep h f n (length h.bodies) k l (shallow h f k l) e
-
-connections_deep : (h : Hierarchy) → IsFinite h → (n m k : ℕ) → k ≤ length h.bodies → IsShallow h k m
-    → ((x : Strung) → IsIn x (connections_within h m k) → length x.path ≤ n) → connections_within h n k ≡ connections_within h m k
-connections_deep h f zero zero k l s e = refl
-connections_deep h f (suc n) zero k l s e = search (rules, no_parts, append-nil)
-connections_deep h f zero (suc m) k l s e =
-    let own = map (strung k) (wires_of (body h k)) in
-    let more = flat_map (strung_by (connections_within h m)) (body h k).parts in
-    sym (append-nil own) ∙ ap (λ ys. own ++ ys) (sym (empty more (λ z i.
-    let x = from_flat_map (strung_by (connections_within h m)) z (body h k).parts i in
-    let y = from_map (further (name_of x.0)) z (connections_within h m x.0.kind) x.2 in
-    let long : 1 ≤ length z.path = subst (λ (u : Strung). 1 ≤ length u.path) y.2 (omega arith) in
-    let short : length z.path ≤ 0 = e z (in_right z own more i) in
-    absurd (omega (arith, long, short)))))
-connections_deep h f (suc n) (suc m) k l s e =
-    let own = map (strung k) (wires_of (body h k)) in
-    let more = flat_map (strung_by (connections_within h m)) (body h k).parts in
-    ap (λ ys. own ++ ys)
-    (flat_map_same (strung_by (connections_within h n)) (strung_by (connections_within h m)) (body h k).parts (λ x i.
-    ap (λ us. map (further (name_of x)) us) (connections_deep h f n m x.kind (kind_in h f k x l i) (below h k m x l i s) (λ z j.
-    let y = further (name_of x) z in
-    let here = in_map (further (name_of x)) z (connections_within h m x.kind) j in
-    let d : suc (length z.path) ≤ suc n =
-    e y (in_right y own more (in_flat_map (strung_by (connections_within h m)) x y (body h k).parts i here)) in
-    omega (arith, d)))))
-
-pub connections_deep_enough : (h : Hierarchy) → IsFinite h → (n k : ℕ) → k ≤ length h.bodies
-    → ((x : Strung) → IsIn x (connections_in h k) → length x.path ≤ n) → connections_within h n k ≡ connections_in h k
-connections_deep_enough h f n k l e = connections_deep h f n (length h.bodies) k l (shallow h f k l) e

@@ -1,7 +1,6 @@
 -- The test of holding agrees with walks.
-use Rattle.std.proofs.Common.{rules}
 use Rattle.adl_hierarchy.proofs.Common.{Bool, Holds, InRange, IsAcyclic, List, Walk, and_from, and_parts, arith, cases_eq, eq-eqb, eqb-true, false, false_from_ne_true, has, inl, inner_of, inr, is_held, length, or_cases, or_left, or_right, refl}
-use Rattle.adl_hierarchy.proofs.Common.{subst, suc, sym, through, true, zero, ℕ, ◌&&◌, ◌<◌, ◌≡◌}
+use Rattle.adl_hierarchy.proofs.Common.{rules, subst, suc, sym, through, true, zero, ℕ, ◌&&◌, ◌<◌, ◌≡◌}
 use lib.Dec.{eqb}
 
 pub walk_join : (g : List (List ℕ)) (n m a b c : ℕ) → Walk g a b n → Walk g b c m → Holds g a c

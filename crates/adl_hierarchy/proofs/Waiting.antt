@@ -1,8 +1,7 @@
 -- Components that wait for inner ones.
-use Rattle.std.proofs.Common.{rules}
 use Rattle.adl_hierarchy.proofs.Common.{InRange, IsAcyclic, IsAtEnd, IsInnerFirst, IsLaid, IsPlacing, List, Numbers, Placing, Settles, Waits, [], ap, arith, both_ways, cases_Bool, cases_eq, cases_lt, false, false_from_ne_true, get_or}
 use Rattle.adl_hierarchy.proofs.Common.{get_or-append_seam, get_or-set_other, get_or-set_same, get_or_append_left, has, inl, inner_of, inr, length, length-append, length-set, refl, set, subst, suc, sym, take, take-append-le, take-length, take_all}
-use Rattle.adl_hierarchy.proofs.Common.{true, with_number, zero, ℕ, ◌++◌, ◌+◌, ◌<◌, ◌||◌, ◌∙◌, ◌∷◌, ◌≡◌, ◌≤◌, ◌⊎◌}
+use Rattle.adl_hierarchy.proofs.Common.{rules, true, with_number, zero, ℕ, ◌++◌, ◌+◌, ◌<◌, ◌||◌, ◌∙◌, ◌∷◌, ◌≡◌, ◌≤◌, ◌⊎◌}
 use Rattle.adl_hierarchy.proofs.Marks.{has_at, has_old, has_new, has_pushed, has_take, has-with_number, take-with_number, length-with_number}
 use Rattle.adl_hierarchy.proofs.Walks.{ring_from_stuck, has_more}
 
@@ -57,12 +56,6 @@ has_now : (list : List ℕ) (a : ℕ) → has (with_number list a) a ≡ true
 has_now list a = elim (cases_Bool (has list a)) [ inl e ↦ rw e e | inr e ↦ rw e (has_new list a) ]
 
 -- ---- one component is placed, or waits
-
--- no component is placed, and none waits
-pub placing_new : (g : List (List ℕ)) (p : Placing) → p.placed ≡ record { size = length g; list = [] }
-    → length p.past.items ≡ length g → ((a : ℕ) → get_or p.past.items a 0 ≡ 0) → length p.waiting.items ≡ length g
-    → ((c a : ℕ) → has (inner_of p.waiting.items c) a ≡ false) → IsPlacing g p
-placing_new g p placed pasts zeros lists none = search (rules, both_ways)
 
 -- what the component is past, written down
 past_set : (g : List (List ℕ)) (past list : List ℕ) (a next : ℕ) → a < length past

@@ -1,7 +1,6 @@
 -- Walks: how long they are where no component holds itself, and what an order says of them.
-use Rattle.std.proofs.Common.{rules}
 use Rattle.adl_hierarchy.proofs.Common.{AllByRecursion, Holds, InRange, IsAcyclic, IsDistinct-cons, IsInnerFirst, List, Walk, [], add-one, ap, arith, eqb-true, false, false_from_ne_true, false≢true, get_or, has, inl, inner_of, inr, length}
-use Rattle.adl_hierarchy.proofs.Common.{length-le_from_distinct_below, list_any_more, or_cases, or_left, or_parts, refl, subst, suc, sym, take, take-length, true, zero, ℕ, ◌+◌, ◌<◌, ◌∙◌, ◌∷◌, ◌≡◌, ◌≤◌, ◌⊎◌}
+use Rattle.adl_hierarchy.proofs.Common.{length-le_from_distinct_below, list_any_more, or_cases, or_left, or_parts, refl, rules, subst, suc, sym, take, take-length, true, zero, ℕ, ◌+◌, ◌<◌, ◌∙◌, ◌∷◌, ◌≡◌, ◌≤◌, ◌⊎◌}
 use Rattle.std.specs.List.{IsDistinct}
 use lib.Dec.{eqb}
 

@@ -1,8 +1,7 @@
 -- Which bytes a class has.
-use Rattle.std.proofs.Common.{rules}
-use Rattle.adl_lexer.proofs.Common.{Bool, List, [], among, among-left, and_parts, ap, arith, cases_Bool, class_in, cond, digits, eqb-true, false, if_false, if_true, inl, inr, is_digit, is_hex_digit, is_letter, is_word_byte, le-leb, leb, leb-true}
+use Rattle.adl_lexer.proofs.Common.{Bool, List, [], among, among-left, and_parts, arith, cases_Bool, class_in, cond, digits, eqb-true, false, if_false, if_true, inl, inr, is_digit, is_hex_digit, is_letter, is_word_byte, le-leb, leb, leb-true}
 use Rattle.adl_lexer.proofs.Common.{left_out_class, left_out_rows, letters, list_all, mark_class, mark_rows, not, not-true, or_cases, or_right, refl, sign_class, sign_rows, sym, true, true_is_not_false, word_bytes, ℕ, ◌&&◌, ◌==◌, ◌||◌, ◌∙◌, ◌∷◌, ◌≡◌}
-use Rattle.adl_lexer.proofs.Common.{◌≤◌}
+use Rattle.adl_lexer.proofs.Common.{rules, ◌≤◌}
 use Rattle.std.proofs.lemmas.Bool.Decides.{Decides-eqb}
 use Rattle.adl_lexer.specs.Classes.{class_of}
 use Rattle.adl_lexer.proofs.Classes.{if_has, sign_has}

@@ -1,8 +1,7 @@
 -- Which classes bytes can have.
-use Rattle.std.proofs.Common.{rules}
 use Rattle.adl_lexer.proofs.Common.{Bool, List, [], among, and_parts, ap, arith, blanks, cases_Bool, class_in, cond, digits, eqb-true, false, get_or, hex_digits, if_false, if_true, inl, inr, is_digit, is_hex_digit, is_letter, left_out_class}
 use Rattle.adl_lexer.proofs.Common.{left_out_rows, letters, line_bytes, list_all, map, mark_class, mark_rows, not, not-true, range_with_len, refl, sign_class, sign_rows, subst, sym, true, true_is_not_false, ℕ, ◌&&◌, ◌<◌, ◌==◌, ◌||◌, ◌∙◌, ◌∷◌, ◌≡◌}
-use Rattle.adl_lexer.proofs.Common.{◌⊎◌}
+use Rattle.adl_lexer.proofs.Common.{rules, ◌⊎◌}
 use Rattle.std.proofs.lemmas.List.FromFn.{get_or-map-range_with_len}
 use Rattle.adl_lexer.specs.Classes.{class_of}
 

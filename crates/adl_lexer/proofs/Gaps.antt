@@ -1,7 +1,6 @@
 -- Blanks and comments.
-use Rattle.std.proofs.Common.{rules}
-use Rattle.adl_lexer.proofs.Common.{Bool, Code, IsGap, List, None, Some, [], after_close, after_comment, after_line, among, arith, blanks, cases_Bool, class_of, cond, eqb-true, false, if_false, if_true, inl, inr, length, more, none, none_is_not}
-use Rattle.adl_lexer.proofs.Common.{refl, same_Some, slash, slash_fault, sym, true, ℕ, ◌<◌, ◌==◌, ◌∙◌, ◌∷◌, ◌≡◌, ◌≤◌}
+use Rattle.adl_lexer.proofs.Common.{Bool, Code, IsGap, List, None, Some, [], after_comment, after_line, among, arith, blanks, cases_Bool, class_of, cond, eqb-true, false, if_false, if_true, inl, inr, length, more, none, none_is_not}
+use Rattle.adl_lexer.proofs.Common.{refl, rules, same_Some, slash, true, ℕ, ◌<◌, ◌==◌, ◌∙◌, ◌∷◌, ◌≡◌, ◌≤◌}
 use Rattle.adl_lexer.specs.Gaps.{one_gap}
 use Rattle.adl_lexer.specs.LexFaults.{fault_at}
 use Rattle.adl_lexer.proofs.Classes.{blank_cases}

@@ -1,7 +1,6 @@
 -- The row of a table that has a word is the keyword that the word is.
-use Rattle.std.proofs.Common.{rules}
-use Rattle.adl_lexer.proofs.Common.{All-cons, All-nil, Bool, Contains, Contains-append_left, Contains-append_right, Contains-push, IsRowOf, Keyword, List, None, Some, [], ap, bytes_eq, bytes_eq-Decides, cases_Bool, false, inl, inr, keyword_of}
-use Rattle.adl_lexer.proofs.Common.{list_any, spelling, subst, sym, true, true_is_not_false, ℕ, ◌||◌, ◌∙◌, ◌∷◌, ◌≡◌, ◌≢◌}
+use Rattle.adl_lexer.proofs.Common.{All-cons, All-nil, Bool, Contains, Contains-append_right, IsRowOf, Keyword, List, None, Some, [], ap, bytes_eq, bytes_eq-Decides, cases_Bool, false, inl, inr, keyword_of}
+use Rattle.adl_lexer.proofs.Common.{list_any, rules, spelling, sym, true, true_is_not_false, ℕ, ◌||◌, ◌∙◌, ◌∷◌, ◌≡◌, ◌≢◌}
 use Rattle.adl_lexer.proofs.KeywordWords.{is_found, keyword_is, no_keyword}
 
 abbrev has_word : List ℕ → Keyword → Bool

@@ -1,7 +1,6 @@
 -- A word is one keyword at most: the words of two keywords differ.
-use Rattle.std.proofs.Common.{rules}
 use Rattle.adl_lexer.proofs.Common.{Keyword, List, None, Option, Some, [], all_keywords, ap, bytes_eq, bytes_eq-Decides, cases_Bool, false, if_false, if_true, inl, inr, named_by, refl, spelling, subst, sym, true, true_is_not_false, ℕ, ◌↔◌, ◌∙◌, ◌∷◌}
-use Rattle.adl_lexer.proofs.Common.{◌≡◌}
+use Rattle.adl_lexer.proofs.Common.{rules, ◌≡◌}
 use Rattle.cam_base.specs.declared.token.Keyword.TheVariants as keys
 use Rattle.adl_lexer.specs.Candidates.{candidate}
 use Rattle.adl_lexer.specs.Keywords.{keyword_of}

@@ -1,6 +1,5 @@
 -- The one word left out that a word can be, by its length.
-use Rattle.std.proofs.Common.{rules}
-use Rattle.adl_lexer.proofs.Common.{Bool, List, ap, arith, bytes_eq, codes, false, is_left_out_word, length, ℕ, ◌||◌, ◌∙◌, ◌≡◌}
+use Rattle.adl_lexer.proofs.Common.{Bool, List, ap, arith, bytes_eq, codes, false, is_left_out_word, length, ℕ, rules, ◌||◌, ◌∙◌, ◌≡◌}
 use Rattle.std.proofs.Math.Bool.{or-false}
 use Rattle.cam_base.proofs.Bytes.{other_length}
 

@@ -1,10 +1,8 @@
 -- A byte at fault for beginning nothing begins no token.
-use Rattle.std.proofs.Common.{rules}
-use Rattle.adl_lexer.proofs.Common.{Bool, Code, Err, Exact, Found, Kind, List, None, Ok, Option, Result, Some, Spells, Stop, [], after_angle, after_byte, after_run, after_text, among, angle_bytes, angle_first, ap, apart_none, blanks, can_be_empty}
-use Rattle.adl_lexer.proofs.Common.{cases_Bool, class_of, digits, false, flat, further, greater, if_true, inl, inr, is_digit, is_fraction, is_left_out_word, left_out, less, less_fault, letters, line_bytes, list_all, mark_bytes, minus, minus_fault}
-use Rattle.adl_lexer.proofs.Common.{nat_lt, number_fault_by, number_value, or_else, quote, reads, refl, run, sign_fault, slash, spelled_starts, starts, subst, sym, text_fault, token_form, too_deep, true, true_is_not_false, unless, word_bytes}
-use Rattle.adl_lexer.proofs.Common.{word_fault, ℕ, ◌&&◌, ◌++◌, ◌==◌, ◌∙◌, ◌∷◌, ◌≡◌}
-use Rattle.std.specs.Prelude.{length}
+use Rattle.adl_lexer.proofs.Common.{Bool, Code, Err, Exact, Found, Kind, List, None, Ok, Option, Result, Some, Spells, Stop, [], after_angle, after_byte, after_run, after_text, among, angle_bytes, angle_first, ap, apart_none, can_be_empty}
+use Rattle.adl_lexer.proofs.Common.{cases_Bool, class_of, digits, false, flat, further, greater, if_true, inl, inr, less, less_fault, letters, line_bytes, mark_bytes, minus, minus_fault}
+use Rattle.adl_lexer.proofs.Common.{number_fault_by, number_value, or_else, quote, reads, refl, run, spelled_starts, starts, subst, sym, text_fault, token_form, too_deep, true, true_is_not_false, unless, word_bytes}
+use Rattle.adl_lexer.proofs.Common.{rules, word_fault, ℕ, ◌&&◌, ◌++◌, ◌==◌, ◌∙◌, ◌∷◌, ◌≡◌}
 use Rattle.cam_base.specs.declared.code.Code.TheVariants as code
 use Rattle.cam_base.proofs.Theorems.{starts_none}
 use Rattle.adl_lexer.specs.LexFaults.{fault_at}

@@ -1,8 +1,7 @@
 -- What stands at the front, by the class of the first byte.
-use Rattle.std.proofs.Common.{rules}
-use Rattle.adl_lexer.proofs.Common.{Fits, Found, IsPiece, Kind, List, None, Option, Piece, Result, Some, Stop, after_comment, after_run, among, arrow_line, blanks, class_of, digits, false, if_true, inl, inr, less, less_fault, less_line, letters}
+use Rattle.adl_lexer.proofs.Common.{Fits, Found, IsPiece, Kind, List, None, Option, Piece, Result, Some, Stop, after_comment, after_run, among, arrow_line, blanks, class_of, digits, false, if_true, inr, less, less_fault, less_line, letters}
 use Rattle.adl_lexer.proofs.Common.{mark_line, minus, minus_fault, ne_eqb, number_fault, number_line, quote, reads, refl, run, sign_fault, slash, slash_fault, subst, sym, text_fault, text_line, token_form, true, word_bytes, word_fault, word_line, ℕ}
-use Rattle.adl_lexer.proofs.Common.{◌==◌, ◌∙◌, ◌∷◌, ◌≡◌}
+use Rattle.adl_lexer.proofs.Common.{rules, ◌==◌, ◌∙◌, ◌∷◌, ◌≡◌}
 use Rattle.adl_lexer.specs.declared.piece.Piece.TheVariants as pieces
 use Rattle.adl_lexer.specs.Gaps.{one_gap}
 use Rattle.adl_lexer.specs.LexFaults.{fault_at}

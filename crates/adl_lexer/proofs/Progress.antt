@@ -1,8 +1,7 @@
 -- At each byte stands a blank, a comment, a token or a fault.
-use Rattle.std.proofs.Common.{rules}
-use Rattle.adl_lexer.proofs.Common.{Bool, Code, Found, IsTokenAt, Kind, List, None, Ok, Option, Some, [], after_angle, after_byte, after_comment, after_run, after_text, among, ap, arrow_line, blanks, cases_Bool, class_of, cond, digits, eqb-true}
-use Rattle.adl_lexer.proofs.Common.{false, greater, if_false, if_true, inl, inr, is_star, left_out, less, less_fault, less_line, letters, line_bytes, mark_bytes, minus, minus_fault, number_fault_by, number_value, or_else, quote, reads, refl, run}
-use Rattle.adl_lexer.proofs.Common.{sign_fault, slash, slash_fault, sym, text_fault, text_line, token_form, true, unless, word_bytes, ℕ, ◌==◌, ◌∙◌, ◌∷◌, ◌≡◌, ◌⊎◌}
+use Rattle.adl_lexer.proofs.Common.{Bool, Code, IsTokenAt, Kind, List, None, Ok, Option, Some, [], after_angle, after_byte, after_run, after_text, among, ap, arrow_line, blanks, cases_Bool, class_of, digits, eqb-true}
+use Rattle.adl_lexer.proofs.Common.{false, greater, if_false, if_true, inl, inr, less, less_fault, less_line, letters, line_bytes, mark_bytes, minus, minus_fault, number_fault_by, number_value, or_else, quote, reads, refl, run}
+use Rattle.adl_lexer.proofs.Common.{rules, sign_fault, slash, sym, text_fault, text_line, token_form, true, unless, word_bytes, ℕ, ◌==◌, ◌∙◌, ◌∷◌, ◌≡◌, ◌⊎◌}
 use Rattle.cam_base.specs.declared.code.Code.TheVariants as code
 use Rattle.cam_base.specs.declared.token.Kind.TheVariants as kinds
 use Rattle.cam_base.specs.declared.token.Mark.TheVariants as marks

@@ -1,9 +1,8 @@
 -- What reading a token gives, by its kind.
-use Rattle.std.proofs.Common.{rules}
 use Rattle.adl_lexer.proofs.Common.{Bool, Exact, List, None, Ok, Reader, Some, [], after_angle, after_byte, after_run, after_text, among, among-left, among-right, and_more, and_parts, angle_bytes, angle_first, ap, arith, backslash, can_be_empty}
-use Rattle.adl_lexer.proofs.Common.{cases_Bool, class_of, consumes, cross, digits, eqb-true, false, fits, flat, greater, hex_digits, if_false, if_true, inl, inr, is_decimal, is_digit, is_hex_digit, is_hexadecimal, kind_of_value, length, less}
+use Rattle.adl_lexer.proofs.Common.{cases_Bool, class_of, consumes, cross, digits, eqb-true, false, fits, flat, greater, hex_digits, if_false, if_true, inl, inr, is_digit, is_hex_digit, is_hexadecimal, kind_of_value, less}
 use Rattle.adl_lexer.proofs.Common.{letters, line_bytes, line_feed, list_all, many, many_more, many_none, minus, no_nil, none_is_not, number_value, plain_bytes, quote, reads, refl, run, same_Some, starts, subst, sym, too_deep, true, word_bytes}
-use Rattle.adl_lexer.proofs.Common.{word_kind, ℕ, ◌&&◌, ◌==◌, ◌>>=◌, ◌||◌, ◌∙◌, ◌∷◌, ◌≡◌}
+use Rattle.adl_lexer.proofs.Common.{rules, word_kind, ℕ, ◌&&◌, ◌==◌, ◌>>=◌, ◌||◌, ◌∙◌, ◌∷◌, ◌≡◌}
 use Rattle.cam_base.specs.declared.token.Kind.TheVariants as kinds
 use Rattle.cam_base.specs.declared.token.Mark.TheVariants as marks
 use Rattle.adl_lexer.specs.TokenKinds.{number_kind, word_line, hex_line, number_line, text_item, text_line, less_line, arrow_line}

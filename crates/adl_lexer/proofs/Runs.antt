@@ -1,7 +1,6 @@
 -- Runs of bytes.
-use Rattle.std.proofs.Common.{rules}
-use Rattle.adl_lexer.proofs.Common.{IsRead-one, List, Ok, [], after_run, among, and_more, ap, arith, cases_Bool, class_of, consumes, false, inl, inr, length, length-append, line_bytes, many, many_more, many_none, not, one, refl, run, starts, subst}
-use Rattle.adl_lexer.proofs.Common.{take, take-front, true, ℕ, ◌++◌, ◌-◌, ◌==◌, ◌∙◌, ◌∷◌, ◌≡◌, ◌≤◌}
+use Rattle.adl_lexer.proofs.Common.{List, Ok, [], after_run, among, and_more, ap, arith, cases_Bool, class_of, consumes, false, inl, inr, length, length-append, line_bytes, many, many_more, many_none, not, one, refl, run, subst}
+use Rattle.adl_lexer.proofs.Common.{rules, take, take-front, true, ℕ, ◌++◌, ◌-◌, ◌==◌, ◌∙◌, ◌∷◌, ◌≡◌, ◌≤◌}
 use Rattle.adl_lexer.proofs.Classes.{line_byte}
 
 run_step : (cs : List ℕ) (b : ℕ) (bs : List ℕ) → among cs (class_of b) ≡ true
@@ -20,11 +19,6 @@ run_is cs (b ∷ bs) = elim (cases_Bool (among cs (class_of b))) [
 pub run_after : (cs bs : List ℕ) → run cs bs ++ after_run cs bs ≡ bs
 run_after cs [] = refl
 run_after cs (b ∷ bs) = elim (cases_Bool (among cs (class_of b))) [ inl h ↦ rw (h, run_after cs bs) refl | inr h ↦ rw h refl ]
-
--- behind a run stands no byte of it
-pub after_run_ends : (cs bs : List ℕ) → starts class_of cs (after_run cs bs) ≡ false
-after_run_ends cs [] = refl
-after_run_ends cs (b ∷ bs) = elim (cases_Bool (among cs (class_of b))) [ inl h ↦ rw h (after_run_ends cs bs) | inr h ↦ rw h h ]
 
 pub after_run_le : (cs bs : List ℕ) → length (after_run cs bs) ≤ length bs
 after_run_le cs bs = let e = ap length (run_after cs bs) in omega (arith, length-append (run cs bs) (after_run cs bs))

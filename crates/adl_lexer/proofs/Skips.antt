@@ -1,6 +1,5 @@
 -- What a search for one byte passes over in a comment.
-use Rattle.std.proofs.Common.{rules}
-use Rattle.adl_lexer.proofs.Common.{List, None, Option, Some, [], add-one, after_close, after_first, after_line, after_slash, ap, arith, cases_Bool, drop, if◌then◌else◌, inl, inr, length, refl, suc, sym, zero, ℕ, ◌+◌, ◌<◌, ◌==◌, ◌∙◌, ◌∷◌, ◌≡◌}
+use Rattle.adl_lexer.proofs.Common.{List, None, Option, Some, [], add-one, after_close, after_first, after_line, after_slash, ap, arith, cases_Bool, drop, if◌then◌else◌, inl, inr, length, refl, rules, suc, sym, zero, ℕ, ◌+◌, ◌<◌, ◌==◌, ◌∙◌, ◌∷◌, ◌≡◌}
 use Rattle.memchr.specs.Find.{IsFirstByte, Nowhere, Passes, is_byte}
 
 -- a byte that is nowhere has nothing behind it

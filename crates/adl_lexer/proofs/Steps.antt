@@ -1,7 +1,6 @@
 -- One step of the lexer, and what it leaves of the tokens and the faults.
-use Rattle.std.proofs.Common.{rules}
 use Rattle.adl_lexer.proofs.Common.{IsGap, IsTokenAt, Kind, LexesFrom, List, None, Ok, Reached, Some, Spells, Token, [], after_run, among, ap, append-nil, append_assoc, arith, blanks, can_be_empty, cases_Bool, class_of, fault_at, flat, here, if_true}
-use Rattle.adl_lexer.proofs.Common.{inl, inr, left, length, length-append, longer_front, more, none, ok_is, past, place_of, reads, refl, spelled_starts, subst, sym, token_form, true, true_is_not_false, ℕ, ◌++◌, ◌<◌, ◌∙◌, ◌∷◌, ◌≡◌, ◌≤◌, ◌⊎◌}
+use Rattle.adl_lexer.proofs.Common.{inl, inr, left, length, length-append, longer_front, more, none, ok_is, past, place_of, reads, refl, rules, spelled_starts, subst, sym, token_form, true, true_is_not_false, ℕ, ◌++◌, ◌<◌, ◌∙◌, ◌∷◌, ◌≡◌, ◌≤◌, ◌⊎◌}
 use Rattle.adl_lexer.specs.Gaps.{one_gap}
 use Rattle.adl_lexer.proofs.Exactness.{token_exact, token_full, token_first, token_first_is}
 use Rattle.adl_lexer.proofs.Gaps.{gap_class}

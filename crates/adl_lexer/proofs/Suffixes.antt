@@ -1,7 +1,6 @@
 -- What stands behind a gap or token is the end of the bytes, and a place cuts out its text.
-use Rattle.std.proofs.Common.{rules}
-use Rattle.adl_lexer.proofs.Common.{All, All-cons, All-nil, Bool, IsGap, IsTextOf, LexesFrom, List, None, Some, Token, [], after_close, after_comment, after_line, among, ap, append_assoc, arith, blanks, cases_Bool, class_of, cond, drop, false}
-use Rattle.adl_lexer.proofs.Common.{if_false, if_true, inl, inr, length, length-append, more, none, none_is_not, place_of, refl, same_Some, slash, subst, sym, take, text_at, true, ℕ, ◌&&◌, ◌++◌, ◌-◌, ◌==◌, ◌∙◌, ◌∷◌, ◌≡◌}
+use Rattle.adl_lexer.proofs.Common.{All, All-cons, All-nil, Bool, IsGap, IsTextOf, LexesFrom, List, None, Some, Token, [], after_close, after_comment, after_line, ap, append_assoc, arith, cases_Bool, cond, drop, false}
+use Rattle.adl_lexer.proofs.Common.{if_false, if_true, inl, inr, length, length-append, more, none, none_is_not, place_of, refl, rules, same_Some, subst, sym, take, text_at, true, ℕ, ◌&&◌, ◌++◌, ◌-◌, ◌==◌, ◌∙◌, ◌∷◌, ◌≡◌}
 use Rattle.std.proofs.Math.Seq.{take-append_seam, drop-append_seam}
 use Rattle.adl_lexer.specs.Gaps.{one_gap}
 use Rattle.adl_lexer.proofs.TokenTexts.{text_of_kind}

@@ -1,9 +1,8 @@
 -- The bytes of tokens.
-use Rattle.std.proofs.Common.{rules}
 use Rattle.adl_lexer.proofs.Common.{Each, IsTextOf, IsTokenAt, Keyword, Kind, List, None, Ok, Option, Some, Spells, [], after_angle, after_byte, after_run, after_text, among, angle_bytes, angle_first, ap, append_cancel_right, arith, backslash}
-use Rattle.adl_lexer.proofs.Common.{can_be_empty, cases_Bool, class_of, cond, digits, eqb-true, false, flat, greater, if_true, inl, inr, is_left_out_word, is_name, is_word_byte, keyword_of, kind_or_word, le-leb, length, less, letters, line_bytes}
+use Rattle.adl_lexer.proofs.Common.{cases_Bool, class_of, digits, eqb-true, false, flat, greater, if_true, inl, inr, is_name, is_word_byte, keyword_of, kind_or_word, le-leb, length, less, letters, line_bytes}
 use Rattle.adl_lexer.proofs.Common.{line_feed, list_all, ltb-false, mark, mark_text, minus, nat_lt, number_fault, number_fault_by, number_value, plain_bytes, quote, reads, refl, run, spelled_starts, starts, subst, sym, token_form, true}
-use Rattle.adl_lexer.proofs.Common.{true_is_not_false, word_bytes, word_fault, word_kind, ℕ, ◌++◌, ◌==◌, ◌∙◌, ◌∷◌, ◌≡◌, ◌≤◌}
+use Rattle.adl_lexer.proofs.Common.{rules, true_is_not_false, word_bytes, word_fault, word_kind, ℕ, ◌++◌, ◌==◌, ◌∙◌, ◌∷◌, ◌≡◌, ◌≤◌}
 use Rattle.cam_base.specs.declared.code.Code.TheVariants as code
 use Rattle.cam_base.specs.declared.token.Kind.TheVariants as kinds
 use Rattle.cam_base.specs.declared.token.Mark.{Mark}

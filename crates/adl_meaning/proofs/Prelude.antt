@@ -29,7 +29,7 @@ pub use Rattle.adl_meaning.specs.Unknown.{unknown_if_configured, unknown_in_one_
 pub use Rattle.adl_meaning.specs.UsedTwice.{used_twice_in}
 pub use Rattle.cam_base.proofs.Bytes.{bytes_eq-sym}
 pub use Rattle.cam_base.proofs.Lists.{drop_first, find_passes, list_any-map}
-pub use Rattle.cam_base.proofs.Options.{is_some-option_or, option_map-option_or, option_or-cond, option_or-none, option_or-there}
+pub use Rattle.cam_base.proofs.Options.{is_some-option_or, option_or-cond, option_or-none, option_or-there}
 pub use Rattle.cam_base.proofs.Gathered.{gather_turn, gathered, get_behind, get_front, in_place}
 pub use Rattle.cam_base.proofs.NumberedLists.{all_in, at_place, below, flat_map_same, from_any, from_enumerate, from_filter_map, from_get_map, get_map, map_some, none_in, none_left, none_right, read_in, read_place}
 pub use Rattle.cam_base.specs.Gather.{gather}

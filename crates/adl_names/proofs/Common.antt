@@ -17,3 +17,4 @@ pub use Rattle.indexmap.proofs.CallerLemmas.{insert_entry-new}
 pub use Rattle.indexmap.specs.IndexMap.{get, insert_entry}
 pub use Rattle.name_tables.proofs.NameLookups.{found_put}
 pub use Rattle.name_tables.specs.ByName.{found, is_among}
+pub use Rattle.std.proofs.Common.{take}

@@ -1,6 +1,5 @@
 -- Words of few items, of which each is looked for among those before it.
-use Rattle.adl_names.proofs.Common.{Fault, Id, List, Name, Option, Some, [], ap, as_method, bytes_eq, declared_by, drop, drop_first, filter_map, flat_map, length, map, map-append, noted, noted-append, refl, repeats_after, sym, ℕ, ◌++◌, ◌+◌, ◌<◌, ◌||◌, ◌∙◌, ◌∷◌, ◌≡◌}
-use Rattle.std.proofs.Common.{get_or, take}
+use Rattle.adl_names.proofs.Common.{Fault, Id, List, Name, Option, Some, [], ap, as_method, bytes_eq, declared_by, drop, drop_first, filter_map, flat_map, get_or, length, map, map-append, noted, noted-append, refl, repeats_after, sym, ℕ, take, ◌++◌, ◌+◌, ◌<◌, ◌||◌, ◌∙◌, ◌∷◌, ◌≡◌}
 use Rattle.std.proofs.Math.Bool.{or-false}
 use Rattle.std.proofs.lemmas.List.{take_more}
 use Rattle.std.proofs.lemmas.List.Folds.{list_any-append}

@@ -1,11 +1,10 @@
 -- What an end means where it leads.
-use Rattle.adl_program.proofs.Common.{Component, End, Hierarchy, Id, Lead, List, Name, None, Option, PartAt, Port, Reached, Some, ap, body, is_interface, lead_by, lead_of, lead_to, leaf_by, leaf_from, leaf_in, length, map, option_and_then, option_map, option_map_or, part_from, place_by, port_by, port_in, port_reached, reached, reached_by, refl, slice_get, suc, sym, wires_of, zero, ℕ, ◌∙◌, ◌≡◌}
+use Rattle.adl_program.proofs.Common.{Component, End, Hierarchy, Id, Lead, List, Name, None, Option, PartAt, Port, Reached, Some, ap, body, is_interface, lead_by, lead_of, lead_to, leaf_by, leaf_from, leaf_in, length, option_and_then, option_map, option_map_or, part_from, place_by, port_by, port_in, port_reached, reached, reached_by, refl, slice_get, suc, sym, zero, ℕ, ◌∙◌, ◌≡◌}
 use Rattle.adl_meaning.specs.Joins.{reached_within}
 use Rattle.adl_meaning.specs.Prelude.{is_device}
 use Rattle.adl_program.specs.LeafInterfaces.{as_leaf, leaf_of}
-use Rattle.adl_program.specs.LedEnds.{LedWire, led_end, led_leaf, led_wire, led_wires}
+use Rattle.adl_program.specs.LedEnds.{led_end, led_leaf}
 use Rattle.adl_program.proofs.PartNumbers.{is_unnamed}
-use Rattle.adl_meaning.proofs.Prelude.{map-id, map-map}
 
 -- a name that no instance has leads nowhere
 pub unreached : (h : Hierarchy) (k : ℕ) (p : Name × Name) → part_from 0 (body h k).parts p.0 ≡ None → reached h k p ≡ None
@@ -58,6 +57,3 @@ lead_leaf h k e =
         ≡ option_and_then (leaf_by h k) o
     by None = refl
     by (Some p) = of (reached h k p)
-
-pub wires_same : (h : Hierarchy) (k : ℕ) → map (λ (x : LedWire). x.wire) (led_wires h k) ≡ wires_of (body h k)
-wires_same h k = map-map (λ (x : LedWire). x.wire) (led_wire h k) (wires_of (body h k)) ∙ map-id (wires_of (body h k))

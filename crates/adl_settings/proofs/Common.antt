@@ -10,3 +10,4 @@ pub use Rattle.adl_settings.specs.Joints.{Found, Joint, found_at, found_of, foun
 pub use Rattle.adl_settings.specs.Meant.{bad_unless, bad_value, meant}
 pub use Rattle.adl_settings.specs.Repeated.{is_marked, is_repeated}
 pub use Rattle.adl_settings.specs.Settled.{end_settings, settled_of}
+pub use Rattle.std.proofs.Common.{false}

@@ -1,8 +1,7 @@
 -- Of fewer than two numbers or ends none stands twice.
-use Rattle.std.proofs.Common.{false, length, ◌<◌, ◌≡◌}
 use Rattle.std.proofs.lemmas.List.Sums.{count_by-le-length}
 use Rattle.adl_meaning.specs.Prelude.{Fault, cons_option, option_map_or, where_true}
-use Rattle.adl_settings.proofs.Common.{Found, List, None, Option, Some, [], ap, arith, badges_twice_in, count_by, is_repeated, nat_eq, nat_tests, refl, sym, ℕ, ◌++◌, ◌∷◌}
+use Rattle.adl_settings.proofs.Common.{Found, List, None, Option, Some, [], ap, arith, badges_twice_in, count_by, false, is_repeated, length, nat_eq, nat_tests, refl, sym, ℕ, ◌≡◌, ◌<◌, ◌++◌, ◌∷◌}
 use Rattle.adl_settings.specs.BadgeTwice.{own_badge}
 
 pub none_twice : (numbers : List ℕ) (n : ℕ) → length numbers < 2 → false ≡ is_repeated numbers n

@@ -1,7 +1,6 @@
 -- Edges that bound interrupts give, added one handler after another.
-use Rattle.std.proofs.Common.{rules}
 use Rattle.arch_policy.proofs.Common.{Adds, AsyncSend, Edge, IsBound, IsBoundAt, IsBoundBy, IsFirstFrom, IsIn, List, None, Option, Some, adds_none, adds_same, adds_then, ap, arith, bound_to, cases_lt, edge, in_append, in_left, in_place, in_right}
-use Rattle.arch_policy.proofs.Common.{inl, inr, length, place_of, refl, slice_get, slice_get_within, subst, sym, ℕ, ◌++◌, ◌+◌, ◌<◌, ◌∙◌, ◌≡◌, ◌≤◌, ◌⊎◌}
+use Rattle.arch_policy.proofs.Common.{inl, inr, length, place_of, refl, rules, slice_get, slice_get_within, subst, sym, ℕ, ◌++◌, ◌+◌, ◌<◌, ◌∙◌, ◌≡◌, ◌≤◌, ◌⊎◌}
 use Rattle.arch_policy.proofs.Lists.{has_in, in_has}
 
 -- a list behind another adds what stands in it

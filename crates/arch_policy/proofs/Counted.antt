@@ -1,7 +1,6 @@
 -- A table that has the listed edges has as many as there are different ones.
-use Rattle.std.proofs.Common.{rules}
 use Rattle.arch_policy.proofs.Common.{Adds, Bool, Edge, IsBound, IsIn, IsPolicyOf, IsSorted, List, Tables, [], ap, arith, bound_edges, cases_lt, edge_count, filter, has, in_append, in_left, in_right, inl, inr, length, refl}
-use Rattle.arch_policy.proofs.Common.{sym, triples, true, true≢false, ◌++◌, ◌<◌, ◌∙◌, ◌∷◌, ◌≡◌}
+use Rattle.arch_policy.proofs.Common.{rules, sym, triples, true, true≢false, ◌++◌, ◌<◌, ◌∙◌, ◌∷◌, ◌≡◌}
 use Rattle.std.specs.Cmp.Derive.{one_truth}
 use Rattle.cap_model.proofs.EdgeLists.{distinct, member_has, same_laws}
 use Rattle.std.proofs.lemmas.Map.Made.{length-from_keys}

@@ -1,6 +1,5 @@
 -- Texts that are read as names with dots
-use Rattle.std.proofs.Common.{rules}
-use Rattle.arch_policy.proofs.Common.{IfSome, List, None, Option, Some, [], ap, arith, drop, false, flat_map, get_or, length, pointwise, sym, take, take_all, true, ℕ, ◌++◌, ◌+◌, ◌-◌, ◌<◌, ◌∙◌, ◌∷◌, ◌≡◌, ◌≤◌}
+use Rattle.arch_policy.proofs.Common.{IfSome, List, None, Option, Some, [], ap, arith, drop, false, flat_map, get_or, length, pointwise, rules, sym, take, take_all, true, ℕ, ◌++◌, ◌+◌, ◌-◌, ◌<◌, ◌∙◌, ◌∷◌, ◌≡◌, ◌≤◌}
 use Rattle.std.proofs.lemmas.Bool.Decides.{Decides-eqb}
 use Rattle.std.proofs.lemmas.Slice.Eq.{strip_prefix_is}
 use Rattle.std.specs.Borrow.{Bor}

@@ -1,7 +1,6 @@
 -- The numbers of labels
-use Rattle.std.proofs.Common.{rules}
-use Rattle.arch_policy.proofs.Common.{Bool, Domain, FlatConnection, LabelNumbers, Leaf, List, [], ap, arith, connection_numbers, connection_texts, device_numbers, device_texts, domain_numbers, domain_texts, false, has_label, is_device, joined}
-use Rattle.arch_policy.proofs.Common.{label_numbers, label_texts, length, length-gather, length_append, texts, true, where_true, ℕ, ◌++◌, ◌+◌, ◌<◌, ◌^◌, ◌∙◌, ◌∷◌, ◌≡◌, ◌≤◌}
+use Rattle.arch_policy.proofs.Common.{Bool, Domain, FlatConnection, LabelNumbers, Leaf, List, [], arith, connection_numbers, device_numbers, domain_numbers, false}
+use Rattle.arch_policy.proofs.Common.{label_numbers, label_texts, length, length-gather, length_append, rules, true, where_true, ℕ, ◌++◌, ◌+◌, ◌<◌, ◌^◌, ◌∙◌, ◌∷◌, ◌≡◌, ◌≤◌}
 use Rattle.adl_meaning.specs.declared.flat.Flat.{Flat}
 use Rattle.arch_policy.proofs.Ordering.{order_short}
 

@@ -1,10 +1,9 @@
 -- The listed edges are those that have a reason.
-use Rattle.std.proofs.Common.{rules}
 use Rattle.arch_policy.proofs.Common.{AsyncSend, Authority, Bool, Connector, Edge, FlatConnection, FlatEnd, From, Handle, Interrupt, IsBound, IsIn, IsPolicyOf, Leaf, List, NoObject, None, Notification, ObjectKind, OfDevice, OfEndpoint, OfFrames}
-use Rattle.arch_policy.proofs.Common.{OfIrq, OfNotification, Option, Reply, Role, Rpc, Some, Tables, To, [], and_from, and_parts, ap, authorities, bound_edges, cond, connection_label, crossed, crossed_at, crossed_edges, direct_edges, domain_label}
+use Rattle.arch_policy.proofs.Common.{OfIrq, OfNotification, Option, Reply, Role, Rpc, Some, Tables, To, [], and_from, and_parts, ap, authorities, bound_edges, connection_label, crossed, crossed_at, crossed_edges, direct_edges, domain_label}
 use Rattle.arch_policy.proofs.Common.{edge, end_edges, eq-eqb, eqb-true, false, from_any, from_gather, gather, given_edges, gives, handle_edges, has, in_append, in_gather, in_left, in_place, in_right, inl, inr, is_lock, labels_in_role, leads_out}
 use Rattle.arch_policy.proofs.Common.{leaf_label, leaves, list_any, lock_edge, lock_edges, members_at, opposite, place_of, refl, reply_edges, row_edges, row_gives, rows_of, same_connector, same_object, same_role, set_has, signal_edges, signals_at}
-use Rattle.arch_policy.proofs.Common.{slice_get, subst, sym, targets, triples, true, true≢false, where_true, ℕ, ◌&&◌, ◌++◌, ◌==◌, ◌↔◌, ◌∙◌, ◌∷◌, ◌≡◌, ◌≢◌}
+use Rattle.arch_policy.proofs.Common.{rules, slice_get, subst, sym, targets, triples, true, true≢false, where_true, ℕ, ◌&&◌, ◌++◌, ◌==◌, ◌↔◌, ◌∙◌, ◌∷◌, ◌≡◌, ◌≢◌}
 use Rattle.adl_ast.specs.declared.component.Lock.{Lock}
 use Rattle.adl_ast.specs.declared.component.Member.{Member}
 use Rattle.adl_ast.specs.declared.component.Member.TheVariants as members

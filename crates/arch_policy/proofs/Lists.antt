@@ -1,7 +1,6 @@
 -- What stands in lists that are made by a test
-use Rattle.std.proofs.Common.{rules}
 use Rattle.arch_policy.proofs.Common.{Bool, Edge, IsIn, List, [], ap, cond, eq-eqb, eqb-true, false, filter, from_any, has, inl, inr, leads_out, list_any, not, refl, same_edge, same_edge_self, same_edge_true, subst, sym, true, true≢false, where_true}
-use Rattle.arch_policy.proofs.Common.{◌==◌, ◌||◌, ◌∙◌, ◌∷◌, ◌≡◌, ◌≢◌}
+use Rattle.arch_policy.proofs.Common.{rules, ◌==◌, ◌||◌, ◌∙◌, ◌∷◌, ◌≡◌, ◌≢◌}
 
 pub from_where : {X : Type 0} (b : Bool) (x y : X) → IsIn y (where_true b x) → (b ≡ true) × (x ≡ y)
 from_where true x y (inl e) = (refl, e)

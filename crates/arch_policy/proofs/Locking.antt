@@ -1,7 +1,6 @@
 -- The edges of locks, leaf by leaf, are those of the locks of domains.
-use Rattle.std.proofs.Common.{rules}
-use Rattle.arch_policy.proofs.Common.{Adds, Edge, IsCertificateOf, IsLockEdge, IsOfLeaf, IsOfSet, IsPolicyOf, IsSetOf, IsWithLock, List, RW, Some, Tables, adds_same, ap, from_any, has, in_place, inl, inr, is_lock}
-use Rattle.arch_policy.proofs.Common.{members_at, place_of, refl, subst, sym, true, ℕ, ⊎_elim, ◌↔◌, ◌∙◌, ◌≡◌, ◌⊎◌}
+use Rattle.arch_policy.proofs.Common.{Adds, Edge, IsCertificateOf, IsLockEdge, IsOfLeaf, IsOfSet, IsPolicyOf, IsSetOf, IsWithLock, List, RW, Some, Tables, adds_same, from_any, has, in_place, inr, is_lock}
+use Rattle.arch_policy.proofs.Common.{members_at, place_of, refl, rules, sym, true, ℕ, ⊎_elim, ◌↔◌, ◌∙◌, ◌≡◌, ◌⊎◌}
 use Rattle.adl_ast.specs.declared.component.Member.TheVariants as members
 use Rattle.arch_policy.proofs.Listed.{lock_of_member}
 use Rattle.arch_policy.proofs.Lists.{in_any}

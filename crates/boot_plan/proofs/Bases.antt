@@ -1,8 +1,7 @@
 -- The offsets at which regions begin.
-use Rattle.std.proofs.Common.{rules}
-use Rattle.boot_plan.proofs.Common.{AreBases, Bool, HasOffset, IsNonDecreasing, IsPartitionPoint, IsPermutation, List, Untyped, [], address, ap, are_regions, arith, cases_lt, cond, false, get_or, get_or_append_left, get_or_default, get_or_push, had}
+use Rattle.boot_plan.proofs.Common.{AreBases, Bool, HasOffset, IsNonDecreasing, IsPartitionPoint, IsPermutation, List, Untyped, [], address, ap, are_regions, arith, cases_lt, false, get_or, get_or_append_left, get_or_default, get_or_push, had}
 use Rattle.boot_plan.proofs.Common.{is_region, le-ltb, leb, length, length_push, list_all, list_any, list_any-IsPermutation, lt-ltb, nat_lt, nat_tests, not, refl, room_bytes, slice_index, subst, suc, sum_by, sum_by-IsPermutation, sum_by-cons}
-use Rattle.boot_plan.proofs.Common.{sum_by_more, sym, take, take_all, true, zero, ℕ, ⊎_elim, ◌&&◌, ◌++◌, ◌+◌, ◌-◌, ◌<◌, ◌^◌, ◌∙◌, ◌∷◌, ◌≡◌, ◌≤◌}
+use Rattle.boot_plan.proofs.Common.{rules, sum_by_more, sym, take, take_all, true, zero, ℕ, ⊎_elim, ◌&&◌, ◌++◌, ◌+◌, ◌-◌, ◌<◌, ◌^◌, ◌∙◌, ◌∷◌, ◌≡◌, ◌≤◌}
 use Rattle.boot_plan.proofs.Usual.{region_got, region_parts}
 
 all_any : {A : Type 0} (p : A → Bool) (xs : List A) → list_all p xs ≡ not (list_any (λ x. not (p x)) xs)

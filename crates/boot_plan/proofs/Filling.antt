@@ -1,8 +1,7 @@
 -- Offsets of regions that are laid end to end, the greatest first.
-use Rattle.std.proofs.Common.{rules}
 use Rattle.boot_plan.proofs.Common.{Apart, Bool, Bytes, IsInOrder, IsPermutation, LieIn, LieInOne, List, Untyped, [], address, and_from, and_parts, ap, are_regions, arith, bytes_end, cases_lt, false, get_or, had, inl, inr, is_region, le-leb, leb}
 use Rattle.boot_plan.proofs.Common.{leb-true, length, list_any, list_any-IsPermutation, nat_lt, nat_tests, not, not-true, or_right, rank, refl, region_end, room_bytes, subst, suc, sum_by-cons, sym, true, ℕ, ⊎_elim, ◌&&◌, ◌+◌, ◌-◌, ◌<◌, ◌^◌, ◌∙◌, ◌∷◌}
-use Rattle.boot_plan.proofs.Common.{◌≡◌, ◌≤◌, ◌⊎◌}
+use Rattle.boot_plan.proofs.Common.{rules, ◌≡◌, ◌≤◌, ◌⊎◌}
 use Rattle.boot_plan.proofs.Multiples.{Multiple, multiple_add, multiple_coarse, multiple_from, multiple_gap, multiple_one, multiple_sub, power_pos}
 use Rattle.boot_plan.proofs.Solo.{Solo, solo_apart, solo_rest}
 use Rattle.boot_plan.proofs.Usual.{region_parts}

@@ -1,6 +1,5 @@
 -- Multiples of powers of two.
-use Rattle.std.proofs.Common.{rules}
-use Rattle.boot_plan.proofs.Common.{ap, arith, cases_lt, le_of_mul-le-mul_right, lit<, mul-le-mul_right, mul-mod_left, one-le-pow, ℕ, ⊎_elim, ◌%◌, ◌*◌, ◌+◌, ◌-◌, ◌/◌, ◌<◌, ◌^◌, ◌∙◌, ◌≡◌, ◌≤◌}
+use Rattle.boot_plan.proofs.Common.{ap, arith, cases_lt, le_of_mul-le-mul_right, lit<, mul-le-mul_right, mul-mod_left, one-le-pow, ℕ, rules, ⊎_elim, ◌%◌, ◌*◌, ◌+◌, ◌-◌, ◌/◌, ◌<◌, ◌^◌, ◌∙◌, ◌≡◌, ◌≤◌}
 use Rattle.std.proofs.lemmas.Nat.{pow-add, div-add-mod'}
 
 pub record Multiple (s n : ℕ) : Type 0 where

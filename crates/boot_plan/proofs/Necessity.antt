@@ -1,8 +1,7 @@
 -- A placement has room: bytes that are apart and lie in regions are no more than those of the regions.
-use Rattle.std.proofs.Common.{rules}
-use Rattle.boot_plan.proofs.Common.{AllApart, AllByRecursion, AllSuit, Apart, Block, Bool, Bytes, DevicePage, HasRoom, LacksRoom, LieIn, LieInOne, List, Need, None, Nothing, Option, Placed, Some, Untyped, [], all_bytes, and_parts, ap, arith}
+use Rattle.boot_plan.proofs.Common.{AllApart, AllByRecursion, AllSuit, Apart, Block, Bool, Bytes, DevicePage, HasRoom, LacksRoom, LieIn, LieInOne, List, Need, None, Nothing, Option, Placed, Some, Untyped, [], all_bytes, and_parts, arith}
 use Rattle.boot_plan.proofs.Common.{block_bytes, bytes_end, cases_lt, cond, false, had, inl, inr, le-leb, leb, leb-true, length, nat_tests, needed, not, not-true, pow-suc, refl, region_end, room_bytes, suc, sum_by-cons, sym, true, zero, ℕ, ⊎_elim}
-use Rattle.boot_plan.proofs.Common.{◌&&◌, ◌+◌, ◌<◌, ◌^◌, ◌∙◌, ◌∷◌, ◌≡◌, ◌≤◌}
+use Rattle.boot_plan.proofs.Common.{rules, ◌&&◌, ◌+◌, ◌<◌, ◌^◌, ◌∙◌, ◌∷◌, ◌≡◌, ◌≤◌}
 use Rattle.boot_plan.proofs.Multiples.{power_pos}
 use Rattle.boot_plan.proofs.Powers.{pow_le}
 

@@ -1,7 +1,6 @@
 -- Offsets of blocks that are laid end to end, the greatest first.
-use Rattle.std.proofs.Common.{rules}
 use Rattle.boot_plan.proofs.Common.{AllFit, AreStarts, Block, Bool, DevicePage, List, Need, Nothing, Untyped, [], arith, block_bytes, cases_lt, cond, exact_bytes, false, get_or-set_other, get_or-set_same, had, is_usual, leb, length}
-use Rattle.boot_plan.proofs.Common.{nat_tests, needed, needed_at, refl, slice_index, slice_set, starts_behind, subst, sum_by-cons, sym, true, ℕ, ⊎_elim, ◌+◌, ◌<◌, ◌==◌, ◌^◌, ◌∙◌, ◌∷◌, ◌≡◌, ◌≢◌, ◌≤◌}
+use Rattle.boot_plan.proofs.Common.{nat_tests, needed, needed_at, refl, rules, slice_index, slice_set, starts_behind, subst, sum_by-cons, sym, true, ℕ, ⊎_elim, ◌+◌, ◌<◌, ◌==◌, ◌^◌, ◌∙◌, ◌∷◌, ◌≡◌, ◌≢◌, ◌≤◌}
 use Rattle.std.proofs.Math.ListN.{length-set}
 use Rattle.boot_plan.proofs.Multiples.{Multiple, multiple_add, multiple_coarse, multiple_none, multiple_one}
 

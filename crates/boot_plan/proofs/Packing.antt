@@ -1,7 +1,6 @@
 -- A need more that is packed.
-use Rattle.std.proofs.Common.{rules}
-use Rattle.boot_plan.proofs.Common.{AllFit, AreStarts, Err, HasRoom, IfOk, IsPermutation, List, Need, Ok, Option, Placed, Result, Untyped, [], and_parts, ap, append_assoc, are_regions, are_usual, arith, drop, drop_more, get_or, had, is_region}
-use Rattle.boot_plan.proofs.Common.{length, packed, place_of, room_bytes, starts_behind, subst, sum_by-IsPermutation, sum_by-cons, sym, true, ℕ, ◌*◌, ◌++◌, ◌+◌, ◌<◌, ◌^◌, ◌∙◌, ◌∷◌, ◌≡◌, ◌≤◌}
+use Rattle.boot_plan.proofs.Common.{AllFit, AreStarts, Err, HasRoom, IfOk, IsPermutation, List, Need, Ok, Option, Placed, Result, Untyped, [], and_parts, append_assoc, are_regions, are_usual, arith, drop, drop_more, get_or, had, is_region}
+use Rattle.boot_plan.proofs.Common.{length, packed, place_of, room_bytes, rules, starts_behind, subst, sum_by-IsPermutation, sum_by-cons, sym, true, ℕ, ◌*◌, ◌++◌, ◌+◌, ◌<◌, ◌^◌, ◌∙◌, ◌∷◌, ◌≡◌, ◌≤◌}
 use Rattle.boot_plan.proofs.Offsets.{all_fit, fits_rest}
 use Rattle.boot_plan.proofs.Usual.{room_small, usual_got}
 

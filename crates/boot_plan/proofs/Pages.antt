@@ -1,9 +1,8 @@
 -- Pages of devices: which regions have them, and which are needed already.
-use Rattle.std.proofs.Common.{rules}
 use Rattle.boot_plan.proofs.Common.{Block, Bool, DevicePage, Err, IfOk, IsIndexOf, IsPermutation, IsSetOf, List, Need, NoDevice, None, Nothing, Ok, Option, PlanRefusal, Result, SharedFrame, Some, Untyped, [], and_parts, ap, are_usual, arith}
 use Rattle.boot_plan.proofs.Common.{at_drop_all, at_drop_more, cases_lt, cond, device_refusal, drop, eqb-true, false, get_or, has_page, has_pages, is_needed, is_region, is_usual, le-leb, le-ltb, leb, leb-true, length, list_any}
 use Rattle.boot_plan.proofs.Common.{list_any-IsPermutation, list_any-append, list_any_more, lt-ltb, nat_lt, nat_tests, not, page, pages_of, refl, region_end, subst, sym, take, take_all, take_more, true, ℕ, ⊎_elim, ◌%◌, ◌&&◌, ◌++◌, ◌+◌, ◌<◌, ◌==◌}
-use Rattle.boot_plan.proofs.Common.{◌^◌, ◌||◌, ◌∙◌, ◌∷◌, ◌≡◌, ◌≤◌}
+use Rattle.boot_plan.proofs.Common.{rules, ◌^◌, ◌||◌, ◌∙◌, ◌∷◌, ◌≡◌, ◌≤◌}
 use Rattle.std.proofs.lemmas.List.{append-nil}
 use Rattle.std.specs.BTreeSet.{BTreeSet, contains}
 use Rattle.std.specs.Ordering.{is_eq, nat_cmp}

@@ -1,9 +1,8 @@
 -- Packed blocks are a placement.
-use Rattle.std.proofs.Common.{rules}
 use Rattle.boot_plan.proofs.Common.{AllApart, AllByRecursion, AllSuit, Apart, AreFree, AreStarts, Block, Bool, Bytes, DevicePage, HasRoom, IsInOrder, IsPermutation, LieInOne, List, Need, NoDevice, None, Nothing, Placed, SharedFrame, Some, Suits}
-use Rattle.boot_plan.proofs.Common.{Untyped, [], address, all_bytes, and_parts, ap, are_regions, are_usual, arith, cases_lt, device_refusal, eqb-true, false, had, has_page, inl, inr, is_needed, is_usual, leb, leb-true, length, list_any}
+use Rattle.boot_plan.proofs.Common.{Untyped, [], address, all_bytes, and_parts, are_regions, are_usual, arith, cases_lt, device_refusal, eqb-true, false, had, has_page, inl, inr, is_needed, is_usual, leb, leb-true, length, list_any}
 use Rattle.boot_plan.proofs.Common.{list_any-append, nat_tests, needed, or_parts, packed, refl, region_end, room_bytes, slice_index, slice_set, subst, sum_by-IsPermutation, sym, true, ℕ, ⊎_elim, ◌%◌, ◌&&◌, ◌++◌, ◌+◌, ◌==◌, ◌^◌, ◌∙◌, ◌∷◌, ◌≡◌, ◌≤◌}
-use Rattle.boot_plan.proofs.Common.{◌⊎◌}
+use Rattle.boot_plan.proofs.Common.{rules, ◌⊎◌}
 use Rattle.boot_plan.proofs.Bases.{regions_permuted}
 use Rattle.boot_plan.proofs.Filling.{InRoom, aligned, block, in_room, lie_permuted, lies, offsets_apart}
 use Rattle.boot_plan.proofs.Multiples.{Multiple, multiple_from, multiple_gap, multiple_rem}

@@ -1,7 +1,6 @@
 -- Lines of regions.
-use Rattle.std.proofs.Common.{rules}
-use Rattle.boot_plan.proofs.Common.{Bool, List, None, Ok, Option, Some, Untyped, [], ap, append_assoc, are_regions, arith, device_of, false, first_bad, is_region, judged, length, length_push, line_given, list_all-append, nat_lt, nat_tests}
-use Rattle.boot_plan.proofs.Common.{numbers_of, refl, region_at, region_in, region_of, regions_in, regions_limit, subst, sym, true, unless_bad, ℕ, ◌++◌, ◌+◌, ◌<◌, ◌∙◌, ◌∷◌, ◌≡◌, ◌≤◌}
+use Rattle.boot_plan.proofs.Common.{Bool, List, None, Ok, Option, Some, Untyped, [], append_assoc, are_regions, arith, device_of, false, first_bad, is_region, judged, length, length_push, line_given, list_all-append, nat_lt, nat_tests}
+use Rattle.boot_plan.proofs.Common.{numbers_of, refl, region_at, region_in, region_of, regions_in, rules, true, ℕ, ◌++◌, ◌+◌, ◌<◌, ◌∙◌, ◌∷◌, ◌≡◌, ◌≤◌}
 use Rattle.std.proofs.lemmas.Option.{same_Some}
 use Rattle.std.specs.Borrow.{Bor}
 use Rattle.boot_plan.specs.declared.untyped.UntypedFault.{UntypedFault}

@@ -1,8 +1,7 @@
 -- Regions of which no two share an address: each address lies in one of them at most.
-use Rattle.std.proofs.Common.{rules}
 use Rattle.boot_plan.proofs.Common.{Apart, Bool, Bytes, IsPermutation, LieIn, LieInOne, List, None, Option, Some, Untyped, [], and_parts, append-nil, append_assoc, arith, bytes_end, cases_lt, cond, false, first_overlap, inl, inr, le-leb, leb, lt-ltb}
-use Rattle.boot_plan.proofs.Common.{nat_lt, nat_tests, option_map, overlap_at, overlap_behind, position, position_from, refl, region_end, shares, subst, sum_by, sum_by-IsPermutation, sum_by-append, sum_by-cons, sym, true, ℕ, ⊎_elim, ◌&&◌, ◌++◌, ◌+◌}
-use Rattle.boot_plan.proofs.Common.{◌<◌, ◌∙◌, ◌∷◌, ◌≡◌, ◌≤◌}
+use Rattle.boot_plan.proofs.Common.{nat_lt, nat_tests, option_map, overlap_at, overlap_behind, position_from, refl, region_end, shares, subst, sum_by, sum_by-IsPermutation, sum_by-append, sum_by-cons, sym, true, ℕ, ⊎_elim, ◌&&◌, ◌++◌, ◌+◌}
+use Rattle.boot_plan.proofs.Common.{rules, ◌<◌, ◌∙◌, ◌∷◌, ◌≡◌, ◌≤◌}
 use Rattle.std.proofs.lemmas.Iterator.Adapters.{position_from-zero}
 use Rattle.cam_base.proofs.Options.{neither}
 use Rattle.boot_plan.proofs.Multiples.{power_pos}

@@ -1,12 +1,7 @@
 -- What needs and regions keep: how large they are.
-use Rattle.std.proofs.Common.{rules}
 use Rattle.boot_plan.proofs.Common.{Block, Bool, CNode, DevicePage, Endpoint, Entry, Frame, Irq, List, Need, None, Nothing, Notification, Object, Pages, Some, Spec, Thread, Untyped, [], and_from, and_parts, are_regions, are_usual, arith, block_bytes}
-use Rattle.boot_plan.proofs.Common.{cond, eqb-true, false, fits, get_or, if_any, is_region, is_usual, keeps, keeps_fill, keeps_slots, leb, leb-true, length, list_all, map, nat_lt, nat_tests, need, needed, needs, not, refl, room_bytes, suc}
-use Rattle.boot_plan.proofs.Common.{sum_by-cons, table_bits, true, zero, ℕ, ◌%◌, ◌&&◌, ◌+◌, ◌<◌, ◌==◌, ◌^◌, ◌∷◌, ◌≡◌, ◌≤◌}
-use Rattle.cap_model.specs.declared.level.Arch.{Arch}
-use Rattle.cap_model.specs.declared.level.Arch.TheVariants.{Arm11, Aarch64}
-use Rattle.cap_model.specs.declared.level.Level.{Level}
-use Rattle.cap_model.specs.declared.level.Level.TheVariants.{Global, Upper, Directory, Table}
+use Rattle.boot_plan.proofs.Common.{cond, eqb-true, false, get_or, if_any, is_region, is_usual, keeps, keeps_fill, leb, leb-true, length, list_all, map, nat_lt, nat_tests, need, needed, needs, not, refl, room_bytes, suc}
+use Rattle.boot_plan.proofs.Common.{rules, sum_by-cons, true, zero, ℕ, ◌%◌, ◌&&◌, ◌+◌, ◌<◌, ◌==◌, ◌^◌, ◌∷◌, ◌≡◌, ◌≤◌}
 use Rattle.boot_plan.proofs.Powers.{pow_le}
 
 -- what all pass, the one at a place passes

@@ -1,8 +1,7 @@
 -- A loop over the objects of a spec and their places.
-use Rattle.std.proofs.Common.{rules}
-use Rattle.boot_plan.proofs.Common.{Block, CNode, DevicePage, Endpoint, Entry, Frame, Irq, IsKept, List, Need, None, Nothing, Notification, Object, Option, Pages, Some, Spec, Thread, and_parts, ap, arith, bits_of, bytes_placed, fits, get_or}
-use Rattle.boot_plan.proofs.Common.{get_or-zip, has_few_bits, is_some, is_usual, keeps, keeps_slots, leb, length, length-zip, min, nat_lt, nat_tests, need, one_placed, refl, subst, sum_by, sum_by_more, sym, take, take_all, true, zip, ℕ, ◌&&◌, ◌+◌}
-use Rattle.boot_plan.proofs.Common.{◌<◌, ◌^◌, ◌∙◌, ◌≡◌, ◌≤◌}
+use Rattle.boot_plan.proofs.Common.{Block, CNode, DevicePage, Endpoint, Entry, Frame, Irq, IsKept, List, Need, None, Nothing, Notification, Object, Option, Pages, Some, Spec, Thread, and_parts, ap, arith, bits_of, bytes_placed, get_or}
+use Rattle.boot_plan.proofs.Common.{get_or-zip, has_few_bits, is_some, is_usual, keeps, leb, length, length-zip, min, nat_lt, nat_tests, need, one_placed, refl, sum_by, sum_by_more, sym, take, take_all, true, zip, ℕ, ◌&&◌, ◌+◌}
+use Rattle.boot_plan.proofs.Common.{rules, ◌<◌, ◌^◌, ◌∙◌, ◌≡◌, ◌≤◌}
 use Rattle.boot_plan.proofs.Powers.{pow_le}
 use Rattle.boot_plan.proofs.Usual.{all_got, object_usual}
 use mir.Val.{bool_byte}

@@ -1,7 +1,6 @@
 -- The first part of a text, and the parts behind it.
-use Rattle.std.proofs.Common.{rules}
-use Rattle.cam_base.proofs.Common.{Bool, List, [], ap, arith, before_first, cases_lt, drop, drop-drop, false, inl, inr, leb, length, length-drop, length-take-le, nat_tests, parts, parts_from, position_or_len, refl, slice_split, sym, take_all, true}
-use Rattle.cam_base.proofs.Common.{ℕ, ◌+◌, ◌<◌, ◌==◌, ◌∙◌, ◌∷◌, ◌≡◌, ◌≤◌}
+use Rattle.cam_base.proofs.Common.{Bool, List, [], arith, before_first, cases_lt, drop, drop-drop, false, inl, inr, leb, length, length-drop, length-take-le, nat_tests, parts, parts_from, position_or_len, refl, slice_split, take_all, true}
+use Rattle.cam_base.proofs.Common.{ℕ, rules, ◌+◌, ◌<◌, ◌==◌, ◌∙◌, ◌∷◌, ◌≡◌, ◌≤◌}
 use Rattle.std.proofs.lemmas.List.Splits.{slice_split_first, slice_split_none}
 use Rattle.std.proofs.lemmas.List.Sums.{fails_before_first}
 

@@ -1,7 +1,6 @@
 -- The digits that are written of a number are a number without leading zeros, of this value.
-use Rattle.std.proofs.Common.{rules}
-use Rattle.cam_base.proofs.Common.{Bool, List, Some, [], and_parts, arith, cond, decimal, decimal_by_steps, decimal_digit, decimal_is_IsNumeral, digits_value, false, fits, is_decimal, is_digit, is_hexadecimal, leb, list_all, nat_lt, nat_tests}
-use Rattle.cam_base.proofs.Common.{number_value, refl, suc, true, zero, ℕ, ◌%◌, ◌++◌, ◌+◌, ◌<◌, ◌==◌, ◌^◌, ◌∙◌, ◌∷◌, ◌≡◌}
+use Rattle.cam_base.proofs.Common.{Bool, List, Some, [], and_parts, arith, cond, decimal, decimal_by_steps, decimal_digit, decimal_is_IsNumeral, digits_value, false, fits, is_decimal, is_digit, leb, list_all, nat_lt, nat_tests}
+use Rattle.cam_base.proofs.Common.{number_value, refl, rules, suc, true, zero, ℕ, ◌%◌, ◌++◌, ◌+◌, ◌<◌, ◌==◌, ◌^◌, ◌∙◌, ◌∷◌, ◌≡◌}
 use Rattle.std.proofs.Common.{◌&&◌, ◌||◌}
 
 -- a digit from 1 to 9, and digits

@@ -1,7 +1,6 @@
 -- Readers that go to different depths, and what they keep.
-use Rattle.std.proofs.Common.{rules}
 use Rattle.cam_base.proofs.Common.{As, Begins, Bool, Each, Err, Form, Give, List, Many, Meaning, Nested, Ok, One, Or, Reader, Result, Spells, Starts, Stop, Then, TooDeep, Unexpected, [], among, ap, arith, can_be_empty, cases_Bool, decides, deep}
-use Rattle.cam_base.proofs.Common.{either, false, first, further, guarded, inl, inr, left, length, read, refl, starts, subst, suc, suc-add, sym, times, too_deep, true, zero, zero-add, ℕ, ◌++◌, ◌+◌, ◌>>=◌, ◌∙◌, ◌∷◌, ◌≡◌, ◌≤◌, ◌⊎◌}
+use Rattle.cam_base.proofs.Common.{either, false, first, further, guarded, inl, inr, left, length, read, refl, rules, starts, subst, suc, suc-add, sym, times, too_deep, true, zero, zero-add, ℕ, ◌++◌, ◌+◌, ◌>>=◌, ◌∙◌, ◌∷◌, ◌≡◌, ◌≤◌, ◌⊎◌}
 use Rattle.cam_base.specs.Reading.{many, read_deep}
 use Rattle.cam_base.proofs.TerminalCodes.{true_is_not_false}
 use Rattle.cam_base.proofs.Laws.{IsRead, no_nil, failed, ok_is_not_err, err_is, shorter, spelled_starts}

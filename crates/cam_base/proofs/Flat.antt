@@ -1,11 +1,10 @@
 -- A grammar in which no line stands within itself: nothing in it nests too deep.
-use Rattle.std.proofs.Common.{rules}
-use Rattle.cam_base.proofs.Common.{As, Err, Form, Give, IsTooDeep, List, Many, Nested, Ok, One, Or, Reader, Starts, Stop, Then, Unexpected, [], among, both, cases_Bool, deep, either, ended, first, inl, inr, length, mapped, one, read, refl, starts}
-use Rattle.cam_base.proofs.Common.{suc, sym, times, whole, zero, ℕ, ◌++◌, ◌>>=◌, ◌∙◌, ◌∷◌, ◌≡◌}
+use Rattle.cam_base.proofs.Common.{As, Err, Form, Give, IsTooDeep, List, Many, Nested, Ok, One, Or, Reader, Starts, Stop, Then, Unexpected, [], both, cases_Bool, deep, either, first, inl, inr, length, mapped, one, read, refl, starts}
+use Rattle.cam_base.proofs.Common.{rules, suc, sym, times, whole, zero, ℕ, ◌++◌, ◌>>=◌, ◌∙◌, ◌∷◌, ◌≡◌}
 use Rattle.cam_base.specs.Reading.{many, read_deep}
 use Rattle.cam_base.proofs.TerminalCodes.{if_true, if_false}
 use Rattle.cam_base.specs.Flat.{never}
-use Rattle.cam_base.proofs.Depth.{IsLine, begins_up}
+use Rattle.cam_base.proofs.Depth.{begins_up}
 use Rattle.cam_base.proofs.Laws.{bind_err, ok_is_not_err, why_is}
 
 abbrev IsFlat : {T A : Type 0} → Reader T A → Type 0
@@ -69,10 +68,6 @@ module _ {T V A : Type 0} (code : T → ℕ) (line : Form T V V) (f : Form T V A
   -- nor does reading all tokens
   pub flat_whole : (ts : List T) (e : Stop) → whole (read code [] (read_deep code line [] 0) f) ts ≡ Err e → e.why ≡ Unexpected
   flat_whole ts e h = search (rules, bind_err, flat_part, ok_is_not_err, why_is)
-
--- the line that nothing spells is a line
-pub never_line : {T : Type 0} (code : T → ℕ) → IsLine code never []
-never_line code = record { decided = refl; full = refl; first_is = refl; closed = refl; opening = λ t h. absurd cc }
 
 module _ {T : Type 0} (code : T → ℕ) where
   never_spells : (n : ℕ) (v : Unit {0}) (ts : List T) → (deep code never n).spells v ts → ⊥

@@ -1,7 +1,6 @@
 -- On gather
-use Rattle.std.proofs.Common.{rules}
-use Rattle.cam_base.proofs.Common.{IsIn, List, Some, [], add-one, ap, append_assoc, arith, before, flat_map, gather, get_or, inl, inr, length, map, refl, slice_get, slice_get-get_or, slice_get_read, subst, suc, sym, take, zero, ℕ, ◌++◌, ◌+◌, ◌<◌}
-use Rattle.cam_base.proofs.Common.{◌∙◌, ◌∷◌, ◌≡◌, ◌⊎◌}
+use Rattle.cam_base.proofs.Common.{IsIn, List, Some, [], add-one, ap, append_assoc, arith, before, flat_map, gather, get_or, inl, inr, length, map, refl, slice_get, slice_get-get_or, slice_get_read, suc, sym, take, zero, ℕ, ◌++◌, ◌+◌, ◌<◌}
+use Rattle.cam_base.proofs.Common.{rules, ◌∙◌, ◌∷◌, ◌≡◌, ◌⊎◌}
 use Rattle.std.proofs.Common.{append-nil}
 use Rattle.std.proofs.lemmas.Grind.{flat_map-append}
 pub use Rattle.std.proofs.lemmas.List.{length-append as length_append}

@@ -1,6 +1,5 @@
 -- What begins a form is begun in each of its fronts, and what spells it begins it. (No form need be decided for this.)
-use Rattle.std.proofs.Common.{rules}
-use Rattle.cam_base.proofs.Common.{As, Begins, Begun, Each, Form, Give, List, Many, Meaning, Nested, One, Or, Spelled, Spells, Starts, Then, [], ap, append-nil, append_assoc, deep, inl, inr, refl, subst, suc, sym, zero, ℕ, ◌++◌, ◌∙◌, ◌∷◌, ◌≡◌, ◌⊎◌}
+use Rattle.cam_base.proofs.Common.{As, Begins, Begun, Each, Form, Give, List, Many, Meaning, Nested, One, Or, Spelled, Spells, Starts, Then, [], ap, append-nil, append_assoc, deep, inl, inr, refl, rules, subst, suc, sym, zero, ℕ, ◌++◌, ◌∙◌, ◌∷◌, ◌≡◌, ◌⊎◌}
 use Rattle.cam_base.proofs.Depth.{begins_nil}
 use Rattle.cam_base.proofs.NumberedLists.{none_left}
 

@@ -1,7 +1,6 @@
 -- What a reader of a form keeps, for each kind of form.
-use Rattle.std.proofs.Common.{rules}
 use Rattle.cam_base.proofs.Common.{Bool, Err, List, Ok, Reader, Result, Stop, [], among, ap, apart, append-nil, append_assoc, arith, both, cases_Bool, cond, either, false, inl, inr, left, length, length-append, mapped, one, refl, starts, subst, sym}
-use Rattle.cam_base.proofs.Common.{true, ℕ, ◌&&◌, ◌++◌, ◌<◌, ◌>>=◌, ◌∙◌, ◌∷◌, ◌≡◌, ◌≤◌, ◌⊎◌}
+use Rattle.cam_base.proofs.Common.{rules, true, ℕ, ◌&&◌, ◌++◌, ◌<◌, ◌>>=◌, ◌∙◌, ◌∷◌, ◌≡◌, ◌≤◌, ◌⊎◌}
 use Rattle.cam_base.proofs.TerminalCodes.{if_true, if_false, true_is_not_false, among-left, among-right, starts_none-left, starts_none-right, starts_apart_back}
 
 -- A reader answers exactly what is spelled, and stops exactly where nothing is begun any more.
@@ -49,15 +48,7 @@ err_is c d e = cc
 pub why_is : {A : Type 0} (d e : Stop) → failed {A = A} d ≡ Err e → e.why ≡ d.why
 why_is {A = A} d e h = sym (ap (λ (f : Stop). f.why) (err_is {A = A} d e h))
 
-result_cases : {A : Type 0} (r : Result A Stop) → ((x : A) × (r ≡ Ok x)) ⊎ ((d : Stop) × (r ≡ Err d))
-result_cases (Ok x) = inl (x, refl)
-result_cases (Err d) = inr (d, refl)
-
 -- ---- lists
-
-pub list_cases : {T : Type 0} (ts : List T) → (ts ≡ []) ⊎ ((t : T) × (us : List T) × (ts ≡ t ∷ us))
-list_cases [] = inl refl
-list_cases (t ∷ us) = inr (t, us, refl)
 
 pub no_nil : {T C : Type 0} (t : T) (us : List T) → t ∷ us ≡ [] → C
 no_nil t us e = absurd cc

@@ -1,7 +1,6 @@
 -- What lists are made of, where std has no such law.
-use Rattle.std.proofs.Common.{rules}
 use Rattle.cam_base.proofs.Common.{Bool, List, None, Option, Some, [], add-one, and_from, ap, arith, cond, cons_option, drop, false, filter_map, find, flat_map, get_or, length, length-append, list_all, list_any, map, option_or, position_from, refl}
-use Rattle.cam_base.proofs.Common.{slice_get, subst, suc, sym, take, true, zero, ℕ, ◌++◌, ◌+◌, ◌-◌, ◌<◌, ◌||◌, ◌∙◌, ◌∷◌, ◌≡◌, ◌≤◌}
+use Rattle.cam_base.proofs.Common.{rules, slice_get, subst, suc, sym, take, true, zero, ℕ, ◌++◌, ◌+◌, ◌-◌, ◌<◌, ◌||◌, ◌∙◌, ◌∷◌, ◌≡◌, ◌≤◌}
 use Rattle.std.proofs.Math.Seq.{drop-cons}
 
 pub nil_append : {A : Type 0} (xs ys : List A) → xs ++ ys ≡ [] → (xs ≡ []) × (ys ≡ [])

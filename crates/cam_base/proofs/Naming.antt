@@ -1,7 +1,6 @@
 -- What stands for a name is one; a word and a number are a name.
 use Rattle.cam_base.proofs.Common.{AllByRecursion, Bool, List, [], all_below_base_digits_of, and_from, and_parts, arith, cond, decimal, decimal-digits_of, decimal_digit, is_letter, is_name, is_word_byte, le-leb, leb, leb-true, length, length-append, length-decimal-le}
-use Rattle.cam_base.proofs.Common.{false, list_all, list_all-append, map, or_right, refl, suc, true, zero, ℕ, ◌++◌, ◌+◌, ◌<◌, ◌^◌, ◌∙◌, ◌∷◌, ◌≡◌, ◌≤◌}
-use Rattle.std.proofs.Common.{◌&&◌}
+use Rattle.cam_base.proofs.Common.{false, list_all, list_all-append, map, or_right, refl, suc, true, zero, ℕ, ◌&&◌, ◌++◌, ◌+◌, ◌<◌, ◌^◌, ◌∙◌, ◌∷◌, ◌≡◌, ◌≤◌}
 use Rattle.std.specs.Int.Digits.{digits_of}
 use Rattle.cam_base.specs.Names.{named}
 

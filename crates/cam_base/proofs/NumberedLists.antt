@@ -1,7 +1,6 @@
 -- What stands in a list, and what a list's elements are made into.
 use Rattle.cam_base.proofs.Common.{All, Bool, IsIn, List, None, Option, Some, [], ap, arith, cond, cons_option, drop, enumerate_from, false, filter_map, find, flat_map, gather, get_or, get_or_from_slice_get, inl, inr, length, list_any, map}
-use Rattle.cam_base.proofs.Common.{range_with_len, refl, slice_get, slice_get-get_or, slice_get_read, slice_get_within, subst, suc, sym, take, take_more, true, true≢false, zero, ℕ, ◌++◌, ◌+◌, ◌<◌, ◌||◌, ◌∙◌, ◌∷◌, ◌≡◌, ◌≤◌, ◌⊎◌}
-use Rattle.std.proofs.Common.{option_map}
+use Rattle.cam_base.proofs.Common.{option_map, range_with_len, refl, slice_get, slice_get-get_or, slice_get_read, slice_get_within, subst, suc, sym, take, take_more, true, true≢false, zero, ℕ, ◌++◌, ◌+◌, ◌<◌, ◌||◌, ◌∙◌, ◌∷◌, ◌≡◌, ◌≤◌, ◌⊎◌}
 use Rattle.cam_base.proofs.Gathered.{in_append, in_left, in_right, in_place, length_append}
 
 pub in_map : {X A : Type 0} (f : X → A) (x : X) (xs : List X) → IsIn x xs → IsIn (f x) (map f xs)

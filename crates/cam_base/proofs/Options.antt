@@ -1,5 +1,5 @@
 -- What is there is not none; of two answers the first that is there, or that is true.
-use Rattle.cam_base.proofs.Common.{Bool, None, Option, Some, cond, false, is_some, option_map, option_or, refl, true, true≢false, ◌||◌, ◌≡◌}
+use Rattle.cam_base.proofs.Common.{Bool, None, Option, Some, cond, false, is_some, option_or, refl, true, true≢false, ◌||◌, ◌≡◌}
 
 pub none_is_not : {C A : Type 0} (x : A) → None ≡ Some x → C
 none_is_not x e = absurd cc
@@ -15,11 +15,6 @@ option_or-there (Some y) p e = refl
 pub option_or-assoc : {V : Type 0} (a b c : Option V) → option_or (option_or a b) c ≡ option_or a (option_or b c)
 option_or-assoc None b c = refl
 option_or-assoc (Some x) b c = refl
-
-pub option_map-option_or : {V W : Type 0} (f : V → W) (a b : Option V) → option_map f (option_or a b) ≡ option_or (option_map f a)
-    (option_map f b)
-option_map-option_or f None b = refl
-option_map-option_or f (Some x) b = refl
 
 pub option_or-cond : {V : Type 0} (o : Option V) (b : Bool) (x : V) (more : Option V)
     → option_or (option_or o (cond b (Some x) None)) more ≡ option_or o (cond b (Some x) more)

@@ -1,7 +1,6 @@
 -- What reading gives is what a parser says.
-use Rattle.std.proofs.Common.{rules}
 use Rattle.cam_base.proofs.Common.{Err, Fails, FileStops, Form, Gives, IfOk, IsFileOf, IsPartOf, List, Ok, PartStops, ReadError, Reader, Result, Spelled, Spells, Stop, TooDeep, Unexpected, Why, [], ap, append_assoc, arith, decides, deep, drop}
-use Rattle.cam_base.proofs.Common.{drop_at, false, further, inl, inr, length, length-append, length-drop, read, read_deep, refl, starts, subst, sym, take, take-append-drop, true, whole, ℕ, ◌++◌, ◌+◌, ◌-◌, ◌∙◌, ◌≡◌, ◌≤◌}
+use Rattle.cam_base.proofs.Common.{drop_at, false, further, inl, inr, length, length-append, length-drop, read, read_deep, refl, rules, starts, subst, sym, take, take-append-drop, true, whole, ℕ, ◌++◌, ◌+◌, ◌-◌, ◌∙◌, ◌≡◌, ◌≤◌}
 use Rattle.cam_base.specs.declared.grammar_error.ReadError.TheVariants as errors
 use Rattle.cam_base.proofs.Laws.{ok_is, ok_is_not_err, err_is}
 use Rattle.cam_base.proofs.Depth.{IsLine}
@@ -95,10 +94,3 @@ module _ {T V : Type 0} (code : T → ℕ) (line : Form T V V) (opens : List ℕ
   pub part_at : (x : A) (rest : List T) → read code opens (read_deep code line opens limit) f (drop at ts) ≡ Ok (x, rest)
       → (a : List T) × (drop at ts ≡ a ++ drop (length ts - length rest) ts) × Spells code (deep code line limit) f x a
   part_at x rest e = search (rules, found, rest_is)
-
--- where the rest behind a part begins: at the position and as many tokens on as the part has
-pub part_end : {T : Type 0} (ts a : List T) (at end : ℕ) → at ≤ length ts → end ≤ length ts → drop at ts ≡ a ++ drop end ts
-    → end ≡ at + length a
-part_end ts a at end le le' e =
-    let p : length (drop at ts) ≡ length (a ++ drop end ts) = ap length e in
-    omega (arith, p, length-append a (drop end ts), length-drop at ts, length-drop end ts)

@@ -1,7 +1,7 @@
 -- The lines from a place on, one after another.
 use Rattle.cam_base.proofs.Common.{List, [], ap, before_first, drop, false, length, parts_from, refl, sym, true, ℕ, ◌+◌, ◌<◌, ◌==◌, ◌∙◌, ◌∷◌, ◌≡◌, ◌≤◌}
 use Rattle.cam_base.specs.Lines.{Line, placed, telling, is_silent}
-use Rattle.cam_base.proofs.Cutting.{parts_more, parts_end}
+use Rattle.cam_base.proofs.Cutting.{parts_more}
 
 -- the lines from a place on that say something
 abbrev pub told : ℕ → List ℕ → List Line
@@ -24,7 +24,3 @@ pub told_line : (at : ℕ) (bytes text : List ℕ) → at ≤ length bytes → t
     → is_silent text ≡ false
     → told at bytes ≡ record { first = at; text = text } ∷ told (at + (length text + 1)) bytes
 told_line at bytes text le is silent = ap telling (placed_more at bytes text le is) ∙ rw silent refl
-
--- past the end there is none
-pub told_end : (at : ℕ) (bytes : List ℕ) → length bytes < at → told at bytes ≡ []
-told_end at bytes lt = ap (λ parts. telling (placed at parts)) (parts_end 10 at bytes lt)

@@ -1,6 +1,5 @@
 -- Sets of codes, as lists.
-use Rattle.std.proofs.Common.{rules}
-use Rattle.cam_base.proofs.Common.{Bool, List, [], among, and_parts, apart, cases_Bool, cond, eqb-true, false, inl, inr, refl, same, starts, true, ℕ, ◌++◌, ◌∷◌, ◌≡◌}
+use Rattle.cam_base.proofs.Common.{Bool, List, [], among, and_parts, apart, cases_Bool, cond, eqb-true, false, inl, inr, refl, rules, same, starts, true, ℕ, ◌++◌, ◌∷◌, ◌≡◌}
 use Rattle.std.specs.Prelude.{◌==◌}
 
 pub if_true : {A : Type 0} (b : Bool) (x y : A) → b ≡ true → cond b x y ≡ x

@@ -1,8 +1,7 @@
 -- What reading a form says of all tokens, and of the tokens from a place on.
-use Rattle.std.proofs.Common.{rules}
-use Rattle.cam_base.proofs.Common.{As, Begins, Each, Err, Form, Give, IsSyntaxError, IsTooDeep, List, Many, Meaning, Nested, Ok, One, Or, Reader, Spelled, Spells, Starts, Stop, Then, TooDeep, Unexpected, [], add-one, add_comm, among, and_parts, ap}
+use Rattle.cam_base.proofs.Common.{As, Begins, Each, Err, Form, Give, IsSyntaxError, IsTooDeep, List, Many, Meaning, Nested, Ok, One, Or, Reader, Spelled, Spells, Starts, Stop, Then, TooDeep, Unexpected, [], add-one, add_comm, and_parts, ap}
 use Rattle.cam_base.proofs.Common.{apart, append-nil, append_assoc, append_cancel_right, arith, both, can_be_empty, cases_Bool, decides, deep, either, ended, false, first, further, guarded, inl, inr, left, length, length-append, mapped, not, one}
-use Rattle.cam_base.proofs.Common.{read, refl, same, starts, subst, suc, sym, times, too_deep, true, whole, zero, ℕ, ◌&&◌, ◌++◌, ◌+◌, ◌>>=◌, ◌∙◌, ◌∷◌, ◌≡◌, ◌≤◌, ◌⊎◌}
+use Rattle.cam_base.proofs.Common.{read, refl, rules, same, starts, subst, suc, sym, times, too_deep, true, whole, zero, ℕ, ◌&&◌, ◌++◌, ◌+◌, ◌>>=◌, ◌∙◌, ◌∷◌, ◌≡◌, ◌≤◌, ◌⊎◌}
 use Rattle.cam_base.specs.Reading.{many, read_deep}
 use Rattle.cam_base.proofs.TerminalCodes.{if_true, if_false}
 use Rattle.cam_base.proofs.Laws.{IsRead, bind_ok, bind_err, ok_is, ok_is_not_err, err_is, why_is}

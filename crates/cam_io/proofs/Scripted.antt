@@ -1,7 +1,6 @@
 -- Scripts, act by act.
-use Rattle.cam_io.proofs.Common.{Bool, Err, IsErr, IsOpen, IsTrue, List, Ok, Result, Rose, Sink, Writes, [], ap, arith, cond, false, inl, inr, nat_tests, rules, subst, sym, true, ℕ, ◌==◌, ◌||◌, ◌∙◌, ◌∷◌, ◌≡◌, ◌≤◌}
+use Rattle.cam_io.proofs.Common.{Bool, Err, IsOpen, IsTrue, List, Ok, Result, Sink, Writes, [], ap, arith, cond, false, inl, inr, nat_tests, rules, subst, sym, true, ℕ, ◌==◌, ◌||◌, ◌∙◌, ◌∷◌, ◌≡◌, ◌≤◌}
 use Rattle.cam_io.specs.Sinks.{with_begun}
-use Rattle.cam_io.proofs.Appends.{begun_appended}
 use Rattle.cam_io.proofs.Counts.{rose_after}
 use Rattle.cam_io.specs.Scripts.{Act, Begin, Write, after, CutShort, Acts}
 
@@ -10,39 +9,6 @@ pub acts_one : {E : Type 0} {r : Result (Unit {0}) E} {c : ℕ} {b : List ℕ} {
     → Acts (Write c b ∷ []) r s t m n
 acts_one {r = Ok x} w = record { ok = w.ok; err = tt; later = w.later; failed = tt }
 acts_one {r = Err x} w = record { ok = tt; err = inl w.err; later = w.later; failed = w.failed }
-
--- the rest of a script, behind a text
-pub acts_write_then : {E : Type 0} {r : Result (Unit {0}) E} {c : ℕ} {b : List ℕ} {acts : List Act} {s t u : Sink} {m n k : ℕ}
-    → Writes {E = E} (Ok tt) c b s t m n → Acts acts r t u n k → Acts (Write c b ∷ acts) r s u m k
-acts_write_then {r = Ok x} {acts = acts} {u = u} w a = record {
-  ok = a.ok ∙ ap (λ z. after z acts) w.ok;
-  err = tt;
-  later = omega (arith, w.later, a.later);
-  failed = tt;
-}
-acts_write_then {r = Err x} {acts = acts} {u = u} {m} {n} {k} w a =
-    record {
-      ok = tt;
-      err = inr (subst (λ z. CutShort z acts u) w.ok a.err);
-      later = omega (arith, w.later, a.later);
-      failed = rose_after m n k w.later a.failed;
-    }
-
--- a text that failed
-pub acts_write_failed : {E : Type 0} {e : E} {c : ℕ} {b : List ℕ} (acts : List Act) {s t : Sink} {m n : ℕ}
-    → Writes {E = E} (Err e) c b s t m n → Acts {E = E} (Write c b ∷ acts) (Err e) s t m n
-acts_write_failed acts w = record { ok = tt; err = inl w.err; later = w.later; failed = w.failed }
-
--- a begin that failed
-pub acts_begin_failed : {E : Type 0} {e : E} {c : ℕ} {name : List ℕ} (acts : List Act) {s t : Sink} {m n : ℕ} → t ≡ s → m ≤ n
-    → Rose m n → Acts {E = E} (Begin c name ∷ acts) (Err e) s t m n
-acts_begin_failed acts same h rose = record { ok = tt; err = inl same; later = h; failed = rose }
-
--- the error that `?` hands on
-pub acts_exit : {E : Type 0} {r : Result (Unit {0}) E} {e : E} {acts : List Act} {s t : Sink} {m n : ℕ} → IsErr r
-    → Acts {E = E} acts (Err e) s t m n → Acts acts r s t m n
-acts_exit {r = Ok x} h a = cc
-acts_exit {r = Err x} h a = record { ok = tt; err = a.err; later = a.later; failed = a.failed }
 
 -- the rest of a script, behind a begin
 pub acts_begin_then : {E : Type 0} {r : Result (Unit {0}) E} {c : ℕ} {name : List ℕ} {acts : List Act} {s t u : Sink} {m n k : ℕ}
@@ -89,8 +55,3 @@ pub fresh_begun : (s t : Sink) (c d : ℕ) (name : List ℕ) → t ≡ with_begu
     → t.begun d ≡ false
 unfolding with_begun
 fresh_begun s t c d name e other h = subst (λ z. z.begun d ≡ false) (sym e) (rw other h)
-
--- and so does every channel while a text is written
-pub fresh_wrote : {E : Type 0} {o : Unit {0}} {c : ℕ} {b : List ℕ} {s t : Sink} {m n : ℕ} (d : ℕ)
-    → Writes {E = E} (Ok o) c b s t m n → s.begun d ≡ false → t.begun d ≡ false
-fresh_wrote {c = c} {b = b} {s = s} d w h = subst (λ z. z.begun d ≡ false) (sym w.ok) (ap (λ g. g d) (begun_appended s c b) ∙ h)

@@ -156,23 +156,6 @@ front_same (suc count) (x ∷ xs) rest (y ∷ ys) h e =
     let m = front_same count xs rest ys (omega arith) t in
     (m.0, subst (λ z. y ∷ ys ≡ z ∷ (xs ++ m.0)) (sym k) (ap (λ l. y ∷ l) m.1))
 
--- what has the same first bytes as xs, which ends before, is xs
-pub end_same : (count : ℕ) (xs ys : List ℕ) → length xs < count → take count xs ≡ take count ys → xs ≡ ys
-end_same zero xs ys h e = absurd (omega arith)
-end_same (suc count) [] [] h e = refl
-end_same (suc count) [] (y ∷ ys) h e = cc
-end_same (suc count) (x ∷ xs) [] h e = cc
-end_same (suc count) (x ∷ xs) (y ∷ ys) h e =
-    let t : take count xs ≡ take count ys = cc in
-    let k : x ≡ y = cc in
-    subst (λ z. x ∷ xs ≡ z ∷ ys) k (ap (λ l. x ∷ l) (end_same count xs ys (omega arith) t))
-
--- no file is like no other
-pub none_same : (count : ℕ) (other : Option (List ℕ)) → option_map (take count) None ≡ option_map (take count) other
-    → other ≡ None
-none_same count None e = refl
-none_same count (Some ys) e = cc
-
 -- a file with these bytes in front, and one like it
 pub begun_same : (count : ℕ) (xs rest : List ℕ) (other : Option (List ℕ)) → length xs ≤ count
     → option_map (take count) (Some (xs ++ rest)) ≡ option_map (take count) other → (more : List ℕ) × (other ≡ Some (xs ++ more))
@@ -181,14 +164,6 @@ begun_same count xs rest (Some ys) h e =
     let t : take count (xs ++ rest) ≡ take count ys = cc in
     let m = front_same count xs rest ys h t in
     (m.0, ap (λ l. Some l) m.1)
-
--- a file of just these bytes, and one like it
-pub whole_same : (count : ℕ) (xs : List ℕ) (other : Option (List ℕ)) → length xs < count
-    → option_map (take count) (Some xs) ≡ option_map (take count) other → other ≡ Some xs
-whole_same count xs None h e = cc
-whole_same count xs (Some ys) h e =
-    let t : take count xs ≡ take count ys = cc in
-    ap (λ l. Some l) (sym (end_same count xs ys h t))
 
 -- of a file with its first bytes fewer are looked at as well
 pub fewer_same : (k n : ℕ) (file other : Option (List ℕ)) → k ≤ n → option_map (take n) file ≡ option_map (take n) other

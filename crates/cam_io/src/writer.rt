@@ -7,13 +7,13 @@ ghost use Rattle.std.specs.Prelude.{◌≡◌, ◌+◌, ◌-◌, ◌^◌, ◌≤
 use crate::{Failed, Outputs, Written, write_all};
 use arrayvec::ArrayVec;
 
-/// Outputs and one of their channels, open, to which a text is written piece by piece. Up to 16 KiB of it wait, and go on in
+/// Outputs and one of their channels, open, to which a text is written piece by piece. Up to 64 KiB of it wait, and go on in
 /// few calls; `flush` sends what waits, and what isn't flushed is lost. After a failed call nothing more is written.
 #[derive(Drop)]
 pub struct Writer<'a, O: Outputs> {
     out: &'a mut O,
     channel: u8,
-    waiting: ArrayVec<u8, 16384>,
+    waiting: ArrayVec<u8, 65536>,
     failed: bool,
     ghost is_open: { IsTrue (is_open (O.sink out.now) channel) },
 }
@@ -75,7 +75,7 @@ impl<'a, O: Outputs> Writer<'a, O> {
     /// Puts pieces for which there is room behind what waits.
     #[inline(always)]
     fn wait(&mut self, texts: &[&[u8]])
-        requires { array_vec_len self.old.waiting + length (flat_map (λ t. t.now) texts.now) ≤ 16384 }
+        requires { array_vec_len self.old.waiting + length (flat_map (λ t. t.now) texts.now) ≤ 65536 }
         ensures { Says self.old (together (map (λ t. t.now) texts.now)) self.new }
     {
         for text in texts {

@@ -62,7 +62,8 @@ module _ (spec : Spec) (f : Found) (all : IsAll spec f) where
         → OfSome (OfPair spec labels f) f.queue e
     of_queue c cap e has of =
         let k = all.every c cap has in
-        record { item = k.1; there = at_contains f.queue k.1 k.0 k.2; by = record { cap = cap; is = k.4; of_cap = subst (λ (n : ℕ). OfCap spec labels (label_of labels n) cap e) (sym k.3) of } }
+        let of_cap = subst (λ (n : ℕ). OfCap spec labels (label_of labels n) cap e) (sym k.3) of in
+        record { item = k.1; there = at_contains f.queue k.1 k.0 k.2; by = record { cap = cap; is = k.4; of_cap = of_cap } }
 
     -- what a face confers, all do that it stands for
     pub of_faces : (faces : List ℕ) → AreStandIns f faces → ((c : ℕ) → label_of labels (stand_in faces c) ≡ label_of labels c)
@@ -70,7 +71,8 @@ module _ (spec : Spec) (f : Found) (all : IsAll spec f) where
     of_faces faces alike labelled e x =
         let pair : Pair = x.item in
         let k = contains_at f.queue pair x.there in
-        let q = alike.held_there pair.node pair.held.value (record { place = k.0; pair = pair; there = k.1; at = refl; of = refl })
+        let q =
+        alike.held_there pair.node pair.held.value (record { place = k.0; pair = pair; there = k.1; at = refl; of = refl })
         in
         let same : label_of labels pair.node ≡ label_of labels q.pair.node =
         sym (ap (λ (n : ℕ). label_of labels n) q.at ∙ labelled pair.node) in

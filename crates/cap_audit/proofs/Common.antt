@@ -71,7 +71,7 @@ pub use Rattle.cap_model.specs.declared.state.Content.TheVariants.{Capability, S
 pub use Rattle.cap_model.specs.declared.state.Mapped.{Mapped}
 pub use Rattle.cap_model.specs.declared.state.Pending.{Pending}
 pub use Rattle.cap_model.specs.declared.state.ThreadState.{ThreadState}
-pub use Rattle.std.proofs.Common.{Bool, List, None, Option, Some, [], add-one, ap, append_assoc, arith, drop, drop-cons, false, get_or, replicate, if◌then◌else◌, inl, inr, leb, length, map, nat_lt, not, refl, set, slice_get, slice_index, slice_set, subst, suc}
+pub use Rattle.std.proofs.Common.{Bool, List, None, Option, Some, [], add-one, ap, append_assoc, arith, drop, drop-cons, false, get_or, if◌then◌else◌, inl, inr, leb, length, map, nat_lt, not, refl, replicate, rules, set, slice_get, slice_index, slice_set, subst, suc}
 pub use Rattle.std.proofs.Common.{sym, take, true, zero, ℕ, ◌&&◌, ◌*◌, ◌++◌, ◌+◌, ◌-◌, ◌<◌, ◌==◌, ◌^◌, ◌||◌, ◌↔◌, ◌∙◌, ◌∷◌, ◌≡◌, ◌≢◌, ◌≤◌, ◌⊎◌}
 pub use Rattle.std.proofs.Math.Seq.{drop-length, get_or-append_seam}
 pub use Rattle.std.proofs.lemmas.Bool.{and_parts, cases_eq, cases_lt, eq-eqb, eqb-false, eqb-true, ne_eqb}

@@ -21,7 +21,8 @@ covered_on spec web new doors full c cap o h = record {
   there = λ t root is. path_on web.net new.net o.widened.widens c cap.object (h.there t root is);
   back = λ t root is. path_on web.net new.net o.widened.widens cap.object c (h.back t root is);
   stands = λ t by side root is allows.
-      stands_on side web.net new.net (members_at (hub_of doors by) side cap.object) (members_at (hub_of full by) side cap.object) c
+      stands_on side web.net new.net (members_at (hub_of doors by) side cap.object)
+      (members_at (hub_of full by) side cap.object) c
       o.widened.widens (o.fills by side cap.object) (h.stands t by side root is allows);
 }
 

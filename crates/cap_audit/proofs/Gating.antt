@@ -10,7 +10,8 @@ use Rattle.cap_audit.proofs.Picking.{picked, picked_from}
 
 -- rosters
 
-pub rosters_none : (spec : Spec) (rosters : List (List ℕ)) → rosters ≡ replicate (length spec.entries) [] → AreRosters spec rosters 0
+pub rosters_none : (spec : Spec) (rosters : List (List ℕ)) → rosters ≡ replicate (length spec.entries) []
+    → AreRosters spec rosters 0
 rosters_none spec rosters is = rw is (record {
   as_many = length-replicate (length spec.entries) [];
   rooted = λ c t h. absurd (none_in_blank (length spec.entries) c t h);
@@ -33,7 +34,8 @@ module _ (spec : Spec) (rosters : List (List ℕ)) (n : ℕ) (before : AreRoster
     ];
   }
 
-  pub rosters_more : (d : ℕ) (new : List (List ℕ)) → IsKept spec → root_of (object_at spec n) ≡ Some d → new ≡ with_more rosters d n
+  pub rosters_more : (d : ℕ) (new : List (List ℕ)) → IsKept spec → root_of (object_at spec n) ≡ Some d
+      → new ≡ with_more rosters d n
       → AreRosters spec new (n + 1)
   rosters_more d new kept is made =
       let within : d < length rosters = (let less = root_inside spec n d kept is in let many = before.as_many in omega arith) in
@@ -59,7 +61,8 @@ module _ (spec : Spec) (rosters : List (List ℕ)) (n : ℕ) (before : AreRoster
 
 -- gates
 
-pub gates_none : (spec : Spec) (f : Found) (heads : List ℕ) (gates : List (List Pair)) → gates ≡ replicate (length spec.entries) []
+pub gates_none : (spec : Spec) (f : Found) (heads : List ℕ) (gates : List (List Pair))
+    → gates ≡ replicate (length spec.entries) []
     → AreGates spec f heads gates 0
 gates_none spec f heads gates is = rw is (record {
   as_many = length-replicate (length spec.entries) [];

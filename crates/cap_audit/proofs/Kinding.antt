@@ -1,8 +1,7 @@
 -- Who stands for whom.
 use Rattle.cap_audit.proofs.Common.{AreAlike, AreFirsts, AreHeadRoots, AreHeads, AreKinds, AreLeft, AreMembers, AreRootMarks, AreRoots, AreRows, AreStandIns, Bool, Found, HasRoot, IsFound, IsKept, IsLike, IsQueued, List, None, Option, Some, Spec}
 use Rattle.cap_audit.proofs.Common.{StandsFor, [], ap, arith, bare, cases_eq, cases_lt, eqb-false, eqb-true, false, get_or, get_or-append_seam, get_or-set_other, get_or-set_same, get_or_append_left, get_or_past, if◌then◌else◌, inl, inr, is_known}
-use Rattle.cap_audit.proofs.Common.{label_of, length, length-set, map, refl, replicate, root_mark, row_at, set, stand_in, subst, sym, true, with_more, ℕ, ◌++◌, ◌+◌, ◌<◌, ◌==◌, ◌∙◌, ◌∷◌, ◌≡◌, ◌≤◌}
-use Rattle.std.proofs.Common.{length-append}
+use Rattle.cap_audit.proofs.Common.{label_of, length, length-append, length-set, map, refl, replicate, root_mark, row_at, set, stand_in, subst, sym, true, with_more, ℕ, ◌++◌, ◌+◌, ◌<◌, ◌==◌, ◌∙◌, ◌∷◌, ◌≡◌, ◌≤◌}
 use Rattle.std.proofs.Math.ListN.{get_or-map}
 use Rattle.cap_audit.proofs.Beginning.{root_inside}
 use Rattle.cap_audit.proofs.InRows.{more_cases, more_kept, more_there, none_in_blank}

@@ -17,7 +17,8 @@ pub linked : (spec : Spec) (web one two new : Web) (c d : ℕ) → Connects spec
     → c < length two.net.classes → d < length two.net.classes → Links spec web c d new
 linked spec web one two new c d a b same out m c_less d_less =
     let there = path_on one.net two.net b.widened.widens c d a.path in
-    let on : Widens two.net new.net = record { ways = λ k way h. subst (λ (o : List (List Way)). Contains (row_at o k) way) (sym out) h } in
+    let on : Widens two.net new.net =
+    record { ways = λ k way h. subst (λ (o : List (List Way)). Contains (row_at o k) way) (sym out) h } in
     record {
       widened = relabelled_widens spec web two new (widened_then spec web one two a.widened b.widened) same out
           (merged_ways spec two.findings two.net b.widened.ways c d new.net.classes m there b.path c_less d_less);
@@ -99,7 +100,8 @@ module _ (spec : Spec) (web : Web) (doors : Doors) (place : ℕ) (s : IsSearch s
 
     all_covered : AreCovered spec new full (place + 1)
     all_covered k p cap less h v =
-        let old : slice_get web.findings.queue k ≡ Some p = queue_same web.findings new.findings k p later.grows (omega arith) h in
+        let old : slice_get web.findings.queue k ≡ Some p =
+        queue_same web.findings new.findings k p later.grows (omega arith) h in
         let mid_value : slice_get mid.findings.values p.held.value ≡ Some cap =
         subst (λ (values : List Cap). slice_get values p.held.value ≡ Some cap) covers.opens.widened.later.grows.values v in
         let value : slice_get web.findings.values p.held.value ≡ Some cap =
@@ -170,7 +172,8 @@ module _ (spec : Spec) (web : Web) (doors : Doors) (s : IsSearch spec web doors 
   stands : (by : Passage) (side : Side) (t c e : ℕ) (cap : Cap) → HasRoot spec t c → IsFoundAt web.findings c cap
       → is_at spec kinds.Endpoint e ≡ true → cap.object ≡ e → Allows by side cap
       → StandsAt side web.net (members_at (hub_of doors by) side e) c
-  stands by side t c e cap root of is same allows = subst (λ (n : ℕ). StandsAt side web.net (members_at (hub_of doors by) side n) c)
+  stands by side t c e cap root of is same allows =
+      subst (λ (n : ℕ). StandsAt side web.net (members_at (hub_of doors by) side n) c)
       same ((is_covered c cap of).stands t by side root (rw same is) allows)
 
   pub all_found : IsClosed spec (IsFoundAt web.findings)

@@ -299,7 +299,8 @@ fn meet_all(
     requires ready { AreReady making.old.spec making.old.found making.old.heads company.now.rosters
         company.now.members company.now.gates }
     requires are_met { AreMet making.old.labels company.now.rosters company.now.members met.old making.old.edges }
-    requires doors { (door : Pair) → Contains gate.now door → IsQueued making.old.found door.node door.held.value × MeetBy making.old.spec making.old.found
+    requires doors { (door : Pair) → Contains gate.now door → IsQueued making.old.found door.node door.held.value
+        × MeetBy making.old.spec making.old.found
         door.held.value pair.held.value }
     requires pair { IsQueued making.old.found pair.node pair.held.value }
     ensures { OnOk result (Greets company.now.rosters company.now.members

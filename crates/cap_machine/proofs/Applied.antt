@@ -1,7 +1,6 @@
 -- What `apply` owes beside the change: room for later numbers, and no want of memory where none is taken.
-use Rattle.std.proofs.Common.{rules}
 use Rattle.cap_machine.proofs.Common.{Capability, Change, Content, List, Mapped, NextsFit, Node, Option, SavedReply, State, ThreadState, Turned, [], ap, arith, changed, get_or, grown, grown_at, inl, inr, no_node, parts, refl, set}
-use Rattle.cap_machine.proofs.Common.{suc, without, without_at, zero, ℕ, ◌+◌, ◌∷◌, ◌≡◌, ◌≤◌, ◌⊎◌}
+use Rattle.cap_machine.proofs.Common.{rules, suc, without, without_at, zero, ℕ, ◌+◌, ◌∷◌, ◌≡◌, ◌≤◌, ◌⊎◌}
 use Rattle.cap_machine.specs.declared.change.Change.TheVariants.{Add, ReplyAdd, Drop, Save, Release, ReleaseAdd}
 
 -- what is read after a write is what was there, or, at the place itself, what was written

@@ -1,9 +1,8 @@
 -- The edges of the boot state are those that the objects are the sources of.
-use Rattle.std.proofs.Common.{rules}
 use Rattle.cap_machine.proofs.Common.{Adds, AsyncSend, Auth, Authority, CNode, Cap, Capability, Contains, Control, Edge, Endpoint, Entry, Frame, Has, Irq, List, Node, None, Notification, Object, OfCap, OfLink, OfObject, OfOption, OfSpec, Option}
 use Rattle.cap_machine.proofs.Common.{Pages, Some, Spec, Thread, ThreadState, [], arith, at_contains, at_entry, boot, boot_irq, boot_node, boot_slot, boot_thread, buffer_of, contains_at, edge, entry_at, entry_object, inl, inr, irq_at, label_of, map}
 use Rattle.cap_machine.proofs.Common.{no_node, no_thread, node_at, none_saved, nothing_pending, of_buffer, of_irq, of_mapped, of_reply, of_root, of_saved, of_space, of_table, refl, slice_get, slot_of, subst, table_of, thread_at, ℕ}
-use Rattle.cap_machine.proofs.Common.{◌↔◌, ◌≡◌}
+use Rattle.cap_machine.proofs.Common.{rules, ◌↔◌, ◌≡◌}
 use Rattle.cap_model.proofs.BootPlaces.{boot_contains}
 
 module _ (spec : Spec) (labels : List ℕ) where

@@ -1,8 +1,7 @@
 -- The boot state of a kept spec: it can be made, and fits the spec.
-use Rattle.std.proofs.Common.{rules}
 use Rattle.cap_machine.proofs.Common.{All, Bool, Bootable, CNode, Cap, Capability, Contains, Content, ContentFits, Entry, FitsSpec, Irq, IrqFits, IsKept, List, NextsFit, Node, NodeFits, None, Object, Option, Some, Spec, Thread, ThreadFits}
 use Rattle.cap_machine.proofs.Common.{ThreadState, [], and_parts, ap, arith, at_entry, boot, boot_irq, boot_node, boot_slot, boot_thread, fits, get_or, get_or_from_slice_get, if_any, inl, inr, is_at, keeps, keeps_cnode}
-use Rattle.cap_machine.proofs.Common.{keeps_slots, kind_at, kind_of_object, leb, length-map, list_all, map, nat_lt, no_node, no_thread, pow_mono, refl, rise, same_kind, slice_get, slice_get_within, subst, sym, true, ℕ, ◌&&◌, ◌^◌, ◌∷◌, ◌≡◌, ◌≤◌}
+use Rattle.cap_machine.proofs.Common.{keeps_slots, kind_at, kind_of_object, leb, length-map, list_all, map, nat_lt, no_node, no_thread, pow_mono, refl, rise, rules, same_kind, slice_get, slice_get_within, subst, sym, true, ℕ, ◌&&◌, ◌^◌, ◌∷◌, ◌≡◌, ◌≤◌}
 use Rattle.std.proofs.lemmas.List.Sums.{AllPass-from_list_all}
 use Rattle.cap_model.specs.declared.kind.Kind.{Kind}
 use Rattle.cap_model.specs.declared.kind.Kind.TheVariants as kinds

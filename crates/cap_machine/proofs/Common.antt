@@ -37,7 +37,7 @@ pub use Rattle.cap_model.specs.declared.state.Content.TheVariants.{Capability, S
 pub use Rattle.cap_model.specs.declared.state.Mapped.{Mapped}
 pub use Rattle.cap_model.specs.declared.state.Pending.{Pending}
 pub use Rattle.cap_model.specs.declared.state.ThreadState.{ThreadState}
-pub use Rattle.std.proofs.Common.{Bool, Err, IsSome, Less, List, None, Ok, Option, Result, Some, [], ap, arith, false, get_or, inl, inr, leb, length, lit<, map, nat_lt, not, refl, set, slice_get, subst, suc, sym, take, true, zero, ℕ, ◌%◌, ◌&&◌, ◌*◌}
+pub use Rattle.std.proofs.Common.{Bool, Err, IsSome, Less, List, None, Ok, Option, Result, Some, ℕ, [], ap, arith, false, get_or, inl, inr, leb, length, lit<, map, nat_lt, not, refl, rules, set, slice_get, subst, suc, sym, take, true, zero, ◌%◌, ◌&&◌, ◌*◌}
 pub use Rattle.std.proofs.Common.{◌++◌, ◌+◌, ◌<◌, ◌==◌, ◌^◌, ◌||◌, ◌↔◌, ◌∙◌, ◌∷◌, ◌≡◌, ◌≢◌, ◌≤◌, ◌⊎◌}
 pub use Rattle.std.proofs.Math.Pow.{pow_mono}
 pub use Rattle.std.proofs.lemmas.Bool.{and_parts, cases_lt, eqb-true, not-true}

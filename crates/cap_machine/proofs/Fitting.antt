@@ -1,8 +1,7 @@
 -- A step leads from a state that fits the spec to one that fits it.
-use Rattle.std.proofs.Common.{rules}
 use Rattle.cap_machine.proofs.Common.{Bind, Bool, Call, Capability, Contains, Content, ContentFits, Drop, FitsSpec, Grant, IsSome, List, Map, Mapped, MappedFits, Node, NodeFits, None, Option, Pending, Put, Reply, ReplyFits, ReplyTo, Save}
 use Rattle.cap_machine.proofs.Common.{SavedReply, SetCspace, SetVspace, Some, Spec, State, Step, StepTo, Take, ThreadFits, ThreadState, [], added, ap, arith, content_in, dropped, false, filter, get_or, grown, grown_at, inl, inr, is_at, is_space_root}
-use Rattle.cap_machine.proofs.Common.{length-set, lessened, no_thread, node_at, refl, replied, set, subst, sym, thread_at, true, waiting, with_pending, with_root, with_space, without, without_at, ℕ, ◌==◌, ◌∷◌, ◌≡◌, ◌⊎◌}
+use Rattle.cap_machine.proofs.Common.{length-set, lessened, no_thread, node_at, refl, replied, rules, set, subst, sym, thread_at, true, waiting, with_pending, with_root, with_space, without, without_at, ℕ, ◌==◌, ◌∷◌, ◌≡◌, ◌⊎◌}
 use Rattle.std.proofs.lemmas.List.Elements.{Contains-append_left, Contains-append_right, Contains-push, Contains-push_cases}
 use Rattle.std.proofs.lemmas.Map.Views.{Contains-from_lookup}
 use Rattle.cap_model.specs.declared.kind.Kind.TheVariants as kinds

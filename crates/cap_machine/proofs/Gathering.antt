@@ -1,6 +1,5 @@
 -- Edges of the items of a list, gathered one item after the other.
-use Rattle.std.proofs.Common.{rules}
-use Rattle.cap_machine.proofs.Common.{Adds, Edge, List, OfEach, Some, arith, cases_lt, get_or, inl, inr, length, slice_get, slice_get-get_or, slice_get_within, ℕ, ◌+◌, ◌<◌, ◌≡◌, ◌≤◌, ◌⊎◌}
+use Rattle.cap_machine.proofs.Common.{Adds, Edge, List, OfEach, Some, arith, cases_lt, get_or, inl, inr, length, rules, slice_get, slice_get-get_or, slice_get_within, ℕ, ◌+◌, ◌<◌, ◌≡◌, ◌≤◌, ◌⊎◌}
 use Rattle.cap_model.proofs.EdgeGrowth.{adds_same, adds_then, adds_none}
 
 -- the items at lesser places than n

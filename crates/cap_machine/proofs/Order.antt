@@ -1,9 +1,8 @@
 -- The function `decide` answers by the first failing test of the stated order.
-use Rattle.std.proofs.Common.{rules}
 use Rattle.cap_machine.proofs.Common.{Bool, Cap, Capability, Change, Content, Err, List, NoCap, NoPending, NoRoot, None, Ok, Option, PeerNoRoot}
 use Rattle.cap_machine.proofs.Common.{Reply, ReplyTo, Result, SavedReply, Some, Spec, State, Step, Waiting, Why, WrongKind, [], acting, acts, and_then, any, any_cap, asking, caller_root}
 use Rattle.cap_machine.proofs.Common.{cap_of, capability, checks, content_in, decide, false, first_failing, found_cap, found_reply, hears, is_capability, is_saved_reply, listens, meets, no_reply, not, or_why, owed}
-use Rattle.cap_machine.proofs.Common.{owed_by, owes, own, own_cap, own_reply, peer_cap, peer_root, reachable, refl, reply_of, root_of, saved_reply, saves, subst, thread_at, true, ℕ, ◌++◌, ◌∷◌, ◌≡◌}
+use Rattle.cap_machine.proofs.Common.{owed_by, owes, own, own_cap, own_reply, peer_cap, peer_root, reachable, refl, reply_of, root_of, rules, saved_reply, saves, subst, thread_at, true, ℕ, ◌++◌, ◌∷◌, ◌≡◌}
 use Rattle.std.specs.Option.{is_some, unwrap_or}
 use Rattle.cap_model.specs.declared.kind.Kind.TheVariants as kinds
 

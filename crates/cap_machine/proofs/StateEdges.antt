@@ -1,8 +1,7 @@
 -- The edges of a state are those that its parts are the sources of.
-use Rattle.std.proofs.Common.{rules}
 use Rattle.cap_machine.proofs.Common.{Adds, Auth, Authority, Cap, Capability, Contains, Content, Edge, Entry, Has, List, Node, None, Object, OfCap, OfContent, OfFixed, OfNodes, OfSpecParts, OfState, OfThread, OfThreads, Option, Pages, SavedReply}
 use Rattle.cap_machine.proofs.Common.{Some, Spec, State, Thread, ThreadState, [], arith, at_contains, buffer_of, contains_at, edge, entry_object, get_or, get_or_from_slice_get, has, inl, inr, irq_at, label_of, no_node, no_thread, node_at, of_buffer}
-use Rattle.cap_machine.proofs.Common.{of_irq, of_mapped, of_reply, of_root, of_saved, of_space, of_table, refl, slice_get, subst, suc, sym, table_of, thread_at, zero, ℕ, ◌↔◌, ◌∙◌, ◌∷◌, ◌≡◌, ◌⊎◌}
+use Rattle.cap_machine.proofs.Common.{of_irq, of_mapped, of_reply, of_root, of_saved, of_space, of_table, refl, rules, slice_get, subst, suc, sym, table_of, thread_at, zero, ℕ, ◌↔◌, ◌∙◌, ◌∷◌, ◌≡◌, ◌⊎◌}
 
 -- what is read at a place stands there, or is what is read past the end
 read_at : {A : Type 0} (xs : List A) (k : ℕ) (d : A) → ((x : A) × (slice_get xs k ≡ Some x) × (get_or xs k d ≡ x))

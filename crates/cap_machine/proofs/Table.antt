@@ -1,9 +1,8 @@
 -- The function `decide` goes on exactly where the table of steps has a next state, and the change leads there.
-use Rattle.std.proofs.Common.{rules}
 use Rattle.cap_machine.proofs.Common.{Acts, Bind, Bool, Call, Cap, Capability, Change, Content, Drop, Err, Grant, Map, NoCap, NoRoot, None, Ok, Option, Own, Peer}
 use Rattle.cap_machine.proofs.Common.{Pending, Put, Reply, ReplyTo, Result, Save, SavedReply, SetCspace, SetVspace, Some, Spec, State, Step, StepTo, Take, Waiting, Why, WrongKind, acting, and_then, any_cap, ap}
 use Rattle.cap_machine.proofs.Common.{arith, asking, both_rights, changed, checks, content_in, decide, eqb-true, false, first_failing, found_cap, found_reply, lessened, not, not-true, or_why, own_cap}
-use Rattle.cap_machine.proofs.Common.{own_reply, peer_cap, peer_root, read_write, refl, thread_at, true, ℕ, ◌==◌, ◌≡◌, ◌≢◌}
+use Rattle.cap_machine.proofs.Common.{own_reply, peer_cap, peer_root, read_write, refl, rules, thread_at, true, ℕ, ◌==◌, ◌≡◌, ◌≢◌}
 use Rattle.cap_model.specs.declared.kind.Kind.TheVariants as kinds
 use Rattle.cap_machine.specs.declared.change.Change.TheVariants as changes
 use Rattle.cap_machine.proofs.Order.{why_of, decide_checks}

@@ -1,8 +1,7 @@
 -- What the boot state has at a place: what it has for the object there, or nothing. What stands in a CNode is found at its
 -- number, and nothing is pending or saved.
-use Rattle.std.proofs.Common.{rules}
 use Rattle.cap_model.proofs.Common.{Cap, Contains, Entry, IsKept, List, None, Object, Option, Some, Spec, [], and_parts, ap, arith, false, fits, get_or, get_or_from_slice_get, inl, inr, keeps, keeps_slots, leb, map, nat_lt, refl, rise}
-use Rattle.cap_model.proofs.Common.{slice_get, slice_get-get_or, slice_get-map, slice_get_within, subst, suc, sym, true, zero, ℕ, ◌&&◌, ◌==◌, ◌^◌, ◌∙◌, ◌∷◌, ◌≡◌, ◌⊎◌}
+use Rattle.cap_model.proofs.Common.{rules, slice_get, slice_get-get_or, slice_get-map, slice_get_within, subst, suc, sym, true, zero, ℕ, ◌&&◌, ◌==◌, ◌^◌, ◌∙◌, ◌∷◌, ◌≡◌, ◌⊎◌}
 use Rattle.std.specs.Map.{lookup}
 use Rattle.cap_model.specs.State.{Node, boot, boot_node, boot_slot, boot_thread, content_at, content_in, no_node, no_thread, node_at, thread_at}
 use Rattle.cap_model.specs.declared.object.Object.TheVariants.{CNode, Thread}

@@ -1,6 +1,5 @@
 -- What the comparisons of a set of edges say of the edges that it has.
-use Rattle.std.proofs.Common.{rules}
-use Rattle.cap_model.proofs.Common.{Bool, Edge, Equal, List, [], ap, cond, false, has, if◌then◌else◌, is_eq, is_equal, length, list_any, not, one_truth, refl, same_edge, subst, total-law, true, ◌+◌, ◌||◌, ◌∙◌, ◌∷◌, ◌≡◌}
+use Rattle.cap_model.proofs.Common.{Bool, Edge, Equal, List, [], ap, cond, false, has, if◌then◌else◌, is_eq, is_equal, length, list_any, not, one_truth, refl, rules, same_edge, subst, total-law, true, ◌+◌, ◌||◌, ◌∙◌, ◌∷◌, ◌≡◌}
 use Rattle.cam_base.proofs.Options.{or_cond}
 use Rattle.cap_model.specs.contracts.edge.EdgeOrd.TheImpl.{ghosts as ordered}
 use Rattle.cap_model.proofs.EdgeCompare.{cmp-same}

@@ -1,6 +1,5 @@
 -- Lessening adds no authority, and no capability confers Reply.
-use Rattle.std.proofs.Common.{rules}
-use Rattle.cap_model.proofs.Common.{AsyncSend, Authority, Call, Cap, Endpoint, Frame, Grant, GrantBack, Kind, Notification, Read, Receive, Reply, Reset, Spec, SyncSend, Write, confers, kind_at, kind_confers, option_confers}
+use Rattle.cap_model.proofs.Common.{AsyncSend, Authority, Call, Cap, Endpoint, Frame, Grant, GrantBack, Kind, Notification, Read, Receive, Reply, Reset, Spec, SyncSend, Write, confers, kind_at, kind_confers, option_confers, rules}
 use Rattle.std.specs.Prelude.{◌≡◌, ◌≢◌, Bool, true, false, ◌&&◌, ◌||◌, Option, Some, None, refl}
 use Rattle.cap_model.specs.declared.rights.Rights.{Rights}
 use Rattle.cap_model.specs.Lessened.{both_rights, lessened}

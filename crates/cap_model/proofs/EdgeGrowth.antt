@@ -1,6 +1,5 @@
 -- Lists of edges that grow in several steps.
-use Rattle.std.proofs.Common.{rules}
-use Rattle.cap_model.proofs.Common.{Adds, Edge, List, inl, inr, ◌⊎◌}
+use Rattle.cap_model.proofs.Common.{Adds, Edge, List, inl, inr, rules, ◌⊎◌}
 
 module _ (P Q : Edge → Type 0) where
   pub adds_same : ((e : Edge) → P e → Q e) → ((e : Edge) → Q e → P e) → (a b : List Edge) → Adds P a b → Adds Q a b

@@ -1,6 +1,5 @@
 -- Edges in order differ, and are no more than a list that has each of them.
-use Rattle.std.proofs.Common.{rules}
-use Rattle.cap_model.proofs.Common.{Before, Bool, Edge, IsDistinct, IsDistinct-from_apart, IsEquivalence, IsSorted, List, [], ap, arith, false, get_or, has, length, list_any, refl, same_edge, slice_get-get_or, sym, true, ◌∙◌, ◌∷◌, ◌≡◌, ◌≤◌}
+use Rattle.cap_model.proofs.Common.{Before, Bool, Edge, IsDistinct, IsDistinct-from_apart, IsEquivalence, IsSorted, List, [], ap, arith, false, get_or, has, length, list_any, refl, rules, same_edge, slice_get-get_or, sym, true, ◌∙◌, ◌∷◌, ◌≡◌, ◌≤◌}
 use Rattle.std.specs.Prelude.{◌||◌}
 use Rattle.std.specs.Set.{is_member}
 use Rattle.std.proofs.lemmas.Map.Made.{length-le_from_is_member}

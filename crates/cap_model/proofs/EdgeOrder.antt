@@ -1,7 +1,6 @@
 -- Edges: when two are one, and the laws of their order.
-use Rattle.std.proofs.Common.{rules}
 use Rattle.cap_model.proofs.Common.{AsyncSend, AtMost, Authority, Before, Call, Control, Edge, Grant, GrantBack, Handle, List, Read, Receive, Reply, Reset, SyncSend, Write, [], and_parts, ap, arith, cases_lt, eqb-true, get_or, inr, number_of}
-use Rattle.cap_model.proofs.Common.{refl, same_edge, same_itself, true, ◌&&◌, ◌==◌, ◌∷◌, ◌≡◌, ◌⊎◌}
+use Rattle.cap_model.proofs.Common.{refl, rules, same_edge, same_itself, true, ◌&&◌, ◌==◌, ◌∷◌, ◌≡◌, ◌⊎◌}
 
 -- ---- equality
 

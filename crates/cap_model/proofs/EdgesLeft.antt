@@ -1,7 +1,6 @@
 -- The edges that are left once a row is begun.
-use Rattle.std.proofs.Common.{rules}
 use Rattle.cap_model.proofs.Common.{Authority, Class, List, Row, Some, [], ap, append_assoc, arith, drop, edge_to, get_or, length, map, refl, reply_to, slice_get, suc, table_edges, take, take_all, ℕ, ◌++◌, ◌-◌, ◌<◌, ◌∙◌, ◌∷◌}
-use Rattle.cap_model.proofs.Common.{◌≡◌, ◌≤◌}
+use Rattle.cap_model.proofs.Common.{rules, ◌≡◌, ◌≤◌}
 
 module _ (rows : List Row) (r : Row) (some : 1 ≤ length rows) (first : r ≡ get_or rows 0 r) where
   pub head_rest : rows ≡ r ∷ take (length rows - 1) (drop 1 rows)

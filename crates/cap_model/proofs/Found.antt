@@ -1,6 +1,5 @@
 -- An object is found under its own name.
-use Rattle.std.proofs.Common.{rules}
-use Rattle.cap_model.proofs.Common.{Entry, IsKept, Spec, and_parts, arith, list_any, names_differ, not-true, or_parts, position_or_len}
+use Rattle.cap_model.proofs.Common.{Entry, IsKept, Spec, and_parts, arith, list_any, names_differ, not-true, or_parts, position_or_len, rules}
 use Rattle.std.specs.Prelude.{not, ◌≡◌, ◌<◌, ℕ, zero, suc, Bool, true, false, List, [], ◌∷◌, map, length, Some, slice_get, nat_lt, refl}
 use Rattle.std.specs.Str.{bytes_eq}
 use Rattle.std.proofs.lemmas.Slice.Eq.{bytes_eq-Decides}

@@ -1,7 +1,6 @@
 -- What the parts of a kept spec give.
-use Rattle.std.proofs.Common.{rules}
 use Rattle.cap_model.proofs.Common.{CNode, Cap, Endpoint, Entry, Frame, Irq, IsKept, Kind, Notification, Object, Pages, Spec, Thread, and_parts, ap, arith, entry_object, eqb-true, fits, fits_kind, is_at, is_kind, is_root_object, is_some}
-use Rattle.cap_model.proofs.Common.{is_space_root, keeps, keeps_slots, kind_at, kind_number, kind_of_object, list_all, ltb-true, object_at, option_map, rise, same_kind, subst, sym, ◌∙◌}
+use Rattle.cap_model.proofs.Common.{is_space_root, keeps, keeps_slots, kind_at, kind_number, kind_of_object, list_all, ltb-true, object_at, option_map, rise, rules, same_kind, subst, sym, ◌∙◌}
 use Rattle.std.specs.Prelude.{◌≡◌, ◌<◌, ◌==◌, ◌&&◌, ℕ, zero, suc, Bool, true, List, [], ◌∷◌, length, Option, Some, None, slice_get, nat_lt, refl, if◌then◌else◌}
 use Rattle.cap_model.specs.declared.level.Arch.{Arch}
 use Rattle.cap_model.specs.declared.level.Level.TheVariants.{Global, Upper, Directory, Table}

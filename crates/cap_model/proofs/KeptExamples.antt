@@ -1,6 +1,5 @@
 -- The examples of kept and faulty specs, computed.
-use Rattle.std.proofs.Common.{rules}
-use Rattle.cap_model.proofs.Common.{Entry, IsKept, Spec, and_parts, keeps, keeps_lines, list_all, ltb-true, names_differ}
+use Rattle.cap_model.proofs.Common.{Entry, IsKept, Spec, and_parts, keeps, keeps_lines, list_all, ltb-true, names_differ, rules}
 use Rattle.std.specs.Prelude.{not, ◌≡◌, ◌&&◌, ◌^◌, ℕ, Bool, true, Some, slice_get, length, nat_lt, refl}
 use Rattle.cap_model.proofs.Kept.{all_at}
 use Rattle.cap_model.specs.KeptExamples.{kept_ones, faulty_ones}

@@ -1,8 +1,7 @@
 -- Rows and classes that are made one behind another.
-use Rattle.std.proofs.Common.{rules}
 use Rattle.cap_model.proofs.Common.{Authority, Bool, Class, Edge, HasClass, HasNew, HasRow, IsClass, IsIn, IsMade, IsSorted, IsTable, List, None, Reply, Row, Some, [], ap, append-nil, arith, cases_lt, edges_of, false, flat_map-append}
 use Rattle.cap_model.proofs.Common.{flat_map_same, get_behind, get_front, get_or, inl, inr, is_eq, length, list_cmp, map, place_in, place_of, refl, reply_to, same_Some, single, slice_get, slice_get-get_or, slice_get_within, split_get, subst, sym}
-use Rattle.cap_model.proofs.Common.{table_edges, take, take-append-le, take-append_seam, true, ℕ, ◌++◌, ◌<◌, ◌∙◌, ◌∷◌, ◌≡◌, ◌≤◌, ◌⊎◌}
+use Rattle.cap_model.proofs.Common.{rules, table_edges, take, take-append-le, take-append_seam, true, ℕ, ◌++◌, ◌<◌, ◌∙◌, ◌∷◌, ◌≡◌, ◌≤◌, ◌⊎◌}
 use Rattle.cap_model.specs.declared.making.Made.{Made}
 use Rattle.cap_model.proofs.PairLists.{is_eq-same, list_itself}
 use Rattle.cap_model.proofs.RowEdges.{in_take}

@@ -1,7 +1,6 @@
 -- A set of edges in order: a list that is sorted, and what lies between two edges.
-use Rattle.std.proofs.Common.{rules}
 use Rattle.cap_model.proofs.Common.{AsyncSend, AtMost, Authority, Bool, Call, Control, Edge, Equal, Grant, GrantBack, Greater, Handle, IsBetween, IsSorted, IsStrictlySortedBy, IsStrictlySortedBy-filter, Less, List, Read, Receive, Reply, Reset}
-use Rattle.cap_model.proofs.Common.{SyncSend, Write, and_parts, ap, arith, edge, false, filter, has, is_gt, is_le, is_lt, not, number_of, refl, same_edge, subst, sym, true, ℕ, ◌&&◌, ◌<◌, ◌^◌, ◌↔◌, ◌∙◌, ◌≡◌, ◌≤◌}
+use Rattle.cap_model.proofs.Common.{SyncSend, Write, and_parts, ap, arith, edge, false, filter, has, is_gt, is_le, is_lt, not, number_of, refl, rules, same_edge, subst, sym, true, ℕ, ◌&&◌, ◌<◌, ◌^◌, ◌↔◌, ◌∙◌, ◌≡◌, ◌≤◌}
 use Rattle.std.proofs.lemmas.Map.Views.{any-filter_same}
 use Rattle.std.specs.declared.cmp.Ordering.{Ordering}
 use Rattle.cap_model.specs.contracts.edge.EdgeOrd.TheImpl.{ghosts as ordered}

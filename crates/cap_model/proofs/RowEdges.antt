@@ -1,8 +1,7 @@
 -- The edges of one row: what they are, and which edges are among them.
-use Rattle.std.proofs.Common.{rules}
 use Rattle.cap_model.proofs.Common.{Authority, Class, Edge, Err, IsBinarySearchResult, IsClass, IsIn, IsSearchInRange, IsSorted, List, None, Ok, Option, Ordering, Reply, Result, Row, Some, [], ap, arith, cases_lt, drop, drop-map, edge, edge_to}
 use Rattle.cap_model.proofs.Common.{edges_of, from_map, get_behind, get_drop, get_or, get_or-map, has, in_append, in_left, in_map, in_place, in_right, inl, inr, is_ok, length, length-map, length-take-le, map, nat_cmp}
-use Rattle.cap_model.proofs.Common.{ordering_then, place_of, refl, reply_to, slice_get, subst, suc, sym, take, take-append-drop, take-map, true, zero, ℕ, ◌++◌, ◌+◌, ◌-◌, ◌<◌, ◌∙◌, ◌∷◌, ◌≡◌, ◌≢◌, ◌≤◌}
+use Rattle.cap_model.proofs.Common.{ordering_then, place_of, refl, reply_to, rules, slice_get, subst, suc, sym, take, take-append-drop, take-map, true, zero, ℕ, ◌++◌, ◌+◌, ◌-◌, ◌<◌, ◌∙◌, ◌∷◌, ◌≡◌, ◌≢◌, ◌≤◌}
 use Rattle.cap_model.specs.contracts.edge.EdgeOrd.TheImpl.{ghosts as ordered}
 use Rattle.authorities.specs.contracts.authority.AuthorityOrd.TheImpl.{ghosts as numbered}
 use Rattle.cap_model.proofs.TableMembers.{at_has, has_at}

@@ -1,8 +1,7 @@
 -- The edges out of one label, in order, as pairs before and behind Reply and as replies.
-use Rattle.std.proofs.Common.{rules}
 use Rattle.cap_model.proofs.Common.{AtMost, Authority, Class, Edge, IsClass, IsPartitionPoint, IsPartitionedBy, IsRun, IsSorted, List, Reply, Row, Some, [], ap, arith, cases_lt, drop, drop-append_seam, edge_to, edges_of, false, get_behind}
 use Rattle.cap_model.proofs.Common.{get_drop, get_front, get_or, get_or_from_slice_get, inl, inr, length, length-append, length-drop, length-map, length-take-le, map, map-append, map_some, nat_le, nat_lt, number_of, pair_of, refl, reply_to}
-use Rattle.cap_model.proofs.Common.{slice_get, slice_get-get_or, slice_get-map, slice_get_within, split_get, subst, suc, sym, take, take-append-drop, take-append_seam, take_all, true, zero, ℕ, ◌++◌, ◌+◌, ◌-◌, ◌<◌, ◌∙◌, ◌∷◌, ◌≡◌, ◌≤◌, ◌⊎◌}
+use Rattle.cap_model.proofs.Common.{rules, slice_get, slice_get-get_or, slice_get-map, slice_get_within, split_get, subst, suc, sym, take, take-append-drop, take-append_seam, take_all, true, zero, ℕ, ◌++◌, ◌+◌, ◌-◌, ◌<◌, ◌∙◌, ◌∷◌, ◌≡◌, ◌≤◌, ◌⊎◌}
 use Rattle.cap_model.proofs.EdgeOrder.{edges_same, same_number}
 use Rattle.cap_model.proofs.TableMembers.{later_at_most}
 

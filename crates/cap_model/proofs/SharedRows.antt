@@ -1,8 +1,7 @@
 -- A table in which several labels have the edges of the same pairs.
-use Rattle.std.proofs.Common.{rules}
 use Rattle.cap_model.proofs.Common.{All, AllPairs, AreShared, Authority, Before, Class, Edge, IsClass, IsIn, IsPartitionPoint, IsPartitionedBy, IsSorted, IsTable, List, PairBefore, Reply, Row, Some, [], ap, arith, cases_lt, drop, edge_to, edges_of}
 use Rattle.cap_model.proofs.Common.{false, flat_map, from_flat_map, from_map, get_or, get_or_from_slice_get, in_place, inl, inr, length, length-append, length-map, map, map-append, map_some, nat_lt, number_of, place_of, refl, reply_to, shared_edges}
-use Rattle.cap_model.proofs.Common.{single, slice_get, slice_get-get_or, slice_get-map, slice_get_within, split_get, subst, suc, sym, table_edges, take, take-append-drop, take_all, true, zero, ℕ, ◌*◌, ◌++◌, ◌<◌, ◌∙◌, ◌∷◌, ◌≡◌, ◌≢◌, ◌≤◌}
+use Rattle.cap_model.proofs.Common.{rules, single, slice_get, slice_get-get_or, slice_get-map, slice_get_within, split_get, subst, suc, sym, table_edges, take, take-append-drop, take_all, true, zero, ℕ, ◌*◌, ◌++◌, ◌<◌, ◌∙◌, ◌∷◌, ◌≡◌, ◌≢◌, ◌≤◌}
 use Rattle.std.proofs.Math.Nat.{suc-mul}
 use Rattle.cap_model.proofs.EdgeOrder.{same_number}
 use Rattle.cam_base.proofs.NumberedLists.{at_place as row_at}

@@ -1,6 +1,5 @@
 -- What capabilities to roots of address spaces confer.
-use Rattle.std.proofs.Common.{rules}
-use Rattle.cap_model.proofs.Common.{Cap, Control, None, Option, Some, Spec, confers, is_space_root, refl, true, ◌≡◌}
+use Rattle.cap_model.proofs.Common.{Cap, Control, None, Option, Some, Spec, confers, is_space_root, refl, rules, true, ◌≡◌}
 use Rattle.cap_model.specs.declared.object.Object.TheVariants as objects
 
 -- a capability to a space root confers Control

@@ -1,7 +1,6 @@
 -- What a list of edges has, by places and by elements; what a sorted list is determined by.
-use Rattle.std.proofs.Common.{rules}
 use Rattle.cap_model.proofs.Common.{AtMost, Authority, Before, Bool, Contains, Edge, Has, IsSorted, List, Some, [], ap, arith, cases_lt, edge, false, get_or_from_slice_get, has, inl, inr, refl, same_edge, slice_get, slice_get_read, slice_get_within}
-use Rattle.cap_model.proofs.Common.{subst, suc, sym, true, zero, ℕ, ◌||◌, ◌↔◌, ◌∷◌, ◌≡◌, ◌≤◌, ◌⊎◌}
+use Rattle.cap_model.proofs.Common.{rules, subst, suc, sym, true, zero, ℕ, ◌||◌, ◌↔◌, ◌∷◌, ◌≡◌, ◌≤◌, ◌⊎◌}
 use Rattle.std.proofs.Math.Bool.{or-true}
 use Rattle.cap_model.proofs.EdgeOrder.{same_edge_true, same_edge_self, at_most_self, before_at_most, not_before_self, not_before_both}
 

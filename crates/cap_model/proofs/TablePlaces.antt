@@ -1,7 +1,6 @@
 -- Binary search in a table.
-use Rattle.std.proofs.Common.{rules}
 use Rattle.cap_model.proofs.Common.{AtMost, Bool, Edge, Equal, Err, Greater, IsBinarySearchResult, IsFirstFrom, IsPartitionPoint, IsSearchInRange, IsSorted, Less, List, Ok, Ordering, Result, Some, arith, cases_lt, false, get_or}
-use Rattle.cap_model.proofs.Common.{get_or_from_slice_get, has, inl, inr, is_ok, length, ordering_index, refl, slice_get, slice_get-get_or, slice_get_within, subst, sym, true, ℕ, ◌+◌, ◌<◌, ◌≡◌, ◌≤◌}
+use Rattle.cap_model.proofs.Common.{get_or_from_slice_get, has, inl, inr, is_ok, length, ordering_index, refl, rules, slice_get, slice_get-get_or, slice_get_within, subst, sym, true, ℕ, ◌+◌, ◌<◌, ◌≡◌, ◌≤◌}
 use Rattle.cap_model.specs.contracts.edge.EdgeOrd.TheImpl.{ghosts as ordered}
 use Rattle.cap_model.proofs.EdgeOrder.{before_chain, not_before_self, not_before_at_most}
 use Rattle.cap_model.proofs.EdgeCompare.{cmp-before, cmp-same, cmp-after}

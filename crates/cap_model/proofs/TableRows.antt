@@ -1,9 +1,8 @@
 -- The edges of a table by its rows: where they stand, which there are, and what two rows of one class share.
-use Rattle.std.proofs.Common.{rules}
 use Rattle.cap_model.proofs.Common.{Authority, Bool, Class, Edge, FirstsRise, Has, HasPlaces, HasRising, IsClass, IsClassOf, IsFirstFrom, IsIn, IsPartitionPoint, IsPartitionedBy, IsRowFrom, IsRowOf, IsRowPast, IsSorted, IsTable, List, NoRowOf, None}
 use Rattle.cap_model.proofs.Common.{Option, Reply, Row, Some, [], ap, append_assoc, arith, cases_lt, drop, edge, edge_to, edges_of, eqb_tells, false, flat_map, flat_map-append, from_flat_map, from_map, get_behind, get_or, get_or_from_slice_get, has}
 use Rattle.cap_model.proofs.Common.{if◌then◌else◌, in_flat_map, in_map, in_place, inl, inr, length, length-append, map, nat_le, nat_lt, one_truth, place_of, refl, slice_get, slice_get-get_or, slice_get_past, slice_get_read}
-use Rattle.cap_model.proofs.Common.{slice_get_within, split_get, subst, suc, sym, table_edges, take, take-append-drop, take_all, true, zero, ℕ, ◌++◌, ◌+◌, ◌-◌, ◌<◌, ◌==◌, ◌∙◌, ◌∷◌, ◌≡◌, ◌≢◌, ◌≤◌, ◌⊎◌}
+use Rattle.cap_model.proofs.Common.{rules, slice_get_within, split_get, subst, suc, sym, table_edges, take, take-append-drop, take_all, true, zero, ℕ, ◌++◌, ◌+◌, ◌-◌, ◌<◌, ◌==◌, ◌∙◌, ◌∷◌, ◌≡◌, ◌≢◌, ◌≤◌, ◌⊎◌}
 use Rattle.cap_model.proofs.RowEdges.{others, has_in, in_has, of_label, in_pairs, has_pair, get_in_front}
 use Rattle.cap_model.proofs.EdgeOrder.{same_number}
 use Rattle.cap_model.proofs.TableMembers.{one_table}

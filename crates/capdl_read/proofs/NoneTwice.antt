@@ -1,7 +1,6 @@
 -- Rising keys don't stand a second time.
 use Rattle.capdl_read.proofs.Common.{Bool, CapdlTwice, Key, Keyed, List, None, Option, Some, TextFault, [], ap, arith, cond, false, fault, is_above, keys_after, keys_twice, map, nat_tests, noted, refl, rises, same_key, sym, true, where_true, ◌++◌}
-use Rattle.capdl_read.proofs.Common.{◌∙◌, ◌∷◌, ◌≡◌}
-use Rattle.std.proofs.Common.{◌||◌}
+use Rattle.capdl_read.proofs.Common.{◌||◌, ◌∙◌, ◌∷◌, ◌≡◌}
 use Rattle.std.specs.Prelude.{ℕ}
 
 -- no key above the last was met

@@ -1,6 +1,5 @@
 -- Lines that end with a capability, and lines of bare frames, written in one piece
-use Rattle.std.proofs.Common.{rules}
-use Rattle.capdl_write.proofs.Common.{Bool, List, None, Rights, Some, [], ap, append_assoc, false, frame_line, has_rights, hex_text, params, refl, rights_word, sym, true, ℕ, ◌++◌, ◌∙◌, ◌∷◌, ◌≡◌}
+use Rattle.capdl_write.proofs.Common.{Bool, List, None, Rights, Some, [], ap, append_assoc, false, frame_line, has_rights, hex_text, params, refl, rights_word, rules, sym, true, ℕ, ◌++◌, ◌∙◌, ◌∷◌, ◌≡◌}
 use Rattle.std.proofs.Common.{codes, append-nil}
 use Rattle.cam_base.specs.Texts.{◌⊹◌, together}
 

@@ -1,9 +1,8 @@
 -- The pieces of a canonical text are fine, line by line.
-use Rattle.std.proofs.Common.{rules}
 use Rattle.capdl_write.proofs.Common.{Aarch64, Arch, Arm11, Bool, CNode, Cap, Directory, Endpoint, Entry, Fill, Fine, Frame, Global, Irq, IsWritable, List, None, Notification, Object, Option, Pages, Piece, Rights, Some, Spec, Table, Tcb, Thread}
 use Rattle.capdl_write.proofs.Common.{Upper, [], all_blank, and_parts, arch_word, arith, brace_l, brace_r, buffer_pieces, cap_pieces, caps_pieces, codes, colon, drop, false, fill_pieces, goes_on, has_rights, has_slot, held_irq, held_pieces}
 use Rattle.capdl_write.proofs.Common.{held_slots, held_tcb, hex, holder_pieces, holders_pieces, if_any, irqs_pieces, is_fill, is_laid, is_number, is_plain, is_word, keeps, keeps_fill, laid, last_pieces, leb, list_all, ltb-true, name_at, named_pieces}
-use Rattle.capdl_write.proofs.Common.{nat_lt, nat_tests, not, object_pieces, objects_pieces, paddr_pieces, paren_r, pieces, refl, rights_word, slots_pieces, target_pieces, tcb_slots, true, word, ℕ, ◌%◌, ◌&&◌, ◌<◌, ◌==◌, ◌^◌, ◌||◌, ◌∷◌, ◌≡◌}
+use Rattle.capdl_write.proofs.Common.{nat_lt, nat_tests, not, object_pieces, objects_pieces, paddr_pieces, paren_r, pieces, refl, rights_word, rules, slots_pieces, target_pieces, tcb_slots, true, word, ℕ, ◌%◌, ◌&&◌, ◌<◌, ◌==◌, ◌^◌, ◌||◌, ◌∷◌, ◌≡◌}
 use Rattle.std.specs.Prelude.{◌+◌}
 use Rattle.capdl_text.specs.TokenFaults.{is_left_out_word, fault_at}
 use Rattle.capdl_text.specs.TokenKinds.{mark_of, kind_of}

@@ -1,8 +1,7 @@
 -- A text of pieces has the tokens of its pieces.
-use Rattle.std.proofs.Common.{rules}
 use Rattle.capdl_write.proofs.Common.{Bool, Fine, Found, List, None, Option, Piece, Some, Token, [], after_run, after_text, all_blank, and_parts, ap, bytes_eq, cases_Bool, codes, cond, digits_fault, digits_kind, digits_word, ends_text, eqb-true}
 use Rattle.capdl_write.proofs.Common.{false, goes_on, inl, inr, is_digit, is_end, is_letter, is_star, is_word_byte, laid, list_all, mark_fault, mark_of, not, number_value, option_map, refl, run, runs_on, same_Some, subst, sym, token_at}
-use Rattle.capdl_write.proofs.Common.{tokens, true, unless, word_fault, word_of, word_or, ℕ, ◌&&◌, ◌++◌, ◌==◌, ◌||◌, ◌∙◌, ◌∷◌, ◌≡◌}
+use Rattle.capdl_write.proofs.Common.{rules, tokens, true, unless, word_fault, word_of, word_or, ℕ, ◌&&◌, ◌++◌, ◌==◌, ◌||◌, ◌∙◌, ◌∷◌, ◌≡◌}
 use Rattle.cam_base.specs.declared.text_fault.TextCode.TheVariants.{CapdlByte}
 use Rattle.capdl_text.specs.declared.token.Kind.{Kind}
 use Rattle.capdl_text.specs.declared.token.Kind.TheVariants as kinds

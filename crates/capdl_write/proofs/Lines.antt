@@ -1,9 +1,8 @@
 -- The canonical text of a spec is laid out of its pieces.
-use Rattle.std.proofs.Common.{rules}
 use Rattle.capdl_write.proofs.Common.{Bool, CNode, Cap, Endpoint, Entry, Fill, Frame, Irq, List, None, Notification, Object, Option, Pages, Piece, Rights, Some, Spec, Tcb, Thread, [], ap, append-nil, append_assoc, arch_word, buffer_line}
 use Rattle.capdl_write.proofs.Common.{buffer_pieces, cap_end, cap_pieces, caps_pieces, codes, decimal, elf_field, elf_pieces, entry_line, entry_text, false, fill_field, fill_pieces, flat_map, frame_line, has_slot, held_irq, held_pieces}
 use Rattle.capdl_write.proofs.Common.{held_slots, held_tcb, holder_text, holders_pieces, irq_line, irq_text, irqs_pieces, laid, last_pieces, level_word, name_at, named_line, named_pieces, object_line, object_pieces, objects_pieces, paddr_field}
-use Rattle.capdl_write.proofs.Common.{paddr_pieces, params, pieces, refl, rights_word, slot_line, slots_pieces, slots_text, sym, target_pieces, tcb_line, tcb_text, true, ℕ, ◌++◌, ◌∙◌, ◌∷◌, ◌≡◌}
+use Rattle.capdl_write.proofs.Common.{paddr_pieces, params, pieces, refl, rights_word, rules, slot_line, slots_pieces, slots_text, sym, target_pieces, tcb_line, tcb_text, true, ℕ, ◌++◌, ◌∙◌, ◌∷◌, ◌≡◌}
 use Rattle.cam_base.specs.Hex.{hex_digits, hex_text}
 use Rattle.cam_base.specs.Texts.{◌⊹◌, together}
 use Rattle.cap_model.specs.Canonical.{canonical}

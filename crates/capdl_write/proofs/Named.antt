@@ -1,8 +1,7 @@
 -- What the slots of a writable spec hold can be named.
-use Rattle.std.proofs.Common.{rules}
 use Rattle.capdl_write.proofs.Common.{Bool, CNode, Cap, Entry, Frame, Irq, IsWritable, Kind, Level, List, None, Notification, Object, Option, Pages, Some, Spec, Tcb, Thread, [], and_from, and_parts, are_slots, entry_name}
 use Rattle.capdl_write.proofs.Common.{entry_object, fits, fits_as, fits_kind, if_any, is_at, is_kind, is_laid, is_number, is_plain, is_some, is_space_root, is_tcb, is_word, keeps, keeps_slots, keeps_table, keeps_tcb, kind_at, kind_of_object, leb}
-use Rattle.capdl_write.proofs.Common.{list_all, name_at, none_is_root, object_at, option_map, refl, size, slice_get, suc, true, zero, ℕ, ◌&&◌, ◌^◌, ◌∷◌, ◌≡◌}
+use Rattle.capdl_write.proofs.Common.{list_all, name_at, none_is_root, object_at, option_map, refl, rules, size, slice_get, suc, true, zero, ℕ, ◌&&◌, ◌^◌, ◌∷◌, ◌≡◌}
 use Rattle.cap_model.specs.declared.kind.Kind.TheVariants as kinds
 
 -- ---- tests of lists

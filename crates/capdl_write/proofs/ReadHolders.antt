@@ -1,7 +1,6 @@
 -- Reading the holders, the interrupt lines and the whole of a canonical text.
-use Rattle.std.proofs.Common.{rules}
 use Rattle.capdl_write.proofs.Common.{Bool, Eats, List, Number, Ok, Param, Piece, Rights, Rule, Seen, SlotKey, SlotLine, Span, [], behind, behind_eats, codes, colon, comma, dec, false, has_rights, hex, is_name, letter, many, many_none, mark_code}
-use Rattle.capdl_write.proofs.Common.{param_eats, param_form, paren_r, reads, refl, rights_of, rights_word, slot_form, starts, target_pieces, token_code, true, word, ℕ, ◌||◌, ◌∷◌, ◌≡◌}
+use Rattle.capdl_write.proofs.Common.{param_eats, param_form, paren_r, reads, refl, rights_of, rights_word, rules, slot_form, starts, target_pieces, token_code, true, word, ℕ, ◌||◌, ◌∷◌, ◌≡◌}
 use Rattle.capdl_text.specs.declared.token.Mark.TheVariants as marks
 use Rattle.capdl_text.specs.declared.token.Word.TheVariants as words
 use Rattle.capdl_text.specs.Words.{word_of, field_of}

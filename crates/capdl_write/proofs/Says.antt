@@ -3,7 +3,7 @@ use Rattle.capdl_write.proofs.Common.{Bool, CNode, Cap, Entry, Fill, Frame, Hold
 use Rattle.capdl_write.proofs.Common.{[], and_from, and_parts, ap, append-nil, append_assoc, arith, badge_said, brace_r, bytes_eq, bytes_eq-Decides, cap_said, child, codes, entry_said, eqb-true, false, fields_from, fill_said, fits, fits_as}
 use Rattle.capdl_write.proofs.Common.{has_rights, held, held_pieces, hex, holders_pieces, if_any, is_at, is_space_root, keeps, keeps_slots, keeps_table, keeps_tcb, leb, lines_from, list_all, map, name_at, named_from, names_differ, nat_lt, nat_tests}
 use Rattle.capdl_write.proofs.Common.{no_tcb, not, not-true, notification_said, object_at, object_said, objects_pieces, paddr_said, paren_r, place_or, refl, rights_said, rise, size, slots_from, slots_pieces, sym, thread_said, true, word, ℕ, ◌&&◌}
-use Rattle.capdl_write.proofs.Common.{◌++◌, ◌+◌, ◌==◌, ◌^◌, ◌||◌, ◌∙◌, ◌∷◌, ◌≡◌}
+use Rattle.capdl_write.proofs.Common.{rules, ◌++◌, ◌+◌, ◌==◌, ◌^◌, ◌||◌, ◌∙◌, ◌∷◌, ◌≡◌}
 use Rattle.std.specs.BTreeMap.{insert_entry}
 use Rattle.std.specs.Ordering.{nat_cmp}
 use Rattle.cap_model.specs.declared.kind.Kind.TheVariants as kinds
@@ -15,7 +15,6 @@ use Rattle.capdl_write.proofs.ReadBack.{kind_at as kind_line_at, objects_at, add
 use Rattle.capdl_write.proofs.ReadHolders.{no_rights_at, params_at}
 use Rattle.capdl_write.proofs.ReadText.{cap_at, slots_at, buffer_at, vspace_at, cspace_at, irq_slot_at, lines_at, held_at, holders_at, irqs_at}
 use Rattle.capdl_write.proofs.Sound.{fits_object, is_object, root_object}
-use Rattle.std.proofs.Common.{rules}
 
 -- ---- putting in by number
 

@@ -4,7 +4,7 @@ use Rattle.capdl_write.proofs.Common.{SlotLine, Some, Span, Spec, Thread, Thread
 use Rattle.capdl_write.proofs.Common.{fits_kind, flat_map, has_badge, has_key, has_rights, hex, holders_pieces, holds, if_any, inl, inr, irq_keyed, irq_off, is_at, is_kind, is_root_object, is_some, is_space_root, keeps, keeps_fill, keeps_slots}
 use Rattle.capdl_write.proofs.Common.{keeps_table, key_past, keys_after, keys_twice, kind_of_object, kind_off, kind_rights, kind_takes, leb, list_all, list_any, map, name_at, names_after, names_differ, nat_lt, nat_tests, not, not-true, object_at}
 use Rattle.capdl_write.proofs.Common.{objects_pieces, off_in, option_map, param_off, params_twice, past_in, refl, rise, rise_tail, same_Some, same_kind, size, slice_get, slot_keyed, slot_off, slots_past, suc, sym, takes, thread_keyed}
-use Rattle.capdl_write.proofs.Common.{thread_value_off, true, twice_in, unknown, unknown_in, within, word, zero, ℕ, ◌%◌, ◌&&◌, ◌++◌, ◌+◌, ◌==◌, ◌^◌, ◌||◌, ◌∙◌, ◌∷◌, ◌≡◌, ◌⊎◌}
+use Rattle.capdl_write.proofs.Common.{rules, thread_value_off, true, twice_in, unknown, unknown_in, within, word, zero, ℕ, ◌%◌, ◌&&◌, ◌++◌, ◌+◌, ◌==◌, ◌^◌, ◌||◌, ◌∙◌, ◌∷◌, ◌≡◌, ◌⊎◌}
 use Rattle.cap_model.specs.declared.kind.Kind.TheVariants as kinds
 use Rattle.name_tables.specs.Keys.{Key, same_key}
 use Rattle.capdl_text.specs.KindField.{is_space_root as root_kind}
@@ -16,7 +16,6 @@ use Rattle.capdl_write.proofs.ReadBack.{kind_at as kind_line_at, objects_at, add
 use Rattle.capdl_write.proofs.ReadHolders.{no_rights_at, params_at, slot_at}
 use Rattle.capdl_write.proofs.ReadText.{cap_at, slots_at, buffer_at, vspace_at, cspace_at, irq_slot_at, lines_at, held_at, holders_at, irqs_at}
 use Rattle.capdl_text.proofs.Below.{IsBelow}
-use Rattle.std.proofs.Common.{rules}
 
 -- ---- lists
 

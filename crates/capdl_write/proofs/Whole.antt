@@ -1,8 +1,7 @@
 -- A canonical text is a text of its spec.
-use Rattle.std.proofs.Common.{rules}
 use Rattle.capdl_write.proofs.Common.{CNode, Cap, Each, Entry, Holder, Id, Irq, IsSpecSpelled, IsWritable, List, None, Object, Option, Pages, Piece, Seen, SlotLine, Some, Span, Spec, Thread, [], and_parts, ap}
 use Rattle.capdl_write.proofs.Common.{brace_r, canonical, caps_of, caps_pieces, codes, differ, drop_all, false, flat_map, held_pieces, holders_pieces, is_at, kind_fields, knows, laid, last_pieces, length, length-append, list_all, map, off_in}
-use Rattle.capdl_write.proofs.Common.{past_in, pieces, refl, rise, slot_ranges, some, spec_of, subst, suc, sum, sym, tokens, true, twice_in, twices, unknown_in, unknowns, zero-add, ℕ, ◌+◌, ◌==◌, ◌∙◌, ◌∷◌, ◌≡◌, ◌≤◌}
+use Rattle.capdl_write.proofs.Common.{past_in, pieces, refl, rise, rules, slot_ranges, some, spec_of, subst, suc, sum, sym, tokens, true, twice_in, twices, unknown_in, unknowns, zero-add, ℕ, ◌+◌, ◌==◌, ◌∙◌, ◌∷◌, ◌≡◌, ◌≤◌}
 use Rattle.std.proofs.lemmas.List.Sums.{sum_by-cons}
 use Rattle.cap_model.specs.declared.kind.Kind.TheVariants as kinds
 use Rattle.capdl_text.specs.Limits.{limits, past}

@@ -1,6 +1,5 @@
 -- Labels of one class: neither lacks an edge other than Reply that the other has.
-use Rattle.std.proofs.Common.{rules}
-use Rattle.cert_check.proofs.Common.{BreaksPair, Edge, FindsLeast, List, Missing, None, OutAlike, edge, edges_same, false, has, inl, inr, refl, subst, sym, true, ℕ, ◌∙◌, ◌≡◌}
+use Rattle.cert_check.proofs.Common.{BreaksPair, Edge, FindsLeast, List, Missing, None, OutAlike, edge, edges_same, false, has, inr, refl, rules, true, ℕ, ◌∙◌, ◌≡◌}
 
 none_missing : (cert : List Edge) (x y : ℕ) → OutAlike cert x y → (d : Edge) → Missing cert x y d → ⊥
 none_missing cert x y alike d m = search (rules, edges_same)

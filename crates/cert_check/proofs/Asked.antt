@@ -1,8 +1,7 @@
 -- The edges that the first rule asks for are those of the objects.
-use Rattle.std.proofs.Common.{rules}
 use Rattle.cert_check.proofs.Common.{Asked, Authority, CNode, Cap, Capability, Contains, Edge, Endpoint, Entry, Held, Irq, Node, Notification, OfBound, OfCap, OfLink, Pages, Spec, Structural, Thread, ThreadState, arith, at_contains, at_entry, boot}
 use Rattle.cert_check.proofs.Common.{boot_contains, boot_irq, boot_node, boot_slot, boot_thread, buffer_of, contains_at, edge, entry_at, inl, inr, irq_at, label_of, map, no_node, no_thread, node_at, none_saved, nothing_pending, of_buffer, of_irq}
-use Rattle.cert_check.proofs.Common.{of_mapped, of_reply, of_root, of_saved, of_space, of_table, slot_of, subst, table_of, thread_at}
+use Rattle.cert_check.proofs.Common.{of_mapped, of_reply, of_root, of_saved, of_space, of_table, rules, slot_of, subst, table_of, thread_at}
 use Rattle.std.specs.Prelude.{◌≡◌, ◌≢◌, ◌⊎◌, ℕ, List, slice_get, Option, Some, None, refl}
 use Rattle.cap_model.specs.declared.object.Object.{Object}
 use Rattle.cap_model.specs.declared.object.Object.TheVariants.{Frame}

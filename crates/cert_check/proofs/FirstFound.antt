@@ -1,7 +1,6 @@
 -- What a walk through the edges finds first is least.
-use Rattle.std.proofs.Common.{rules}
-use Rattle.cert_check.proofs.Common.{AsyncSend, AtMost, Before, BreaksBind, BreaksPolicy, Edge, Finds, FindsLeast, FindsLeastAt, Handle, IsFirstNotBefore, IsSorted, List, None, Reset, Some, Violation, ap, arith, at_has, cases_lt, edge, false, has}
-use Rattle.cert_check.proofs.Common.{has_at, inl, inr, length, number_of, refl, slice_get, subst, sym, true, ℕ, ◌<◌, ◌≡◌, ◌≢◌, ◌≤◌}
+use Rattle.cert_check.proofs.Common.{AsyncSend, AtMost, BreaksBind, BreaksPolicy, Edge, Finds, FindsLeast, FindsLeastAt, Handle, IsFirstNotBefore, IsSorted, List, None, Reset, Some, Violation, ap, arith, at_has, cases_lt, edge, false, has}
+use Rattle.cert_check.proofs.Common.{has_at, inr, length, number_of, refl, rules, slice_get, subst, sym, true, ℕ, ◌<◌, ◌≡◌, ◌≢◌, ◌≤◌}
 use Rattle.cert_check.proofs.Search.{NoneUpTo, none_end, found_first}
 use Rattle.cert_check.proofs.Violations.{at_first, first_of}
 

@@ -1,6 +1,5 @@
 -- Halving a table: what stands before a place, and what stands from one on.
-use Rattle.std.proofs.Common.{rules}
-use Rattle.cert_check.proofs.Common.{AtMost, Before, Edge, Halved, IsFirstNotBefore, IsSorted, List, Some, arith, at_most_before, at_most_trans, later_at_most, length, slice_get, slice_get_within, ℕ, ◌+◌, ◌<◌, ◌≡◌, ◌≤◌}
+use Rattle.cert_check.proofs.Common.{AtMost, Before, Edge, Halved, IsFirstNotBefore, IsSorted, List, Some, arith, at_most_before, at_most_trans, later_at_most, length, rules, slice_get, slice_get_within, ℕ, ◌+◌, ◌<◌, ◌≡◌, ◌≤◌}
 
 module _ (edges : List Edge) (e : Edge) where
   pub halved_start : Halved edges e 0 (length edges)

@@ -1,10 +1,9 @@
 -- Every step keeps what a safe state has, and so every run from the boot state stays within the policy.
-use Rattle.std.proofs.Common.{rules}
 use Rattle.cert_check.proofs.Common.{All-contains, All-filter, All-push, AsyncSend, Authority, Bool, Call, Cap, Capability, Content, Control, Edge, Grant, GrantBack, Handle, Has, List, Node, None, Passes, Pending, Receive, SavedReply, Some, Spec}
-use Rattle.cert_check.proofs.Common.{State, ThreadState, Valid, [], arith, boot, cases_eq, confers, content_in, false, get_or, inl, inr, kind_confers, label_of, no_node, no_thread, node_at, not, refl, set, subst, sym, thread_at, true, ℕ, ◌&&◌, ◌++◌}
-use Rattle.cert_check.proofs.Common.{◌==◌, ◌||◌, ◌∷◌, ◌≡◌, ◌≢◌}
+use Rattle.cert_check.proofs.Common.{State, ThreadState, Valid, [], arith, boot, cases_eq, confers, content_in, false, get_or, inr, kind_confers, label_of, no_node, no_thread, node_at, not, refl, set, thread_at, true, ℕ, ◌&&◌, ◌++◌}
+use Rattle.cert_check.proofs.Common.{rules, ◌==◌, ◌||◌, ◌∷◌, ◌≡◌, ◌≢◌}
 use Rattle.std.proofs.lemmas.Map.Views.{Contains-from_lookup}
-use Rattle.cap_model.specs.Kinds.{kind_at, is_at, is_space_root}
+use Rattle.cap_model.specs.Kinds.{is_at, is_space_root}
 use Rattle.cap_model.specs.Lessened.{lessened, both_rights}
 use Rattle.cap_model.specs.declared.kind.Kind.{Kind}
 use Rattle.cap_model.specs.declared.kind.Kind.TheVariants as kinds

@@ -1,6 +1,5 @@
 -- Least edges of several searches.
-use Rattle.std.proofs.Common.{rules}
-use Rattle.cert_check.proofs.Common.{Authority, Cap, CapLack, Edge, Finds, LesserEdge, SlotsLack, Spec, arith, at_most_trans, before_at_most, cases_lt, confers, edge, edges_same, has, inl, inr, label_of, number_of, same_number, subst}
+use Rattle.cert_check.proofs.Common.{Authority, Cap, CapLack, Edge, Finds, LesserEdge, SlotsLack, Spec, arith, at_most_trans, before_at_most, cases_lt, confers, edge, edges_same, has, inl, inr, label_of, number_of, rules, same_number}
 use Rattle.std.specs.Prelude.{◌≡◌, ◌≢◌, ◌⊎◌, ◌<◌, ◌≤◌, ℕ, ◌+◌, Bool, true, false, List, slice_get, Option, Some, None, refl}
 use Rattle.authorities.proofs.AuthorityBits.{number_of-lt}
 

@@ -1,6 +1,5 @@
 -- The search for the least missing copy.
-use Rattle.std.proofs.Common.{rules}
-use Rattle.cert_check.proofs.Common.{AtMost, Edge, Finds, IsFirstFrom, IsSorted, Missing, Reply, ap, arith, at_has, cases_lt, edge, has, has_at, inl, inr, later_at_most, sym}
+use Rattle.cert_check.proofs.Common.{AtMost, Edge, Finds, IsFirstFrom, IsSorted, Missing, Reply, ap, arith, at_has, cases_lt, edge, has, has_at, inl, inr, later_at_most, rules, sym}
 use Rattle.std.specs.Prelude.{◌≤◌, ◌≡◌, ◌≢◌, ◌<◌, ℕ, ◌+◌, true, false, List, slice_get, Some, refl}
 
 -- the edge of d out of s

@@ -1,7 +1,6 @@
 -- The least violation with one edge of a partner.
-use Rattle.std.proofs.Common.{rules}
 use Rattle.cert_check.proofs.Common.{Authority, Breaks, Edge, Finds, FindsLeast, List, Meeting, Missing, None, Some, Violation, With, ap, edge, edges_same, false, first_authority, has, inl, inr, partner_authority, partner_of, refl, subst, sym, true}
-use Rattle.cert_check.proofs.Common.{ℕ, ◌∙◌, ◌≡◌, ◌≢◌, ◌⊎◌}
+use Rattle.cert_check.proofs.Common.{ℕ, rules, ◌∙◌, ◌≡◌, ◌≢◌, ◌⊎◌}
 use Rattle.authorities.specs.declared.authority.Authority.TheVariants as authorities
 use Rattle.cert_check.specs.declared.meetings.Meeting.TheVariants.{Grant, Call, GrantBack}
 use Rattle.cert_check.proofs.Violations.{at_first}

@@ -1,9 +1,8 @@
 -- What every state of a run keeps, given the rules; that such a state has no edge between labels outside the
 -- certificate, and that the boot state is one.
-use Rattle.std.proofs.Common.{rules}
 use Rattle.cert_check.proofs.Common.{All, All-contains, All-nil, AsyncSend, Auth, Authority, Bool, Call, Cap, Capability, Contains, Contains-get_or, Content, Control, Edge, GrantBack, Has, Held, List, Node, Option, Pending, Receive, Reply}
 use Rattle.cert_check.proofs.Common.{SavedReply, Some, Spec, State, Structural, ThreadState, Valid, boot, confers, inl, inr, irq_at, kind_confers, label_of, node_at, none_saved, nothing_pending, of_buffer, of_irq, of_mapped, of_reply, of_root}
-use Rattle.cert_check.proofs.Common.{of_saved, of_space, of_table, refl, sym, thread_at, true, ℕ, ◌≡◌, ◌≢◌}
+use Rattle.cert_check.proofs.Common.{of_saved, of_space, of_table, refl, rules, sym, thread_at, true, ℕ, ◌≡◌, ◌≢◌}
 use Rattle.cap_model.specs.declared.kind.Kind.TheVariants.{Frame}
 use Rattle.cap_model.specs.declared.state.Mapped.{Mapped}
 

@@ -1,7 +1,6 @@
 -- A search through a table, place by place, for the least thing with a property. Each such thing x names an edge `w x` of the
 -- table.
-use Rattle.std.proofs.Common.{rules}
-use Rattle.cert_check.proofs.Common.{AreOthers, AtMost, Authority, Edge, IsSorted, arith, at_has, cases_lt, has, inl, inr, later_at_most, slice_get_within}
+use Rattle.cert_check.proofs.Common.{AreOthers, AtMost, Authority, Edge, IsSorted, arith, at_has, cases_lt, has, inl, inr, later_at_most, rules, slice_get_within}
 use Rattle.std.specs.Prelude.{◌≡◌, ◌<◌, ◌≤◌, ℕ, ◌+◌, true, List, slice_get, Some, length}
 
 -- nothing with the property names an edge before this place

@@ -1,10 +1,5 @@
 -- Edges that a walk passes over, since they have another authority.
-use Rattle.std.proofs.Common.{rules}
-use Rattle.cert_check.proofs.Common.{AreOthers, AtMost, Authority, Before, Edge, Halved, IsFirstFrom, IsFirstNotBefore, IsSorted, List, Some, ap, arith, cases_lt, edge, inl, inr, later_at_most, number_of, refl, slice_get, ℕ, ◌+◌, ◌<◌, ◌≡◌}
-
-pub others_on : (cert : List Edge) (a : Authority) (low i j : ℕ) → AreOthers cert a low i → AreOthers cert a i j
-    → AreOthers cert a low j
-others_on cert a low i j before more k e le less there = search (rules, cases_lt)
+use Rattle.cert_check.proofs.Common.{AreOthers, AtMost, Authority, Before, Edge, Halved, IsFirstFrom, IsFirstNotBefore, IsSorted, List, Some, ap, arith, cases_lt, edge, inr, later_at_most, number_of, refl, rules, slice_get, ℕ, ◌+◌, ◌<◌, ◌≡◌}
 
 module _ (cert : List Edge) (at : ℕ) (e : Edge) (a : Authority) (sorted : IsSorted cert) (here : slice_get cert at ≡ Some e) where
   lesser : (k : ℕ) (d : Edge) → k < at + 1 → slice_get cert k ≡ Some d → AtMost d e

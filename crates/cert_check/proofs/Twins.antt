@@ -1,7 +1,6 @@
 -- A violation of a rule over two labels that meet has a twin at any labels that may stand for the two, and where they meet too.
-use Rattle.std.proofs.Common.{rules}
 use Rattle.cert_check.proofs.Common.{Alike, AtMost, Authority, Breaks, Edge, List, Meeting, Missing, NotAfter, OutAlike, Violation, arith, edge, edges_same, false, first_authority, has, partner_authority, partner_of, refl, subst, sym, true, ℕ, ◌∙◌}
-use Rattle.cert_check.proofs.Common.{◌≡◌, ◌≢◌, ◌≤◌}
+use Rattle.cert_check.proofs.Common.{rules, ◌≡◌, ◌≢◌, ◌≤◌}
 use Rattle.authorities.specs.declared.authority.Authority.TheVariants as authorities
 use Rattle.cert_check.specs.declared.meetings.Meeting.TheVariants.{Grant, Call, GrantBack}
 use Rattle.cert_check.proofs.Violations.{at_first}

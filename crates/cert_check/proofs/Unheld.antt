@@ -1,6 +1,5 @@
 -- The least edge of the boot state that is lacking, over all objects.
-use Rattle.std.proofs.Common.{rules}
-use Rattle.cert_check.proofs.Common.{AsyncSend, BreaksBoot, CNode, Cap, Edge, Entry, Finds, Irq, LesserEdge, LinkLack, ObjectLack, OfTcb, Pages, SlotsLack, Spec, Thread, ThreadLack, arith, cases_lt, has, inl, inr, label_of, slice_get_within, subst}
+use Rattle.cert_check.proofs.Common.{AsyncSend, BreaksBoot, CNode, Cap, Edge, Entry, Finds, Irq, LesserEdge, LinkLack, ObjectLack, OfTcb, Pages, SlotsLack, Spec, Thread, ThreadLack, arith, cases_lt, has, inl, inr, label_of, rules, slice_get_within}
 use Rattle.std.specs.Prelude.{◌≡◌, ◌≢◌, ◌⊎◌, ◌<◌, ◌≤◌, ℕ, ◌+◌, true, false, List, slice_get, length, Option, Some, None, refl}
 use Rattle.cap_model.specs.declared.object.Tcb.{Tcb}
 use Rattle.cap_model.specs.declared.level.Level.{Level}

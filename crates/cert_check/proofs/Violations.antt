@@ -1,18 +1,11 @@
 -- The order of violations, and which of two is kept.
-use Rattle.std.proofs.Common.{rules}
-use Rattle.cert_check.proofs.Common.{AtMost, Before, Edge, FindsLeast, LesserOf, None, NotAfter, Option, Some, Violation, at_most_both, at_most_self, at_most_trans, inl, inr, not_before_self, refl, subst, sym, ◌∙◌, ◌≡◌, ◌⊎◌}
+use Rattle.cert_check.proofs.Common.{AtMost, Edge, FindsLeast, LesserOf, None, NotAfter, Option, Some, Violation, at_most_both, at_most_self, at_most_trans, inl, inr, refl, rules, subst, sym, ◌∙◌, ◌≡◌, ◌⊎◌}
 
 abbrev pub first_of : Violation → Edge
 first_of v = v.first
 
 pub at_first : (d e : Edge) → d ≡ e → AtMost d e
 at_first d e same = subst (λ (x : Edge). AtMost d x) same (at_most_self d)
-
-pub before_not_equal : {A : Type 0} (d e : Edge) → Before d e → d ≡ e → A
-before_not_equal d e less same = absurd (not_before_self d (subst (λ (x : Edge). Before d x) (sym same) less))
-
-pub not_after_self : (v : Violation) → NotAfter v v
-not_after_self v = search (rules, at_most_self)
 
 pub not_after_trans : (u v w : Violation) → NotAfter u v → NotAfter v w → NotAfter u w
 not_after_trans u v w p q = record {

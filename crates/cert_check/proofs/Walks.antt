@@ -1,9 +1,8 @@
 -- A walk through the first edges of a rule, past the partners that are held.
-use Rattle.std.proofs.Common.{rules}
 use Rattle.cert_check.proofs.Common.{Alike, AreMet, AreOthers, AtMost, Breaks, Contains, Contains-append_left, Contains-permutation, Contains-push, Contains-push_cases, Edge, FindsLeast, FindsLeastAt, GoesLike, HasPartners, IfSome, IsLeastAlike}
 use Rattle.cert_check.proofs.Common.{IsLed, IsNonDecreasingBy-from_sort, IsPermutation-sym, IsReach, IsSorted, LesserOf, List, MeetToo, Meeting, None, OfPartners, Option, Some, Violation, With, [], ap, arith, at_contains, at_has, cases_lt}
 use Rattle.cert_check.proofs.Common.{contains_at, edge, end_of, eqb-false, false, first_authority, first_not_less, get_or, get_or_from_slice_get, has, has_at, inl, inr, later_at_most, leb-false, leb-true, length, ltb-false, ltb-true, nat_le, nat_lt}
-use Rattle.cert_check.proofs.Common.{partner_authority, partner_of, refl, slice_get, slice_get-get_or, slice_get_within, subst, sym, true, ℕ, ◌++◌, ◌+◌, ◌-◌, ◌<◌, ◌==◌, ◌∙◌, ◌∷◌, ◌≡◌, ◌≤◌, ◌⊎◌}
+use Rattle.cert_check.proofs.Common.{partner_authority, partner_of, refl, rules, slice_get, slice_get-get_or, slice_get_within, subst, sym, true, ℕ, ◌++◌, ◌+◌, ◌-◌, ◌<◌, ◌==◌, ◌∙◌, ◌∷◌, ◌≡◌, ◌≤◌, ◌⊎◌}
 use Rattle.std.specs.List.Sorted.{IsNonDecreasingBy, IsPartitionPoint, IsPermutation, IsSorted as IsInOrder}
 use Rattle.std.specs.Ordering.{nat_cmp, ordering_then}
 use Rattle.cert_check.specs.declared.meetings.Meeting.TheVariants as rules

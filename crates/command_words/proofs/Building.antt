@@ -1,7 +1,6 @@
 -- What the builders of a command make of `app_of`.
-use Rattle.std.proofs.Common.{rules}
-use Rattle.command_words.proofs.Common.{AddsArg, AddsSubcommand, App, Bor, List, Rule, Shape, Text, [], ap, app_of, app_of_fields, ap₂, bare, false, get_or, leaf, length, map, new_app, new_rule, new_shape, rule_of, slot, sym, take, true, with_rule}
-use Rattle.command_words.proofs.Common.{with_subcommand, ℕ, ◌++◌, ◌+◌, ◌<◌, ◌∙◌, ◌∷◌, ◌≡◌}
+use Rattle.command_words.proofs.Common.{AddsArg, AddsSubcommand, App, Bor, List, Rule, Shape, Text, [], ap, app_of, app_of_fields, ap₂, bare, false, get_or, leaf, length, map, new_app, new_rule, rule_of, slot, sym, take, true}
+use Rattle.command_words.proofs.Common.{rules, with_subcommand, ℕ, ◌++◌, ◌+◌, ◌<◌, ◌∙◌, ◌∷◌, ◌≡◌}
 use Rattle.std.proofs.lemmas.List.{take_more, map-append}
 use Rattle.clap.specs.declared.builder.arg.Arg.{Arg}
 use Rattle.clap.specs.declared.builder.command.Command.{Command}

@@ -1,8 +1,7 @@
 -- What `clap` makes of the first word, which names a command.
-use Rattle.std.proofs.Common.{rules}
 use Rattle.command_words.proofs.Common.{App, Bool, IsUtf8, Kinds, List, Names, None, Option, Row, Shape, Some, Text, Walk, [], and-false, answers_to, ap, ap₂, bare, built_fault, bytes_eq, bytes_eq-Decides, check_fault, codes, entered, entered_fault}
 use Rattle.command_words.proofs.Common.{false, find, finished, fold, idle, is_empty, is_some, label_of, level_fault, list_all, map, nothing_held, option_map, or-false, or_else, refl, rows_after, rows_at, settle_fault, settled, stop_after}
-use Rattle.command_words.proofs.Common.{subcommand_met, sym, true, turn_fault, walk, walk_from, walk_stopped, ◌||◌, ◌∙◌, ◌∷◌, ◌≡◌}
+use Rattle.command_words.proofs.Common.{rules, subcommand_met, sym, true, turn_fault, walk, walk_from, walk_stopped, ◌||◌, ◌∙◌, ◌∷◌, ◌≡◌}
 use Rattle.clap.specs.Walk.{walked}
 use Rattle.clap.specs.Faults.{defaults_fault, walk_fault}
 use Rattle.clap.proofs.FaultLemmas.{stopped_fault}

@@ -1,9 +1,8 @@
 -- What `clap` makes of the words after a command, of which each argument takes one word.
-use Rattle.std.proofs.Common.{rules}
 use Rattle.command_words.proofs.Common.{Bool, Held, IsCharBoundary-after_ascii, IsUtf8, IsUtf8-drop, Kinds, List, None, Option, Row, Rule, Shape, Some, Text, UnknownArgument, Walk, [], and-false, ap, ap₂, arg_by_index, arg_by_long, arg_by_short}
 use Rattle.command_words.proofs.Common.{arith, bytes_eq, bytes_eq-Decides, chars, check_fault, codes, cond, defaults_fault, encodes-chars, false, find, finished, fold, idle, inl, inr, is_dashed, is_multiple, is_pending, is_some, length, level_fault}
 use Rattle.command_words.proofs.Common.{list_all, min, not, nothing_held, option_map, or-false, or_else, positional_fault, refl, rows_after, same_Some, settle_fault, settled, settled_rows, slice_get, stray_fault, subst, sym, taken, takes_several}
-use Rattle.command_words.proofs.Common.{to_positional, true, true≢false, turn_fault, walk, walk_from, ℕ, ◌&&◌, ◌++◌, ◌+◌, ◌<◌, ◌==◌, ◌||◌, ◌∙◌, ◌∷◌, ◌≡◌, ◌⊎◌}
+use Rattle.command_words.proofs.Common.{rules, to_positional, true, true≢false, turn_fault, walk, walk_from, ℕ, ◌&&◌, ◌++◌, ◌+◌, ◌<◌, ◌==◌, ◌||◌, ◌∙◌, ◌∷◌, ◌≡◌, ◌⊎◌}
 use Rattle.std.specs.Option.{option_map_or}
 use Rattle.std.proofs.lemmas.Bool.{and_parts, not-true, or_parts}
 use Rattle.std.proofs.lemmas.Bool.Decides.{Decides-eqb}

@@ -1,7 +1,6 @@
 -- Of two limits that stand at the keyword of the assembly the first that is passed is told.
 use Rattle.cspace_layout.proofs.Common.{Bool, ItemAt, List, None, Option, Place, Some, Source, System, [], ap, arith, capped, cond, counts, domain_uses, drop, drop_more, false, fault_at, first_slot_fault, flat_map, get_or, greatest, length}
-use Rattle.cspace_layout.proofs.Common.{limit_fault, max, nat_lt, option_and_then, option_map, place_in, plan_of, refl, slice_get, sum, sym, true, ℕ, ◌++◌, ◌+◌, ◌-◌, ◌<◌, ◌^◌, ◌∙◌, ◌∷◌, ◌≡◌, ◌≤◌}
-use Rattle.std.proofs.Common.{map}
+use Rattle.cspace_layout.proofs.Common.{limit_fault, map, max, nat_lt, option_and_then, option_map, place_in, plan_of, refl, slice_get, sum, sym, true, ℕ, ◌++◌, ◌+◌, ◌-◌, ◌<◌, ◌^◌, ◌∙◌, ◌∷◌, ◌≡◌, ◌≤◌}
 use Rattle.std.proofs.lemmas.List.{at_drop_all}
 use Rattle.std.specs.Prelude.{codes}
 use Rattle.std.proofs.lemmas.Bool.{le-ltb, lt-ltb}

@@ -1,6 +1,6 @@
 -- Two states that are alike at the objects of a set. They stay alike where one is written at another object, or both alike.
 use Rattle.std.proofs.Common.{rules}
-use Rattle.flow_model.proofs.LawsCommon.{Acts, Bool, Cap, Contains, Content, List, Mapped, Node, None, Option, Owes, Own, Pending, Some, State, ThreadState, [], ap, arith, behind, content_at, content_in, false, filter, filter-append, first}
+use Rattle.flow_model.proofs.LawsCommon.{Acts, Bool, Cap, Contains, Content, List, Mapped, Node, None, Option, Owes, Own, Pending, Some, State, ThreadState, [], arith, behind, content_at, content_in, false, filter, filter-append, first}
 use Rattle.flow_model.proofs.LawsCommon.{first_or_behind, from_filter, get_or, grown, grown_at, inl, inr, irq_at, length, length-set, no_node, no_thread, node_at, read_written, refl, set, subst, suc, sym, thread_at, true, waiting, with_pending, with_root}
 use Rattle.flow_model.proofs.LawsCommon.{with_space, without, without_at, zero, ℕ, ◌++◌, ◌∙◌, ◌∷◌, ◌≡◌}
 

@@ -11,4 +11,4 @@ pub use Rattle.flow_model.specs.Act.{Act, Attempt, allowed, await, device, fire,
 pub use Rattle.flow_model.specs.ActRuns.{ActRun, IsReached}
 pub use Rattle.flow_model.specs.ActTable.{ActTo, AttemptTo}
 pub use Rattle.flow_model.specs.World.{World, answer, content, denied, done, message, more, put, signals}
-pub use Rattle.std.proofs.Common.{Bool, List, None, Option, Some, [], ap, arith, false, inl, inr, refl, subst, sym, true, ℕ, ◌++◌, ◌==◌, ◌∙◌, ◌∷◌, ◌≡◌}
+pub use Rattle.std.proofs.Common.{Bool, List, None, Option, Some, ℕ, [], ap, arith, false, inl, inr, refl, rules, subst, sym, true, ◌++◌, ◌==◌, ◌∙◌, ◌∷◌, ◌≡◌}

@@ -1,6 +1,6 @@
 -- Two worlds that are alike at the objects of a set, and what writes leave so.
 use Rattle.std.proofs.Common.{rules}
-use Rattle.flow_model.proofs.LawsCommon.{Agree, Bool, List, Spec, State, World, ap, cond, eqb-true, false, in_set, more, put, refl, subst, sym, true, ℕ, ◌==◌, ◌∙◌, ◌≡◌}
+use Rattle.flow_model.proofs.LawsCommon.{Agree, Bool, List, Spec, State, World, ap, cond, eqb-true, false, in_set, more, put, refl, true, ℕ, ◌==◌, ◌∙◌, ◌≡◌}
 use Rattle.flow_model.proofs.Alike.{Alike}
 use Rattle.flow_model.proofs.Replying.{Joined}
 

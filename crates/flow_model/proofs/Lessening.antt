@@ -1,9 +1,8 @@
 -- The boot edges of a spec that gives less are boot edges of the other one.
 use Rattle.std.proofs.Common.{rules}
-use Rattle.flow_model.proofs.LawsCommon.{Authority, Cap, Edge, Held, Kind, List, Option, Spec, Structural, Valid, ap, arith, boot, confers, kind_at, label_of, none_saved, nothing_pending, of_buffer, of_irq, of_mapped, of_reply, of_root, of_saved}
-use Rattle.flow_model.proofs.LawsCommon.{of_space, of_table, option_confers, subst, true, ℕ, ◌∙◌, ◌≡◌}
+use Rattle.flow_model.proofs.LawsCommon.{Authority, Cap, Edge, Held, List, Option, Spec, Structural, Valid, ap, arith, boot, confers, kind_at, label_of, none_saved, nothing_pending, of_buffer, of_irq, of_mapped, of_reply, of_root, of_saved}
+use Rattle.flow_model.proofs.LawsCommon.{of_space, of_table, option_confers, true, ℕ, ◌∙◌, ◌≡◌}
 use Rattle.cap_model.proofs.Conferring.{lessened_option}
-use Rattle.cap_model.specs.declared.rights.Rights.{Rights}
 use Rattle.flow_model.specs.Less.{IsLess, IsPart}
 
 module _ (less spec : Spec) (labels : List ℕ) (is : IsLess less spec) where

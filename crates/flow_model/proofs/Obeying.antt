@@ -1,6 +1,6 @@
 -- Runs in which the threads of the set run programs: with the same turns they do the same.
 use Rattle.std.proofs.Common.{rules}
-use Rattle.flow_model.proofs.LawsCommon.{Act, ActTo, Agree, Attempt, Bool, Edge, IsClosed, IsReached, List, None, Option, Reached, Sight, Some, Spec, Stays, World, [], act_reached, actor, acts_in, allowed, ap, device, false, fire, in_set, inl, inr, map}
+use Rattle.flow_model.proofs.LawsCommon.{Act, ActTo, Agree, Bool, Edge, IsClosed, IsReached, List, None, Option, Reached, Some, Spec, Stays, World, [], act_reached, actor, acts_in, allowed, device, false, fire, in_set, inr, map}
 use Rattle.flow_model.proofs.LawsCommon.{one_act, refl, refused, subst, sym, true, world_reached, ℕ, ◌∙◌, ◌∷◌, ◌≡◌, ◌⊎◌}
 use Rattle.flow_model.specs.Programs.{Programs, input_of, turn_of, says, Obeys, ProgramRun}
 use Rattle.flow_model.proofs.Contents.{Near, agree_of, agree_self, agree_meet}

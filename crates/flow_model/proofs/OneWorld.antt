@@ -1,7 +1,6 @@
 -- An act leads from a world to one world at most, and so do acts one after the other.
-use Rattle.std.proofs.Common.{rules}
-use Rattle.flow_model.proofs.Common.{Act, ActRun, ActTo, Acts, Attempt, AttemptTo, Bool, Cap, Capability, Content, List, Own, SavedReply, Some, Spec, State, World, [], allowed, answer, ap, await, content_in, device, done, fire, load, message}
-use Rattle.flow_model.proofs.Common.{more, put, refused, send, signal, signals, step, store, subst, sym, tell, tell_saved, thread_of, ℕ, ◌∙◌, ◌∷◌, ◌≡◌}
+use Rattle.flow_model.proofs.Common.{Act, ActRun, ActTo, Acts, Attempt, AttemptTo, Bool, Cap, Capability, Content, List, Own, SavedReply, Some, Spec, State, World, [], allowed, ap, await, content_in, device, done, fire, load, message}
+use Rattle.flow_model.proofs.Common.{more, refused, rules, send, signal, step, store, subst, sym, tell, tell_saved, ℕ, ◌∙◌, ◌∷◌, ◌≡◌}
 use Rattle.std.proofs.lemmas.Option.{same_Some}
 use Rattle.cap_machine.proofs.Table.{one_next}
 use Rattle.cap_model.specs.declared.state.Pending.{Pending}

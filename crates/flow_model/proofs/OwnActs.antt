@@ -2,7 +2,7 @@
 -- leads to worlds that are alike there.
 use Rattle.std.proofs.Common.{rules}
 use Rattle.flow_model.proofs.LawsCommon.{Access, Act, ActTo, Attempt, AttemptTo, Authority, Bool, Edge, IsClosed, List, Reached, Read, Receive, Sight, Spec, Stays, SyncSend, World, Write, [], actor, allowed, answer, ap, await, content, denied, device}
-use Rattle.flow_model.proofs.LawsCommon.{done, false, fire, in_set, inl, inr, load, maker, message, more, put, refl, refused, send, signal, signals, step, store, subst, sym, tell, tell_saved, thread_of, true, ℕ, ◌∙◌, ◌≡◌}
+use Rattle.flow_model.proofs.LawsCommon.{done, false, fire, in_set, inl, inr, load, maker, message, more, put, refl, refused, send, signal, signals, step, store, sym, tell, tell_saved, thread_of, true, ℕ, ◌∙◌, ◌≡◌}
 use Rattle.cap_model.specs.declared.kind.Kind.TheVariants as kinds
 use Rattle.flow_model.proofs.Alike.{waits_too, space_too, owes_too, acts_too, content_too, own_too, irq_too, mapped_too}
 use Rattle.flow_model.proofs.Contents.{Near, near_back, put_both, more_both}

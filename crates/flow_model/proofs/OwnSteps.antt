@@ -1,7 +1,7 @@
 -- A step of a thread of the set looks only at objects of the set, so it can be done in a state that is alike there, and
 -- leads to states that are alike there.
 use Rattle.std.proofs.Common.{rules}
-use Rattle.flow_model.proofs.LawsCommon.{Bool, Cap, Capability, Control, Edge, IsClosed, List, Mapped, None, Peer, Reached, SavedReply, Some, Spec, State, Stays, Step, StepTo, [], added, both_rights, called, dropped, false, grown_at, in_set, is_at}
+use Rattle.flow_model.proofs.LawsCommon.{Bool, Cap, Capability, Control, Edge, IsClosed, List, Mapped, None, Peer, Reached, Some, Spec, State, Stays, Step, StepTo, [], added, both_rights, called, dropped, false, grown_at, in_set, is_at}
 use Rattle.flow_model.proofs.LawsCommon.{lessened, read_write, refl, released, replied, saved, set, sym, thread_of, true, with_pending, with_root, with_space, ℕ, ◌++◌, ◌∙◌, ◌∷◌, ◌≡◌}
 use Rattle.cap_machine.specs.declared.step.Step.TheVariants as steps
 use Rattle.cap_model.specs.declared.kind.Kind.TheVariants as kinds

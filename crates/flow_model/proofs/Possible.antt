@@ -1,7 +1,6 @@
 -- The acts of the example, one by one.
-use Rattle.std.proofs.Common.{rules}
 use Rattle.flow_model.proofs.Common.{Access, ActRun, ActTo, Acts, AttemptTo, Cap, Capability, None, Peer, Read, Some, State, World, Write, [], allowed, arith, await, boot, content, content_in, denied, done, false, inl}
-use Rattle.flow_model.proofs.Common.{inr, irq_at, load, message, more, put, refl, refused, send, signal, signals, store, subst, sym, thread_at, true, ℕ, ◌∷◌, ◌≡◌}
+use Rattle.flow_model.proofs.Common.{inr, irq_at, load, message, more, put, refl, refused, rules, send, signal, signals, store, thread_at, true, ℕ, ◌∷◌, ◌≡◌}
 use Rattle.std.proofs.lemmas.List.Elements.{Contains-push}
 use Rattle.cap_machine.specs.Effects.{with_space, read_write, added, called, dropped}
 use Rattle.cap_machine.specs.Sample.{sample, all}

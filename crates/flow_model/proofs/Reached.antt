@@ -1,6 +1,5 @@
 -- The states that runs of steps, and so acts, lead to from boot.
-use Rattle.std.proofs.Common.{rules}
-use Rattle.flow_model.proofs.Common.{Act, ActRun, ActTo, Attempt, AttemptTo, IsReached, List, Spec, State, StepTo, World, [], allowed, await, boot, device, fire, load, refl, refused, send, signal, step, store, subst, tell, tell_saved, ◌++◌, ◌∷◌}
+use Rattle.flow_model.proofs.Common.{Act, ActRun, ActTo, Attempt, AttemptTo, IsReached, List, Spec, State, StepTo, World, [], allowed, await, boot, device, fire, load, refl, refused, rules, send, signal, step, store, subst, tell, tell_saved, ◌++◌, ◌∷◌}
 use Rattle.cap_machine.specs.Runs.{Run}
 use Rattle.cap_machine.specs.declared.step.Step.{Step}
 

@@ -1,8 +1,8 @@
 -- Who may reply lies on the side of the caller: a call comes by an endpoint, whose senders and receivers lie on one side. And
 -- steps keep the lengths of the lists of a state.
 use Rattle.std.proofs.Common.{rules}
-use Rattle.flow_model.proofs.LawsCommon.{All, All-contains, All-filter, All-push, Bool, Cap, Capability, Contains, Contains-get_or, Content, Edge, IsClosed, List, Node, None, Owes, Pending, Reached, Run, SavedReply, Some, Spec, State, Stays, Step, StepTo}
-use Rattle.flow_model.proofs.LawsCommon.{ThreadState, [], added, boot, boot_irq, boot_node, boot_thread, called, contained, content_in, dropped, false, get_or, grown, grown_at, in_set, inl, inr, length, length-map, length-set, lessened, no_node}
+use Rattle.flow_model.proofs.LawsCommon.{All, All-filter, All-push, Bool, Cap, Capability, Contains, Contains-get_or, Content, Edge, IsClosed, List, Node, None, Owes, Pending, Reached, Run, SavedReply, Some, Spec, State, Stays, Step, StepTo}
+use Rattle.flow_model.proofs.LawsCommon.{ThreadState, [], added, boot, boot_irq, boot_node, boot_thread, called, contained, content_in, dropped, false, get_or, grown, grown_at, in_set, inr, length, length-map, length-set, lessened, no_node}
 use Rattle.flow_model.proofs.LawsCommon.{no_thread, node_at, none_saved, not, nothing_pending, reached_next, read_written, refl, released, replied, set, subst, sym, thread_at, true, waiting, with_pending, without, ℕ, ◌==◌, ◌∙◌, ◌∷◌, ◌≡◌}
 use Rattle.cap_machine.specs.declared.step.Step.TheVariants as steps
 use Rattle.cap_model.specs.declared.spec.Entry.{Entry}

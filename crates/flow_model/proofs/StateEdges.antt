@@ -1,6 +1,5 @@
 -- The edges that a state has by what it has where.
-use Rattle.std.proofs.Common.{rules}
-use Rattle.flow_model.proofs.Common.{ByAdded, ByBuffer, BySlot, Cap, Capability, Content, Control, LeadsDown, List, None, Option, Own, Some, Spec, State, [], arith, content_in, inl, inr, node_at, refl, subst, sym, true, ℕ, ◌==◌, ◌∷◌, ◌≡◌}
+use Rattle.flow_model.proofs.Common.{ByAdded, ByBuffer, BySlot, Cap, Capability, Content, Control, LeadsDown, List, None, Option, Own, Some, Spec, State, [], arith, content_in, inl, inr, node_at, refl, rules, subst, sym, true, ℕ, ◌==◌, ◌∷◌, ◌≡◌}
 use Rattle.std.proofs.lemmas.Map.Views.{Contains-from_lookup}
 use Rattle.std.specs.List.{Contains}
 use Rattle.cap_model.specs.ObjectLabels.{label_of}
@@ -11,7 +10,6 @@ use Rattle.cap_model.specs.Confers.{confers, kind_confers}
 use Rattle.cap_model.specs.Kinds.{is_at, is_space_root, kind_at}
 use Rattle.cap_model.specs.Lookup.{object_at}
 use Rattle.cap_model.specs.declared.kind.Kind.{Kind}
-use Rattle.cap_model.specs.declared.object.Object.{Object}
 use Rattle.cap_model.specs.declared.object.Object.TheVariants as objects
 use Rattle.cap_model.proofs.SpaceRoots.{root_controls}
 

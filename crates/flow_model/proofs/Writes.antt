@@ -1,7 +1,7 @@
 -- What is written behind what the policy lets a label change: it lets it change both, where it lets it change what is written.
 use Rattle.std.proofs.Common.{rules}
-use Rattle.flow_model.proofs.LawsCommon.{AsyncSend, Bool, Control, Edge, Handle, IsLet, Lets, List, Mapped, MayFill, MayTell, MayTurn, Node, None, Option, Receive, Sight, ThreadState, World, Write, [], added_to, ap, append-nil, arith, false}
-use Rattle.flow_model.proofs.LawsCommon.{filter-append, get_or, inl, inr, label_of, no_node, no_thread, put, read_written, refl, set, subst, sym, true, ℕ, ◌++◌, ◌==◌, ◌∙◌, ◌∷◌, ◌≡◌, ◌⊎◌}
+use Rattle.flow_model.proofs.LawsCommon.{AsyncSend, Bool, Control, Edge, Handle, IsLet, Lets, List, Mapped, MayFill, MayTell, MayTurn, Node, None, Option, Receive, Sight, ThreadState, World, Write, [], added_to, append-nil, arith, false}
+use Rattle.flow_model.proofs.LawsCommon.{filter-append, get_or, inr, label_of, no_node, no_thread, put, read_written, refl, set, true, ℕ, ◌++◌, ◌==◌, ◌∙◌, ◌∷◌, ◌≡◌, ◌⊎◌}
 
 -- what stands at k behind a write at i
 behind : {A : Type 0} (May : ℕ → Type 0) (xs : List A) (i k : ℕ) (v d old : A) → (get_or xs k d ≡ old) ⊎ May k → May i

@@ -1,8 +1,7 @@
 -- Where all edges were looked at, the rules hold.
-use Rattle.std.proofs.Common.{rules}
 use Rattle.least_cert.proofs.Common.{AsyncSend, Authority, Begins, Bool, Call, Closes, Closure, Control, Edge, Gifted, Grant, GrantBack, Grows, Handle, Has, HasBoot, IsCertificate, IsClosedFor, IsLeast, IsSound, KeepsRules, Knows, List, Looks}
-use Rattle.least_cert.proofs.Common.{LooksAt, Receive, Reply, Some, Spec, [], ap, arith, edge, eqb-true, false, has, has_at, inl, inr, leader_at, length, length-append, or_cases, or_left, or_right, refl, same_edge, slice_get, subst, suc, sym, take}
-use Rattle.least_cert.proofs.Common.{take-append-le, take_all, true, zero, ℕ, ◌++◌, ◌+◌, ◌<◌, ◌==◌, ◌||◌, ◌∙◌, ◌∷◌, ◌≡◌, ◌≢◌, ◌≤◌, ◌⊎◌}
+use Rattle.least_cert.proofs.Common.{LooksAt, Receive, Reply, Some, Spec, [], arith, edge, eqb-true, false, has, has_at, inl, inr, leader_at, length, length-append, or_cases, or_left, or_right, refl, same_edge, slice_get, subst, suc, sym, take}
+use Rattle.least_cert.proofs.Common.{rules, take-append-le, take_all, true, zero, ℕ, ◌++◌, ◌+◌, ◌<◌, ◌==◌, ◌||◌, ◌∙◌, ◌∷◌, ◌≡◌, ◌≢◌, ◌≤◌, ◌⊎◌}
 use Rattle.cam_base.proofs.Orders.{same_itself}
 use Rattle.least_cert.proofs.Growth.{gifted_grows, grows_none, grows_then, knows_grows, one_grows}
 use Rattle.least_cert.proofs.Leading.{knows_led, knows_least, led_knows, number_other}

@@ -1,8 +1,7 @@
 -- How edges in the making grow.
-use Rattle.std.proofs.Common.{rules}
 use Rattle.least_cert.proofs.Common.{AddsAll, AddsSome, AreCopies, Bool, Closure, Copies, Edge, Flows, Gifted, Gives, GivesAll, GivesSome, Grant, Grows, Has, HasMoreThan, IsCopy, IsGift, IsLess, IsSorted, IsSound, IsTrue, Joins, Knows, List, OfLeast}
 use Rattle.least_cert.proofs.Common.{Puts, PutsGift, Receive, Relabels, Some, [], ap, append_assoc, arith, at_has, cases_lt, edge, edges_same, false, filter_map, has, has_at, inl, inr, lead, leader_at, led_by, length, length-append, number_of}
-use Rattle.least_cert.proofs.Common.{passed_to, refl, same_edge, slice_get, slice_get_within, subst, sym, true, turn, ℕ, ◌&&◌, ◌++◌, ◌+◌, ◌<◌, ◌==◌, ◌^◌, ◌||◌, ◌↔◌, ◌∙◌, ◌∷◌, ◌≡◌, ◌≤◌, ◌⊎◌}
+use Rattle.least_cert.proofs.Common.{passed_to, refl, rules, same_edge, slice_get, slice_get_within, subst, sym, true, turn, ℕ, ◌&&◌, ◌++◌, ◌+◌, ◌<◌, ◌==◌, ◌^◌, ◌||◌, ◌↔◌, ◌∙◌, ◌∷◌, ◌≡◌, ◌≤◌, ◌⊎◌}
 use Rattle.least_cert.specs.Closing.{Adds}
 use Rattle.least_cert.proofs.Leading.{flows_then, knows_led, lead_other, lead_reply, lead_then, led_cases, led_from, led_to, least_led, number_other, other_number, reply_or_not}
 use Rattle.least_cert.proofs.Listing.{from_mapped, has_end, has_front, has_last, has_push, put_cases, put_has, put_self, to_mapped}

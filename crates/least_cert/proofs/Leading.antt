@@ -1,7 +1,6 @@
 -- Who leads whom, and the edge of a leader.
-use Rattle.std.proofs.Common.{rules}
 use Rattle.least_cert.proofs.Common.{Authority, Bool, Closure, Edge, Flows, Has, IsRelabeled, IsSound, Knows, List, OfLeast, Reply, Widens, [], ap, arith, cases_lt, edge, eqb-true, false, get_or, get_or-map, get_or_past, has, inl, inr, lead}
-use Rattle.least_cert.proofs.Common.{leader_at, led_by, length, length-append, length-map, map, ne_eqb, number_of, refl, same_itself, same_number, subst, suc, sym, true, zero, ℕ, ◌++◌, ◌+◌, ◌<◌, ◌==◌, ◌^◌, ◌∙◌, ◌∷◌, ◌≡◌, ◌≢◌, ◌≤◌, ◌⊎◌}
+use Rattle.least_cert.proofs.Common.{leader_at, led_by, length, length-append, length-map, map, ne_eqb, number_of, refl, rules, same_itself, same_number, subst, suc, sym, true, zero, ℕ, ◌++◌, ◌+◌, ◌<◌, ◌==◌, ◌^◌, ◌∙◌, ◌∷◌, ◌≡◌, ◌≢◌, ◌≤◌, ◌⊎◌}
 
 -- ---- the edge of a leader
 

@@ -1,6 +1,5 @@
 -- The rules hold for the least certificate, and it decides whether any certificate will do.
-use Rattle.std.proofs.Common.{rules}
-use Rattle.least_cert.proofs.Common.{AsyncSend, Authority, Call, Control, Edge, Grant, GrantBack, Handle, Has, InLeast, IsLeast, KeepsRules, List, Receive, Reply, Spec, ℕ, ◌≢◌}
+use Rattle.least_cert.proofs.Common.{AsyncSend, Authority, Call, Control, Edge, Grant, GrantBack, Handle, Has, InLeast, IsLeast, KeepsRules, List, Receive, Reply, Spec, ℕ, rules, ◌≢◌}
 use Rattle.cap_machine.specs.Runs.{Reaches}
 use Rattle.cert_check.specs.Valid.{Valid}
 use Rattle.cert_check.proofs.Keeps.{runs_stay}

@@ -1,6 +1,5 @@
 -- What lists of edges have: after a push, and after a filter.
-use Rattle.std.proofs.Common.{rules}
-use Rattle.least_cert.proofs.Common.{Bool, Edge, List, Option, Some, [], ap, at_has, false, filter_map, has, has_at, inl, inr, or_cases, or_left, or_right, refl, same_edge, same_edge_self, same_edge_true, sym, true, ◌++◌, ◌||◌, ◌∙◌, ◌∷◌, ◌≡◌, ◌⊎◌}
+use Rattle.least_cert.proofs.Common.{Bool, Edge, List, Option, Some, [], ap, at_has, false, filter_map, has, has_at, inl, inr, or_cases, or_left, or_right, refl, rules, same_edge, same_edge_self, same_edge_true, sym, true, ◌++◌, ◌||◌, ◌∙◌, ◌∷◌, ◌≡◌, ◌⊎◌}
 use Rattle.cam_base.proofs.Lists.{from_filter_map, to_filter_map}
 
 pub or_assoc : (a b c : Bool) → (a || (b || c)) ≡ ((a || b) || c)

@@ -1,6 +1,5 @@
 -- Which edges pass on, and what is made of the ends of two edges.
-use Rattle.std.proofs.Common.{rules}
-use Rattle.least_cert.proofs.Common.{Authority, Bool, Edge, None, Reply, Some, between_labels, edge, eq-eqb, false, from_other, if◌then◌else◌, ne_eqb, number_of, passed_to, refl, same_itself, same_number, to_other, true, ℕ, ◌==◌, ◌≡◌, ◌≢◌}
+use Rattle.least_cert.proofs.Common.{Authority, Bool, Edge, None, Reply, Some, between_labels, edge, eq-eqb, false, from_other, if◌then◌else◌, ne_eqb, number_of, passed_to, refl, rules, same_itself, same_number, to_other, true, ℕ, ◌==◌, ◌≡◌, ◌≢◌}
 
 module _ {A : Type 0} where
   chosen_none : (b : Bool) (x y : A) → (if b then None else Some x) ≡ Some y → (b ≡ false) × (x ≡ y)

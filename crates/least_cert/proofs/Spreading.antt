@@ -1,9 +1,8 @@
 -- The edges of leaders, as those of the labels that they lead, and the replies that calls ask for.
-use Rattle.std.proofs.Common.{rules}
 use Rattle.least_cert.proofs.Common.{Adds, AreReceivers, AreReplies, Authority, Bool, Call, Closure, Edge, Has, HasMoreThan, InLeast, IsAnswer, IsCertificate, IsCopy, IsLess, IsSorted, IsSound, IsSpread, Knows, List, None, OfEach, OfFirst, OfLeast}
 use Rattle.least_cert.proofs.Common.{Receive, Reply, Some, [], ap, arith, at_has, cases_lt, edge, edges_same, eqb-true, false, filter_map, first_more_at, from_other, get_or, get_or_from_slice_get, get_or_past, has, has_at, if◌then◌else◌, inl, inr}
 use Rattle.least_cert.proofs.Common.{le-ltb, leader_at, length, ltb, number_of, or_cases, or_left, or_right, receiver, refl, same_edge, same_number, slice_get, slice_get-get_or, slice_get_within, stays, subst, sym, take, take_all, take_more}
-use Rattle.least_cert.proofs.Common.{true, turn, ℕ, ◌++◌, ◌+◌, ◌<◌, ◌==◌, ◌^◌, ◌||◌, ◌∙◌, ◌≡◌, ◌≤◌}
+use Rattle.least_cert.proofs.Common.{rules, true, turn, ℕ, ◌++◌, ◌+◌, ◌<◌, ◌==◌, ◌^◌, ◌||◌, ◌∙◌, ◌≡◌, ◌≤◌}
 use Rattle.least_cert.proofs.Growth.{no_edge}
 use Rattle.least_cert.proofs.Leading.{knows_least, led_knows, lead_reply, lead_other, number_other, reply_or_not}
 use Rattle.least_cert.proofs.LeastKeeps.{least_keeps}

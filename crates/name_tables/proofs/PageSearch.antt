@@ -1,7 +1,6 @@
 -- Which regions share a page with one, where they are in the order of their first places, and how far the first so many reach.
-use Rattle.name_tables.proofs.Common.{AreReaches, IsPartitionPoint, IsReach, List, Region, [], and-true, and_right, ap, arith, cases_lt, ends_behind, false, get_or, get_or_append_left, get_or_push, is_same, length, length_push, list_any, nat_lt, not}
-use Rattle.name_tables.proofs.Common.{refl, shares, subst, suc, sym, take, true, zero, ℕ, ⊎_elim, ◌++◌, ◌+◌, ◌<◌, ◌||◌, ◌∙◌, ◌∷◌, ◌≡◌, ◌≤◌}
-use Rattle.std.proofs.Common.{◌&&◌}
+use Rattle.name_tables.proofs.Common.{IsPartitionPoint, IsReach, List, Region, [], and-true, and_right, ap, arith, cases_lt, ends_behind, false, get_or, get_or_append_left, get_or_push, is_same, length, length_push, list_any, nat_lt, not}
+use Rattle.name_tables.proofs.Common.{refl, shares, subst, suc, sym, take, true, zero, ℕ, ◌&&◌, ⊎_elim, ◌++◌, ◌+◌, ◌<◌, ◌||◌, ◌∙◌, ◌∷◌, ◌≡◌, ◌≤◌}
 use Rattle.std.proofs.Math.Seq.{take-suc}
 use Rattle.name_tables.specs.declared.reach.Reach.{Reach}
 
@@ -42,13 +41,6 @@ pub record AreReachesTo (rs : List Region) (i : ℕ) (reach : Reach) (found : Li
   pub last : IsReach (take i rs) reach
   pub each : (k : ℕ) (d : Reach) → k ≤ i → IsReach (take k rs) (get_or found k d)
 
-pub reaches_to_none : (rs : List Region) (reach : Reach) → IsReach [] reach → AreReachesTo rs 0 reach (reach ∷ [])
-reaches_to_none rs reach h = record { count = refl; last = h; each = at }
-  where
-    at : (k : ℕ) (d : Reach) → k ≤ 0 → IsReach (take k rs) (get_or (reach ∷ []) k d)
-    at zero d l = h
-    at (suc k) d l = absurd (omega arith)
-
 taken_more : (rs : List Region) (i : ℕ) (d : Region) → i < length rs → take i rs ++ get_or rs i d ∷ [] ≡ take (i + 1) rs
 taken_more rs i d l = let next : suc i ≡ i + 1 = omega arith in sym (ap (λ k. take k rs) (sym next) ∙ take-suc rs i d l)
 
@@ -69,7 +61,3 @@ reaches_to_more rs i d reach new found l h more =
           (subst (λ n. IsReach (take n rs) new) (sym at) whole))
           (cases_lt k (i + 1));
     }
-
-pub reaches_to_all : (rs : List Region) (reach : Reach) (found : List Reach) → AreReachesTo rs (length rs) reach found
-    → AreReaches rs found
-reaches_to_all rs reach found h = record { count = h.count; reach = h.each }

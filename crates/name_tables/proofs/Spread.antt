@@ -1,7 +1,6 @@
 -- What a table finds that has a few names at each place.
 use Rattle.name_tables.proofs.Common.{AreOthers, Bool, List, Name, None, Option, Some, [], ap, arith, at_place, bytes_eq, bytes_eq-Decides, cond, digest, false, found, get_or, get_or-set_other, has_room, length, length-set, nat_tests, option_or}
-use Rattle.name_tables.proofs.Common.{option_or-none, refl, spread_found, sym, true, ℕ, ◌%◌, ◌++◌, ◌<◌, ◌∙◌, ◌∷◌, ◌≡◌, ◌≢◌}
-use Rattle.std.proofs.Common.{◌==◌}
+use Rattle.name_tables.proofs.Common.{option_or-none, refl, spread_found, sym, true, ℕ, ◌==◌, ◌%◌, ◌++◌, ◌<◌, ◌∙◌, ◌∷◌, ◌≡◌, ◌≢◌}
 use Rattle.std.proofs.lemmas.Grind.{get_or-set_at}
 use Rattle.std.proofs.Math.ListN.{set}
 use Rattle.name_tables.proofs.NameLookups.{found_in}

@@ -16,7 +16,7 @@ pub use Rattle.page_tables.specs.Runs.{Ascends, Rises, first_run, front, head_of
 pub use Rattle.page_tables.specs.Shapes.{AreStacked, IsOver, shape, shapes, span}
 pub use Rattle.page_tables.specs.declared.mapping.Mapping.{Mapping}
 pub use Rattle.page_tables.specs.declared.shape.Shape.{Shape}
-pub use Rattle.std.proofs.Common.{Bool, List, None, Option, Some, [], ap, append-nil, append_assoc, arith, cond, drop, false, get_or, inl, inr, length, length-drop, map, mul_assoc, refl, replicate, subst, suc, sym, take, true, zero, ℕ, ◌*◌, ◌++◌}
+pub use Rattle.std.proofs.Common.{Bool, List, None, Ok, OnOk, Option, Some, ℕ, [], ap, append-nil, append_assoc, arith, cond, drop, false, get_or, inl, inr, length, length-drop, map, mul_assoc, refl, replicate, rules, subst, suc, sym, take, true, zero, ◌*◌, ◌++◌}
 pub use Rattle.std.proofs.Common.{◌+◌, ◌-◌, ◌/◌, ◌<◌, ◌^◌, ◌↔◌, ◌∙◌, ◌∷◌, ◌≡◌, ◌≢◌, ◌≤◌, ◌⊎◌}
 pub use Rattle.std.proofs.Math.Nat.{div-add-mod, div-div-eq-div-mul, div-eq_of_lt, div-lt_iff_lt-mul, div-mul-le_self, mod-lt, mul-div_cancel, mul-pos, suc-mul}
 pub use Rattle.std.proofs.Math.Seq.{drop-append_seam}

@@ -1,7 +1,6 @@
 -- One line more behind others, and lines in two parts.
-use Rattle.std.proofs.Common.{rules}
-use Rattle.policy_text.proofs.Common.{Bool, Entry, Kind, Line, List, None, Number, Some, Told, [], ap, append-nil, append_assoc, arith, cond, count_by, false, fault_at, filter_map-append, first_wrong, form_fault, has_label, is_new_edge, is_none}
-use Rattle.policy_text.proofs.Common.{list_any, list_any-append, new_edges, option_or, option_or-assoc, or-false, or_comm, refl, said, sum_by-append, sym, told, told_of, true, ℕ, ◌++◌, ◌+◌, ◌||◌, ◌∙◌, ◌∷◌, ◌≡◌}
+use Rattle.policy_text.proofs.Common.{Bool, Entry, Kind, Line, List, None, Number, Some, Told, [], ap, append-nil, append_assoc, arith, cond, count_by, false, fault_at, filter_map-append, first_wrong, form_fault, has_label, is_new_edge}
+use Rattle.policy_text.proofs.Common.{list_any, list_any-append, new_edges, option_or, option_or-assoc, or-false, or_comm, refl, rules, said, sum_by-append, sym, told, told_of, true, ℕ, ◌++◌, ◌+◌, ◌||◌, ◌∙◌, ◌∷◌, ◌≡◌}
 
 -- ---- one more
 

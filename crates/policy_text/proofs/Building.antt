@@ -1,7 +1,6 @@
 -- What lines say together, after one line more.
-use Rattle.std.proofs.Common.{rules}
-use Rattle.policy_text.proofs.Common.{Authority, Builds, Edge, Err, IsBuilt, Line, List, NoMemory, None, Ok, OnOk, Option, Parts, Result, Some, Told, [], ap, append-nil, built_edge, built_label, built_object, by_number, edge, false, filter_map}
-use Rattle.policy_text.proofs.Common.{filter_map-append, fold-append, insert_entry, is_name, label, narrow, nat_cmp, object, refl, sym, true, ℕ, ◌++◌, ◌∙◌, ◌∷◌, ◌≡◌}
+use Rattle.policy_text.proofs.Common.{Authority, Builds, Err, IsBuilt, Line, List, NoMemory, None, Ok, OnOk, Option, Parts, Result, Some, Told, [], ap, append-nil, built_edge, built_label, built_object, by_number, edge, false, filter_map}
+use Rattle.policy_text.proofs.Common.{filter_map-append, fold-append, insert_entry, is_name, label, narrow, nat_cmp, object, refl, rules, sym, true, ℕ, ◌++◌, ◌∙◌, ◌∷◌, ◌≡◌}
 
 one_more : {Y : Type 0} (h : Told → Option Y) (before : List Told) (t : Told) (y : Y) → h t ≡ Some y
     → filter_map h (before ++ t ∷ []) ≡ filter_map h before ++ y ∷ []

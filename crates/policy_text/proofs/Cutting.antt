@@ -1,7 +1,6 @@
 -- The first field of a text, and the fields behind it.
-use Rattle.std.proofs.Common.{rules}
-use Rattle.policy_text.proofs.Common.{Bool, Kind, List, None, Some, [], ap, arith, drop, entry_of, fails_before_first, false, fields, length, length-drop, length-slice_split, ltb-true, nat_lt, nat_tests, position, position_or_len, refl}
-use Rattle.policy_text.proofs.Common.{slice_split_first, slice_split_none, sym, take, take_all, true, ℕ, ◌+◌, ◌-◌, ◌<◌, ◌==◌, ◌∙◌, ◌∷◌, ◌≡◌, ◌≤◌}
+use Rattle.policy_text.proofs.Common.{Bool, Kind, List, None, Some, [], arith, drop, entry_of, fails_before_first, false, fields, length, length-drop, length-slice_split, ltb-true, nat_lt, nat_tests, position, refl}
+use Rattle.policy_text.proofs.Common.{rules, slice_split_first, slice_split_none, take, take_all, true, ℕ, ◌+◌, ◌-◌, ◌<◌, ◌==◌, ◌∙◌, ◌∷◌, ◌≡◌, ◌≤◌}
 
 pub cut_some : (text : List ℕ) (n : ℕ) → position (λ b. b == 32) text ≡ Some n
     → fields text ≡ take n text ∷ fields (take (length text - (n + 1)) (drop (n + 1) text))

@@ -1,10 +1,9 @@
 -- How long the lines of edges and the text of a certificate are, where its labels are below the limit.
-use Rattle.std.proofs.Common.{rules}
 use Rattle.policy_text.proofs.Common.{AsyncSend, Authority, Edge, List, [], ap, arith, edge_line, flat_map, has, length, length-append, refl, same_edge}
-use Rattle.policy_text.proofs.Common.{same_edge_self, text_of, true, ℕ, ◌*◌, ◌+◌, ◌<◌, ◌||◌, ◌∷◌, ◌≡◌, ◌≤◌}
+use Rattle.policy_text.proofs.Common.{rules, same_edge_self, text_of, true, ℕ, ◌*◌, ◌+◌, ◌<◌, ◌||◌, ◌∷◌, ◌≡◌, ◌≤◌}
 use Rattle.std.proofs.Math.Nat.{mul-suc}
 use Rattle.std.proofs.lemmas.Fmt.{length-decimal-le}
-use Rattle.std.specs.Prelude.{codes, decimal}
+use Rattle.std.specs.Prelude.{decimal}
 use Rattle.cam_base.specs.Texts.{◌⊹◌, together}
 use Rattle.policy_text.specs.PolicyLines.{cert_text}
 use Rattle.policy_text.proofs.Inserting.{or_right}

@@ -1,7 +1,6 @@
 -- Labels in the order of their numbers, after one label more.
-use Rattle.std.proofs.Common.{rules}
 use Rattle.policy_text.proofs.Common.{All, All-cons, All-nil, AllPairs, AllPairs-cons, Bool, List, NumbersDiffer, [], ap, arith, bytes_eq, bytes_eq-Decides, bytes_eq-sym, eqb-true, false, fold, insert_entry, is_label_name, label_name, list_any}
-use Rattle.policy_text.proofs.Common.{nat_cmp, nat_lt, nat_tests, or_parts, refl, sym, true, true≢false, ℕ, ◌<◌, ◌==◌, ◌||◌, ◌∙◌, ◌∷◌, ◌≡◌, ◌≢◌}
+use Rattle.policy_text.proofs.Common.{nat_cmp, nat_lt, nat_tests, or_parts, refl, rules, sym, true, true≢false, ℕ, ◌<◌, ◌==◌, ◌||◌, ◌∙◌, ◌∷◌, ◌≡◌, ◌≢◌}
 use Rattle.std.specs.Option.{is_some}
 
 abbrev pub Pairs : Type 0

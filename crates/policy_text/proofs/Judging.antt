@@ -1,9 +1,8 @@
 -- One line judged or noted, and then the lines behind it.
-use Rattle.std.proofs.Common.{rules}
 use Rattle.policy_text.proofs.Common.{Authority, Bool, Entry, Err, HasFewEdges, IsAdded, IsFault, IsLineJudged, IsNear, IsRefusal, IsSeen, Kind, Line, List, NoMemory, None, Notes, Number, Ok, OnOk, Option, PolicySyntax, Refused, Result, Seen, Some}
-use Rattle.policy_text.proofs.Common.{TextFault, Told, Words, [], ap, append_assoc, arith, at_line, bytes_eq, cond, count_by, drop, drop_more, edge, edges_limit, false, fault_at, first_wrong, form_fault, get_or, gives, has_label, is_edge, label}
+use Rattle.policy_text.proofs.Common.{TextFault, Told, Words, [], ap, append_assoc, arith, at_line, cond, count_by, drop, drop_more, edge, edges_limit, false, fault_at, first_wrong, form_fault, get_or, gives, has_label, is_edge, label}
 use Rattle.policy_text.proofs.Common.{length, map_more, map_push, meant, min, nat_le, object, option_map, option_or, or-false, or_assoc, or_comm, refl, said, subst, sum_by-append, sum_by-take-le, sym, take, take-map, told, told_line, told_lines}
-use Rattle.policy_text.proofs.Common.{true, wrong_entry, ℕ, ◌++◌, ◌+◌, ◌<◌, ◌||◌, ◌∙◌, ◌∷◌, ◌≡◌, ◌≤◌}
+use Rattle.policy_text.proofs.Common.{rules, true, wrong_entry, ℕ, ◌++◌, ◌+◌, ◌<◌, ◌||◌, ◌∙◌, ◌∷◌, ◌≡◌, ◌≤◌}
 use Rattle.cam_base.specs.declared.error.Refused.TheVariants as refused
 use Rattle.policy_text.specs.declared.entry.EntryLine.{EntryLine}
 use Rattle.policy_text.specs.declared.read.Noted.{Noted}

@@ -1,11 +1,10 @@
 -- What lines without faults mean together: numbers fit, no name and no object stands twice, and each number that is used has a
 -- label.
-use Rattle.std.proofs.Common.{rules}
-use Rattle.policy_text.proofs.Common.{All, All-cons, All-from_get_or, All-nil, AllPairs, AllPairs-cons, Authority, Bool, Decides-eqb, Edge, Entry, IsBuilt, IsPolicy, IsPolicyOf, Kind, Line, List, None, Number, NumbersDiffer, Option, Parts, Policy}
+use Rattle.policy_text.proofs.Common.{All, All-cons, All-nil, AllPairs, AllPairs-cons, Authority, Bool, Decides-eqb, Edge, Entry, IsBuilt, IsPolicy, IsPolicyOf, Kind, Line, List, None, Number, NumbersDiffer, Option, Parts, Policy}
 use Rattle.policy_text.proofs.Common.{Receive, Some, TextFault, Told, Wrong, [], ap, arith, at_line, authority_of, built_edge, built_label, built_object, by_number, bytes_eq, bytes_eq-Decides, bytes_eq-refl, codes, edge, edge_entry, edge_of}
-use Rattle.policy_text.proofs.Common.{entry_of, false, fault_at, fields, filter_map, first_wrong, get_or, gives, has, has_at, has_label, insert_entry, is_decimal, is_label_name, is_letter, is_name, is_past, is_word, is_word_byte, label, label_entry}
+use Rattle.policy_text.proofs.Common.{entry_of, false, fault_at, fields, filter_map, first_wrong, gives, has, has_at, has_label, insert_entry, is_decimal, is_label_name, is_letter, is_name, is_past, is_word, is_word_byte, label, label_entry}
 use Rattle.policy_text.proofs.Common.{label_name, label_of, label_value, labels_object, leb, length, list_all, list_any, long_entry, names_label, narrow, nat_cmp, nat_le, nat_lt, nat_tests, object, object_entry, object_of, option_map, option_map_or}
-use Rattle.policy_text.proofs.Common.{option_or, or_parts, refl, said, same_edge, same_edge_true, short_entry, subst, sym, told, true, true≢false, unwrap_or, value, within, wrong, wrong_entry, ℕ, ◌&&◌, ◌++◌, ◌==◌, ◌||◌, ◌∙◌, ◌∷◌, ◌≡◌, ◌≢◌}
+use Rattle.policy_text.proofs.Common.{option_or, or_parts, refl, rules, said, same_edge, same_edge_true, short_entry, subst, sym, told, true, true≢false, unwrap_or, value, within, wrong, wrong_entry, ℕ, ◌&&◌, ◌++◌, ◌==◌, ◌||◌, ◌∙◌, ◌∷◌, ◌≡◌, ◌≢◌}
 use Rattle.std.specs.Option.{is_some}
 use Rattle.policy_text.specs.declared.kind.Kind.TheVariants as kinds
 use Rattle.policy_text.proofs.Before.{any_more}

@@ -1,7 +1,6 @@
 -- The numbers of labels, after one label more.
-use Rattle.std.proofs.Common.{rules}
-use Rattle.policy_text.proofs.Common.{BTreeSet, Bool, IsSmall, List, Updates, [], ap, arith, cases_lt, cond, contains, eqb-true, false, get_or, inl, inr, is_at, is_some, label_name, length, list_any, list_any_more, nat_cmp, nat_tests, or_comm, refl}
-use Rattle.policy_text.proofs.Common.{sym, take, true, ℕ, ◌+◌, ◌<◌, ◌==◌, ◌^◌, ◌||◌, ◌∙◌, ◌∷◌, ◌≡◌}
+use Rattle.policy_text.proofs.Common.{BTreeSet, Bool, IsSmall, List, Updates, [], ap, arith, cases_lt, cond, contains, eqb-true, false, get_or, inr, is_at, is_some, label_name, length, list_any, list_any_more, nat_cmp, nat_tests, or_comm, refl}
+use Rattle.policy_text.proofs.Common.{rules, sym, take, true, ℕ, ◌+◌, ◌<◌, ◌==◌, ◌^◌, ◌||◌, ◌∙◌, ◌∷◌, ◌≡◌}
 use Rattle.cam_base.proofs.Orders.{is_eq-nat_cmp}
 
 is_named : (labels : List (ℕ × List ℕ)) (n : ℕ) → is_some (label_name labels n) ≡ list_any (λ l. l.0 == n) labels

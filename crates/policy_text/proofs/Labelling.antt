@@ -1,7 +1,6 @@
 -- A table of the labels of objects that is filled line by line, and the labels of a spec's objects.
-use Rattle.std.proofs.Common.{rules}
 use Rattle.policy_text.proofs.Common.{Bool, IsErrAnd, IsFault, IsLabelling, List, None, Option, Policy, Refused, Result, Some, TextFault, ap, at_drop_more, bytes_eq, cond, drop, false, first_unlabelled, get_or, length, object_label, option_or}
-use Rattle.policy_text.proofs.Common.{option_or-cond, passed_on, refl, subst, sym, true, ℕ, ◌+◌, ◌<◌, ◌∙◌, ◌∷◌, ◌≡◌}
+use Rattle.policy_text.proofs.Common.{option_or-cond, passed_on, refl, rules, subst, sym, true, ℕ, ◌+◌, ◌<◌, ◌∙◌, ◌∷◌, ◌≡◌}
 use mathlib.Core.Path.{fun_ext}
 use Rattle.cap_model.specs.declared.object_labels.Labels.{Labels}
 use Rattle.cap_model.specs.declared.spec.Spec.{Spec}

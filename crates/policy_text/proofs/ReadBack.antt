@@ -1,9 +1,8 @@
 -- What is written of a policy or a certificate is a text of it.
-use Rattle.std.proofs.Common.{rules}
-use Rattle.policy_text.proofs.Common.{All, All-head, All-tail, Bool, Edge, IsCertText, IsPolicy, IsPolicyText, Kind, List, None, Number, Option, Policy, PolicyLimit, PolicySyntax, Some, TextFault, Told, [], ap, append-nil, append_assoc, arith}
-use Rattle.policy_text.proofs.Common.{at_start, body, by_number, bytes_limit, codes, cond, count_by, decimal, drop, edge_line, edge_of, entry_of, eqb-true, false, fields, filter_map, filter_map-append, first_wrong, flat_map, form_fault, get_or, has}
+use Rattle.policy_text.proofs.Common.{All, All-head, All-tail, Bool, Edge, IsCertText, IsPolicy, IsPolicyText, Kind, List, None, Number, Option, Policy, Some, TextFault, Told, [], ap, append-nil, append_assoc, arith}
+use Rattle.policy_text.proofs.Common.{body, by_number, bytes_limit, codes, cond, count_by, decimal, drop, edge_line, edge_of, entry_of, eqb-true, false, fields, filter_map, filter_map-append, first_wrong, flat_map, form_fault, get_or}
 use Rattle.policy_text.proofs.Common.{has_label, head_fault, header, is_edge, is_headed, is_label_name, is_labelled, is_name, is_object, is_some, label_line, label_name, label_of, labels_object, length, lines, map, nat_lt, nat_tests}
-use Rattle.policy_text.proofs.Common.{number_value-decimal, object_line, object_of, option_map_or, placed, policy_lines, refl, subst, sum_by-append, sym, told, true, true≢false, ℕ, ◌++◌, ◌+◌, ◌<◌, ◌==◌, ◌^◌, ◌∙◌, ◌∷◌, ◌≡◌, ◌≤◌}
+use Rattle.policy_text.proofs.Common.{number_value-decimal, object_line, object_of, option_map_or, placed, policy_lines, refl, rules, subst, sum_by-append, sym, told, true, true≢false, ℕ, ◌++◌, ◌+◌, ◌<◌, ◌==◌, ◌^◌, ◌∙◌, ◌∷◌, ◌≡◌, ◌≤◌}
 use Rattle.cam_base.specs.Texts.{◌⊹◌}
 use Rattle.policy_text.specs.declared.kind.Kind.TheVariants as kinds
 use Rattle.policy_text.specs.PolicyLines.{policy_text, cert_text}

@@ -1,8 +1,7 @@
 -- What the readers cite as they refuse a text and as they answer.
-use Rattle.std.proofs.Common.{rules}
 use Rattle.policy_text.proofs.Common.{AreLabelled, BTreeSet, Bool, Edge, IsBuilt, IsCertRead, IsCertText, IsErrAnd, IsFault, IsPolicy, IsPolicyOf, IsPolicyRead, IsPolicyText, IsSmall, IsSorted, Kind, List, None, Number, Option, Parts, Policy}
 use Rattle.policy_text.proofs.Common.{Refused, Result, SaysEdges, Some, TextFault, Told, Words, [], ap, arith, body, cert_lines, contains, false, first_fault, first_wrong, form_fault, has, has_label, head_fault, is_labelled, label_name, nat_cmp}
-use Rattle.policy_text.proofs.Common.{nat_lt, nat_tests, option_map_or, option_or, passed_on, policy_lines, refl, subst, sym, told, true, true≢false, unwrap_or, value, within, ℕ, ◌<◌, ◌^◌, ◌∙◌, ◌≡◌}
+use Rattle.policy_text.proofs.Common.{nat_lt, nat_tests, option_map_or, passed_on, policy_lines, refl, rules, sym, told, true, true≢false, unwrap_or, value, within, ℕ, ◌<◌, ◌^◌, ◌∙◌, ◌≡◌}
 use mathlib.Core.Path.{fun_ext}
 use Rattle.std.specs.Option.{is_some}
 use Rattle.policy_text.specs.declared.kind.Kind.TheVariants as kinds

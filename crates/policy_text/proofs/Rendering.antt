@@ -1,8 +1,7 @@
 -- The rows of labels, objects and edges: their fields, and what they say.
-use Rattle.std.proofs.Common.{rules}
 use Rattle.policy_text.proofs.Common.{All, All-append, All-cons, All-nil, All-weaker, AsyncSend, Authority, Bool, Edge, Kind, List, Some, [], and_parts, ap}
 use Rattle.policy_text.proofs.Common.{append_assoc, arith, codes, decimal, digits-decimal, edge, edge_line, entry_of, false, fields, is_decimal-decimal, is_digit, is_label_byte, is_label_name, is_letter, is_name, is_word, is_word_byte, label}
-use Rattle.policy_text.proofs.Common.{label_line, leb, length, list_all, nat_lt, nat_tests, object, object_line, refl, slice_split_at, slice_split_none, text_of, true, ℕ, ◌&&◌, ◌++◌, ◌<◌, ◌==◌, ◌^◌, ◌∙◌, ◌∷◌, ◌≡◌}
+use Rattle.policy_text.proofs.Common.{label_line, leb, length, list_all, nat_lt, nat_tests, object, object_line, refl, rules, slice_split_at, slice_split_none, text_of, true, ℕ, ◌&&◌, ◌++◌, ◌<◌, ◌==◌, ◌^◌, ◌∙◌, ◌∷◌, ◌≡◌}
 use Rattle.cam_base.specs.Texts.{together}
 use Rattle.policy_text.specs.declared.kind.Kind.TheVariants as kinds
 use Rattle.policy_text.proofs.Rows.{IsRow, Item}

@@ -1,6 +1,5 @@
 -- Texts that are said of the items of a list, one after another.
-use Rattle.policy_text.proofs.Common.{List, Says, [], ap, flat_map, says_more, subst, sym, ℕ, ◌++◌, ◌∙◌, ◌∷◌, ◌≡◌}
-use Rattle.std.proofs.Common.{append-nil}
+use Rattle.policy_text.proofs.Common.{List, Says, [], ap, append-nil, flat_map, says_more, subst, sym, ℕ, ◌++◌, ◌∙◌, ◌∷◌, ◌≡◌}
 use Rattle.std.proofs.lemmas.List.Concat.{flat_map-append}
 use Rattle.cam_io.specs.declared.outputs.Outputs.{Ghosts}
 use Rattle.cam_io.specs.declared.writer.Writer.{Writer}

@@ -1,7 +1,6 @@
 -- What each text of a policy keeps: what policies keep, and labels of objects below the limit.
-use Rattle.std.proofs.Common.{rules}
-use Rattle.policy_text.proofs.Common.{All, All-cons, All-nil, Bool, IsPolicy, IsPolicyText, List, None, Number, Option, Policy, Some, Told, [], arith, body, edge, false, filter_map, first_policy_fault, first_wrong, form_fault, has_label, head_fault}
-use Rattle.policy_text.proofs.Common.{label, label_value, nat_le, nat_tests, neither, object, object_of, option_map_or, option_or, policy_lines, subst, sym, true, unwrap_or, value, ℕ, ◌++◌, ◌<◌, ◌∷◌, ◌≡◌}
+use Rattle.policy_text.proofs.Common.{All, All-cons, All-nil, Bool, IsPolicy, IsPolicyText, List, None, Number, Option, Policy, Some, Told, [], arith, body, edge, false, filter_map, first_policy_fault, first_wrong, has_label}
+use Rattle.policy_text.proofs.Common.{label, label_value, nat_le, nat_tests, neither, object, object_of, option_map_or, policy_lines, rules, subst, sym, true, unwrap_or, value, ℕ, ◌++◌, ◌<◌, ◌∷◌, ◌≡◌}
 use Rattle.policy_text.specs.declared.kind.Kind.TheVariants as kinds
 use Rattle.policy_text.proofs.Kept.{Clean, clean, formed_all, gives_small, policy_kept, right_object}
 

@@ -1,9 +1,7 @@
 -- A set of words with one word more.
-use Rattle.std.proofs.Common.{rules}
-use Rattle.policy_text.proofs.Common.{Bool, IsAdded, IsNear, List, Words, [], ap, bytes_eq, false, list_any, or_comm, refl, sym, true, ℕ, ◌++◌, ◌||◌, ◌∙◌, ◌∷◌, ◌≡◌}
+use Rattle.policy_text.proofs.Common.{Bool, IsAdded, IsNear, List, Words, [], ap, bytes_eq, false, or_comm, refl, rules, true, ℕ, ◌++◌, ◌||◌, ◌∙◌, ◌∷◌, ◌≡◌}
 use Rattle.std.specs.Borrow.{Bor}
 use Rattle.policy_text.proofs.Before.{any_more}
-use Rattle.policy_text.specs.WordSets.{has}
 
 -- the words that are found by their place stay in the set
 pub still_near : (near : List (Bor (List ℕ))) (old new : Words) (word : List ℕ) → IsAdded word old new → IsNear near old

@@ -1,7 +1,6 @@
 -- What the lines mean that are written of a policy or a certificate.
-use Rattle.std.proofs.Common.{rules}
 use Rattle.policy_text.proofs.Common.{All, All-head, All-nil, All-push, All-tail, All-weaker, AllPairs, Edge, Line, List, None, Option, Told, [], ap, append-nil, append_assoc, arith, by_number, decimal, edge_of, filter_map, fold, insert_entry}
-use Rattle.policy_text.proofs.Common.{label_of, label_value, length, map, nat_cmp, number_value-decimal, object_of, refl, suc, sym, unwrap_or, ℕ, ◌++◌, ◌+◌, ◌<◌, ◌^◌, ◌∙◌, ◌∷◌, ◌≡◌}
+use Rattle.policy_text.proofs.Common.{label_of, label_value, length, map, nat_cmp, number_value-decimal, object_of, refl, rules, suc, sym, unwrap_or, ℕ, ◌++◌, ◌+◌, ◌<◌, ◌^◌, ◌∙◌, ◌∷◌, ◌≡◌}
 use Rattle.policy_text.proofs.Inserting.{Pairs, insert_by}
 use Rattle.policy_text.proofs.Rendering.{label_item, object_item, edge_item}
 use Rattle.policy_text.proofs.Rows.{Item, line_at, told_at}

@@ -1,9 +1,8 @@
 -- With the lines that are written of a policy or a certificate nothing is wrong.
-use Rattle.std.proofs.Common.{rules}
-use Rattle.policy_text.proofs.Common.{All, All-head, All-tail, AllPairs, Authority, Bool, Edge, Entry, Line, List, None, Number, Option, Some, Told, Wrong, [], ap, arith, at_line, bytes_eq, bytes_eq-Decides, cond, count_by, decimal, edge, eqb-true}
+use Rattle.policy_text.proofs.Common.{All, All-head, All-tail, AllPairs, Authority, Bool, Edge, Entry, Line, List, None, Number, Option, Some, Told, [], ap, arith, bytes_eq, bytes_eq-Decides, cond, count_by, decimal, edge, eqb-true}
 use Rattle.policy_text.proofs.Common.{false, first_wrong, get_or, gives, has_label, is_edge, is_label, is_name, is_object, is_past, is_some, label, label_name, labels_object, length, list_any, map, names_label, nat_le, nat_lt, nat_tests, new_edges}
-use Rattle.policy_text.proofs.Common.{not, number_value, number_value-decimal, object, option_map, option_map_or, option_or, refl, says_edge, suc, sum_by-cons, sym, true, true≢false, wrong_entry, ℕ, ◌&&◌, ◌++◌, ◌+◌, ◌<◌, ◌==◌, ◌^◌, ◌||◌, ◌∙◌, ◌∷◌}
-use Rattle.policy_text.proofs.Common.{◌≡◌, ◌≢◌, ◌≤◌}
+use Rattle.policy_text.proofs.Common.{not, number_value, number_value-decimal, object, refl, suc, sum_by-cons, sym, true, true≢false, wrong_entry, ℕ, ◌&&◌, ◌++◌, ◌+◌, ◌<◌, ◌==◌, ◌^◌, ◌||◌, ◌∙◌, ◌∷◌}
+use Rattle.policy_text.proofs.Common.{rules, ◌≡◌, ◌≢◌, ◌≤◌}
 use Rattle.policy_text.proofs.Before.{any_more, count_more}
 use Rattle.policy_text.proofs.Inserting.{Pairs, neither, or_left, or_right}
 use Rattle.policy_text.proofs.Rendering.{label_item, object_item, edge_item}

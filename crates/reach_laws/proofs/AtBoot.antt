@@ -1,8 +1,7 @@
 -- What a label may do at boot that isn't Control, Read, Write or a signal of its interrupt, it holds in a CNode.
 use Rattle.reach_laws.proofs.Common.{AsyncSend, Auth, Authority, Bool, Cap, Contains, Control, Entry, Held, Kind, List, None, Object, Option, Read, Rights, Some, Spec, Structural, Write, and_parts, ap, arith, boot, buffer_of, confers, contains_at}
 use Rattle.reach_laws.proofs.Common.{entry_object, false, get_or_from_slice_get, inl, inr, irq_at, is_kind, is_space_root, kind_confers, label_of, list_all, nat_lt, none_saved, nothing_pending, object_at, of_buffer, of_irq, of_mapped}
-use Rattle.reach_laws.proofs.Common.{of_reply, of_root, of_saved, of_space, of_table, option_confers, refl, rules, same_kind, slice_get_within, subst, sym, table_of, true, true≢false, ℕ, ◌&&◌, ◌∙◌, ◌≡◌, ◌≢◌, ◌⊎◌}
-use Rattle.std.proofs.Common.{slice_get}
+use Rattle.reach_laws.proofs.Common.{of_reply, of_root, of_saved, of_space, of_table, option_confers, refl, rules, same_kind, slice_get, slice_get_within, subst, sym, table_of, true, true≢false, ℕ, ◌&&◌, ◌∙◌, ◌≡◌, ◌≢◌, ◌⊎◌}
 use Rattle.std.proofs.lemmas.List.Sums.{AllPass-from_list_all}
 use Rattle.cap_model.specs.Kept.{IsKept, fits_as, if_any, keeps, keeps_table, rise}
 use Rattle.cap_model.specs.Levels.{child, size}

@@ -23,7 +23,7 @@ pub use Rattle.sect_table.specs.declared.fault.ElfFault.{ElfFault}
 pub use Rattle.sect_table.specs.declared.image.Image.{Image}
 pub use Rattle.sect_table.specs.declared.image.Section.{Section}
 pub use Rattle.sect_table.specs.declared.program_header.ProgramHeader.{ProgramHeader}
-pub use Rattle.std.proofs.Common.{Bool, Err, List, None, Ok, Option, Result, Some, [], ap, append_assoc, arith, cond, drop, false, filter, inl, inr, leb, length, length-drop, lit<, nat_lt, not, refl, subst, suc, sym, take, true, zero, ℕ, ◌&&◌, ◌*◌}
+pub use Rattle.std.proofs.Common.{Bool, Err, List, None, Ok, Option, Result, Some, ℕ, [], ap, append_assoc, arith, cond, drop, false, filter, inl, inr, leb, length, length-drop, lit<, nat_lt, not, refl, rules, subst, suc, sym, take, true, zero, ◌&&◌, ◌*◌}
 pub use Rattle.std.proofs.Common.{◌++◌, ◌+◌, ◌-◌, ◌<◌, ◌==◌, ◌^◌, ◌∙◌, ◌∷◌, ◌≡◌, ◌≢◌, ◌≤◌, ◌⊎◌}
 pub use Rattle.std.proofs.Math.Nat.{pow-le-pow_right, pow-suc}
 pub use Rattle.std.proofs.lemmas.Bool.{and_from, and_parts, eqb-true, ltb-true, or_from}

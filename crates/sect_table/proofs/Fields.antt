@@ -1,8 +1,7 @@
 -- The fields of the lines of a table.
-use Rattle.std.proofs.Common.{rules}
 use Rattle.sect_table.proofs.Common.{AllByRecursion, Bool, HasRow, Image, List, None, Option, Section, Some, [], and_parts, ap, append_assoc, arith, codes, entry_line, false, flat_map, header, header_of, is_placed, is_silent, is_sound}
 use Rattle.sect_table.proofs.Common.{leb, list_all, ltb-true, nat_tests, not, number_value, number_value-hex_text, numbers_of, place_of, refl, section_line, section_of, spaced_fields, spelled, sym, true, writes_of, ℕ, ◌%◌, ◌&&◌, ◌++◌, ◌+◌}
-use Rattle.sect_table.proofs.Common.{◌<◌, ◌==◌, ◌^◌, ◌∙◌, ◌∷◌, ◌≡◌}
+use Rattle.sect_table.proofs.Common.{rules, ◌<◌, ◌==◌, ◌^◌, ◌∙◌, ◌∷◌, ◌≡◌}
 use Rattle.std.specs.Str.{bytes_eq}
 use Rattle.cam_base.specs.Hex.{hex_text}
 use Rattle.cam_base.specs.Names.{is_letter, is_name, is_word_byte}

@@ -1,7 +1,6 @@
 -- Tables are read back.
-use Rattle.std.proofs.Common.{rules}
 use Rattle.sect_table.proofs.Common.{AllByRecursion, Err, HasRow, HasTable, Image, IsRead, Line, List, None, Ok, Option, Refused, Result, Section, Some, [], ap, arith, fault_in, first_bad, header, header_of, image_in, inl, inr, length}
-use Rattle.sect_table.proofs.Common.{lines, list_all, nat_lt, refl, section_of, sections_of, spaced_fields, subst, sym, table_text, true, ℕ, ◌+◌, ◌∙◌, ◌∷◌, ◌≡◌, ◌≤◌, ◌⊎◌}
+use Rattle.sect_table.proofs.Common.{lines, list_all, nat_lt, refl, rules, section_of, sections_of, spaced_fields, subst, sym, table_text, true, ℕ, ◌+◌, ◌∙◌, ◌∷◌, ◌≡◌, ◌≤◌, ◌⊎◌}
 use Rattle.std.proofs.lemmas.Bool.{lt-ltb}
 use Rattle.std.proofs.lemmas.Option.{same_Some}
 use Rattle.cam_base.specs.declared.error.Refused.TheVariants as refused

@@ -1,9 +1,8 @@
 -- A table can say the image of a file.
-use Rattle.std.proofs.Common.{rules}
 use Rattle.sect_table.proofs.Common.{AllByRecursion, AreBytes, Bool, Class, Elf, ElfFault, HasRow, HasTable, Image, List, None, ProgramHeader, Section, Some, [], and_from, and_parts, ap, arith, codes, cond, decimal, drop, eqb-true, false, fault}
 use Rattle.sect_table.proofs.Common.{fault_behind, fault_of_used, fault_within, file_end, file_header, header_fault, header_length, headers, headers_fault, headers_from, image_of, is_aligned, is_sized, is_sound, is_used, is_whole, is_writable, leb}
 use Rattle.sect_table.proofs.Common.{length, limit_fault, list_all, lit<, loaded, ltb-true, memory_end, nat_lt, nat_tests, not, option_or, page_down, page_up, pow-le-pow_right, pow-suc, program_header, refl, sections_of_all, sections_of_used, short}
-use Rattle.sect_table.proofs.Common.{subst, suc, sym, table_fault, take, true, zero, zeros, zeros_behind, ℕ, ◌%◌, ◌++◌, ◌+◌, ◌-◌, ◌<◌, ◌==◌, ◌^◌, ◌∙◌, ◌∷◌, ◌≡◌, ◌≤◌}
+use Rattle.sect_table.proofs.Common.{rules, subst, suc, sym, table_fault, take, true, zero, zeros, zeros_behind, ℕ, ◌%◌, ◌++◌, ◌+◌, ◌-◌, ◌<◌, ◌==◌, ◌^◌, ◌∙◌, ◌∷◌, ◌≡◌, ◌≤◌}
 use Rattle.std.proofs.lemmas.Bool.{leb-true}
 use Rattle.cam_base.proofs.Options.{neither}
 use Rattle.sect_table.specs.Fields.{field, little}

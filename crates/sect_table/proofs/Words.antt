@@ -1,7 +1,6 @@
 -- Words, which one space parts.
-use Rattle.std.proofs.Common.{rules}
 use Rattle.sect_table.proofs.Common.{AllByRecursion, Bool, List, [], and_from, and_parts, ap, arith, false, fields, filter, length, list_all, nat_lt, nat_tests, not, onto_first, or_from, parts, refl, slice_index, spaced_fields, suc}
-use Rattle.sect_table.proofs.Common.{true, ℕ, ◌++◌, ◌-◌, ◌<◌, ◌==◌, ◌∙◌, ◌∷◌, ◌≡◌}
+use Rattle.sect_table.proofs.Common.{rules, true, ℕ, ◌++◌, ◌-◌, ◌<◌, ◌==◌, ◌∙◌, ◌∷◌, ◌≡◌}
 use Rattle.std.proofs.lemmas.List.Folds.{list_all-append}
 use Rattle.std.proofs.lemmas.List.Splits.{slice_split-cons_no, slice_split-cons_yes}
 

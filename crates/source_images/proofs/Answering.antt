@@ -1,10 +1,9 @@
 -- What is answered for readings, in terms of what was found.
-use Rattle.std.proofs.Common.{rules}
 use Rattle.source_images.proofs.Common.{AreFound, AreImagesRead, AreTablesRead, Bool, Bor, Contents, Err, Fault, Flat, Found, IfOk, Image, Images, IsAnswer, IsIn, Leaf, Line, List, Name, None, Ok, Option, Place, Reading, Result, Some, Source}
 use Rattle.source_images.proofs.Common.{SourceError, Table, [], absent, ap, arith, cond, earlier, false, file_name, files_told, first_arch, first_fault, first_missing, first_of, first_read, first_table_fault, flat_map, folder_of, get_or, image_of}
 use Rattle.source_images.proofs.Common.{images_in, least, length, length-map, lines, listed, map, merged, missing, missing_at, missing_by, missing_reading, name_of_file, names_told, noted, noted-append, noted-none, option_map}
 use Rattle.source_images.proofs.Common.{option_map_or, precedes, reading_in, reading_of, readings_of, refl, slice_get, slice_get-get_or, slice_get_past, string_bytes, subst, suc, sym, table, table_at, table_name, table_names, tables_told, too_long}
-use Rattle.source_images.proofs.Common.{true, type_number, types, unwrap_or, zero, zip, ℕ, ◌++◌, ◌+◌, ◌-◌, ◌<◌, ◌∙◌, ◌∷◌, ◌≡◌, ◌≤◌}
+use Rattle.source_images.proofs.Common.{rules, true, type_number, types, unwrap_or, zero, zip, ℕ, ◌++◌, ◌+◌, ◌-◌, ◌<◌, ◌∙◌, ◌∷◌, ◌≡◌, ◌≤◌}
 use Rattle.source_images.proofs.TableReads.{found_count}
 use Rattle.source_images.proofs.Lines.{first_line_fault, least-append, least-line_faults}
 use Rattle.source_images.proofs.Merging.{IsMerged, merged_tables}

@@ -1,8 +1,7 @@
 -- Sections of a domain that lie apart begin at addresses that differ.
-use Rattle.std.proofs.Common.{rules}
 use Rattle.source_images.proofs.Common.{AreApart, Bool, Image, Images, IsIn, List, None, Option, Placed, Section, Some, [], and_from, and_left, and_parts, and_right, ap, arith, both_ways, cases_Bool, clashes, clashes_with, eq-eqb, eqb-true, false}
 use Rattle.source_images.proofs.Common.{from_any, from_gather, image_number, in_any, inl, inr, is_run, is_sound, list_any, lt-ltb, ltb-true, nat_eq, ne_eqb, not, not-true, option_map_or, placed, refl, sections_if, sections_of, share_page, suc, sym}
-use Rattle.source_images.proofs.Common.{true, zero, ℕ, ⊎_elim, ◌%◌, ◌&&◌, ◌+◌, ◌/◌, ◌<◌, ◌^◌, ◌∙◌, ◌∷◌, ◌≡◌}
+use Rattle.source_images.proofs.Common.{rules, true, zero, ℕ, ⊎_elim, ◌%◌, ◌&&◌, ◌+◌, ◌/◌, ◌<◌, ◌^◌, ◌∙◌, ◌∷◌, ◌≡◌}
 use Rattle.std.specs.Prelude.{IsTrue}
 use Rattle.source_images.proofs.SectionsTold.{comes_from}
 use Rattle.source_images.proofs.Sorting.{Differ, Later, later_gather, later_within}

@@ -1,7 +1,6 @@
 -- Which images clash, section by section.
-use Rattle.std.proofs.Common.{rules}
 use Rattle.source_images.proofs.Common.{Bool, IsPermutation, List, Placed, [], and-false, ap, arith, at_drop_all, clashes, clashes_with, drop, drop_first, eq-eqb, false, get_or, get_or-set_other, get_or-set_same, length, length-map, list_any}
-use Rattle.source_images.proofs.Common.{list_any-IsPermutation, list_any-map, map, nat_eq, or-false, placed_told, refl, region_of, replicate, sections_told, set, shares, suc, sym, true, zero, ℕ, ◌&&◌, ◌+◌, ◌<◌, ◌||◌, ◌∙◌, ◌∷◌, ◌≡◌, ◌≤◌}
+use Rattle.source_images.proofs.Common.{list_any-IsPermutation, list_any-map, map, nat_eq, or-false, placed_told, refl, region_of, replicate, rules, sections_told, set, shares, suc, sym, true, zero, ℕ, ◌&&◌, ◌+◌, ◌<◌, ◌||◌, ◌∙◌, ◌∷◌, ◌≡◌, ◌≤◌}
 use Rattle.name_tables.specs.declared.region.Region.{Region}
 use Rattle.source_images.specs.declared.sections.Placed.{Placed as Given}
 

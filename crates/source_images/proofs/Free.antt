@@ -1,8 +1,7 @@
 -- Where no fault of address spaces stands, sections lie apart and where they may.
-use Rattle.std.proofs.Common.{rules}
 use Rattle.source_images.proofs.Common.{AreApart, AreNumbered, AreSound, Bool, Fault, Flat, Image, Images, IsIn, List, None, Placed, Some, [], arch_of, at_place, both_ways, cases_Bool, clashes, domain_faults, false, fault_at, first_space_fault}
 use Rattle.source_images.proofs.Common.{image_faults, image_number, in_any, in_place, is_inside, is_outside, leaf_faults, least-empty, list_any, none_in, not, not-false, refl, sections_end, sections_of, slice_get, space_faults, sym, true, where_true}
-use Rattle.source_images.proofs.Common.{ℕ, ⊎_elim, ◌++◌, ◌∙◌, ◌≡◌}
+use Rattle.source_images.proofs.Common.{ℕ, rules, ⊎_elim, ◌++◌, ◌∙◌, ◌≡◌}
 use Rattle.adl_meaning.specs.declared.flat.Domain.{Domain}
 use Rattle.cam_base.specs.declared.code.Code.TheVariants as code
 use Rattle.source_images.proofs.Apart.{run_by}

@@ -1,7 +1,6 @@
 -- Sections by address.
-use Rattle.std.proofs.Common.{rules}
 use Rattle.source_images.proofs.Common.{AreApart, Bool, Image, Images, IsIn, IsNonDecreasingBy, IsPermutation, IsPermutation-cons, IsPermutation-map, IsPermutation-middle, IsPermutation-refl, IsPermutation-trans, List, Placed, Some, [], ap, arith}
-use Rattle.source_images.proofs.Common.{by_address, cond, false, get_or, leb, leb-false, leb-true, length, name_of, option_map_or, placed_told, put_section, refl, sections_of, sections_told, slice_get, subst, sym, true, ℕ, ⊎_elim, ◌<◌, ◌∷◌, ◌≡◌, ◌≤◌}
+use Rattle.source_images.proofs.Common.{by_address, cond, false, get_or, leb, leb-false, leb-true, length, name_of, option_map_or, placed_told, put_section, refl, rules, sections_of, sections_told, slice_get, subst, sym, true, ℕ, ⊎_elim, ◌<◌, ◌∷◌, ◌≡◌, ◌≤◌}
 use Rattle.source_images.specs.declared.sections.Placed.{Placed as Given}
 use Rattle.source_images.proofs.Apart.{address, addresses_differ}
 use Rattle.source_images.proofs.SectionsTold.{told_at}

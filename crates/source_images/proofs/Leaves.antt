@@ -1,6 +1,5 @@
 -- What is noted of a leaf.
-use Rattle.std.proofs.Common.{rules}
-use Rattle.source_images.proofs.Common.{Arch, Bool, Flat, Image, Images, Leaf, List, Some, arch_of, get_or, image_faults, image_number, leaf_faults, length, read_place, sections_end, slice_get, ℕ, ◌<◌, ◌≡◌}
+use Rattle.source_images.proofs.Common.{Arch, Bool, Flat, Image, Images, Leaf, List, Some, arch_of, get_or, image_faults, image_number, leaf_faults, length, read_place, rules, sections_end, slice_get, ℕ, ◌<◌, ◌≡◌}
 
 pub same_tests : (p q : ℕ → Bool) → ((m : ℕ) → p m ≡ q m) → p ≡ q
 same_tests p q h = λ i m. h m i

@@ -1,7 +1,6 @@
 -- The faults of tables' lines stand in the order of the tables, so that the first of them in the list is the first fault.
-use Rattle.std.proofs.Common.{rules}
 use Rattle.source_images.proofs.Common.{Arch, Bool, Fault, Found, Header, Line, List, None, Option, Some, [], absent, ap, arith, at_first_line, bad_line, cond, earlier, earlier_assoc, false, fault_in, first_bad, header_of, least, line_fault}
-use Rattle.source_images.proofs.Common.{line_faults, listed, nat_eq, nat_lt, nat_tests, option_map, option_or, refl, spaced_fields, sym, table, too_long, true, ℕ, ◌++◌, ◌+◌, ◌<◌, ◌∙◌, ◌∷◌, ◌≡◌, ◌≤◌}
+use Rattle.source_images.proofs.Common.{line_faults, listed, nat_eq, nat_lt, nat_tests, option_map, option_or, refl, rules, spaced_fields, sym, table, too_long, true, ℕ, ◌++◌, ◌+◌, ◌<◌, ◌∙◌, ◌∷◌, ◌≡◌, ◌≤◌}
 use Rattle.cam_base.specs.Codes.{number_of}
 
 -- the first fault of two lists

@@ -1,8 +1,7 @@
 -- What comes of all that is read, in terms of what was found.
-use Rattle.std.proofs.Common.{rules}
 use Rattle.source_images.proofs.Common.{Aarch64, Arch, Arm11, Bool, Fault, Found, Header, Image, Line, List, Name, None, Option, Reading, Some, [], absent, ap, append-nil, append_assoc, arith, at_first_line, bad_between, bad_line, cond, cons_option}
 use Rattle.source_images.proofs.Common.{differs, false, fault_in, first_arch, first_bad, fold, header_in, header_of, image, image_in, images_in, is_other, is_some, length, lines, map, merged, merged_with, option_map, option_map_or, option_or}
-use Rattle.source_images.proofs.Common.{reading_in, readings_of, refl, spaced_fields, sym, table, too_long, true, true≢false, with_fault, with_more, ℕ, ◌++◌, ◌+◌, ◌∙◌, ◌∷◌, ◌≡◌}
+use Rattle.source_images.proofs.Common.{reading_in, readings_of, refl, rules, spaced_fields, sym, table, too_long, true, true≢false, with_fault, with_more, ℕ, ◌++◌, ◌+◌, ◌∙◌, ◌∷◌, ◌≡◌}
 use Rattle.source_images.specs.declared.merge.Merged.{Merged}
 use Rattle.source_images.proofs.Lines.{first_line_fault}
 

@@ -1,8 +1,7 @@
 -- The pages of sections that lie apart, by address.
-use Rattle.std.proofs.Common.{rules}
 use Rattle.source_images.proofs.Common.{Aarch64, All, AllPairs, Arch, AreApart, Arm11, Images, IsIn, List, Placed, [], and_cases, and_from, and_parts, ap, arith, both_ways, by_address, cases_Bool, clashes_with, eqb-true, false, flat_map}
 use Rattle.source_images.proofs.Common.{from_flat_map, from_map, get_or, inl, inr, is_inside, leb, leb-true, ltb-false, nat_eq, nat_lt, not, page_count, pages_of, range_with_len, refl, same_Some, section_pages, sections_end, sections_of, share_page}
-use Rattle.source_images.proofs.Common.{slice_get, suc, sym, true, zero, ℕ, ⊎_elim, ◌%◌, ◌&&◌, ◌*◌, ◌+◌, ◌/◌, ◌<◌, ◌∙◌, ◌∷◌, ◌≡◌, ◌≤◌}
+use Rattle.source_images.proofs.Common.{rules, slice_get, suc, sym, true, zero, ℕ, ⊎_elim, ◌%◌, ◌&&◌, ◌*◌, ◌+◌, ◌/◌, ◌<◌, ◌∙◌, ◌∷◌, ◌≡◌, ◌≤◌}
 use Rattle.source_images.specs.declared.pages.SectionPage.{SectionPage}
 use Rattle.source_images.proofs.Apart.{address, addresses_differ, no_clash, same_numbers, sound_numbers}
 use Rattle.source_images.proofs.InOrder.{order_climbs, order_moves}

@@ -1,7 +1,6 @@
 -- What the sections of a domain are, and what is told of them.
-use Rattle.std.proofs.Common.{rules}
 use Rattle.source_images.proofs.Common.{Bool, Image, Images, IsIn, List, Placed, Some, [], ap, append_assoc, drop, drop_first, false, flat_map, from_gather, get_or, in_place, inl, inr, is_run, length, map_push, placed, placed_told, refl, sections_if}
-use Rattle.source_images.proofs.Common.{sections_of, sections_told, slice_get, slice_get_read, subst, true, ℕ, ◌++◌, ◌+◌, ◌<◌, ◌∙◌, ◌∷◌, ◌≡◌}
+use Rattle.source_images.proofs.Common.{rules, sections_of, sections_told, slice_get, slice_get_read, subst, true, ℕ, ◌++◌, ◌+◌, ◌<◌, ◌∙◌, ◌∷◌, ◌≡◌}
 use Rattle.source_images.specs.declared.sections.Placed.{Placed as Given}
 
 pub told_push : (new old : List Given) (x : Given) → new ≡ old ++ x ∷ [] → sections_told new ≡ sections_told old

@@ -1,8 +1,7 @@
 -- Tables, read one after another.
-use Rattle.std.proofs.Common.{rules}
 use Rattle.source_images.proofs.Common.{AlikeAsRead, AlikeInTables, AreFound, AreTablesRead, Bor, Contents, Err, Found, InAll, IsFound, IsIn, IsTableRead, LearnsOnly, List, Name, Ok, Option, Reading, Result, Some, SourceError, Table, [], add-one, ap}
 use Rattle.source_images.proofs.Common.{arith, cond, false, files_told, found_bytes, found_in, get_map, get_or, in_place, length, length-append, length-map, map, names_told, nat_lt, nat_tests, reading_of, readings_of, refl, slice_get}
-use Rattle.source_images.proofs.Common.{slice_get-get_or, string_bytes, subst, suc, sym, table, table_at, table_told, tables_told, take, too_long, zero, ℕ, ◌++◌, ◌+◌, ◌<◌, ◌∙◌, ◌∷◌, ◌≡◌, ◌≤◌}
+use Rattle.source_images.proofs.Common.{rules, slice_get-get_or, string_bytes, subst, suc, sym, table, table_at, table_told, tables_told, take, too_long, zero, ℕ, ◌++◌, ◌+◌, ◌<◌, ◌∙◌, ◌∷◌, ◌≡◌, ◌≤◌}
 use Rattle.std.proofs.Math.Seq.{take-length}
 use Rattle.std.specs.FinMap.{get}
 use Rattle.cam_base.specs.declared.error.Unread.TheVariants as error

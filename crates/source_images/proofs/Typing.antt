@@ -1,8 +1,7 @@
 -- Types, one more at a time.
-use Rattle.std.proofs.Common.{rules}
 use Rattle.source_images.proofs.Common.{Bool, Bor, Fault, Flat, Leaf, List, Name, None, Option, Some, Source, [], ap, append-nil, append_assoc, arith, at_drop_more, bytes_eq, cond, cons_option, drop, false, filter_map, firsts, firsts_after, flat_map}
 use Rattle.source_images.proofs.Common.{flat_map-append, get_or, is_some, length, length-append, length-map, map, map-append, names_told, noted, noted-append, option_and_then, option_or, position, position_from, position_from-snoc}
-use Rattle.source_images.proofs.Common.{position_from-zero, refl, sym, take, take_more, true, types, with_type, ℕ, ◌++◌, ◌+◌, ◌<◌, ◌||◌, ◌∙◌, ◌∷◌, ◌≡◌, ◌≤◌}
+use Rattle.source_images.proofs.Common.{position_from-zero, refl, rules, sym, take, take_more, true, types, with_type, ℕ, ◌++◌, ◌+◌, ◌<◌, ◌||◌, ◌∙◌, ◌∷◌, ◌≡◌, ◌≤◌}
 
 -- where something stands behind all others
 pub position-push : {X : Type 0} (p : X → Bool) (xs : List X) (x : X)

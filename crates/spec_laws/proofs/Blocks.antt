@@ -1,6 +1,5 @@
 -- In a gathered list what each element gives stands apart from what the others give
-use Rattle.std.proofs.Common.{rules}
-use Rattle.spec_laws.proofs.Common.{List, Some, [], ap, arith, before, cases_lt, gather, inl, inr, length, length_append, map, range_with_len, refl, slice_get, suc, take, zero, ℕ, ◌+◌, ◌<◌, ◌∷◌, ◌≡◌, ◌≤◌}
+use Rattle.spec_laws.proofs.Common.{List, Some, [], arith, before, cases_lt, gather, inl, inr, length, length_append, map, range_with_len, refl, rules, slice_get, suc, take, zero, ℕ, ◌+◌, ◌<◌, ◌∷◌, ◌≡◌, ◌≤◌}
 
 pub behind : {X Y : Type 0} (f : ℕ → X → List Y) (xs : List X) (a b : ℕ) (x : X) → slice_get xs a ≡ Some x → a < b
     → before f xs a + length (f a x) ≤ before f xs b

@@ -1,7 +1,6 @@
 -- How many capabilities page tables have: one for each page, and one for each table that isn't a root.
-use Rattle.std.proofs.Common.{rules}
-use Rattle.spec_laws.proofs.Common.{Bool, List, Mapping, Shape, [], ap, arith, caps_of, cond, false, gather_ones, layers, length, length-map, map, put_front, refl, runs, sizes, slot_of, span, table_of, true, under, upper, uppers, ℕ, ◌+◌, ◌∙◌, ◌∷◌}
-use Rattle.spec_laws.proofs.Common.{◌≡◌, ◌≤◌}
+use Rattle.spec_laws.proofs.Common.{Bool, List, Mapping, Shape, [], ap, arith, caps_of, false, gather_ones, layers, length, length-map, map, put_front, refl, runs, sizes, slot_of, span, table_of, true, upper, uppers, ℕ, ◌+◌, ◌∙◌, ◌∷◌}
+use Rattle.spec_laws.proofs.Common.{rules, ◌≡◌, ◌≤◌}
 use Rattle.std.specs.List.{slice_index_or}
 use Rattle.page_tables.specs.Levels.{numbered}
 use Rattle.spec_laws.proofs.Totals.{total, total_append, totals}

@@ -1,8 +1,8 @@
 -- The spec of connected tables is laid out.
 use Rattle.spec_laws.proofs.Common.{AreApart, Authority, CNodeOf, Cap, Directory, EndpointOf, Handler, HasPieces, Held, Holds, HoldsPlain, IrqOf, IsConnected, IsDomains, IsIn, IsKept, IsThere, Kind, Level, LockOf, NONE, None}
 use Rattle.spec_laws.proofs.Common.{NotificationOf, Object, OfEnd, Option, OwnLock, RW, RootOf, SlotUse, Some, Tables, ThreadOf, ap, boot, confers, connection_label, device_end, domain_label, domain_no_connection, domain_no_device}
-use Rattle.spec_laws.proofs.Common.{edge, has_label, inl, inr, irq_at, is_at, is_kind, kind_of_object, kind_there, label_of, members_of_leaf, object, object_at, object_there, one_connection, one_domain, option_confers, option_map, option_map_or}
-use Rattle.spec_laws.proofs.Common.{option_plain, place, place_of, plain_kind, policy_tables, refl, rights_at, rules, slice_get, spec_of, subst, sym, tcb, thread, thread_place, threads_of, true, true≢false, use_cap, uses_at, ℕ, ◌+◌, ◌∙◌, ◌≡◌, ◌≢◌, ◌⊎◌}
+use Rattle.spec_laws.proofs.Common.{edge, has_label, inl, inr, irq_at, is_at, kind_of_object, kind_there, label_of, object, object_there, one_connection, one_domain, option_confers}
+use Rattle.spec_laws.proofs.Common.{option_plain, place, place_of, plain_kind, policy_tables, refl, rights_at, rules, spec_of, subst, sym, tcb, thread, thread_place, threads_of, true, true≢false, use_cap, uses_at, ℕ, ◌+◌, ◌∙◌, ◌≡◌, ◌≢◌, ◌⊎◌}
 use Rattle.arch_policy.specs.declared.owner.Owner.TheVariants as owners
 use Rattle.arch_policy.specs.Policies.{IsLockEdge}
 use Rattle.arch_policy.specs.Tables.{IsThere as HasLabel}

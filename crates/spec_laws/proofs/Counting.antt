@@ -1,7 +1,7 @@
 -- How many parts there are, and what a count of each kind of part comes to.
-use Rattle.spec_laws.proofs.Common.{CNodeOf, Connector, Domain, EndpointOf, FlatConnection, FrameInfo, FrameOf, Interrupt, IrqOf, List, LockOf, Notification, NotificationOf, Object, OfDomain, OwnLock, Owned, Owner}
+use Rattle.spec_laws.proofs.Common.{CNodeOf, Connector, Domain, EndpointOf, FlatConnection, FrameInfo, FrameOf, Interrupt, IrqOf, List, LockOf, Notification, NotificationOf, Object, OfDomain, OwnLock, Owned}
 use Rattle.spec_laws.proofs.Common.{PageTable, Part, Rpc, Series, SlotUse, Some, TableOf, Tables, ThreadOf, ThreadPlace, What, [], all_tables, ap, arith, cnodes, domain_tables, endpoint, endpoint_by}
-use Rattle.spec_laws.proofs.Common.{endpoints, frame_owner, frame_parts, irq_by, irq_owner, irqs, length, level_of, locks, notification, notification_by, notifications, numbered, owned, page_table, part, parts, refl, slice_get, sym, table_part}
+use Rattle.spec_laws.proofs.Common.{endpoints, frame_owner, frame_parts, irqs, length, level_of, locks, notification, notification_by, notifications, numbered, owned, page_table, part, parts, refl, slice_get, sym, table_part}
 use Rattle.spec_laws.proofs.Common.{rules, table_parts, tables_at, tcbs, thread_count, threads_at, use_count, uses_at, ℕ, ◌*◌, ◌++◌, ◌+◌, ◌∙◌, ◌∷◌, ◌≡◌, ◌≤◌}
 use Rattle.system_spec.specs.declared.series.Series.TheVariants as series
 use Rattle.system_spec.specs.Parts.{irq as irq_of, lock as lock_of}

@@ -1,5 +1,5 @@
 -- The device that a connection joins.
-use Rattle.spec_laws.proofs.Common.{Bool, FlatConnection, FlatEnd, HasDevice, IsFlat, List, None, OfConnection, OfLeaf, Some, Tables, [], ap, arith, cond, device_place, end_rule, false, irq_owner, is_at_device, leaf_label, length, lt-ltb, not}
+use Rattle.spec_laws.proofs.Common.{Bool, FlatConnection, FlatEnd, HasDevice, IsFlat, List, None, OfConnection, OfLeaf, Some, Tables, [], ap, arith, cond, device_place, end_rule, false, irq_owner, is_at_device, leaf_label, lt-ltb, not}
 use Rattle.spec_laws.proofs.Common.{number_of, option_and_then, option_map_or, own_label, policy_tables, position, position_or_len, refl, rules, slice_get, slice_get_within, subst, suc, sym, true, zero, ℕ, ◌+◌, ◌∙◌, ◌∷◌, ◌≡◌}
 use Rattle.arch_policy.specs.Ends.{EndAt}
 use Rattle.system_spec.specs.Tables.{device_end as first_device, is_hardware}

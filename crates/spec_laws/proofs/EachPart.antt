@@ -1,8 +1,8 @@
 -- What holds of the parts of what there is, of each sort, holds of every part.
 use Rattle.spec_laws.proofs.Common.{CNodeOf, Connector, Domain, EndpointOf, FlatConnection, FrameInfo, FrameOf, Interrupt, IrqOf, IsIn, List, LockOf, Notification, NotificationOf, Object, OfConnection, OfDomain, OwnLock, Owned, PageTable}
-use Rattle.spec_laws.proofs.Common.{Part, Rpc, Series, SlotUse, Some, Tables, ThreadOf, ThreadPlace, [], all_tables, by_section, cnodes, domain_locks, domain_tables, domain_tcbs, endpoint, endpoint_by, endpoints, frame_owner, frame_parts, from_gather}
-use Rattle.spec_laws.proofs.Common.{in_place, irq, irq_by, irq_owner, irqs, lock, locks, notification, notification_by, notifications, numbered, owned, page_table, part, parts, single, slice_get, subst, table_part, table_parts, tables_at, tcbs, threads_at}
-use Rattle.spec_laws.proofs.Common.{rules, uses_at, ℕ, ◌∷◌, ◌≡◌, before, from_ones, from_place, arith, inl, inr, refl, ◌+◌, ◌⊎◌}
+use Rattle.spec_laws.proofs.Common.{Part, Rpc, Series, SlotUse, Some, Tables, ThreadOf, ThreadPlace, [], all_tables, by_section, cnodes, domain_locks, domain_tables, domain_tcbs, endpoint, endpoints, frame_owner, frame_parts, from_gather}
+use Rattle.spec_laws.proofs.Common.{in_place, irq, irq_by, irq_owner, irqs, lock, locks, notification, notifications, numbered, owned, page_table, part, parts, single, slice_get, subst, table_part, table_parts, tables_at, tcbs, threads_at}
+use Rattle.spec_laws.proofs.Common.{rules, uses_at, ℕ, ◌∷◌, ◌≡◌, before, from_ones, from_place, arith, inr, refl, ◌+◌, ◌⊎◌}
 use Rattle.page_tables.specs.Levels.{level_of}
 use Rattle.system_spec.specs.declared.series.Series.TheVariants as series
 use Rattle.cam_base.proofs.NumberedLists.{single as the_one}

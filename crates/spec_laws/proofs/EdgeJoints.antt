@@ -1,10 +1,9 @@
 -- What CNodes hold, and what interrupts may signal.
-use Rattle.std.proofs.Common.{rules}
-use Rattle.spec_laws.proofs.Common.{AsyncSend, AtOtherEnd, Authority, CNodeOf, Cap, Connector, Contains, DirectReason, Domain, EndpointOf, FlatConnection, FlatEnd, From, Handle, Handler, Held, Holds, Interrupt, IrqOf, IsAccess, IsConnected}
+use Rattle.spec_laws.proofs.Common.{AtOtherEnd, Authority, CNodeOf, Cap, Connector, Contains, DirectReason, Domain, EndpointOf, FlatConnection, From, Handle, Handler, Held, Holds, Interrupt, IrqOf, IsAccess, IsConnected}
 use Rattle.spec_laws.proofs.Common.{IsIn, IsThere, LeadsTo, LockOf, NONE, Node, None, Notification, NotificationOf, Object, ObjectKind, OfEnd, OfIrq, OfJoints, OfNotification, OwnLock, Role, Rpc, SlotUse, Some, Spec, Tables, To}
 use Rattle.spec_laws.proofs.Common.{ap, arith, at_contains, at_entry, boot, boot_irq, boot_node, boot_slot, confers, connection_label, contains_at, domain_label, domain_uses, edge, end_rule, end_uses, false, from_ones, get_ones, gives, in_place, inl}
 use Rattle.spec_laws.proofs.Common.{inr, irq_at, is_at_device, joint, joint_by, kind_at, kind_confers, kind_of_object, kind_there, label_of, label_of_leaf, leaf_label, map, no_node, node_at, number_of, object, object_there, opposite, option_confers}
-use Rattle.spec_laws.proofs.Common.{option_map, owner_in, place, place_of, policy_tables, refl, rights_at, setting_of, slice_get, slice_get-map, slots_at, spec_of, subst, sym, true, use_cap, uses_at, ℕ, ◌+◌, ◌∙◌, ◌≡◌, ◌≢◌, ◌⊎◌}
+use Rattle.spec_laws.proofs.Common.{option_map, owner_in, place, place_of, policy_tables, refl, rights_at, rules, setting_of, slice_get, slice_get-map, slots_at, spec_of, subst, sym, true, use_cap, uses_at, ℕ, ◌+◌, ◌∙◌, ◌≡◌, ◌≢◌, ◌⊎◌}
 use Rattle.arch_policy.specs.Ends.{EndAt}
 use Rattle.arch_policy.specs.Tables.{Tables as Policy}
 use Rattle.cap_model.specs.Auth.{OfIrq as OfSignal}

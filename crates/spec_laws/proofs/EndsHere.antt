@@ -1,8 +1,7 @@
 -- The ends of leaves, the windows of a domain, and its threads, read both ways.
-use Rattle.std.proofs.Common.{rules}
 use Rattle.spec_laws.proofs.Common.{Bool, Connector, Domain, Flat, FlatEnd, Given, IsFlat, IsIn, Leaf, List, Member, None, Option, Some, [], ap, cond, end_of, end_window, ends, ends_at, ends_in}
 use Rattle.spec_laws.proofs.Common.{false, from_flat_map, from_gather, from_ones, get_ones, in_flat_map, in_gather, inl, is_window, joins, leaf_ends, leaf_threads, leaf_windows, leaves_of, member_ends, members_at}
-use Rattle.spec_laws.proofs.Common.{option_map_or, refl, sees_memory, slice_get, subst, sym, thread, threads_of, true, windows_of, ℕ, ◌∙◌, ◌∷◌, ◌≡◌}
+use Rattle.spec_laws.proofs.Common.{option_map_or, refl, rules, sees_memory, slice_get, subst, sym, thread, threads_of, true, windows_of, ℕ, ◌∙◌, ◌∷◌, ◌≡◌}
 use Rattle.arch_policy.specs.Ends.{EndAt}
 use Rattle.cspace_layout.specs.declared.end_at.EndAt.{EndAt as Joined}
 use Rattle.spec_laws.proofs.EndsAt.{in_member_ends, member_end}

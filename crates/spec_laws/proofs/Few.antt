@@ -1,8 +1,7 @@
 -- Objects and capabilities are few.
-use Rattle.std.proofs.Common.{rules}
-use Rattle.spec_laws.proofs.Common.{Cap, Domain, Entry, FrameInfo, FrameOf, IsSized, List, Mapping, None, Object, Option, Part, SlotUse, Some, TableOf, Tables, ThreadPlace, What, all_tables, arch, arith, as_many, cap_count, cap_sum, caps_of}
+use Rattle.spec_laws.proofs.Common.{Cap, Domain, FrameInfo, FrameOf, IsSized, List, Mapping, None, Object, Option, Part, SlotUse, Some, TableOf, Tables, ThreadPlace, What, all_tables, arch, arith, as_many, cap_count, cap_sum, caps_of}
 use Rattle.spec_laws.proofs.Common.{domain_tables, entry, frame_object, gather_ones, layers, length, length-map, level_of, map, object, object_sum, option_map_or, page_mapping, page_table, pages_at, parts, place, shapes, slice_get, some, spec_of}
-use Rattle.spec_laws.proofs.Common.{sym, tables_at, tcb, threads_at, use_cap, uses_at, ℕ, ◌+◌, ◌∙◌, ◌≡◌, ◌≤◌}
+use Rattle.spec_laws.proofs.Common.{rules, sym, tables_at, tcb, threads_at, use_cap, uses_at, ℕ, ◌+◌, ◌∙◌, ◌≡◌, ◌≤◌}
 use Rattle.cap_model.specs.declared.object.Object.TheVariants as objects
 use Rattle.spec_laws.proofs.Capping.{looked_up, of_levels}
 use Rattle.spec_laws.proofs.Counting.{Most, parts_most}

@@ -1,9 +1,8 @@
 -- Each frame has the address of a page or none, and fills a part of it or nothing.
-use Rattle.spec_laws.proofs.Common.{Content, FlatConnection, FlatEnd, FrameInfo, Given, IsIn, List, MappedPage, Memory, None, Option, Own, Region, Section, SectionPage, Settled, Shown, Some, Window, [], and_from, arith, base, by_address}
-use Rattle.spec_laws.proofs.Common.{device_frames, eq-eqb, fill_from, fill_of, frames, frames_at, from_flat_map, from_gather, from_map, from_range, in_append, in_place, inl, inr, keeps_fill, keeps_frame, le-leb, leaves_of, leb, lt-ltb, map}
-use Rattle.spec_laws.proofs.Common.{mapped_pages, memory_paddr, memory_part, min, nat_lt, option_map, option_map_or, own_frame, own_frames, own_part, page_at, page_count, page_of, pages_of, pages_of_region, range_with_len, refl, region_page}
-use Rattle.spec_laws.proofs.Common.{region_part, regions, register_frames, register_part, registers, rules, section_page, section_pages, section_part, sections_of, shared_frames, shared_part, slice_get, subst, true, ℕ, ⊎_elim, ◌%◌, ◌*◌, ◌+◌, ◌-◌, ◌<◌, ◌≡◌}
-use Rattle.source_images.specs.ByAddress.{name_of}
+use Rattle.spec_laws.proofs.Common.{Content, FlatConnection, FrameInfo, Given, IsIn, List, MappedPage, Memory, None, Option, Own, Region, Section, SectionPage, Settled, Shown, Some, Window, [], and_from, arith, base}
+use Rattle.spec_laws.proofs.Common.{device_frames, eq-eqb, fill_from, fill_of, frames, from_flat_map, from_gather, from_map, from_range, in_append, in_place, inl, inr, keeps_fill, keeps_frame, le-leb, leaves_of, lt-ltb, map}
+use Rattle.spec_laws.proofs.Common.{mapped_pages, memory_paddr, memory_part, own_frame, own_frames, own_part, page_count, page_of, pages_of_region, range_with_len, refl, region_page}
+use Rattle.spec_laws.proofs.Common.{region_part, regions, register_frames, register_part, rules, section_page, section_pages, section_part, shared_frames, shared_part, slice_get, subst, true, ℕ, ⊎_elim, ◌%◌, ◌*◌, ◌+◌, ◌-◌, ◌<◌, ◌≡◌}
 use Rattle.spec_laws.proofs.Lists.{from_if}
 
 abbrev Keeps : FrameInfo → Type 0

@@ -1,8 +1,8 @@
 -- Own frames of domains stand by domain and address, behind them shared frames, and then registers of devices
-use Rattle.spec_laws.proofs.Common.{AreFramesInOrder, CanMap, Cap, Domain, Fill, FlatConnection, FlatEnd, FrameInfo, FrameOf, IsBefore, IsNamed, IsOwn, IsOwnAt, IsRegisterAt, IsSharedAt, List, MappedPage, Mmio, Option, Own, Owned, Part, SharedMemory}
+use Rattle.spec_laws.proofs.Common.{AreFramesInOrder, CanMap, Domain, Fill, FlatConnection, FlatEnd, FrameInfo, FrameOf, IsBefore, IsNamed, IsOwn, IsOwnAt, IsRegisterAt, IsSharedAt, List, MappedPage, Mmio, Option, Own, Owned, Part, SharedMemory}
 use Rattle.spec_laws.proofs.Common.{Some, Tables, [], ap, arith, at_place, before, below, cases_lt, false, frame_owner, frame_parts, get_ones, get_or_from_slice_get, in_gather, in_together, inl, inr, is_shared, leads_to, length, mapped_pages}
-use Rattle.spec_laws.proofs.Common.{memory_number, name_at, number_shown, numbered, object_at, objects_stand, option_map_or, own_frames, own_number, own_part, own_port, owned, part, place, position-Some, refl, register_frames, registers}
-use Rattle.spec_laws.proofs.Common.{registers_in, root_of, rules, same_port, sections, shared_frames, shared_part, slice_get, spec_of, subst, sym, system, true, true≢false, ℕ, ◌+◌, ◌/◌, ◌<◌, ◌∙◌, ◌∷◌, ◌≡◌, ◌≤◌, ◌⊎◌, IsThere}
+use Rattle.spec_laws.proofs.Common.{memory_number, name_at, numbered, object_at, objects_stand, own_frames, own_number, own_part, own_port, owned, part, place, position-Some, refl, register_frames, registers}
+use Rattle.spec_laws.proofs.Common.{registers_in, root_of, rules, sections, shared_frames, shared_part, slice_get, spec_of, subst, sym, system, true, true≢false, ℕ, ◌+◌, ◌/◌, ◌<◌, ◌∙◌, ◌∷◌, ◌≡◌, ◌≤◌, ◌⊎◌, IsThere}
 use Rattle.cap_model.specs.declared.object.Object.TheVariants as objects
 use Rattle.system_spec.specs.declared.series.Series.TheVariants as series
 use Rattle.spec_laws.proofs.Whose.{object_stands, of_frame}

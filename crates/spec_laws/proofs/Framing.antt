@@ -3,7 +3,7 @@ use Rattle.spec_laws.proofs.Common.{Bool, CanMap, Connector, Content, Domain, En
 use Rattle.spec_laws.proofs.Common.{SharedMemory, Shown, Some, Spaces, Tables, Window, [], and_parts, ap, arith, base, begins, below, below_count, eqb-true, false, first_to, frame, frame_object, frames, frames_stand, from_gather, from_map, get_or}
 use Rattle.spec_laws.proofs.Common.{in_append, in_place, inl, inr, is_shared, is_window, leads_to, leaves_of, mapped_pages, memory_number, memory_paddr, memory_pages, number_shown, object_at, option_map_or, own_port, page_of, pages_of_region, place}
 use Rattle.spec_laws.proofs.Common.{position, position-Some, position_found, range_with_len, refl, region_page, region_part, regions, registers, same_port, section_page, section_pages, section_part, slice_get, slice_get-get_or, spec_of, subst, sym}
-use Rattle.spec_laws.proofs.Common.{rules, system, to_place, true, ℕ, ◌*◌, ◌+◌, ◌/◌, ◌<◌, ◌==◌, ◌∙◌, ◌∷◌, ◌≡◌, ◌⊎◌, object_there}
+use Rattle.spec_laws.proofs.Common.{rules, system, true, ℕ, ◌*◌, ◌+◌, ◌/◌, ◌<◌, ◌==◌, ◌∙◌, ◌∷◌, ◌≡◌, ◌⊎◌, object_there}
 use Rattle.system_spec.specs.declared.series.Series.TheVariants as series
 use Rattle.vspace_layout.specs.declared.owner.Owner.TheVariants.{OfConnection, OfDomain, OfLeaf}
 use Rattle.spec_laws.proofs.Paging.{window_of}

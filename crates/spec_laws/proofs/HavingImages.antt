@@ -1,7 +1,7 @@
 -- Each leaf of software has an image: its component stands in the source, and types list the component's name.
-use Rattle.spec_laws.proofs.Common.{AreImagesOf, AreNamesSound, Body, Bool, Component, Contents, Ended, HaveImages, Images, IsIn, Item, ItemAt, Leaf, List, Name, None, Option, Some, Source, SourceFile, ap, arith, as_component, body_number, bytes_eq}
-use Rattle.spec_laws.proofs.Common.{bytes_eq-Decides, component_of, components, cond, enumerate_from, filter_map, flat_of, from_enumerate, from_filter_map, from_flat_map, from_get_map, from_map, get_map, hierarchy_of, image_number, in_filter_map}
-use Rattle.spec_laws.proofs.Common.{in_get, items_in, items_of, leaf_component, leaf_of, leaves, option_and_then, position, position_found, refl, rules, slice_get, subst, sym, type_number, type_of, types, unwrap_or, ℕ, ◌∙◌, ◌≡◌}
+use Rattle.spec_laws.proofs.Common.{AreImagesOf, AreNamesSound, Body, Bool, Component, Contents, HaveImages, Images, IsIn, Item, ItemAt, Leaf, List, Name, None, Option, Some, Source, ap, arith, body_number, bytes_eq}
+use Rattle.spec_laws.proofs.Common.{bytes_eq-Decides, component_of, components, cond, filter_map, flat_of, from_enumerate, from_filter_map, from_flat_map, from_get_map, from_map, get_map, hierarchy_of, image_number, in_filter_map}
+use Rattle.spec_laws.proofs.Common.{in_get, items_of, leaf_component, leaf_of, leaves, option_and_then, position, position_found, refl, rules, slice_get, sym, type_number, type_of, types, unwrap_or, ℕ, ◌∙◌, ◌≡◌}
 use Rattle.adl_ast.specs.declared.file.Item.TheVariants as items
 use Rattle.adl_hierarchy.proofs.Places.{firsts_are}
 use Rattle.cam_base.proofs.Gathered.{place_of as listed_at}

@@ -1,6 +1,5 @@
 -- The images of a system, put together
-use Rattle.std.proofs.Common.{rules}
-use Rattle.spec_laws.proofs.Common.{AreImages, CanMap, CanSlot, List, Tables, [], ap, entry, labels_of, length, map, map_lines, part_label, parts, refl, root_of, spec_of, suc, ◌∷◌, ◌≡◌}
+use Rattle.spec_laws.proofs.Common.{AreImages, CanMap, CanSlot, List, Tables, [], ap, labels_of, length, map, map_lines, refl, root_of, rules, spec_of, suc, ◌∷◌, ◌≡◌}
 use Rattle.spec_laws.proofs.AllFrames.{all_frames}
 use Rattle.spec_laws.proofs.DomainLines.{domains_are}
 use Rattle.spec_laws.proofs.FramesInOrder.{frames_in_order}

@@ -1,8 +1,8 @@
 -- An interrupt has an end at a device, and no two interrupts have one number.
 use Rattle.spec_laws.proofs.Common.{AreDotted, AreNamesSound, AreSettingsSound, FlatConnection, FlatEnd, Found, From, Interrupt, IsIn, List, None, Option, Role, Some, Source, To, [], alone, and_from, ap, arith, bad_at_end, bad_unless, bad_value}
 use Rattle.spec_laws.proofs.Common.{cond, cond_both, count_by, counted, device_place, end_rule, ends_typed, eq-eqb, first_type_fault, flat_of, found_on, founds_in, get_map, hierarchy_of, in_filter_map, in_flat_map, in_map, in_place, irq_in}
-use Rattle.spec_laws.proofs.Common.{irq_number, irq_of, is_device_event, is_kind_of, is_some, is_there, le-leb, leb-true, leb_tells, map, map-append, meaning, missing_at, nat_le, none_in, none_right, option_and_then, option_map_or, or_right}
-use Rattle.spec_laws.proofs.Common.{place_of, position_found, refl, rules, setting_of, settled_of, slice_get, so, some_end, subst, sum_by-append, sum_by-cons, sym, true, unwrap_or, ℕ, ◌+◌, ◌==◌, ◌∙◌, ◌∷◌, ◌≡◌, ◌≤◌}
+use Rattle.spec_laws.proofs.Common.{irq_number, irq_of, is_device_event, is_some, is_there, le-leb, leb-true, leb_tells, map, map-append, meaning, missing_at, nat_le, none_in, none_right, option_and_then, or_right}
+use Rattle.spec_laws.proofs.Common.{place_of, position_found, refl, rules, settled_of, slice_get, so, some_end, subst, sum_by-append, sum_by-cons, sym, true, ℕ, ◌+◌, ◌==◌, ◌∙◌, ◌∷◌, ◌≡◌, ◌≤◌}
 use Rattle.std.specs.Prelude.{option_map}
 use Rattle.adl_hierarchy.proofs.Exports.{not_so}
 use Rattle.adl_meaning.specs.Values.{Given}

@@ -1,7 +1,6 @@
 -- The labels of interrupts
-use Rattle.std.proofs.Common.{rules}
 use Rattle.spec_laws.proofs.Common.{CanMap, Connector, FlatConnection, IrqOf, IsIn, IsIrqOf, IsOf, NotificationOf, OfConnection, Some, Tables, ap, arith, below, in_place, inl, irq_owner, labels_of, name_at, notification_by, object, objects_stand}
-use Rattle.spec_laws.proofs.Common.{option_map_or, part, parts, parts_are_there, place, place_is, refl, slice_get, spec_of, subst, sym, ℕ, ◌∙◌, ◌≡◌, there, IsThere}
+use Rattle.spec_laws.proofs.Common.{option_map_or, part, parts, parts_are_there, place, place_is, refl, rules, slice_get, spec_of, subst, sym, ℕ, ◌∙◌, ◌≡◌, there, IsThere}
 use Rattle.cap_model.specs.declared.object.Object.TheVariants as objects
 use Rattle.system_spec.specs.declared.series.Series.TheVariants as series
 use Rattle.spec_laws.proofs.Names.{same_number}

@@ -1,11 +1,9 @@
 -- The labels of endpoints and notifications
-use Rattle.std.proofs.Common.{rules}
-use Rattle.spec_laws.proofs.Common.{CanMap, Directory, Entry, FlatConnection, Interrupt, IsIn, IsNamed, IsOf, Level, List, None, Notification, OfConnection, Option, Part, Rpc, Series, Some, Tables, [], ap, arith, below, endpoint, entry, entry_name}
-use Rattle.spec_laws.proofs.Common.{from_get_map, in_place, labels_of, length, level_series, map, name_of, notification, part_name, parts, place_is, refl, slice_get, spec_of, subst, sym, ℕ, ◌<◌, ◌∙◌, ◌∷◌, ◌≡◌, ◌⊎◌, true, false, true≢false, Bool}
+use Rattle.spec_laws.proofs.Common.{CanMap, Directory, FlatConnection, Interrupt, IsIn, IsNamed, IsOf, Level, List, None, Notification, OfConnection, Option, Part, Rpc, Series, Some, Tables, [], ap, arith, below, endpoint}
+use Rattle.spec_laws.proofs.Common.{from_get_map, in_place, labels_of, length, level_series, name_of, notification, part_name, parts, place_is, refl, rules, slice_get, spec_of, subst, ℕ, ◌<◌, ◌∙◌, ◌∷◌, ◌≡◌, ◌⊎◌, true, false, true≢false, Bool}
 use Rattle.system_spec.specs.declared.series.Series.TheVariants as series
 use Rattle.spec_laws.proofs.Labels.{label_is}
 use Rattle.spec_laws.proofs.EachPart.{of_every}
-use Rattle.page_tables.specs.Levels.{level_of}
 use Rattle.spec_laws.proofs.Names.{same_number, same_series}
 
 -- ---- which parts are named as endpoints and notifications

@@ -1,8 +1,7 @@
 -- Each object is of the kind that its name says
-use Rattle.std.proofs.Common.{rules}
-use Rattle.spec_laws.proofs.Common.{Directory, Each, FrameOf, IsIn, Layer, Level, List, Mapping, Object, Part, Some, TableOf, Tables, [], addresses_same, ap, arch, each_append, endpoint, entry, entry_name, frame_object, get_map, in_place, irq}
-use Rattle.spec_laws.proofs.Common.{kind_of_object, layers, level_series, levels_of, levels_of_addresses, lock, map, notification, object, option_map_or, page_mapping, pages_at, parts, place, refl, same_Some, shapes, sizes, slice_get, spec_of, subst}
-use Rattle.spec_laws.proofs.Common.{suc, sym, table_of, tables_at, tcb, zero, ℕ, ◌+◌, ◌∙◌, ◌∷◌, ◌≡◌}
+use Rattle.spec_laws.proofs.Common.{Directory, Each, FrameOf, IsIn, Layer, Level, List, Mapping, Object, Part, Some, TableOf, Tables, [], addresses_same, ap, each_append, entry, entry_name, get_map, in_place}
+use Rattle.spec_laws.proofs.Common.{kind_of_object, level_series, levels_of_addresses, map, object, page_mapping, pages_at, parts, place, refl, same_Some, sizes, slice_get, spec_of, subst}
+use Rattle.spec_laws.proofs.Common.{rules, suc, sym, table_of, tables_at, zero, ℕ, ◌+◌, ◌∙◌, ◌∷◌, ◌≡◌}
 use Rattle.cap_model.specs.declared.kind.Kind.TheVariants as kinds
 use Rattle.cap_model.specs.declared.object.Object.TheVariants as objects
 use Rattle.page_tables.specs.Levels.{level_of, numbered as in_levels}

@@ -1,9 +1,9 @@
 -- What is laid out is written in numbers of 64 bits and in plain texts.
-use Rattle.spec_laws.proofs.Common.{Aarch64, Arch, Arm11, CNodeOf, Cap, Connector, Domain, Fill, FlatEnd, FrameInfo, FrameOf, From, IsFillWritten, IsFit, IsFrameWritten, IsIn, IsThere, IsThreadWritten, IsWritten, Layer, List, Mapping, None, Object}
-use Rattle.spec_laws.proofs.Common.{OfEnd, Option, Part, RW, Role, Series, Shape, SlotUse, Some, TableOf, Tables, ThreadOf, ThreadPlace, To, What, [], and_from, and_parts, ap, arch, are_slots, arith, cap, decimal, end_of, eqb-true, false}
+use Rattle.spec_laws.proofs.Common.{Aarch64, Arch, Arm11, CNodeOf, Cap, Connector, Domain, Fill, FlatEnd, FrameInfo, FrameOf, IsFillWritten, IsFit, IsFrameWritten, IsIn, IsThere, IsThreadWritten, IsWritten, Layer, List, Mapping, None, Object}
+use Rattle.spec_laws.proofs.Common.{OfEnd, Option, Part, RW, Series, Shape, SlotUse, Some, TableOf, Tables, ThreadOf, ThreadPlace, What, [], and_from, and_parts, ap, arch, are_slots, arith, cap, decimal, end_of, eqb-true, false}
 use Rattle.spec_laws.proofs.Common.{false_from_ne_true, frame_object, from_gather, from_map, if_any, in_place, inl, inr, is_fill, is_laid, is_name, is_name-numbered, is_number, is_plain, is_tcb, is_word, is_word_byte, layers, leaf_name, length}
 use Rattle.spec_laws.proofs.Common.{length-append, length-decimal-le, list_all, lt-ltb, map, name_short, not, not_from_false, object, option_map_or, part_name, place, prefix, refl, role_badge, same_Some, settled_badge, shape_of_layer, shapes}
-use Rattle.spec_laws.proofs.Common.{rules, slice_get, slice_get_within, slot_of, slots_at, slots_below, slots_lead, subst, sym, table_of, tcb, threads_at, true, true≢false, use_cap, uses_at, ℕ, ◌&&◌, ◌++◌, ◌+◌, ◌<◌, ◌==◌, ◌^◌, ◌∙◌, ◌∷◌, ◌≡◌, ◌≤◌}
+use Rattle.spec_laws.proofs.Common.{rules, slice_get, slice_get_within, slot_of, slots_at, slots_below, slots_lead, subst, sym, table_of, tcb, threads_at, true, true≢false, use_cap, ℕ, ◌&&◌, ◌++◌, ◌+◌, ◌<◌, ◌==◌, ◌^◌, ◌∙◌, ◌∷◌, ◌≡◌, ◌≤◌}
 use Rattle.std.specs.Option.{option_map}
 use Rattle.cap_model.specs.declared.object.Object.TheVariants as objects
 use Rattle.capdl_text.specs.TokenFaults.{is_left_out_word}

@@ -1,7 +1,7 @@
 -- No two uses have one lock
-use Rattle.spec_laws.proofs.Common.{CNodeOf, CanSlot, Cap, Connector, Domain, Each, Entry, FlatConnection, Handler, Interrupt, IrqOf, IsIn, IsJoint, IsNamed, List, LockOf, None, Object, OfDomain, OfEnd, Option, OwnLock, OwnLocks, Owned, Part, Rpc}
-use Rattle.spec_laws.proofs.Common.{SlotPlan, SlotUse, Slots, Some, Spec, Tables, [], ap, arith, before, domain_locks, domain_uses, entry, entry_object, from_gather, from_get_map, in_gather, in_together, inl, interrupt, irq_owner, lock, locks, map}
-use Rattle.spec_laws.proofs.Common.{name_at, name_of, numbered, object, object_at, objects_stand, option_map_or, owned, part, parts, place, place_of, plan_of, refl, sections, single, slice_get, slots_at, spec_of, stands, subst, suc, sym, use_cap}
+use Rattle.spec_laws.proofs.Common.{CNodeOf, CanSlot, Cap, Connector, Domain, Each, FlatConnection, Handler, Interrupt, IrqOf, IsIn, IsJoint, IsNamed, List, LockOf, None, Object, OfDomain, OfEnd, Option, OwnLock, OwnLocks, Owned, Part, Rpc}
+use Rattle.spec_laws.proofs.Common.{SlotUse, Some, Spec, Tables, [], ap, arith, before, domain_locks, from_gather, from_get_map, in_gather, in_together, inl, interrupt, irq_owner, lock, locks, map}
+use Rattle.spec_laws.proofs.Common.{name_at, name_of, numbered, object, object_at, objects_stand, owned, part, parts, place, place_of, refl, sections, single, slice_get, slots_at, spec_of, stands, subst, suc, sym, use_cap}
 use Rattle.spec_laws.proofs.Common.{rules, uses_at, zero, ℕ, ◌+◌, ◌∙◌, ◌∷◌, ◌≡◌}
 use Rattle.adl_meaning.specs.declared.connector.Connector.TheVariants.{Notification as Notifies}
 use Rattle.cap_model.specs.declared.object.Object.TheVariants as objects

@@ -2,7 +2,7 @@
 use Rattle.spec_laws.proofs.Common.{AtOtherEnd, Bool, Buffer, Domain, Fill, FlatConnection, FlatEnd, FrameInfo, FrameOf, From, Given, IsConnected, IsIn, IsThere, LeadsTo, MappedPage, Memory, Mmio, None, ObjectKind, OfDevice, OfFrames, Option, Own}
 use Rattle.spec_laws.proofs.Common.{Page, Read, Region, Role, SectionPage, SharedMemory, Some, Space, Stack, Tables, ThreadPlace, To, [], ap, arith, base, end_rule, first_to_end, flat_map, frame, frame_owner, frames, frames_stand, from_flat_map}
 use Rattle.spec_laws.proofs.Common.{from_gather, from_map, from_ones, from_range, gather, get_ones, given_tables, gives, in_append, in_gather, in_map, in_place, in_right, inl, inr, is_at_device, is_shared, is_to, leaf_label, leaves_of, map}
-use Rattle.spec_laws.proofs.Common.{mapped_pages, may_read, may_write, memory_number, memory_pages, number_of, number_shown, opposite, option_and_then, option_map_or, own_label, page, page_of, pages_at, pages_of_region, place_of, policy_tables}
+use Rattle.spec_laws.proofs.Common.{mapped_pages, may_read, may_write, memory_number, memory_pages, number_of, number_shown, opposite, option_map_or, own_label, page, page_of, pages_at, pages_of_region, place_of, policy_tables}
 use Rattle.spec_laws.proofs.Common.{position_or_len, range_with_len, refl, region, region_part, region_start, regions, register_frame, registers, registers_in, same_port, section_page, section_pages, section_part, setting_of, slice_get}
 use Rattle.spec_laws.proofs.Common.{rules, slice_get_within, space, subst, sym, thread_place, thread_regions, threads_at, threads_of, true, window_pages, window_region, windows_of, ℕ, ◌+◌, ◌<◌, ◌∙◌, ◌∷◌, ◌≡◌, ◌⊎◌, and_from, eq-eqb}
 use lib.Dec.{eqb}

@@ -1,8 +1,7 @@
 -- The tables of a source without faults keep what the laws of images ask, where each leaf of software has an image.
-use Rattle.std.proofs.Common.{rules}
 use Rattle.spec_laws.proofs.Common.{AreFilesShort, AreNamesSound, AreNumbered, AreSound, CanMap, FlatEnd, HaveImages, Images, Leaf, None, Some, Source, and_from, below, end_rule, end_setting, ends_typed, eq-eqb, first_flat_fault, first_page_limit}
 use Rattle.spec_laws.proofs.Common.{first_setting_fault, first_slot_fault, first_space_fault, first_type_fault, flat_of, get_map, given, hardware_fits, hierarchy_of, inl, inr, leaf_found, leaf_listed, leaf_members, leaf_owned, leaf_setting}
-use Rattle.spec_laws.proofs.Common.{leaves_found, length, members_at, members_of_leaf, one_assembly, refl, settings_sound, settled_of, slice_get, subst, sym, tables_from, ⊎_elim, ◌<◌, ◌==◌, ◌∙◌, ◌≡◌}
+use Rattle.spec_laws.proofs.Common.{leaves_found, length, members_at, members_of_leaf, one_assembly, refl, rules, settings_sound, settled_of, slice_get, subst, sym, tables_from, ⊎_elim, ◌<◌, ◌==◌, ◌∙◌, ◌≡◌}
 use Rattle.adl_ast.specs.declared.component.Member.TheVariants as members
 use Rattle.spec_laws.proofs.Bounds.{can_lay, dotted, registers_there}
 use Rattle.spec_laws.proofs.PageCounts.{few_pages}

@@ -1,8 +1,7 @@
 -- Frames that no window shows are mapped once, and filled as their pages say
-use Rattle.std.proofs.Common.{rules}
 use Rattle.spec_laws.proofs.Common.{AreOwnFrames, Bool, Buffer, CanMap, Cap, Content, Domain, EndAt, Fill, Frame, FrameInfo, FrameOf, IsAt, IsIn, IsOwn, IsRegionPage, IsSectionPage, List, MappedPage, Memory, None, Option, Own, Region, Shown, Some}
 use Rattle.spec_laws.proofs.Common.{Spaces, Stack, Tables, Window, ap, arch, arith, before, begins, below, frame, frames_stand, in_left, in_map, in_place, leaves_of, length, mapped_pages, number_shown, object_at, own_frame, own_frames, own_number}
-use Rattle.spec_laws.proofs.Common.{place, place_of, refl, region_page, root_of, root_span, section_page, section_pages, section_part, shapes, slice_get, spec_of, subst, sym, system, ℕ, ◌*◌, ◌+◌, ◌/◌, ◌<◌, ◌∙◌, ◌≡◌}
+use Rattle.spec_laws.proofs.Common.{place, place_of, refl, region_page, root_of, root_span, rules, section_page, section_pages, section_part, shapes, slice_get, spec_of, subst, sym, system, ℕ, ◌*◌, ◌+◌, ◌/◌, ◌<◌, ◌∙◌, ◌≡◌}
 use Rattle.vspace_layout.specs.declared.owner.Owner.TheVariants.{OfDomain}
 use Rattle.spec_laws.proofs.Blocks.{apart, inside}
 use Rattle.spec_laws.proofs.Finding.{Found, found}

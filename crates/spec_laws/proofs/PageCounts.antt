@@ -1,8 +1,5 @@
 -- How many pages and page tables there are, where no limit on them is passed.
-use Rattle.std.proofs.Common.{rules}
-use Rattle.spec_laws.proofs.Common.{Assembly, Given, ItemAt, None, [], ap, assemblies, first_page_limit, flat_map, least-empty, limit_passed, none_left, none_right, not_passed, page_counts, page_faults, sum, sym, table_counts, ◌∙◌, ◌∷◌, ◌≡◌, ◌≤◌}
-use Rattle.std.specs.Prelude.{codes}
-use Rattle.vspace_layout.specs.PageLimits.{limits_passed}
+use Rattle.spec_laws.proofs.Common.{Assembly, Given, ItemAt, None, [], assemblies, first_page_limit, least-empty, none_left, none_right, not_passed, page_counts, rules, sum, table_counts, ◌∙◌, ◌∷◌, ◌≡◌, ◌≤◌}
 
 -- all domains together have at most so many pages, and so many page tables
 pub record AreFewPages (g : Given) : Type 0 where

@@ -1,9 +1,8 @@
 -- What is mapped in the space of a domain is what the source and its images say
-use Rattle.std.proofs.Common.{rules}
 use Rattle.spec_laws.proofs.Common.{AreSettled, Bool, Buffer, Content, Domain, EndAt, EndSetting, Fill, IsIn, IsRegionPage, IsSectionPage, List, MappedPage, MapsPage, Option, Placed, Region, Section, SectionPage, Some, Stack, Tables, Window, [], ap}
 use Rattle.spec_laws.proofs.Common.{base, begins, below_count, by_address, eq-eqb, false, fill_of, from_flat_map, from_gather, from_map, image_number, in_any, in_append, in_flat_map, in_gather, in_left, in_map, in_place, in_right, inl, inr, is_run}
 use Rattle.spec_laws.proofs.Common.{leaves_of, map, mapped_pages, may_read, may_write, nat_eq, option_map_or, page_at, page_count, page_of, pages_of, pages_of_region, place_of, placed, range_with_len, refl, region_page, region_part, regions}
-use Rattle.spec_laws.proofs.Common.{section_page, section_pages, section_part, sections_if, sections_of, setting_of, slice_get, subst, sym, system, thread_regions, threads_of, true, window_region, windows_of, ℕ, ◌*◌, ◌+◌, ◌∙◌, ◌∷◌, ◌≡◌, arith}
+use Rattle.spec_laws.proofs.Common.{rules, section_page, section_pages, section_part, sections_if, sections_of, setting_of, slice_get, subst, sym, system, thread_regions, threads_of, true, window_region, windows_of, ℕ, ◌*◌, ◌+◌, ◌∙◌, ◌∷◌, ◌≡◌, arith}
 use Rattle.std.proofs.lemmas.List.Sorted.{IsPermutation-sym}
 use Rattle.source_images.specs.ByAddress.{name_of}
 use Rattle.source_images.specs.Images.{runs}

@@ -1,8 +1,8 @@
 -- Where slots and spaces are within their limits, what is made of them can be built.
-use Rattle.spec_laws.proofs.Common.{AreNamed, CNodeOf, CanLay, Connector, Domain, FlatConnection, FrameInfo, FrameOf, Given, IsBuildable, IsIn, List, None, Notification, Object, OfDomain, Option, OwnLock, Page, PageTable, Rises, SectionsStand}
-use Rattle.spec_laws.proofs.Common.{SlotPlan, SlotUse, Some, Tables, ThreadOf, ThreadPlace, [], all_tables, arch, arith, as_many, cnodes, domain_locks, domain_tables, domain_tcbs, endpoint, endpoint_by, endpoints, few_tables, frame_owner}
-use Rattle.spec_laws.proofs.Common.{frame_parts, gather, gather_ones, irq, irq_by, irq_owner, irqs, layers, length, length-gather, length-map, level_of, lock, locks, map, notification, notification_by, notifications, numbered, option_map_or, owned}
-use Rattle.spec_laws.proofs.Common.{page_counts, page_mapping, page_table, pages_at, parts, refl, rules, shapes, slice_get, slots_of, spaces_of, subst, sum, sym, table_part, table_parts, tables_at, tcbs, threads_at, uses_at, ℕ, ◌*◌, ◌+◌, ◌<◌, ◌≡◌, ◌≤◌}
+use Rattle.spec_laws.proofs.Common.{AreNamed, CanLay, FlatConnection, Given, IsBuildable, IsIn, List, None, Object, OfDomain, Option, Page, Rises, SectionsStand}
+use Rattle.spec_laws.proofs.Common.{SlotUse, Some, Tables, ThreadOf, ThreadPlace, [], all_tables, arch, arith, as_many, cnodes, domain_locks, domain_tables, domain_tcbs, endpoint, endpoints, few_tables}
+use Rattle.spec_laws.proofs.Common.{frame_parts, gather, gather_ones, irq, irqs, layers, length, length-gather, length-map, level_of, lock, locks, map, notification, notifications, numbered, option_map_or, owned}
+use Rattle.spec_laws.proofs.Common.{page_counts, page_mapping, page_table, pages_at, parts, refl, rules, shapes, slice_get, slots_of, spaces_of, subst, sum, sym, table_parts, tables_at, tcbs, threads_at, uses_at, ℕ, ◌*◌, ◌+◌, ◌<◌, ◌≡◌, ◌≤◌}
 use Rattle.spec_laws.proofs.SlotBounds.{AreFewSlots, few_uses}
 use Rattle.flat_laws.specs.Small.{IsSmall}
 use Rattle.system_spec.specs.declared.series.Series.TheVariants as series

@@ -1,16 +1,15 @@
 -- What is laid out plainly can be written.
-use Rattle.spec_laws.proofs.Common.{Bool, CanLay, Content, Domain, Fill, Flat, FlatConnection, FlatEnd, FrameInfo, Given, Image, Images, IsFillWritten, IsFrameWritten, IsIn, IsPlain, IsThreadWritten, IsTrue, IsWritten, Leaf, List, MappedPage}
-use Rattle.spec_laws.proofs.Common.{Memory, None, Option, Own, Placed, Section, SectionPage, Settled, Shown, Some, Source, Space, Tables, ThreadPlace, Window, [], and_parts, ap, arch_of, arith, base, below_count, by_address, component_name}
-use Rattle.spec_laws.proofs.Common.{connection_frames, device_frame, device_frames, div-mul-le_self, entry_in, false, few_at, fill_from, fill_of, frame, frames, frames_at, from_flat_map, from_gather, from_map, from_ones, gather, given}
-use Rattle.spec_laws.proofs.Common.{image_number, in_append, in_place, inl, inr, is_first, is_name, is_run, is_shared, leaf_name, leaves_of, length_regions, ltb-true, mapped_pages, memory_paddr, memory_pages, option_map_or}
+use Rattle.spec_laws.proofs.Common.{Bool, CanLay, Content, Domain, Fill, Flat, FrameInfo, Given, Image, Images, IsFillWritten, IsFrameWritten, IsIn, IsPlain, IsThreadWritten, IsTrue, IsWritten, List, MappedPage}
+use Rattle.spec_laws.proofs.Common.{Memory, None, Option, Own, Placed, Section, SectionPage, Settled, Shown, Some, Source, Space, Tables, ThreadPlace, Window, [], and_parts, arch_of, arith, base, below_count, by_address}
+use Rattle.spec_laws.proofs.Common.{div-mul-le_self, entry_in, false, few_at, fill_of, frame, frames, from_flat_map, from_gather, from_map, from_ones, gather, given}
+use Rattle.spec_laws.proofs.Common.{image_number, in_append, in_place, inl, inr, is_name, is_run, leaf_name, leaves_of, length_regions, ltb-true, mapped_pages, option_map_or}
 use Rattle.spec_laws.proofs.Common.{own_frame, own_frames, own_part, page_at, page_count, page_counts, page_of, pages_of, pages_of_region, pages_upto, placed, range_with_len, refl, region_page, region_part, region_start, regions}
-use Rattle.spec_laws.proofs.Common.{register_frames, register_part, registers, same_Some, section_page, section_pages, section_part, sections_if, sections_of, shared_frames, shared_part, slice_get, slice_get_within, space, start_same, subst, sum}
+use Rattle.spec_laws.proofs.Common.{register_part, same_Some, section_page, section_pages, section_part, sections_if, sections_of, shared_part, slice_get, slice_get_within, space, start_same, subst, sum}
 use Rattle.spec_laws.proofs.Common.{rules, sym, tables_from, thread_place, threads_at, threads_of, true, windows_of, ℕ, ◌*◌, ◌+◌, ◌<◌, ◌^◌, ◌∙◌, ◌∷◌, ◌≡◌, ◌≤◌}
-use Rattle.std.specs.Option.{option_map}
 use Rattle.source_images.specs.ByAddress.{name_of}
-use Rattle.sect_table.specs.Sections.{is_placed, is_sound}
+use Rattle.sect_table.specs.Sections.{is_sound}
 use Rattle.vspace_layout.proofs.Starting.{low_base, stacks_fit}
-use Rattle.vspace_layout.specs.declared.owner.Owner.TheVariants.{OfConnection, OfDomain}
+use Rattle.vspace_layout.specs.declared.owner.Owner.TheVariants.{OfDomain}
 use Rattle.vspace_layout.specs.declared.thread.ThreadOf.{ThreadOf}
 use Rattle.spec_laws.proofs.Lists.{from_if}
 use Rattle.source_images.proofs.InOrder.{order_moves}

@@ -1,8 +1,7 @@
 -- The images that are read for a source are plain.
-use Rattle.std.proofs.Common.{rules}
-use Rattle.spec_laws.proofs.Common.{Aarch64, AreFilesShort, AreImagesOf, Arm11, Bool, Contents, Ended, Image, Images, IsImagePlain, IsIn, IsOne, Item, ItemAt, Leaf, List, Name, None, Option, Some, Source, SourceFile, [], and_parts, ap, bytes_eq}
-use Rattle.spec_laws.proofs.Common.{codes, component_of, cond, digits_value, false, file_item, filter_map, flat_of, from_filter_map, in_get, inl, inr, is_name, item_component, item_line, ltb-true, map_some, nat_lt, option_and_then, option_map, refl}
-use Rattle.spec_laws.proofs.Common.{slice_get, subst, sym, true, type_of, types, zip, ℕ, ◌&&◌, ◌<◌, ◌==◌, ◌^◌, ◌||◌, ◌∙◌, ◌∷◌, ◌≡◌, arith}
+use Rattle.spec_laws.proofs.Common.{Aarch64, AreFilesShort, AreImagesOf, Arm11, Bool, Contents, Ended, Image, Images, IsImagePlain, IsIn, IsOne, Item, ItemAt, List, Name, None, Option, Some, Source, SourceFile, [], and_parts, ap, bytes_eq}
+use Rattle.spec_laws.proofs.Common.{codes, component_of, cond, digits_value, false, file_item, flat_of, from_filter_map, in_get, inl, inr, is_name, item_component, item_line, ltb-true, map_some, option_and_then, option_map, refl}
+use Rattle.spec_laws.proofs.Common.{rules, slice_get, subst, sym, true, types, zip, ℕ, ◌&&◌, ◌<◌, ◌==◌, ◌^◌, ◌||◌, ◌∙◌, ◌∷◌, ◌≡◌, arith}
 use Rattle.adl_ast.specs.declared.file.Item.TheVariants as items
 use Rattle.adl_meaning.specs.Lists.{firsts_after}
 use Rattle.cam_base.specs.Numbers.{fits, is_decimal, is_hexadecimal, number_value}

@@ -1,7 +1,7 @@
 -- The regions of spaces, and the lines of windows
 use Rattle.spec_laws.proofs.Common.{Bool, Buffer, CanMap, Cap, Domain, EndAt, FlatConnection, FrameOf, IsAt, IsIn, IsRegionPage, LeafSetting, List, MapLine, MappedPage, Option, OwnLock, Page, RW, Region, Settled, SlotUse}
-use Rattle.spec_laws.proofs.Common.{Some, Space, Spaces, Tables, Tcb, ThreadLine, WindowLine, [], ap, arith, begins, cap, domain_lines, domain_windows, ends, eq-eqb, eqb-true, find, flat_map}
-use Rattle.spec_laws.proofs.Common.{frame_at, from_ones, gather, get_map, get_ones, in_gather, in_place, in_right, inl, leaves_of, length, map, map_lines, mapped_pages, memory_pages, number_shown, object_at}
+use Rattle.spec_laws.proofs.Common.{Some, Space, Spaces, Tables, Tcb, ThreadLine, WindowLine, [], ap, arith, begins, cap, domain_lines, domain_windows, eq-eqb, eqb-true, find, flat_map}
+use Rattle.spec_laws.proofs.Common.{frame_at, from_ones, gather, get_map, get_ones, in_gather, in_place, in_right, inl, length, map, map_lines, mapped_pages, memory_pages, number_shown, object_at}
 use Rattle.spec_laws.proofs.Common.{option_map_or, page, pages_at, place, place_of, refl, region, region_page, root_of, slice_get, slot_line, slot_lines, space, spec_of, subst, suc, sym, system, tcb, thread_lines, thread_place}
 use Rattle.spec_laws.proofs.Common.{rules, thread_regions, threads_of, true, use_cap, window_at, window_line, window_lines, window_region, windows_at, windows_of, zero, ℕ, ◌%◌, ◌*◌, ◌++◌, ◌+◌, ◌/◌, ◌==◌, ◌∙◌, ◌∷◌, ◌≡◌}
 use Rattle.std.specs.Prelude.{option_map}
@@ -9,7 +9,6 @@ use Rattle.cap_model.specs.declared.object.Object.TheVariants as objects
 use Rattle.system_spec.specs.declared.part.What.TheVariants.{ThreadOf as OfThread}
 use Rattle.vspace_layout.specs.declared.spaces.Window.{Window}
 use Rattle.vspace_layout.specs.declared.thread.ThreadOf.{ThreadOf}
-use Rattle.vspace_layout.specs.Regions.{domain_windows as windows_in}
 use Rattle.spec_laws.specs.Regioned.{AreRegions, HasRegions, IsWindowLine, SaysWindow}
 use Rattle.spec_laws.proofs.Finding.{pages_are, rise}
 use Rattle.spec_laws.proofs.MapLines.{by_line}

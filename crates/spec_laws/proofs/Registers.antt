@@ -1,6 +1,6 @@
 -- Connections to one dataport of a device find its registers at one address.
-use Rattle.spec_laws.proofs.Common.{AreSettingsSound, AreTyped, Connector, EndSetting, FlatConnection, FlatEnd, Hierarchy, Interface, Leaf, Mmio, None, Option, Settled, Some, Source, ap, codes, cond, default_bytes, end_setting, flat_of, hierarchy_of}
-use Rattle.spec_laws.proofs.Common.{meaning, meant, members_at, memory_paddr, paddr_in, registers, rules, same_Some, same_kind, setting_of, settled_of, size_in, slice_get, sym, to_place, unwrap_or, value_at, where_set, ℕ, ◌&&◌, ◌++◌, ◌∙◌, ◌≡◌}
+use Rattle.spec_laws.proofs.Common.{AreSettingsSound, AreTyped, Connector, EndSetting, FlatConnection, FlatEnd, Hierarchy, Interface, Leaf, Mmio, None, Option, Settled, Some, Source, codes, cond, default_bytes, end_setting, flat_of, hierarchy_of}
+use Rattle.spec_laws.proofs.Common.{meaning, meant, memory_paddr, paddr_in, registers, rules, same_Some, same_kind, setting_of, settled_of, size_in, slice_get, to_place, unwrap_or, value_at, where_set, ℕ, ◌&&◌, ◌++◌, ◌∙◌, ◌≡◌}
 use Rattle.adl_ast.specs.declared.component.InterfaceKind.TheVariants as interfaces
 use Rattle.adl_ast.specs.declared.component.Member.TheVariants as members
 use Rattle.adl_meaning.specs.Values.{Given}

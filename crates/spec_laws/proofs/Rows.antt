@@ -2,7 +2,6 @@
 use Rattle.spec_laws.proofs.Common.{AsyncSend, Authority, Bool, Connector, EndSetting, From, Handle, Interrupt, Kind, Mmio, NONE, Notification, ObjectKind, OfDevice, OfEndpoint, OfFrames, OfIrq, OfNotification, Option, Read, Role, Rpc}
 use Rattle.spec_laws.proofs.Common.{SharedMemory, To, Write, and_parts, end_rights, end_rule, false, gives, has_label, inl, inr, is_object, is_window, kind_confers, not, or_cases, plain_kind, refl, same_object, sym, true, true≢false, ◌&&◌, ◌==◌}
 use Rattle.spec_laws.proofs.Common.{rules, ◌||◌, ◌∙◌, ◌≡◌, ◌⊎◌}
-use Rattle.authorities.specs.Authorities.{number_of}
 use Rattle.cap_model.specs.declared.kind.Kind.TheVariants as kinds
 use Rattle.arch_policy.specs.Gives.{leaves}
 use Rattle.arch_policy.proofs.Given.{at_authority, at_end, implied, implies, over_all, over_object}
@@ -78,14 +77,6 @@ access_is Read h = inl refl
 access_is Write h = inr refl
 access_is _ h = absurd (true≢false (sym h))
 
-handle_is : (a : Authority) → (number_of a == number_of Handle) ≡ true → a ≡ Handle
-handle_is Handle h = refl
-handle_is _ h = absurd (true≢false (sym h))
-
-send_is : (a : Authority) → (number_of a == number_of AsyncSend) ≡ true → a ≡ AsyncSend
-send_is AsyncSend h = refl
-send_is _ h = absurd (true≢false (sym h))
-
 pub only_handle : (a : Authority) → kind_confers kinds.Irq NONE a ≡ true → a ≡ Handle
 only_handle Handle h = refl
 only_handle _ h = absurd (true≢false (sym h))
@@ -105,15 +96,6 @@ pub record IsSignalling (c : Connector) (r : Role) (o : ObjectKind) (a : Authori
   pub role : r ≡ From
   pub object : o ≡ OfNotification
   pub authority : a ≡ AsyncSend
-
-abbrev by_slot : Connector → Role → ObjectKind → Bool
-by_slot c r o = has_slot c r && same_object o (joint_object c)
-
-abbrev by_handling : Connector → Role → ObjectKind → Authority → Bool
-by_handling c r o a = fits c r o Interrupt To OfIrq && (number_of a == number_of Handle)
-
-abbrev by_signalling : Connector → Role → ObjectKind → Authority → Bool
-by_signalling c r o a = fits c r o Interrupt From OfNotification && (number_of a == number_of AsyncSend)
 
 pub given_by : (c : Connector) (r : Role) (o : ObjectKind) (a : Authority) → gives c r o a ≡ true
     → ((a ≡ Read) ⊎ (a ≡ Write)) ⊎ (OfSlot c r o ⊎ (IsHandling c r o a ⊎ IsSignalling c r o a))

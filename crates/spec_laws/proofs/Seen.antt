@@ -1,8 +1,8 @@
 -- Frames are no more than pages: own frames are pages of their own, and memory is seen through a window.
 use Rattle.spec_laws.proofs.Common.{Bool, Connector, Content, Domain, EndAt, FlatConnection, FlatEnd, Given, HasMemory, IsIn, IsSeen, List, MappedPage, Memory, Mmio, None, Option, Own, Region, Settled}
-use Rattle.spec_laws.proofs.Common.{SharedMemory, Shown, Some, Window, [], ap, arith, base, cond, connection_frames, device_frame, eq-eqb, eqb-true, false, false_from_ne_true, first_to_end, flat_map, frames, frames_at, from_map, gather}
-use Rattle.spec_laws.proofs.Common.{in_gather, inr, is_first, is_shared, leaves_of, length, length_append, map, mapped_pages, memory_paddr, memory_pages, memory_part, option_map_or, own_frame, own_frames, own_part, page_counts, page_of}
-use Rattle.spec_laws.proofs.Common.{pages_from, pages_of_region, range_with_len, refl, region_part, region_start, regions, register_frames, register_part, registers_in, section_part, shared_frames, shared_part, slice_get, suc, sum, sym}
+use Rattle.spec_laws.proofs.Common.{SharedMemory, Shown, Some, Window, [], ap, arith, base, cond, connection_frames, eq-eqb, eqb-true, false, false_from_ne_true, first_to_end, flat_map, frames, frames_at, from_map, gather}
+use Rattle.spec_laws.proofs.Common.{in_gather, inr, is_shared, leaves_of, length, length_append, map, mapped_pages, memory_pages, memory_part, option_map_or, own_frame, own_frames, own_part, page_counts, page_of}
+use Rattle.spec_laws.proofs.Common.{pages_from, pages_of_region, refl, region_part, region_start, regions, register_frames, register_part, registers_in, section_part, shared_frames, shared_part, slice_get, suc, sum, sym}
 use Rattle.spec_laws.proofs.Common.{rules, thread_regions, threads_of, true, window_pages, window_region, windows_of, ℕ, ◌+◌, ◌==◌, ◌∙◌, ◌∷◌, ◌≡◌, ◌≤◌}
 use Rattle.std.proofs.lemmas.List.FromFn.{length-map-range_with_len}
 use Rattle.spec_laws.proofs.Totals.{length_gather, length_is, sum_ones, total, total_append, total_gather, total_map, total_most, total_one, totals, totals_add, totals_each, totals_flat, totals_most, totals_same, totals_swap}

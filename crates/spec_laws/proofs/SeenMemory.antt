@@ -1,8 +1,7 @@
 -- The memory of each connection is seen in the domain of its first `from` end.
-use Rattle.std.proofs.Common.{rules}
-use Rattle.spec_laws.proofs.Common.{AreDotted, AreNamesSound, Connector, Domain, EndAt, FlatConnection, FlatEnd, From, HasMemory, Images, IsIn, IsSeen, Leaf, None, Some, Source, [], ap, cond, domain_number, domain_of, end_in, end_rule, end_window}
+use Rattle.spec_laws.proofs.Common.{AreDotted, AreNamesSound, Connector, EndAt, FlatConnection, From, HasMemory, Images, IsIn, IsSeen, Leaf, None, Some, Source, [], ap, cond, domain_number, domain_of, end_rule, end_window}
 use Rattle.spec_laws.proofs.Common.{ends, ends_at, ends_typed, false, first_type_fault, flat_of, from_get_map, given, hardware_fits, hierarchy_of, in_flat_map, inl, inr, is_hardware, is_window, joins, leaf_listed, leaf_of, leaf_windows, leaves}
-use Rattle.spec_laws.proofs.Common.{leaves_of, option_and_then, option_map, option_map_or, refl, sees_memory, settled_of, slice_get, some_end, subst, sym, true, ℕ, ◌∙◌, ◌∷◌, ◌≡◌}
+use Rattle.spec_laws.proofs.Common.{leaves_of, refl, rules, sees_memory, settled_of, slice_get, some_end, subst, sym, true, ℕ, ◌∙◌, ◌∷◌, ◌≡◌}
 use Rattle.adl_ast.specs.declared.component.Member.TheVariants as members
 use Rattle.spec_laws.proofs.EndsHere.{in_its_ends}
 

@@ -1,6 +1,6 @@
 -- The settings of an end by its numbers, with what they are found at: where no fault of types or settings stands, its values
 -- are allowed, none is missing, and interface and leaf are as the connector table has them.
-use Rattle.spec_laws.proofs.Common.{AreSettingsSound, AreTyped, EndSetting, EndSettings, FlatConnection, FlatEnd, Found, IsIn, Joint, None, Option, Some, Source, [], ap, bad_at_end, bad_in_connection, end_rule, end_setting, end_settings, faults_on}
+use Rattle.spec_laws.proofs.Common.{AreSettingsSound, AreTyped, EndSetting, FlatConnection, FlatEnd, Found, IsIn, Joint, None, Option, Some, Source, [], ap, bad_at_end, bad_in_connection, end_rule, end_setting, end_settings, faults_on}
 use Rattle.spec_laws.proofs.Common.{flat_of, found_at, found_on, founds_in, from_get_map, get_map, hierarchy_of, in_get, is_kind_of, members_at, missing_at, missing_in, none_in, none_left, none_right, option_and_then, refl, setting_of, settled_of}
 use Rattle.spec_laws.proofs.Common.{rules, slice_get, true, ℕ, ◌++◌, ◌∙◌, ◌≡◌}
 use Rattle.adl_settings.specs.BadgeTwice.{badges_twice_in}

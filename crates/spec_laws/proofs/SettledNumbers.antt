@@ -1,9 +1,8 @@
 -- Settled priorities, badges and interrupts are small numbers.
-use Rattle.std.proofs.Common.{rules}
-use Rattle.spec_laws.proofs.Common.{EndSetting, EndSettings, FlatConnection, FlatEnd, Found, From, Interface, IsIn, Joint, Leaf, LeafFound, LeafSetting, List, None, Option, Role, Some, Source, To, [], and_parts, ap, arith, badge_in, badge_kind}
-use Rattle.spec_laws.proofs.Common.{badge_of, behind, cond_both, device_place, digits_value, end_setting, end_settings, flat_of, found_at, found_of, found_on, from_filter_map, from_get_map, has_badge, hierarchy_of, in_get, inl, inr}
-use Rattle.spec_laws.proofs.Common.{interface_at, irq_in, irq_number, irq_of, is_badge_text, joint_at, joint_of, leaf_setting, leb-true, length, map_some, meaning, meant, nat_le, number_in, option_and_then, option_map_or, positioned}
-use Rattle.spec_laws.proofs.Common.{positioned_after, priority_in, refl, setting_of, settled_badge, settled_of, slice_get, subst, suc, sym, unwrap_or, within, ℕ, ◌&&◌, ◌+◌, ◌<◌, ◌^◌, ◌∙◌, ◌∷◌, ◌≡◌, ◌≤◌}
+use Rattle.spec_laws.proofs.Common.{EndSetting, EndSettings, FlatConnection, FlatEnd, Found, From, IsIn, LeafFound, List, None, Option, Role, Some, Source, To, [], and_parts, ap, arith, badge_kind}
+use Rattle.spec_laws.proofs.Common.{behind, cond_both, device_place, digits_value, end_setting, end_settings, flat_of, found_of, found_on, from_filter_map, from_get_map, hierarchy_of, in_get, inl, inr}
+use Rattle.spec_laws.proofs.Common.{irq_in, irq_number, irq_of, is_badge_text, leaf_setting, leb-true, length, map_some, meaning, meant, nat_le, option_and_then, option_map_or, positioned}
+use Rattle.spec_laws.proofs.Common.{positioned_after, priority_in, refl, rules, setting_of, settled_badge, settled_of, slice_get, subst, suc, sym, unwrap_or, within, ℕ, ◌&&◌, ◌+◌, ◌<◌, ◌^◌, ◌∙◌, ◌∷◌, ◌≡◌, ◌≤◌}
 use Rattle.adl_ast.specs.declared.value.ValueKind.{ValueKind, Number, Text}
 use Rattle.adl_meaning.specs.Values.{Given}
 use Rattle.adl_settings.specs.EndMeaning.{badge_at}

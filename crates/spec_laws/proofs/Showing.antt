@@ -1,6 +1,6 @@
 -- The frames that windows show, and all others
-use Rattle.spec_laws.proofs.Common.{AreMemoryFrames, CanMap, Cap, Domain, Flat, FlatConnection, FlatEnd, Frame, FrameInfo, FrameOf, List, Mmio, None, OneMemory, Option, Region, SharedMemory, ShowsMemory, Some, Spaces, Tables, Window, []}
-use Rattle.spec_laws.proofs.Common.{ap, arith, before, begins, cond, connection_frames, eq-eqb, false, first_to, frame, frame_object, in_place, inl, inr, is_shared, leaves_of, length, mapped_pages, memory_before, memory_number}
+use Rattle.spec_laws.proofs.Common.{AreMemoryFrames, CanMap, Domain, Flat, FlatConnection, FlatEnd, Frame, FrameInfo, FrameOf, List, Mmio, None, OneMemory, Option, Region, SharedMemory, ShowsMemory, Some, Spaces, Tables, Window, []}
+use Rattle.spec_laws.proofs.Common.{ap, arith, before, begins, cond, connection_frames, eq-eqb, false, first_to, frame, frame_object, in_place, inl, inr, is_shared, length, mapped_pages, memory_before, memory_number}
 use Rattle.spec_laws.proofs.Common.{memory_paddr, memory_pages, object_at, option_map_or, own_part, place, place_of, position, region_page, regions, register_frames, registers, registers_before}
 use Rattle.spec_laws.proofs.Common.{root_of, rules, shared_frames, shared_part, slice_get, spec_of, subst, sym, system, ℕ, ◌&&◌, ◌*◌, ◌+◌, ◌/◌, ◌<◌, ◌==◌, ◌∙◌, ◌≡◌, ◌⊎◌}
 use Rattle.vspace_layout.specs.declared.owner.Owner.TheVariants.{OfConnection}

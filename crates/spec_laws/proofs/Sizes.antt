@@ -1,7 +1,7 @@
 -- The sizes of memory and the addresses of registers that settings give: whole pages, within their bounds.
-use Rattle.spec_laws.proofs.Common.{Bool, EndSetting, Found, Interface, None, Option, Some, Value, [], and_parts, arith, bad_at_end, bad_value, bytes_of, cond, cond_both, default_bytes, default_size, end_setting, eqb-true, false}
-use Rattle.spec_laws.proofs.Common.{is_device_memory, is_some, is_there, leb-true, meaning, meant, nat_le, none_left, none_right, number_in, option_and_then, option_map, paddr_in, refl, size_in, sized, so, subst, true, unwrap_or}
-use Rattle.spec_laws.proofs.Common.{rules, whole_pages, ℕ, ◌%◌, ◌&&◌, ◌*◌, ◌+◌, ◌/◌, ◌==◌, ◌^◌, ◌||◌, ◌≡◌, ◌≤◌}
+use Rattle.spec_laws.proofs.Common.{Bool, EndSetting, Found, Interface, None, Option, Some, Value, [], and_parts, arith, bad_at_end, bad_value, bytes_of, cond_both, default_bytes, end_setting, eqb-true, false}
+use Rattle.spec_laws.proofs.Common.{is_device_memory, is_some, is_there, leb-true, meaning, meant, none_left, none_right, paddr_in, refl, size_in, sized, so, true, unwrap_or}
+use Rattle.spec_laws.proofs.Common.{rules, ℕ, ◌%◌, ◌&&◌, ◌*◌, ◌+◌, ◌/◌, ◌==◌, ◌^◌, ◌||◌, ◌≡◌, ◌≤◌}
 use Rattle.adl_meaning.specs.Values.{Given}
 use Rattle.adl_settings.specs.Allowed.{placed}
 use Rattle.adl_settings.specs.Joints.{is_shared}

@@ -1,9 +1,8 @@
 -- What is laid out within the limits is sized.
-use Rattle.std.proofs.Common.{rules}
-use Rattle.spec_laws.proofs.Common.{Domain, Flat, Given, Images, IsIn, IsLimited, IsSized, List, MappedPage, Page, Settled, SlotPlan, Some, Source, Space, Tables, [], all_tables, ap, arch, arith, base, counts, domain_uses, flat_map, gather}
-use Rattle.spec_laws.proofs.Common.{gather_ones, get_ones, given, inl, inr, leaves_of, length, length-region_part, length_append, map, map_ones, mapped_pages, option_map_or, page, page_counts, pages_append, pages_at, pages_in, plan_of, refl}
-use Rattle.spec_laws.proofs.Common.{region_part, regions, section_part, shapes, slice_get, slots_of, space, stack_pages, sum, sym, table_count, table_counts, tables_at, tables_counted, tables_from, tables_needed, thread_count, thread_place}
-use Rattle.spec_laws.proofs.Common.{thread_regions, threads_at, threads_of, use_count, uses_at, window_region, windows_of, ℕ, ◌*◌, ◌∙◌, ◌∷◌, ◌≡◌, ◌≤◌}
+use Rattle.spec_laws.proofs.Common.{Domain, Flat, Given, Images, IsIn, IsLimited, IsSized, List, MappedPage, Page, Settled, SlotPlan, Some, Source, Space, Tables, [], all_tables, ap, arch, arith, counts, domain_uses, flat_map, gather}
+use Rattle.spec_laws.proofs.Common.{gather_ones, get_ones, given, inl, inr, length, length-region_part, length_append, map, map_ones, mapped_pages, option_map_or, page, page_counts, pages_append, pages_at, pages_in, plan_of, refl}
+use Rattle.spec_laws.proofs.Common.{shapes, slice_get, slots_of, space, stack_pages, sum, sym, table_count, table_counts, tables_at, tables_counted, tables_from, tables_needed, thread_count, thread_place}
+use Rattle.spec_laws.proofs.Common.{rules, thread_regions, threads_at, threads_of, use_count, uses_at, ℕ, ◌*◌, ◌∙◌, ◌∷◌, ◌≡◌, ◌≤◌}
 use Rattle.vspace_layout.specs.declared.thread.ThreadOf.{ThreadOf}
 use Rattle.spec_laws.specs.Sized.{page_count}
 use Rattle.spec_laws.proofs.Few.{all_tables_are}

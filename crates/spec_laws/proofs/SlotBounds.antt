@@ -1,8 +1,6 @@
 -- How many slots there are, where no limit on slots is passed.
-use Rattle.std.proofs.Common.{rules}
-use Rattle.spec_laws.proofs.Common.{Assembly, Flat, ItemAt, List, None, SlotPlan, Some, Source, [], ap, arith, assemblies, counts, first_slot_fault, flat_map, greatest, le-max_left, le-max_right, least-empty, length, limit_passed, limits_passed, map}
-use Rattle.spec_laws.proofs.Common.{none_left, none_right, not_passed, slice_get, slot_faults, slots_of, suc, sum, sym, zero, ℕ, ◌∙◌, ◌∷◌, ◌≡◌, ◌≤◌}
-use Rattle.std.specs.Prelude.{codes}
+use Rattle.spec_laws.proofs.Common.{Assembly, Flat, ItemAt, List, None, SlotPlan, Some, Source, [], ap, arith, assemblies, counts, first_slot_fault, greatest, le-max_left, le-max_right, least-empty, length, map}
+use Rattle.spec_laws.proofs.Common.{none_left, none_right, not_passed, rules, slice_get, slots_of, suc, sum, zero, ℕ, ◌∙◌, ◌∷◌, ◌≡◌, ◌≤◌}
 
 -- a domain has slots for at most so many uses, and all together for so many
 pub record AreFewSlots (s : Source) (flat : Flat) : Type 0 where

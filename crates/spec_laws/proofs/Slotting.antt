@@ -1,8 +1,8 @@
 -- CNodes have the capabilities of their uses
-use Rattle.spec_laws.proofs.Common.{CNode, CNodeOf, CanSlot, Cap, Connector, Domain, EndSetting, EndpointOf, FlatConnection, FlatEnd, From, Handler, Interrupt, IrqOf, IsBadge, IsCNodeOf, IsCapOf, IsEndCap, IsIn, IsIrqOf, IsJoint, IsLockCap, IsNamed}
-use Rattle.spec_laws.proofs.Common.{List, LockOf, NONE, NotificationOf, OfConnection, OfDomain, OfEnd, OwnLock, Role, Rpc, SlotUse, Some, Spec, Tables, To, [], ap, arith, badge_at, before, bits_for, domain_uses, end_rights, first_rights, from_gather}
-use Rattle.spec_laws.proofs.Common.{gather, gather_ones, in_gather, inl, inr, interrupt, irq_number, irq_owner, joint_by, least, length, line_by, lines, name_at, notification_by, object_at, objects_stand, option_and_then, option_map_or, part}
-use Rattle.spec_laws.proofs.Common.{parts_are_there, place, refl, rights_at, rows_of, rules, setting_of, slice_get, slots_at, spec_of, subst, sym, true, use_cap, uses_at, ℕ, ◌+◌, ◌<◌, ◌^◌, ◌∙◌, ◌∷◌, ◌≡◌}
+use Rattle.spec_laws.proofs.Common.{CNode, CNodeOf, CanSlot, Cap, Connector, Domain, EndpointOf, FlatConnection, FlatEnd, From, Handler, Interrupt, IrqOf, IsBadge, IsCNodeOf, IsCapOf, IsEndCap, IsIn, IsIrqOf, IsJoint, IsLockCap, IsNamed}
+use Rattle.spec_laws.proofs.Common.{List, LockOf, NotificationOf, OfConnection, OfDomain, OfEnd, OwnLock, Role, Rpc, SlotUse, Some, Spec, Tables, To, [], ap, arith, badge_at, before, bits_for, domain_uses, from_gather}
+use Rattle.spec_laws.proofs.Common.{gather, gather_ones, in_gather, inl, inr, interrupt, irq_number, irq_owner, joint_by, least, length, line_by, lines, name_at, notification_by, object_at, objects_stand, part}
+use Rattle.spec_laws.proofs.Common.{parts_are_there, place, refl, rights_at, rows_of, rules, slice_get, slots_at, spec_of, subst, sym, true, use_cap, uses_at, ℕ, ◌+◌, ◌<◌, ◌^◌, ◌∙◌, ◌∷◌, ◌≡◌}
 use Rattle.adl_meaning.specs.declared.connector.Connector.TheVariants.{Notification as Notifies}
 use Rattle.conn_rules.specs.declared.rule.RuleRow.{RuleRow}
 use Rattle.system_spec.specs.declared.series.Series.TheVariants as series

@@ -1,7 +1,6 @@
 -- The layouts of a source without faults are plain, where the images of its programs are.
-use Rattle.std.proofs.Common.{rules}
 use Rattle.spec_laws.proofs.Common.{AreFilesShort, AreNamesSound, HasProgram, Image, Images, IsImagePlain, IsIn, IsPlain, None, Some, Source, ends, first_flat_fault, flat_of, from_flat_map, given, hierarchy_of, leaf_owned, leaf_threads, leaves_of}
-use Rattle.spec_laws.proofs.Common.{settled_of, slice_get, subst, sym, threads_of, ℕ, ◌≡◌}
+use Rattle.spec_laws.proofs.Common.{rules, settled_of, slice_get, subst, sym, threads_of, ℕ, ◌≡◌}
 use Rattle.flat_laws.proofs.AreWithin.{flat_is_within}
 use Rattle.flat_laws.proofs.ShortTrees.{short_few}
 use Rattle.spec_laws.proofs.ComponentNames.{leaves_named}

@@ -1,9 +1,8 @@
 -- Where no limit on pages is passed, each space has few threads and pages, and each page shows one of the frames.
-use Rattle.std.proofs.Common.{rules}
 use Rattle.spec_laws.proofs.Common.{Bool, CanLay, Connector, Domain, EndAt, Flat, FlatConnection, FlatEnd, Given, IsIn, List, MappedPage, Memory, MemoryFits, Mmio, None, Option, Own, Page, Rises, SectionsStand, Settled, SharedMemory, Shown, Some}
 use Rattle.spec_laws.proofs.Common.{Space, [], ap, arith, at_place, below, false, few_at, frames, frames_stand, from_ones, gather, gather_ones, get_or_from_slice_get, in_place, is_shared, is_window, leads_to, length, length_append, length_threads}
 use Rattle.spec_laws.proofs.Common.{map, map_ones, mapped_pages, memory_number, memory_pages, number_shown, option_map, option_map_or, own_few, own_port, page, page_counts, place_of, position, position-Some, position_found, refl, registers}
-use Rattle.spec_laws.proofs.Common.{registers_few, rising, same_port, shared_few, slice_get, space, spaces_of, subst, sum, sym, thread_place, threads_of, true, window_at, window_pages, windows_of, ℕ, ◌*◌, ◌+◌, ◌<◌, ◌∙◌, ◌∷◌, ◌≡◌, ◌≤◌}
+use Rattle.spec_laws.proofs.Common.{registers_few, rising, rules, same_port, shared_few, slice_get, space, spaces_of, subst, sum, sym, thread_place, threads_of, true, window_at, window_pages, windows_of, ℕ, ◌*◌, ◌+◌, ◌<◌, ◌∙◌, ◌∷◌, ◌≡◌, ◌≤◌}
 use Rattle.vspace_layout.specs.declared.spaces.Window.{Window}
 use Rattle.spec_laws.proofs.Gathers.{ones_at, part_of_sum}
 use Rattle.spec_laws.proofs.Windows.{IsSeen, ShowsHere, pages_show, seen, seen_pages}

@@ -1,7 +1,6 @@
 -- What stands at the addresses of a space is what is mapped there
-use Rattle.std.proofs.Common.{rules}
 use Rattle.spec_laws.proofs.Common.{ArePagesOf, Bool, CanMap, Cap, Domain, FrameOf, IsAt, List, MappedPage, MapsPage, Rises, Some, Tables, [], ap, arith, get_map, in_place, map, mapped_pages, memory_rights, number_shown, object_at, place, place_of}
-use Rattle.spec_laws.proofs.Common.{refl, root_of, slice_get, spec_of, subst, suc, sym, system, zero, ℕ, ◌*◌, ◌+◌, ◌/◌, ◌<◌, ◌∙◌, ◌∷◌, ◌≡◌}
+use Rattle.spec_laws.proofs.Common.{refl, root_of, rules, slice_get, spec_of, subst, suc, sym, system, zero, ℕ, ◌*◌, ◌+◌, ◌/◌, ◌<◌, ◌∙◌, ◌∷◌, ◌≡◌}
 use Rattle.spec_laws.proofs.Finding.{Found, finds, found, page_cap, rise, within}
 use Rattle.spec_laws.proofs.Framing.{frame_of_page}
 use Rattle.spec_laws.proofs.Members.{whole}

@@ -1,7 +1,7 @@
 -- Each thread's stack has a page, where no fault of settings stands.
-use Rattle.spec_laws.proofs.Common.{Bool, Domain, Given, Images, IsIn, Leaf, LeafFound, None, Option, Some, Source, Value, [], and_parts, ap, arith, bad_in_leaf, bad_value, cond, ends, ends_at, false}
+use Rattle.spec_laws.proofs.Common.{Bool, Domain, Given, Images, IsIn, Leaf, LeafFound, None, Option, Some, Source, Value, [], and_parts, ap, arith, bad_in_leaf, bad_value, ends, ends_at, false}
 use Rattle.spec_laws.proofs.Common.{first_setting_fault, flat_of, from_flat_map, from_get_map, get_map, given, hierarchy_of, in_get, inl, inr, is_there, leaf_found, leaf_owned, leaf_setting, leaf_threads, leaves}
-use Rattle.spec_laws.proofs.Common.{leaves_found, leaves_of, leb-true, meant, nat_le, none_in, none_right, number_in, option_and_then, option_map, option_map_or, refl, server, serves, settings_sound, settled_of, slice_get, so, stack_in}
+use Rattle.spec_laws.proofs.Common.{leaves_found, leaves_of, leb-true, meant, none_in, none_right, option_map, refl, server, serves, settings_sound, settled_of, slice_get, so, stack_in}
 use Rattle.spec_laws.proofs.Common.{rules, stack_pages, subst, sym, thread, threads_of, true, unwrap_or, whole_pages, within, ℕ, ◌&&◌, ◌/◌, ◌≡◌, ◌≤◌}
 use Rattle.adl_meaning.specs.Values.{Given as Value_given}
 use Rattle.vspace_layout.specs.declared.thread.ThreadOf.{ThreadOf}

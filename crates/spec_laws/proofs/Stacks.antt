@@ -1,5 +1,5 @@
 -- Settled stacks are whole pages.
-use Rattle.spec_laws.proofs.Common.{Bool, LeafFound, LeafSetting, None, Option, Some, Source, arith, cond, cond_both, false, from_get_map, leaf_setting, meant, nat_le, number_in, option_and_then, option_map}
+use Rattle.spec_laws.proofs.Common.{Bool, LeafFound, LeafSetting, None, Option, Some, Source, arith, cond_both, false, from_get_map, leaf_setting, meant, option_map}
 use Rattle.spec_laws.proofs.Common.{rules, settled_of, slice_get, stack_in, true, unwrap_or, whole_pages, within, ℕ, ◌%◌, ◌&&◌, ◌≡◌}
 use Rattle.adl_meaning.specs.Values.{Given}
 

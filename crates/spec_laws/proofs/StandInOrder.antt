@@ -1,8 +1,7 @@
 -- Kind stands behind kind, and each kind by its numbers
-use Rattle.std.proofs.Common.{rules}
 use Rattle.spec_laws.proofs.Common.{CanSlot, Directory, FrameOf, HasNumber, IsIn, Level, List, OfDomain, Part, Some, StandInOrder, Tables, [], ap, arith, endpoint, entry, entry_name, get_map, get_or, in_place, inl, inr, irq, length, length-map}
 use Rattle.spec_laws.proofs.Common.{level_series, lock, notification, part, parts, place_of, rank, refl, sections, slice_get, slice_get-get_or, slice_get_within, spec_of, split_get, subst, suc, ℕ, ◌++◌, ◌+◌, ◌<◌, ◌∷◌, ◌≡◌, ◌≤◌, below, sym}
-use Rattle.spec_laws.proofs.Common.{table_part, all_tables, page_table}
+use Rattle.spec_laws.proofs.Common.{rules, table_part, all_tables, page_table}
 use Rattle.system_spec.specs.declared.series.Series.TheVariants as series
 use Rattle.spec_laws.proofs.Numbering.{irqs_before, lock_numbered}
 use Rattle.spec_laws.proofs.Sections.{in_section, told}

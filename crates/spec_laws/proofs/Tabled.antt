@@ -1,9 +1,8 @@
 -- A space has a table of a level for an address exactly where a page is mapped under it, and tables have their domain's label
-use Rattle.std.proofs.Common.{rules}
 use Rattle.spec_laws.proofs.Common.{AreShapes, AreStacked, AreTableLabels, AreTables, AreTablesOf, Arrives, CanMap, Domain, IsIn, IsOf, List, Mapping, Object, Shape, Some, TableOf, Tables, [], above, ap, append_assoc, arch, arith}
 use Rattle.spec_laws.proofs.Common.{arrives, as_many, at_place, below, div-div-eq-div-mul, drop, from_gather, from_map, head_of, heads, in_gather, in_map, in_place, in_runs, inl, inr, labels_of, layers, length, map}
 use Rattle.spec_laws.proofs.Common.{mapped_pages, mul-div_cancel, mul-one, mul_assoc, objects_from, one_table, place, place_of, refl, root_of, root_span, runs, shapes, shapes_fit, shapes_stack, sizes, slice_get, span, span_some, spec_of}
-use Rattle.spec_laws.proofs.Common.{subst, suc, sym, system, table_of, tables_at, tables_counted, tables_exact, upper, upper_below, uppers, zero, ℕ, ◌*◌, ◌++◌, ◌+◌, ◌/◌, ◌<◌, ◌↔◌, ◌∙◌, ◌∷◌, ◌≡◌}
+use Rattle.spec_laws.proofs.Common.{rules, subst, suc, sym, system, table_of, tables_at, tables_counted, tables_exact, upper, upper_below, uppers, zero, ℕ, ◌*◌, ◌++◌, ◌+◌, ◌/◌, ◌<◌, ◌↔◌, ◌∙◌, ◌∷◌, ◌≡◌}
 use Rattle.arch_policy.specs.declared.owner.Owner.TheVariants as owners
 use Rattle.page_tables.specs.Levels.{numbered}
 use Rattle.spec_laws.proofs.Finding.{from_maps, in_maps, mapping, maps, maps_below, some_map}

@@ -1,6 +1,6 @@
 -- What the page tables of a domain hold: tables of the same domain, and its pages; and that each of its pages is held.
 use Rattle.spec_laws.proofs.Common.{Aarch64, Arch, Arm11, Cap, Contains, Directory, Domain, FrameOf, Global, InTable, IsIn, IsThere, Level, List, Mapping, Object, Option, Page, Shape, Some, Table, TableOf, Tables, Upper, [], ap, arch, arith}
-use Rattle.spec_laws.proofs.Common.{at_contains, at_place, contains_at, domain_label, from_map, in_map, in_place, in_tables, inl, inr, label_of, linked_none, map, object, object_at, object_there, page_mapping, page_rights, pages_at, place, place_of}
+use Rattle.spec_laws.proofs.Common.{at_contains, at_place, contains_at, domain_label, from_map, in_map, in_place, in_tables, inr, label_of, linked_none, map, object, object_at, object_there, page_mapping, page_rights, pages_at, place, place_of}
 use Rattle.spec_laws.proofs.Common.{policy_tables, refl, rules, shape, shapes, slice_get, slice_get_within, slot_of, slots_lead, spec_of, subst, sym, tables_at, tables_of, ℕ, ◌+◌, ◌^◌, ◌∙◌, ◌∷◌, ◌≡◌, ◌⊎◌}
 use Rattle.cap_model.specs.Auth.{table_of as slots_of}
 use Rattle.cap_model.specs.declared.object.Object.TheVariants as objects

@@ -1,11 +1,10 @@
 -- Each page table is one that some page needs, and tables of a level stand by domain and address
-use Rattle.std.proofs.Common.{rules}
 use Rattle.spec_laws.proofs.Common.{AreShapes, AreStacked, AreTablesInOrder, Arrives, Ascends, Bool, CanMap, Cap, Directory, Domain, Global, IsBefore, IsIn, IsNamed, IsTableFor, IsTableOfSpace, IsThere, Level, List, MappedPage, Mapping, Object, Page}
 use Rattle.spec_laws.proofs.Common.{PageTable, Rises, Shape, Some, Table, TableOf, Tables, Upper, [], above, all_tables, ap, append_assoc, arch, arith, arrives, as_many, at_place, before, below, cases_lt, cond, count_by, domain_tables, drop, eq-eqb}
 use Rattle.spec_laws.proofs.Common.{eqb-true, false, first_of, from_ones, from_place, from_runs, gather, gather_ones, gathered, get_ones, head_of, heads, in_place, inl, inr, is_of, kind_of_object, layers, length, level_number, level_of, level_series}
 use Rattle.spec_laws.proofs.Common.{map, mapped_pages, mul-le-mul_right, name_at, name_of, object, object_at, object_there, objects_from, objects_stand, of_level, one_table, page_mapping, page_table, parts, place, refl, root_of, root_span, runs}
 use Rattle.spec_laws.proofs.Common.{shapes, shapes_fit, shapes_stack, sizes, slice_get, span, span_some, spec_of, subst, suc, sym, system, table_of, table_part, tables_at, tables_counted, tables_rise, take, true, upper, upper_below, uppers, zero, ℕ}
-use Rattle.spec_laws.proofs.Common.{◌++◌, ◌+◌, ◌-◌, ◌/◌, ◌<◌, ◌∙◌, ◌∷◌, ◌≡◌, ◌≤◌}
+use Rattle.spec_laws.proofs.Common.{rules, ◌++◌, ◌+◌, ◌-◌, ◌/◌, ◌<◌, ◌∙◌, ◌∷◌, ◌≡◌, ◌≤◌}
 use Rattle.cap_model.specs.declared.kind.Kind.TheVariants as kinds
 use Rattle.cap_model.specs.declared.object.Object.TheVariants as objects
 use Rattle.page_tables.specs.Levels.{numbered}

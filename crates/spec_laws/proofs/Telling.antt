@@ -1,6 +1,6 @@
 -- No two parts have one name.
 use Rattle.spec_laws.proofs.Common.{Bool, Entry, IsIn, List, Part, Some, Tables, [], and_from, ap, arith, bytes_eq, bytes_eq-Decides, differ, entry, false, false_from_ne_true, flat_map, from_get_map, length, list_any, map, names_differ, not}
-use Rattle.spec_laws.proofs.Common.{not_from_false, or_from, part_name, parts, place_of, rank, refl, rules, same_Some, sections, slice_get, spec_of, subst, suc, sym, take, true, ℕ, ◌+◌, ◌<◌, ◌^◌, ◌∙◌, ◌∷◌, ◌≡◌}
+use Rattle.spec_laws.proofs.Common.{not_from_false, or_from, part_name, parts, place_of, rank, refl, rules, same_Some, sections, slice_get, spec_of, suc, sym, take, true, ℕ, ◌+◌, ◌<◌, ◌^◌, ◌∙◌, ◌∷◌, ◌≡◌}
 use Rattle.spec_laws.proofs.Names.{same_number, same_series}
 use Rattle.spec_laws.proofs.Sections.{Told, in_section, told, told_place}
 

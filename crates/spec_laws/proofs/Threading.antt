@@ -1,13 +1,11 @@
 -- Thread lines and threads are one to one
-use Rattle.std.proofs.Common.{rules}
 use Rattle.spec_laws.proofs.Common.{AreThreads, AreThreadsNumbered, CNodeOf, CanMap, Domain, EndAt, HasThread, Image, IsIn, IsThreadOf, Leaf, LeafSetting, List, OfDomain, Option, Part, Some, Tables, Tcb, ThreadLine, ThreadPlace}
-use Rattle.spec_laws.proofs.Common.{[], ap, arith, at_place, component_name, ends, entry_in, from_ones, in_place, leaves_of, map_lines, name_at, object_at, objects_stand, option_map_or, part, parts, place, place_of, refl, root_of}
-use Rattle.spec_laws.proofs.Common.{slice_get, space, spec_of, stands, subst, sym, system, tcb, thread, thread_place, threads_of, ℕ, ◌∙◌, ◌≡◌, IsThere}
+use Rattle.spec_laws.proofs.Common.{[], ap, arith, at_place, component_name, entry_in, from_ones, in_place, map_lines, name_at, object_at, objects_stand, option_map_or, part, parts, place, place_of, refl, root_of}
+use Rattle.spec_laws.proofs.Common.{rules, slice_get, space, spec_of, stands, subst, sym, system, tcb, thread, thread_place, threads_of, ℕ, ◌∙◌, ◌≡◌, IsThere}
 use Rattle.cap_model.specs.declared.object.Object.TheVariants as objects
 use Rattle.system_spec.specs.declared.part.What.TheVariants.{ThreadOf as OfThread}
 use Rattle.system_spec.specs.declared.series.Series.TheVariants as series
 use Rattle.vspace_layout.specs.declared.thread.ThreadOf.{ThreadOf}
-use Rattle.vspace_layout.specs.Threads.{domain_threads as threads_in}
 use Rattle.spec_laws.proofs.Paging.{has_domain}
 use Rattle.spec_laws.proofs.SlotLists.{some}
 use Rattle.spec_laws.proofs.Threads.{Line, at_home, has_thread, line_from, line_to, once_threads, thread_object, thread_part, threads_are, threads_before}

@@ -1,10 +1,9 @@
 -- Threads and their lines
-use Rattle.std.proofs.Common.{rules}
 use Rattle.spec_laws.proofs.Common.{CanMap, Connector, Domain, EndAt, FlatConnection, FlatEnd, HasThread, IsIn, Leaf, List, MapLine, None, OfDomain, Option, OwnLock}
 use Rattle.spec_laws.proofs.Common.{Owned, Part, Role, Rpc, Serves, SlotUse, Some, Space, Spaces, Tables, ThreadLine, ThreadPlace, To, [], ap, arith, before, cond, domain_lines, domain_tcbs, domain_threads}
 use Rattle.spec_laws.proofs.Common.{end_rule, ends, ends_at, false, flat_map, from_flat_map, from_ones, gather, gather_ones, gathered, get_ones, in_flat_map, in_gather, in_left, in_right, in_together, inl, inr, is_called}
 use Rattle.spec_laws.proofs.Common.{leaf_members, leaf_threads, leaves_of, length, map_lines, numbered, object_at, objects_stand, option_map_or, owned, part, parts, place, refl, sections, server, serves, slice_get, slot_line, slot_lines}
-use Rattle.spec_laws.proofs.Common.{space, spec_of, subst, sym, system, tcb, tcbs, thread, thread_line, thread_lines, thread_place, threads_at, threads_of, true, use_cap, window_lines, ℕ, ◌++◌, ◌+◌, ◌∙◌, ◌∷◌, ◌≡◌}
+use Rattle.spec_laws.proofs.Common.{rules, space, spec_of, subst, sym, system, tcb, tcbs, thread, thread_line, thread_lines, thread_place, threads_at, threads_of, true, use_cap, window_lines, ℕ, ◌++◌, ◌+◌, ◌∙◌, ◌∷◌, ◌≡◌}
 use Rattle.cap_model.specs.declared.object.Object.TheVariants as objects
 use Rattle.system_spec.specs.declared.part.What.TheVariants.{ThreadOf as OfThread}
 use Rattle.system_spec.specs.declared.series.Series.TheVariants as series

@@ -1,7 +1,7 @@
 -- What threads have is of their own domains.
-use Rattle.spec_laws.proofs.Common.{Authority, Buffer, CNodeOf, Cap, Domain, FrameOf, Given, IsConnected, IsIn, IsThere, List, MappedPage, None, Object, OfThreads, Option, Own, Page, RW, Region, Some, TableOf, Tables, Tcb, ThreadOf, ThreadPlace, []}
+use Rattle.spec_laws.proofs.Common.{Authority, Buffer, CNodeOf, Cap, Domain, FrameOf, Given, IsConnected, IsIn, IsThere, List, MappedPage, None, Object, OfThreads, Option, Own, Page, RW, Region, Some, TableOf, Tables, Tcb, ThreadPlace, []}
 use Rattle.spec_laws.proofs.Common.{ap, arith, at_entry, base, boot_thread, buffer_of, buffer_start, cap, domain_label, eqb-true, find, flat_map, found, frame_at, get_behind, get_front, inl, inr, label_of, map, mapped_pages, no_thread}
-use Rattle.spec_laws.proofs.Common.{number_of, number_shown, object, object_at, option_map, option_map_or, page, page_of, pages_at, place, place_of, policy_tables, refl, region, region_start, regions, slice_get, spec_of, subst, suc, sym, tcb}
+use Rattle.spec_laws.proofs.Common.{number_of, number_shown, object, object_at, option_map, page, page_of, pages_at, place, place_of, policy_tables, refl, region, region_start, regions, slice_get, spec_of, suc, sym, tcb}
 use Rattle.spec_laws.proofs.Common.{rules, thread_regions, threads_at, threads_of, window_region, windows_of, zero, ℕ, ◌*◌, ◌+◌, ◌==◌, ◌∙◌, ◌∷◌, ◌≡◌}
 use Rattle.cap_model.specs.declared.object.Object.TheVariants as objects
 use Rattle.cap_model.specs.declared.state.ThreadState.{ThreadState}

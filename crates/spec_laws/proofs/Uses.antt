@@ -1,5 +1,5 @@
 -- What the slots of a domain lead to: ends of connections that have a slot, interrupts, and locks.
-use Rattle.spec_laws.proofs.Common.{Domain, FlatConnection, FlatEnd, Handler, Interrupt, IsIn, List, OfEnd, OwnLock, SlotUse, Some, Tables, domain_uses, get_map, in_place, inl, inr, rules, slice_get, slots_of, subst, true, uses_at, ℕ, ◌≡◌, sym}
+use Rattle.spec_laws.proofs.Common.{Domain, FlatConnection, FlatEnd, Handler, Interrupt, IsIn, List, OfEnd, OwnLock, SlotUse, Some, Tables, domain_uses, get_map, in_place, inr, rules, slice_get, slots_of, subst, true, uses_at, ℕ, ◌≡◌}
 use Rattle.spec_laws.proofs.Used.{UseOf, from_domain, from_end_uses, has_slot}
 
 pub record IsEnd (cs : List FlatConnection) (k n : ℕ) : Type 0 where

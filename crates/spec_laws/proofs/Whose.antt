@@ -1,7 +1,7 @@
 -- What stands at a place of the spec, and whose label it has.
 use Rattle.spec_laws.proofs.Common.{CNodeOf, EndpointOf, Entry, FrameInfo, FrameOf, IrqOf, IsIn, IsThere, Layer, List, LockOf, None, NotificationOf, Object, OfConnection, OfDomain, OfLeaf, Option, Owner, Part, Some, Spec, TableOf, Tables, ThreadOf}
-use Rattle.spec_laws.proofs.Common.{What, [], ap, arch, arith, endpoint, entry, entry_at, entry_object, frame_object, frame_owner, from_get_map, from_map, get_or, has_part, in_append, in_place, inl, inr, irq, irq_owner, label_of, labels_of, layers}
-use Rattle.spec_laws.proofs.Common.{lock, map, notification, number_of, object, object_at, option_map_or, page_mapping, pages_at, part_label, parts, place, place_is, refl, shapes, sizes, slice_get, slice_index, spec_of, stands, subst, suc, sym}
+use Rattle.spec_laws.proofs.Common.{What, [], ap, arch, arith, entry, entry_at, frame_object, frame_owner, from_get_map, from_map, get_or, has_part, in_append, in_place, inl, inr, irq_owner, label_of, labels_of, layers}
+use Rattle.spec_laws.proofs.Common.{map, number_of, object, object_at, option_map_or, page_mapping, pages_at, parts, place, place_is, refl, shapes, sizes, slice_get, slice_index, spec_of, stands, suc, sym}
 use Rattle.spec_laws.proofs.Common.{rules, table_of, tcb, there, zero, ℕ, ◌+◌, ◌∙◌, ◌∷◌, ◌≡◌, ◌⊎◌}
 use Rattle.cap_model.specs.declared.object.Object.TheVariants as objects
 use Rattle.page_tables.specs.Levels.{numbered as tables_numbered}

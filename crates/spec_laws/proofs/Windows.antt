@@ -1,6 +1,6 @@
 -- The ends that see memory, and the pages of a space that show it.
-use Rattle.spec_laws.proofs.Common.{Connector, EndAt, FlatConnection, FlatEnd, Given, IsIn, List, MappedPage, Memory, None, Option, Own, Region, Shown, Some, [], ap, base, end_in, ends, false, flat_map, from_flat_map, from_gather, from_map}
-use Rattle.spec_laws.proofs.Common.{from_range, in_append, in_place, inl, inr, is_window, leaves_of, map, mapped_pages, memory_pages, option_and_then, option_map, option_map_or, page_of, pages_of_region, range_with_len, refl, region_part, regions}
+use Rattle.spec_laws.proofs.Common.{EndAt, FlatConnection, FlatEnd, Given, IsIn, List, MappedPage, Memory, None, Option, Own, Region, Shown, Some, [], ap, base, ends, false, flat_map, from_flat_map, from_gather, from_map}
+use Rattle.spec_laws.proofs.Common.{from_range, in_append, in_place, inl, inr, is_window, leaves_of, map, mapped_pages, memory_pages, option_map_or, page_of, pages_of_region, range_with_len, refl, region_part, regions}
 use Rattle.spec_laws.proofs.Common.{rules, section_page, section_pages, section_part, sees_memory, slice_get, subst, thread_regions, threads_of, true, window_pages, window_region, windows_of, ℕ, ⊎_elim, ◌<◌, ◌∷◌, ◌≡◌}
 use Rattle.vspace_layout.specs.declared.thread.ThreadOf.{ThreadOf}
 use Rattle.spec_laws.proofs.Lists.{shown_if}

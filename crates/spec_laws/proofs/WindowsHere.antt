@@ -1,9 +1,8 @@
 -- Page tables hold pages of windows alone that lead to other labels, and a page of each window.
-use Rattle.std.proofs.Common.{rules}
 use Rattle.spec_laws.proofs.Common.{AtOtherEnd, Bool, Cap, Domain, FrameOf, From, HasPage, HasWindows, InTable, IsConnected, IsIn, IsWindow, LeadsTo, MappedPage, Mmio, ObjectKind, OfDevice, OfFrames, Page, Read, Some, TableOf, Tables}
-use Rattle.spec_laws.proofs.Common.{ap, arith, base, domain_label, false, frame_object, gives, in_place, inl, inr, is_at_device, is_window, kind_at, kind_of_object, kind_there, label_of, leaf_label, mapped_pages, may_read, may_write, memory_number}
+use Rattle.spec_laws.proofs.Common.{ap, arith, base, domain_label, false, gives, in_place, inl, inr, is_at_device, is_window, kind_at, kind_of_object, kind_there, label_of, leaf_label, mapped_pages, may_read, may_write, memory_number}
 use Rattle.spec_laws.proofs.Common.{memory_pages, number_of, number_shown, object, option_map_or, page, page_mapping, page_of, page_rights, place, place_of, policy_tables, refl, region_start, regions, setting_of, slice_get, spec_of, subst}
-use Rattle.spec_laws.proofs.Common.{sym, true, window_pages, window_region, window_rights, ℕ, ◌<◌, ◌∙◌, ◌≡◌, ◌≢◌}
+use Rattle.spec_laws.proofs.Common.{rules, sym, true, window_pages, window_region, window_rights, ℕ, ◌<◌, ◌∙◌, ◌≡◌, ◌≢◌}
 use Rattle.arch_policy.specs.Ends.{EndAt}
 use Rattle.cap_model.specs.declared.kind.Kind.TheVariants as kinds
 use Rattle.cap_model.specs.declared.object.Object.TheVariants as objects

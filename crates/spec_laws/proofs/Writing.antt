@@ -1,9 +1,8 @@
 -- The spec of laid-out tables can be written and read back.
-use Rattle.std.proofs.Common.{rules}
 use Rattle.spec_laws.proofs.Common.{Entry, FlatConnection, FrameInfo, FrameOf, IsFit, IsIn, IsSized, IsWritable, IsWritten, List, None, Object, Option, Part, Some, TableOf}
 use Rattle.spec_laws.proofs.Common.{Tables, ThreadPlace, What, [], ap, arch, arith, by_number, canonical, cap_count, caps_of, entry, entry_line, entry_name, entry_text, flat_map, frame_object, gather, in_place, irq_line, irq_number}
-use Rattle.spec_laws.proofs.Common.{is_laid, is_number, is_word, layers, le-ltb, length, length-map, line_by, lines, list_all-map, map, name_at, object, option_map_or, page_mapping, pages_at, part_name, parts, place, put_line, refl, shapes}
-use Rattle.spec_laws.proofs.Common.{slice_get, slice_get-map, spec_of, subst, sym, table_of, tables_at, tcb, there, thread_count, threads_at, ℕ, ◌*◌, ◌+◌, ◌<◌, ◌^◌, ◌∙◌, ◌∷◌, ◌≡◌, ◌≤◌}
+use Rattle.spec_laws.proofs.Common.{is_number, is_word, layers, le-ltb, length, length-map, line_by, lines, list_all-map, map, name_at, object, option_map_or, page_mapping, pages_at, part_name, parts, place, put_line, refl, shapes}
+use Rattle.spec_laws.proofs.Common.{rules, slice_get, slice_get-map, spec_of, subst, sym, table_of, tables_at, tcb, there, thread_count, ℕ, ◌*◌, ◌+◌, ◌<◌, ◌^◌, ◌∙◌, ◌∷◌, ◌≡◌, ◌≤◌}
 use Rattle.std.specs.Option.{option_map}
 use Rattle.cap_model.specs.declared.object.Object.TheVariants as objects
 use Rattle.capdl_text.specs.Texts.{most_bytes}

@@ -1,7 +1,6 @@
 -- A table of threads that is filled object by object.
 use Rattle.step_text.proofs.Common.{Bool, Entry, List, None, Option, Some, Spec, ap, at_drop_all, bytes_eq, cond, drop, false, is_thread, length, option_or, option_or-none, position, position_from, refl, sym}
-use Rattle.step_text.proofs.Common.{thread_named, true, true≢false, ℕ, ◌&&◌, ◌+◌, ◌<◌, ◌∙◌, ◌∷◌, ◌≡◌, ◌≤◌}
-use Rattle.std.proofs.Common.{is_some}
+use Rattle.step_text.proofs.Common.{is_some, thread_named, true, true≢false, ℕ, ◌&&◌, ◌+◌, ◌<◌, ◌∙◌, ◌∷◌, ◌≡◌, ◌≤◌}
 use mathlib.Core.Path.{fun_ext}
 use Rattle.std.proofs.lemmas.Iterator.Adapters.{position_from-zero}
 use Rattle.std.proofs.lemmas.Slice.Eq.{bytes_eq-Decides}

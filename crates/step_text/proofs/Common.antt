@@ -16,7 +16,7 @@ pub use Rattle.cap_model.specs.Lookup.{name_at, object_at}
 pub use Rattle.cap_model.specs.declared.rights.Rights.{Rights}
 pub use Rattle.cap_model.specs.declared.spec.Entry.{Entry}
 pub use Rattle.cap_model.specs.declared.spec.Spec.{Spec}
-pub use Rattle.std.proofs.Common.{Bool, Err, List, None, Ok, Option, Result, Some, [], ap, append_assoc, arith, cond, drop, false, get_or, inl, inr, length, map, refl, set, slice_get, subst, suc, sym, take, true, true≢false, zero, ℕ, ◌&&◌, ◌*◌, ◌++◌}
+pub use Rattle.std.proofs.Common.{Bool, Err, List, None, Ok, Option, Result, Some, ℕ, [], ap, append_assoc, arith, cond, drop, false, get_or, inl, inr, length, map, refl, rules, set, slice_get, subst, suc, sym, take, true, true≢false, zero, ◌&&◌, ◌*◌, ◌++◌}
 pub use Rattle.std.proofs.Common.{◌+◌, ◌<◌, ◌^◌, ◌∙◌, ◌∷◌, ◌≡◌, ◌≤◌, ◌⊎◌}
 pub use Rattle.std.proofs.lemmas.Bool.{and_parts, false≢true, leb-true, not-true}
 pub use Rattle.std.proofs.lemmas.Bool.Decides.{Decides-eqb, Decides-ltb, nat_tests}

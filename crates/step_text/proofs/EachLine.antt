@@ -1,7 +1,6 @@
 -- Where no fault stands each line spells one step.
 use Rattle.step_text.proofs.Common.{Bool, Line, List, None, Option, Some, Spec, Step, [], ap, at_line, bytes_limit, false, fault_of, fields, filter_map, first_fault, first_fault_of, length, lines, misspelled, neither, refl, spelled, step_of}
-use Rattle.step_text.proofs.Common.{steps_of, suc, thread_named, true, ℕ, ◌+◌, ◌∷◌, ◌≡◌}
-use Rattle.std.proofs.Common.{nat_lt}
+use Rattle.step_text.proofs.Common.{nat_lt, steps_of, suc, thread_named, true, ℕ, ◌+◌, ◌∷◌, ◌≡◌}
 
 each_line : (place : List ℕ → Option ℕ) (before : ℕ) (lines : List Line) → first_fault_of place before lines ≡ None
     → length (filter_map (step_of place) lines) ≡ length lines

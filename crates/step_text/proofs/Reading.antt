@@ -1,7 +1,6 @@
 -- One line more.
-use Rattle.std.proofs.Common.{rules}
 use Rattle.step_text.proofs.Common.{Err, IsRead, IsRefusal, Line, List, None, Option, Some, Spec, Step, Wrong, [], ap, arith, bytes_limit, false, fault_of, fields, first_fault_of, length, lines}
-use Rattle.step_text.proofs.Common.{nat_tests, option_or, spelled, step_of, take, thread_named, wrong, ℕ, ◌++◌, ◌+◌, ◌∙◌, ◌∷◌, ◌≡◌, ◌≤◌}
+use Rattle.step_text.proofs.Common.{nat_tests, option_or, rules, spelled, step_of, take, thread_named, wrong, ℕ, ◌++◌, ◌+◌, ◌∙◌, ◌∷◌, ◌≡◌, ◌≤◌}
 use Rattle.cam_base.specs.declared.error.Refused.{Refused}
 use Rattle.cam_base.specs.declared.error.Refused.TheVariants as refused
 use Rattle.cam_base.specs.declared.text_fault.TextFault.{TextFault}

@@ -1,9 +1,8 @@
 -- The steps of a run can be read back: who acts has a root, so is a thread, and its name is a word; and the numbers that steps
 -- name hold something, so lie below the next number of a CNode, which grows by one a step at most.
-use Rattle.std.proofs.Common.{rules}
 use Rattle.step_text.proofs.Common.{All, All-cons, All-nil, AllByRecursion, Bool, Decides-eqb, Decides-ltb, Entry, IsNamed, IsNumber, IsReadable, List, None, Option, Some, Spec, Step, [], all_at, and_parts, ap, arith, bytes_eq, cond, false, get_or}
 use Rattle.step_text.proofs.Common.{inl, inr, is_name, is_thread, is_word_byte, kind_is, length, list_all, nat_lt, not, position_or_len, refl, set, slice_get, subst, suc, sym, thread_named, true, zero, ℕ}
-use Rattle.step_text.proofs.Common.{◌&&◌, ◌++◌, ◌+◌, ◌<◌, ◌==◌, ◌^◌, ◌∙◌, ◌∷◌, ◌≡◌, ◌≤◌, ◌⊎◌}
+use Rattle.step_text.proofs.Common.{rules, ◌&&◌, ◌++◌, ◌+◌, ◌<◌, ◌==◌, ◌^◌, ◌∙◌, ◌∷◌, ◌≡◌, ◌≤◌, ◌⊎◌}
 use Rattle.std.proofs.lemmas.Option.{get_or_from_slice_get, slice_get_within}
 use Rattle.std.specs.Map.{keys_of, lookup}
 use Rattle.cap_machine.proofs.Applied.{nexts_fit, read_written}

@@ -1,6 +1,5 @@
 -- The fields of the line of a step, and that they spell it.
-use Rattle.std.proofs.Common.{rules}
-use Rattle.step_text.proofs.Common.{Bool, IsNamed, IsNumber, IsReadable, List, None, Rights, Some, Spec, Step, [], codes, decimal, false, is_silent, name_at, refl, rights_field, rights_value, spelled, step_line, thread_named, true, ℕ, ◌∷◌, ◌≡◌}
+use Rattle.step_text.proofs.Common.{Bool, IsNamed, IsNumber, IsReadable, List, None, Rights, Some, Spec, Step, [], codes, decimal, false, is_silent, name_at, refl, rights_field, rights_value, rules, spelled, step_line, thread_named, true, ℕ, ◌∷◌, ◌≡◌}
 use Rattle.cam_base.specs.Texts.{together}
 use Rattle.cap_machine.specs.declared.step.Step.TheVariants as steps
 use Rattle.cam_base.proofs.Decimals.{digits-decimal, number_value-decimal}

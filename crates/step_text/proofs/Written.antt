@@ -1,7 +1,6 @@
 -- The text of steps, line by line.
-use Rattle.std.proofs.Common.{rules}
 use Rattle.step_text.proofs.Common.{All, All-head, All-tail, IsReadable, Line, List, None, Some, Spec, Step, [], ap, arith, false, fields, filter_map, first_fault, first_fault_of, is_silent, length, nat_lt, nat_tests, parts, past_limit, placed, refl}
-use Rattle.step_text.proofs.Common.{spelled, step_of, steps_of, steps_text, telling, thread_named, true, ℕ, ◌++◌, ◌+◌, ◌<◌, ◌∙◌, ◌∷◌, ◌≡◌, ◌≤◌}
+use Rattle.step_text.proofs.Common.{rules, spelled, step_of, steps_of, steps_text, telling, thread_named, true, ℕ, ◌++◌, ◌+◌, ◌<◌, ◌∙◌, ◌∷◌, ◌≡◌, ◌≤◌}
 use Rattle.step_text.proofs.Fields.{fields_joined, joined, line_parts}
 use Rattle.step_text.proofs.SpelledBack.{behind, line_fields, not_silent, plain_fields, spelled_back, word_of}
 

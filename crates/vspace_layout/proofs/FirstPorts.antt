@@ -1,7 +1,6 @@
 -- What tables of first connections find.
-use Rattle.std.proofs.Common.{rules}
 use Rattle.vspace_layout.proofs.Common.{Bool, FlatConnection, FlatEnd, List, None, Option, PortKey, Some, [], add-one, ap, at_drop_more, cond, drop, eq-eqb, false, first_number, get_or, key_of, leads_by, leads_to, length, map}
-use Rattle.vspace_layout.proofs.Common.{option_and_then, option_map_or, option_or, position, position_from, position_from-zero, refl, registers, same_Some, same_key, slice_get, suc, sym, take, true, zero, ℕ, ◌&&◌, ◌++◌, ◌+◌, ◌<◌, ◌==◌, ◌∙◌, ◌∷◌, ◌≡◌}
+use Rattle.vspace_layout.proofs.Common.{option_and_then, option_map_or, option_or, position, position_from, position_from-zero, refl, registers, rules, same_Some, same_key, slice_get, suc, sym, take, true, zero, ℕ, ◌&&◌, ◌++◌, ◌+◌, ◌<◌, ◌==◌, ◌∙◌, ◌∷◌, ◌≡◌}
 use Rattle.std.specs.Map.{lookup}
 use Rattle.cam_base.proofs.Options.{option_or-none, option_or-cond}
 

@@ -1,10 +1,9 @@
 -- Where no limit on pages is passed, pages are few and have numbers
-use Rattle.std.proofs.Common.{rules}
 use Rattle.vspace_layout.proofs.Common.{AreFit, CanLay, Domain, EndAt, Flat, FlatConnection, Given, Images, IsIn, IsNumbered, List, MappedPage, None, Option, Region, SectionPage, Settled, Some, ThreadOf, [], all_mapped, all_own, ap, arch_of, arith}
 use Rattle.vspace_layout.proofs.Common.{below, domain_threads, domain_windows, ends, flat_map, from_gather, from_get_map, from_map, from_range, gather_map, gather_ones, gather_same, get_or, in_append, in_place, inl, inr, length, length-map}
 use Rattle.vspace_layout.proofs.Common.{length_append, map, map-map, mapped_pages, memory_before, memory_first, memory_firsts, memory_pages, memory_part, option_map_or, page_counts, page_of, pages_from, pages_of_region, refl, region_part}
 use Rattle.vspace_layout.proofs.Common.{region_start, regions_at, regions_in, section_page, section_pages, section_part, sections_end, slice_get, subst, sum, sym, thread_regions, window_region, wired_of, ℕ, ⊎_elim, ◌++◌, ◌+◌, ◌<◌, ◌^◌, ◌∙◌, ◌∷◌, ◌≡◌}
-use Rattle.vspace_layout.proofs.Common.{◌≤◌}
+use Rattle.vspace_layout.proofs.Common.{rules, ◌≤◌}
 use Rattle.vspace_layout.proofs.Few.{own_few, registers_few, shared_few}
 use Rattle.vspace_layout.proofs.Joining.{here, mapped_here, own_number_of}
 use Rattle.vspace_layout.proofs.Laying.{ones_or}

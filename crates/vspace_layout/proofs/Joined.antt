@@ -1,8 +1,7 @@
 -- Spaces and frames, put together
-use Rattle.std.proofs.Common.{rules}
 use Rattle.vspace_layout.proofs.Common.{AreFew, AreOutlined, CanLay, Domain, Flat, FrameInfo, Given, IsIn, List, MappedPage, Outline, Settled, Some, Space, [], all_numbered, all_own, ap, arith, at_place, before, below, capped, from_map, gather}
 use Rattle.vspace_layout.proofs.Common.{gather_ones, gather_same, get_ones, get_or, get_or_from_slice_get, length, length-map, memory_firsts, outline, outlines, own_added, page_counts, pages_numbered, place_of, refl, regions_at, regions_in}
-use Rattle.vspace_layout.proofs.Common.{slice_get, space_at, spaces_with, subst, sum, sym, wired_of, ℕ, ◌+◌, ◌<◌, ◌^◌, ◌∙◌, ◌∷◌, ◌≡◌, ◌≤◌}
+use Rattle.vspace_layout.proofs.Common.{rules, slice_get, space_at, spaces_with, subst, sum, sym, wired_of, ℕ, ◌+◌, ◌<◌, ◌^◌, ◌∙◌, ◌∷◌, ◌≡◌, ◌≤◌}
 use Rattle.vspace_layout.specs.declared.spaces.Spaces.{Spaces}
 use Rattle.vspace_layout.proofs.Few.{few_at}
 

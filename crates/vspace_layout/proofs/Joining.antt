@@ -1,9 +1,8 @@
 -- What is counted and listed domain by domain is what the definitions say of all
-use Rattle.std.proofs.Common.{rules}
 use Rattle.vspace_layout.proofs.Common.{Domain, FrameInfo, Given, List, MappedPage, Memory, Option, Outline, Own, Shown, Some, [], all_counted, all_mapped, all_own, ap, arch, arith, before, cond, count_by, counted_by, domain_counted, domain_mapped}
 use Rattle.vspace_layout.proofs.Common.{gather, gather_map, gather_same, get_map, get_or, get_or_from_slice_get, is_own, is_own_frame, length, length_append, map, map-map, mapped_by, mapped_of, mapped_pages, no_outline, option_map_or, outline}
 use Rattle.vspace_layout.proofs.Common.{outlines, own_added, own_frame, own_frames, own_part, page_counts, refl, regions_at, slice_get, suc, sum, sum_by-cons, sym, table_counts, tables_needed, tables_of, take, wired_of, zero, ℕ, ◌++◌, ◌+◌, ◌∙◌, ◌∷◌}
-use Rattle.vspace_layout.proofs.Common.{◌≡◌}
+use Rattle.vspace_layout.proofs.Common.{rules, ◌≡◌}
 use Rattle.vspace_layout.proofs.Counting.{counted}
 
 abbrev pub here : Given → List ℕ → List MappedPage

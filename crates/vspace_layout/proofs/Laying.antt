@@ -1,9 +1,8 @@
 -- Spaces that are laid domain by domain are those of the definition
-use Rattle.std.proofs.Common.{rules}
 use Rattle.vspace_layout.proofs.Common.{Domain, EndAt, Flat, Given, List, MappedPage, Memory, Option, Outline, Own, Page, Region, Settled, Shown, Some, Space, ThreadOf, [], all_mapped, ap, arith, at_place, base, before, below, domain_mapped}
 use Rattle.vspace_layout.proofs.Common.{flat_map, gather, gather_same, get_map, get_or, get_or_from_slice_get, leaves_of, length, length-map, length_append, map, mapped_pages, memory_firsts, memory_part, number_of, number_shown, option_map_or}
 use Rattle.vspace_layout.proofs.Common.{outline, outlines, own_added, own_frames, own_number, own_part, pages_at, pages_numbered, refl, region_start, regions, regions_in, slice_get, space_at, space_in, spaces_in, stack_pages, start, start_at}
-use Rattle.vspace_layout.proofs.Common.{starts_in, suc, sym, thread_at, thread_places, thread_regions, threads_of, window_pages, window_place, window_places, windows_of, wired_of, zero, ℕ, ◌*◌, ◌++◌, ◌+◌, ◌<◌, ◌∙◌, ◌∷◌, ◌≡◌}
+use Rattle.vspace_layout.proofs.Common.{rules, starts_in, suc, sym, thread_at, thread_places, thread_regions, threads_of, window_pages, window_place, window_places, windows_of, wired_of, zero, ℕ, ◌*◌, ◌++◌, ◌+◌, ◌<◌, ◌∙◌, ◌∷◌, ◌≡◌}
 use Rattle.vspace_layout.specs.declared.spaces.ThreadPlace.{ThreadPlace}
 use Rattle.vspace_layout.specs.declared.spaces.Window.{Window}
 use Rattle.vspace_layout.specs.FrameNumbers.{memory_first as first_for}

@@ -1,9 +1,8 @@
 -- Where the frames of connections' memory stand.
-use Rattle.std.proofs.Common.{rules}
 use Rattle.vspace_layout.proofs.Common.{AreFirsts, Bool, Flat, FlatConnection, FlatEnd, List, None, Option, Settled, Some, [], ap, arith, at_place, before, cond, false, first_number, first_numbers, first_of, first_to, firsts_from, frames_at}
 use Rattle.vspace_layout.proofs.Common.{frames_by, frames_where, from_get_map, gather, gather_ones, gather_same, gather_turn, get_map, get_or, get_or_default, get_or_from_slice_get, is_that, key_of, leads_to, length, length-map, length_append}
 use Rattle.vspace_layout.proofs.Common.{memory_before, memory_first, memory_firsts, memory_part, option_and_then, option_map_or, places_of, position, position-Some, position_from, position_from-zero, refl, register_frames, register_part, registers}
-use Rattle.vspace_layout.proofs.Common.{registers_before, same_Some, same_key, shared_frames, shared_part, slice_get, suc, sym, take, true, zero, ℕ, ◌++◌, ◌+◌, ◌<◌, ◌^◌, ◌∙◌, ◌∷◌, ◌≡◌, ◌≤◌}
+use Rattle.vspace_layout.proofs.Common.{registers_before, rules, same_Some, same_key, shared_frames, shared_part, slice_get, suc, sym, take, true, zero, ℕ, ◌++◌, ◌+◌, ◌<◌, ◌^◌, ◌∙◌, ◌∷◌, ◌≡◌, ◌≤◌}
 use Rattle.vspace_layout.proofs.FirstPorts.{same_key-refl}
 use Rattle.vspace_layout.proofs.Joining.{gather_mapped}
 use Rattle.vspace_layout.proofs.Laying.{ones_or}

@@ -1,7 +1,6 @@
 -- The pages of spaces with the numbers of their frames, domain by domain
-use Rattle.std.proofs.Common.{rules}
 use Rattle.vspace_layout.proofs.Common.{FrameInfo, List, MappedPage, Some, [], ap, append_assoc, arith, before, gather, gather_push, length, length-gather, length_append, map, own_added, own_frame, same_Some, slice_get, suc, sum, sum_by-cons, take}
-use Rattle.vspace_layout.proofs.Common.{zero, ℕ, ◌++◌, ◌+◌, ◌∷◌, ◌≡◌, ◌≤◌}
+use Rattle.vspace_layout.proofs.Common.{rules, zero, ℕ, ◌++◌, ◌+◌, ◌∷◌, ◌≡◌, ◌≤◌}
 use Rattle.vspace_layout.proofs.Few.{own_one}
 
 -- ---- pages of a domain

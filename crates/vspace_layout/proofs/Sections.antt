@@ -1,8 +1,7 @@
 -- Sections stand apart where no fault of sections stands
-use Rattle.std.proofs.Common.{rules}
 use Rattle.vspace_layout.proofs.Common.{All, AllPairs, AreApart, AreCounted, AreNumbered, AreSound, Domain, Given, Images, IsIn, List, None, Option, Placed, SectionsStand, Some, [], ap, arch, arith, base, by_address, false, free_apart, free_inside}
 use Rattle.vspace_layout.proofs.Common.{from_flat_map, from_map, get_or, in_permutation, in_place, is_inside, leaves_of, name_of, option_map_or, own_all, page_at, page_count, pages_of, range_with_len, refl, section_pages, sections_of, slice_get}
-use Rattle.vspace_layout.proofs.Common.{subst, sym, true, ℕ, ◌%◌, ◌*◌, ◌+◌, ◌≡◌, ◌≤◌}
+use Rattle.vspace_layout.proofs.Common.{rules, subst, sym, true, ℕ, ◌%◌, ◌*◌, ◌+◌, ◌≡◌, ◌≤◌}
 use Rattle.source_images.specs.SpaceFaults.{first_space_fault}
 use Rattle.source_images.proofs.Apart.{sound_numbers}
 use Rattle.source_images.proofs.InOrder.{order_moves}

@@ -1,9 +1,8 @@
 -- Frames stand under their numbers
-use Rattle.std.proofs.Common.{rules}
 use Rattle.vspace_layout.proofs.Common.{Bool, Flat, FlatConnection, FlatEnd, FrameInfo, FramesStand, Given, List, MappedPage, None, OfConnection, OfDomain, Option, Own, Some, [], and_parts, ap, arith, at_place, before, cond, eq-eqb, eqb-true, false}
 use Rattle.vspace_layout.proofs.Common.{first_to, frame, frames, frames_at, gathered, get_behind, get_front, get_or, get_or_from_slice_get, is_shared, leads_to, length, map, mapped_pages, memory_before, memory_number, memory_pages, memory_part}
 use Rattle.vspace_layout.proofs.Common.{number_shown, option_map_or, own_frame, own_frames, own_number, own_part, position, position-Some, range_with_len, refl, register_frame, register_frames, register_part, registers, registers_before}
-use Rattle.vspace_layout.proofs.Common.{registers_in, same_port, shared_frames, shared_part, slice_get, suc, sym, true, zero, ℕ, ◌&&◌, ◌+◌, ◌<◌, ◌∙◌, ◌≡◌}
+use Rattle.vspace_layout.proofs.Common.{registers_in, rules, same_port, shared_frames, shared_part, slice_get, suc, sym, true, zero, ℕ, ◌&&◌, ◌+◌, ◌<◌, ◌∙◌, ◌≡◌}
 use Rattle.std.specs.Prelude.{◌==◌}
 use Rattle.adl_meaning.specs.declared.connector.Connector.{Connector}
 use Rattle.adl_meaning.specs.declared.connector.Connector.TheVariants.{Mmio}

@@ -1,8 +1,7 @@
 -- Where regions begin, and that they have addresses of 64 bits
-use Rattle.std.proofs.Common.{rules}
 use Rattle.vspace_layout.proofs.Common.{Aarch64, Arch, AreFew, Arm11, EndAt, Flat, List, Region, RegionsFit, Settled, Some, Stack, StacksFit, ThreadOf, [], add-one, ap, arith, below, flat_map, gather, gather_ones, gather_same, gather_turn, get_or}
 use Rattle.vspace_layout.proofs.Common.{get_or_default, length, map, pages_from, pages_in, pages_of_region, refl, region, region_part, region_start, regions_in, same_Some, sections_end, slice_get, slice_get-get_or, stack_pages, starting, starts_in}
-use Rattle.vspace_layout.proofs.Common.{suc, take, thread_regions, window_region, zero, ℕ, ◌*◌, ◌++◌, ◌+◌, ◌<◌, ◌^◌, ◌∙◌, ◌∷◌, ◌≡◌, ◌≤◌}
+use Rattle.vspace_layout.proofs.Common.{rules, suc, take, thread_regions, window_region, zero, ℕ, ◌*◌, ◌++◌, ◌+◌, ◌<◌, ◌^◌, ◌∙◌, ◌∷◌, ◌≡◌, ◌≤◌}
 use Rattle.vspace_layout.proofs.Fitting.{pages_next, pages_upto}
 use Rattle.vspace_layout.proofs.Laying.{length_regions, start_same}
 

@@ -1,5 +1,4 @@
-use Rattle.cam_base.proofs.Common.{drop, filter, length, spaced_fields, texts, ◌++◌, ◌==◌, ◌≡◌}
-use Rattle.std.proofs.Common.{not}
+use Rattle.cam_base.proofs.Common.{drop, filter, length, not, spaced_fields, texts, ◌++◌, ◌==◌, ◌≡◌}
 use Rattle.cam_base.proofs.field.spaced_fields.Given as goal
 
 abbrev pub invariant-loop-field : goal.invariant-loop-field

@@ -5,7 +5,8 @@ use Rattle.cap_audit.proofs.kinds.firsts.Goals as goal
 pub loop-c-init : goal.loop-c-init
 loop-c-init c = record {
   firsts = firsts_none c.args.classes.now c.args.marks.now c.new-firsts.result.items c.new-firsts.ensures.items;
-  rows = rows_none c.args.classes.now c.new-firsts.result.items c.in_ok-rows.rows (length c.args.classes.now) c.in_ok-rows.ensures;
+  rows =
+      rows_none c.args.classes.now c.new-firsts.result.items c.in_ok-rows.rows (length c.args.classes.now) c.in_ok-rows.ensures;
 }
 
 pub loop-c-preserved : goal.loop-c-preserved

@@ -1,5 +1,4 @@
-use Rattle.cap_model.proofs.Common.{Some, ap, cond, inl, inr, is_eq, list_cmp, place_in, refl, ◌∙◌}
-use Rattle.std.proofs.Common.{rules, ◌≡◌}
+use Rattle.cap_model.proofs.Common.{Some, ap, cond, inl, inr, is_eq, list_cmp, place_in, refl, rules, ◌≡◌, ◌∙◌}
 use Rattle.std.specs.BTreeMap.{get_by}
 use Rattle.std.specs.BTreeMap.Entry.{map_with_value}
 use Rattle.cap_model.proofs.making.with_class.Goals.{in-Occupied, in-Vacant+in_ok-to_vec-in-Vacant+in_ok-push-in-Vacant}

@@ -1,5 +1,4 @@
-use Rattle.capdl_write.proofs.Common.{arith, nat_tests, sym, true, ℕ, ◌∙◌, ◌≡◌}
-use Rattle.std.proofs.Common.{◌==◌, not}
+use Rattle.capdl_write.proofs.Common.{arith, nat_tests, not, sym, true, ℕ, ◌==◌, ◌∙◌, ◌≡◌}
 use Rattle.capdl_write.proofs.CapEnds.{with_badge, with_both, without_badge}
 use Rattle.capdl_write.proofs.holder.write_cap.Goals as goal
 

@@ -1,5 +1,4 @@
-use Rattle.capdl_write.proofs.Common.{Cap, List, Spec, [], arith, flat_map, length, refl, says_nothing, slot_line, slots_text, ℕ, ◌<◌, ◌∷◌, ◌≡◌}
-use Rattle.std.proofs.Common.{codes}
+use Rattle.capdl_write.proofs.Common.{Cap, List, Spec, [], arith, codes, flat_map, length, refl, says_nothing, slot_line, slots_text, ℕ, ◌<◌, ◌∷◌, ◌≡◌}
 use Rattle.cam_base.specs.Texts.{◌⊹◌, together}
 use Rattle.capdl_write.proofs.holder.write_slots.Goals as goal
 

@@ -1,5 +1,4 @@
-use Rattle.command_words.proofs.Common.{App, IfOk-weaker, List, Text, [], ap, ap₂, codes, leaf, with_subcommand, ◌∙◌, ◌∷◌, ◌≡◌}
-use Rattle.std.proofs.Common.{Bor}
+use Rattle.command_words.proofs.Common.{App, IfOk-weaker, List, Text, [], Bor, ap, ap₂, codes, leaf, with_subcommand, ◌∙◌, ◌∷◌, ◌≡◌}
 use Rattle.command_words.proofs.Building.{texts}
 use Rattle.command_words.proofs.reader.program.Goals as goal
 

@@ -1,5 +1,4 @@
-use Rattle.page_tables.proofs.Common.{AreShapes, arith, length, ◌<◌}
-use Rattle.std.proofs.Common.{rules}
+use Rattle.page_tables.proofs.Common.{AreShapes, arith, length, rules, ◌<◌}
 use Rattle.page_tables.proofs.Fitting.{above_fit, first_fits}
 use Rattle.page_tables.proofs.counts.+levels_from.Goals as goal
 

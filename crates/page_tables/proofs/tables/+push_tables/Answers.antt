@@ -1,5 +1,4 @@
-use Rattle.page_tables.proofs.Common.{CanLinkAll, ap, append_assoc, arith, layers, map, numbered, runs, sizes, span, subst, sym, table_of, uppers, ◌++◌, ◌+◌, ◌<◌, ◌^◌, ◌∙◌, ◌≡◌}
-use Rattle.std.proofs.Common.{OnOk}
+use Rattle.page_tables.proofs.Common.{CanLinkAll, OnOk, ap, append_assoc, arith, layers, map, numbered, runs, sizes, span, subst, sym, table_of, uppers, ◌++◌, ◌+◌, ◌<◌, ◌^◌, ◌∙◌, ◌≡◌}
 use Rattle.page_tables.proofs.Counted.{counted}
 use Rattle.page_tables.proofs.Fitting.{above_fit, above_stack, all_sizes, uppers_link}
 use Rattle.page_tables.proofs.tables.+push_tables.Goals as goal

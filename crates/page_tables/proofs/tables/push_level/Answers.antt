@@ -1,5 +1,4 @@
-use Rattle.page_tables.proofs.Common.{IsIn, [], ap, append_assoc, first_run, in_left, in_right, length, map, runs, span, subst, sym, table_of, ◌++◌, ◌<◌, ◌∙◌, ◌∷◌, ◌≡◌}
-use Rattle.std.proofs.Common.{rules}
+use Rattle.page_tables.proofs.Common.{IsIn, [], ap, append_assoc, first_run, in_left, in_right, length, map, rules, runs, span, subst, sym, table_of, ◌++◌, ◌<◌, ◌∙◌, ◌∷◌, ◌≡◌}
 use Rattle.page_tables.proofs.Running.{runs_split}
 use Rattle.page_tables.proofs.tables.push_level.Goals as goal
 

@@ -1,6 +1,5 @@
-use Rattle.sect_table.proofs.Common.{said_all, says_then}
+use Rattle.sect_table.proofs.Common.{rules, said_all, says_then}
 use Rattle.sect_table.specs.Texts.{table_text}
-use Rattle.std.proofs.Common.{rules}
 use Rattle.sect_table.proofs.write.write_sections.Goals as goal
 
 pub returns : goal.returns

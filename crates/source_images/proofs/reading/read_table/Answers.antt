@@ -1,5 +1,4 @@
-use Rattle.source_images.proofs.Common.{ap, reading_of, table, table_told, ◌∙◌}
-use Rattle.std.proofs.Common.{string_bytes}
+use Rattle.source_images.proofs.Common.{ap, reading_of, string_bytes, table, table_told, ◌∙◌}
 use Rattle.cam_io.specs.FileBytes.{bytes_in}
 use Rattle.source_images.proofs.TableReads.{found_table}
 use Rattle.source_images.proofs.reading.read_table.Goals as goal

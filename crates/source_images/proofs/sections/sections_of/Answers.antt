@@ -1,5 +1,4 @@
-use Rattle.source_images.proofs.Common.{[], ap, gather_turn, is_run, sections_if, sections_told, sym, ◌++◌, ◌∙◌}
-use Rattle.std.proofs.Common.{append-nil}
+use Rattle.source_images.proofs.Common.{[], ap, append-nil, gather_turn, is_run, sections_if, sections_told, sym, ◌++◌, ◌∙◌}
 use Rattle.source_images.proofs.sections.sections_of.Goals as goal
 use Rattle.source_images.proofs.sections.sections_of.Goals.{then-is_run+in_ok-push_sections, else-is_run}
 

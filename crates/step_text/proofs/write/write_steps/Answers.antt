@@ -1,5 +1,4 @@
-use Rattle.step_text.proofs.Common.{said_all}
-use Rattle.std.proofs.Common.{rules}
+use Rattle.step_text.proofs.Common.{rules, said_all}
 use Rattle.step_text.proofs.write.write_steps.Goals as goal
 
 pub returns : goal.returns

@@ -1,7 +1,6 @@
-use Rattle.cap_audit.proofs.Common.{Edge, Notes, Some, arith, length, refl, slice_get, subst, sym, ℕ, ◌≡◌}
+use Rattle.cap_audit.proofs.Common.{Edge, Notes, Some, arith, length, refl, rules, slice_get, subst, sym, ℕ, ◌≡◌}
 use Rattle.cap_audit.proofs.Gaining.{IsBefore, before_all, before_more, before_none, before_one}
 use Rattle.cap_model.specs.EdgesLeft.{edges_left}
-use Rattle.std.proofs.Common.{rules}
 use Rattle.std.proofs.lemmas.Iterator.Consumers.{YieldsList-end, YieldsList-from_first, YieldsList-turn}
 use Rattle.std.proofs.lemmas.List.{length_push}
 use Rattle.std.proofs.lemmas.Option.{slice_get_read}
