@@ -2,10 +2,7 @@
 -- unless there is none or it is `..` itself, and is then kept in a relative path. An absolute path can't be left
 -- upwards. A folded path names a file unless it has no part or its last part is `..`.
 use Rattle.std.specs.Prelude.{◌≡◌, ℕ, Bool, false, not, leb, ◌==◌, ◌&&◌, ◌||◌, if◌then◌else◌, List, [], ◌∷◌, ◌++◌, length, drop, reverse, Option, None, Some, Result, Ok, Err}
-use Rattle.std.specs.List.{list_all, slice_split, join_with_byte}
-use Rattle.std.specs.Option.{option_and_then}
-use Rattle.std.specs.Str.{bytes_eq, is_utf8}
-use Rattle.cam_base.specs.declared.error.Refused.{Refused}
+use Rattle.adl_import.specs.Below.{Refused, bytes_eq, is_utf8, join_with_byte, list_all, option_and_then, slice_split}
 use Rattle.cam_base.specs.declared.error.Refused.TheVariants as refused
 use Rattle.adl_import.specs.declared.folding.BadPath.{BadPath}
 

@@ -2,11 +2,8 @@
 -- importing file, and a path between angle brackets to the folder of the root. Three names between angle brackets are
 -- built in, and name no file. An include names no file either.
 use Rattle.std.specs.Prelude.{ℕ, Bool, ◌&&◌, ◌||◌, if◌then◌else◌, List, [], ◌∷◌, Option, codes}
-use Rattle.std.specs.List.{flat_map, list_any}
-use Rattle.std.specs.Str.{bytes_eq}
+use Rattle.adl_import.specs.Below.{File, Import, bytes_eq, flat_map, list_any}
 use Rattle.adl_ast.specs.declared.file.Ended.{Ended}
-use Rattle.adl_ast.specs.declared.file.File.{File}
-use Rattle.adl_ast.specs.declared.file.Import.{Import}
 use Rattle.adl_ast.specs.declared.file.Item.{Item}
 use Rattle.adl_ast.specs.declared.file.Item.TheVariants as items
 use Rattle.adl_import.specs.Folding.{is_slash, import_name}

@@ -1,3 +1,4 @@
+pub mod Below
 pub mod Folding
 pub mod Parts
 pub mod Imports

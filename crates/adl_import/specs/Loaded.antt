@@ -1,16 +1,11 @@
 -- What loading a source answers. The cases exclude each other, so each comes exactly where it says, and yields to a
 -- failed read and to want of memory alone.
 use Rattle.std.specs.Prelude.{◌≡◌, ◌≤◌, ℕ, Bool, true, false, List, [], length, slice_get, Option, None, Some, Result, Ok, Err}
-use Rattle.cam_base.specs.declared.code.Code.TheVariants.{BadPath}
-use Rattle.cam_base.specs.declared.place.Fault.{Fault}
-use Rattle.cam_base.specs.declared.place.Place.{Place}
-use Rattle.cam_io.specs.Contents.{Contents}
+use Rattle.adl_import.specs.Below.{BadPath, Contents, Fault, Place, SourceError, SourceFile}
 use Rattle.adl_ast.specs.declared.source.Source.{Source}
-use Rattle.adl_ast.specs.declared.source.SourceFile.{SourceFile}
 use Rattle.adl_import.specs.Folding.{root_name}
 use Rattle.adl_import.specs.Sources.{Meeting, AlikeAsRead, IsSource, root_place}
 use Rattle.adl_import.specs.Turns.{Turns, IsTurnFault, fault_at}
-use Rattle.cam_base.specs.Unread.{SourceError}
 use Rattle.cam_base.specs.declared.error.Unread.TheVariants as error
 
 -- The files are the source of the root: each has had its turn, none with a fault, and no file is left.

@@ -1,17 +1,7 @@
 -- The files of a source, in the order of their numbers.
 use Rattle.std.specs.Prelude.{◌≡◌, ◌<◌, ◌≤◌, ◌+◌, ℕ, Bool, not, if◌then◌else◌, List, [], ◌∷◌, ◌++◌, length, map, filter, Option, Some, None, IsTrue}
-use Rattle.std.specs.FinMap.{get}
-use Rattle.std.specs.List.{flat_map, list_any}
-use Rattle.std.specs.Str.{bytes_eq}
-use Rattle.cam_base.specs.declared.place.Place.{Place}
-use Rattle.cam_base.specs.declared.token.Token.{Token}
-use Rattle.cam_io.specs.Contents.{Contents}
+use Rattle.adl_import.specs.Below.{Contents, Import, IsFileSpelled, Lexes, Place, SourceFile, Token, bytes_eq, flat_map, get, list_any, see}
 use Rattle.cam_io.specs.Reading.{HaveSameFront}
-use Rattle.adl_ast.specs.declared.file.Import.{Import}
-use Rattle.adl_ast.specs.declared.source.SourceFile.{SourceFile}
-use Rattle.adl_ast.specs.Seeing.{see}
-use Rattle.adl_ast.specs.Spelling.{IsFileSpelled}
-use Rattle.adl_lexer.specs.Lexes.{Lexes}
 use Rattle.adl_import.specs.Imports.{imports_of, is_built_in, name_given}
 
 -- the greatest length of a file, in bytes

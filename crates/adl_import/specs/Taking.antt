@@ -1,22 +1,10 @@
 -- What the steps of a turn answer.
 use Rattle.std.specs.Prelude.{◌≡◌, ◌⊎◌, ℕ, List, [], ◌∷◌, length, slice_get, Option, None, Some, Result, Ok, Err}
-use Rattle.std.specs.Str.{IsUtf8}
-use Rattle.cam_base.specs.declared.error.Refused.{Refused}
+use Rattle.adl_import.specs.Below.{Contents, Fault, File, IsFileIn, IsFileSpelled, IsFirstFault, IsUtf8, Lexes, Place, Refused, SourceError, SourceFile, Token, see}
 use Rattle.cam_base.specs.declared.error.Refused.TheVariants as refused
-use Rattle.cam_base.specs.declared.place.Fault.{Fault}
-use Rattle.cam_base.specs.declared.place.Place.{Place}
-use Rattle.cam_base.specs.declared.token.Token.{Token}
-use Rattle.cam_io.specs.Contents.{Contents}
-use Rattle.adl_ast.specs.declared.file.File.{File}
-use Rattle.adl_ast.specs.declared.source.SourceFile.{SourceFile}
-use Rattle.adl_ast.specs.Seeing.{see}
-use Rattle.adl_ast.specs.Spelling.{IsFileSpelled}
-use Rattle.adl_lexer.specs.Lexes.{Lexes, IsFirstFault}
-use Rattle.adl_parse.specs.Files.{IsFileIn}
 use Rattle.adl_import.specs.Imports.{imports_of}
 use Rattle.adl_import.specs.Sources.{Meeting, AlikeAsRead, IsFileOf}
 use Rattle.adl_import.specs.Turns.{take_imports, IsReadFault, IsTurnFault}
-use Rattle.cam_base.specs.Unread.{SourceError}
 use Rattle.cam_base.specs.declared.error.Unread.TheVariants as error
 
 -- P holds of each item

@@ -1,19 +1,9 @@
 -- The turns of the files. A turn reads the file, lexes it, parses it, and takes its imports in order. Each of these may
 -- find a fault, and the first fault of the first turn that has one is the fault of the source.
 use Rattle.std.specs.Prelude.{◌≡◌, ◌<◌, ◌≤◌, ℕ, Bool, nat_lt, if◌then◌else◌, List, [], ◌∷◌, ◌++◌, length, slice_get, Option, None, Some, Result, Ok, Err, codes}
-use Rattle.std.specs.FinMap.{get}
-use Rattle.std.specs.Option.{option_map_or}
+use Rattle.adl_import.specs.Below.{BadPath, Contents, Fault, Import, IsFileIn, IsFirstFault, Lexes, Limit, NoFile, Place, SourceFile, Token, get, option_map_or}
 use Rattle.cam_base.specs.declared.code.Code.{Code}
-use Rattle.cam_base.specs.declared.code.Code.TheVariants.{NoFile, BadPath, Limit}
 use Rattle.cam_base.specs.declared.error.Refused.TheVariants as refused
-use Rattle.cam_base.specs.declared.place.Fault.{Fault}
-use Rattle.cam_base.specs.declared.place.Place.{Place}
-use Rattle.cam_base.specs.declared.token.Token.{Token}
-use Rattle.cam_io.specs.Contents.{Contents}
-use Rattle.adl_ast.specs.declared.file.Import.{Import}
-use Rattle.adl_ast.specs.declared.source.SourceFile.{SourceFile}
-use Rattle.adl_lexer.specs.Lexes.{Lexes, IsFirstFault}
-use Rattle.adl_parse.specs.Files.{IsFileIn}
 use Rattle.adl_import.specs.Imports.{imports_of, is_built_in, name_given}
 use Rattle.adl_import.specs.Sources.{Meeting, IsFileOf, is_known, root_place, file_limit, files_limit}
 

@@ -6,15 +6,9 @@
 -- own one. For `replyto` with a copy NoGrant comes after the answers of its own number. Behind a test that fails it
 -- doesn't matter what stands there.
 use Rattle.std.specs.Prelude.{ℕ, ◌==◌, Bool, true, false, not, ◌&&◌, ◌||◌, cond, List, [], ◌∷◌, ◌++◌, Option, Some, None}
+use Rattle.cap_machine.specs.Below.{Cap, Capability, Content, Pending, SavedReply, Spec, State, content_in, is_at, is_space_root, thread_at}
 use Rattle.std.specs.Option.{is_some, unwrap_or}
-use Rattle.cap_model.specs.declared.cap.Cap.{Cap}
 use Rattle.cap_model.specs.declared.kind.Kind.TheVariants as kinds
-use Rattle.cap_model.specs.declared.spec.Spec.{Spec}
-use Rattle.cap_model.specs.declared.state.Content.{Content}
-use Rattle.cap_model.specs.declared.state.Content.TheVariants.{Capability, SavedReply}
-use Rattle.cap_model.specs.declared.state.Pending.{Pending}
-use Rattle.cap_model.specs.Kinds.{is_at, is_space_root}
-use Rattle.cap_model.specs.State.{State, thread_at, content_in}
 use Rattle.cap_machine.specs.declared.step.Step.{Step}
 use Rattle.cap_machine.specs.declared.step.Step.TheVariants.{Take, Put, Grant, Call, Reply, SetCspace, SetVspace, Map, Bind, Drop, Save, ReplyTo}
 use Rattle.cap_machine.specs.declared.step.Why.{Why}

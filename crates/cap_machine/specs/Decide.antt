@@ -1,15 +1,8 @@
 -- The table of steps as a function, which the code follows: what a step changes, or the first answer of the stated
 -- order. That it agrees with the table and with the order of answers is proved; public contracts speak of those alone.
 use Rattle.std.specs.Prelude.{ℕ, ◌==◌, Bool, true, false, ◌&&◌, ◌||◌, not, [], ◌∷◌, ◌++◌, Option, Some, None, Result, Ok, Err, slice_set}
-use Rattle.cap_model.specs.declared.cap.Cap.{Cap}
+use Rattle.cap_machine.specs.Below.{Cap, Capability, Content, Pending, SavedReply, Spec, State, both_rights, content_in, is_at, is_space_root, lessened, thread_at}
 use Rattle.cap_model.specs.declared.kind.Kind.TheVariants as kinds
-use Rattle.cap_model.specs.declared.spec.Spec.{Spec}
-use Rattle.cap_model.specs.declared.state.Content.{Content}
-use Rattle.cap_model.specs.declared.state.Content.TheVariants.{Capability, SavedReply}
-use Rattle.cap_model.specs.declared.state.Pending.{Pending}
-use Rattle.cap_model.specs.Kinds.{is_at, is_space_root}
-use Rattle.cap_model.specs.Lessened.{lessened, both_rights}
-use Rattle.cap_model.specs.State.{State, thread_at, content_in}
 use Rattle.cap_machine.specs.declared.change.Change.{Change}
 use Rattle.cap_machine.specs.declared.change.Change.TheVariants as changes
 use Rattle.cap_machine.specs.declared.step.Step.{Step}

@@ -1,13 +1,6 @@
 -- What steps do to the parts of a state.
 use Rattle.std.specs.Prelude.{ℕ, ◌+◌, ◌==◌, Bool, true, false, not, List, [], ◌∷◌, ◌++◌, Option, Some, None, slice_index_or, slice_set}
-use Rattle.std.specs.List.{filter}
-use Rattle.cap_model.specs.declared.cap.Cap.{Cap}
-use Rattle.cap_model.specs.declared.rights.Rights.{Rights}
-use Rattle.cap_model.specs.declared.state.Content.{Content}
-use Rattle.cap_model.specs.declared.state.Content.TheVariants.{Capability, SavedReply}
-use Rattle.cap_model.specs.declared.state.Pending.{Pending}
-use Rattle.cap_model.specs.declared.state.ThreadState.{ThreadState}
-use Rattle.cap_model.specs.State.{Node, State, no_node, no_thread}
+use Rattle.cap_machine.specs.Below.{Cap, Capability, Content, Node, Pending, Rights, SavedReply, State, ThreadState, filter, no_node, no_thread}
 
 -- what is added stands at the next number, which grows by one
 abbrev pub grown : Node → Content → Node

@@ -1,8 +1,6 @@
 -- What a change does to the lists of a state, what room it needs, and whether it takes memory.
 use Rattle.std.specs.Prelude.{◌≡◌, ◌<◌, ◌-◌, ◌^◌, ℕ, List, Option, slice_index_or}
-use Rattle.cap_model.specs.declared.state.Mapped.{Mapped}
-use Rattle.cap_model.specs.declared.state.ThreadState.{ThreadState}
-use Rattle.cap_model.specs.State.{Node, State, no_node}
+use Rattle.cap_machine.specs.Below.{Mapped, Node, State, ThreadState, no_node}
 use Rattle.cap_machine.specs.declared.change.Change.{Change}
 use Rattle.cap_machine.specs.declared.change.Change.TheVariants.{Add, Call, Reply, ReplyAdd, Root, Space, Map, Bind, Drop, Save, Release, ReleaseAdd}
 use Rattle.cap_machine.specs.Decide.{changed}

@@ -1,13 +1,10 @@
 -- What contracts see of a state of the machine, and what every such state keeps.
 use Rattle.std.specs.Prelude.{◌≡◌, ℕ, ◌+◌, ◌^◌, ◌<◌, ◌≤◌, true, nat_lt, List, slice_index_or}
-use Rattle.std.specs.List.{AllByRecursion, list_all}
+use Rattle.cap_machine.specs.Below.{AllByRecursion, CNode, Node, Object, State, list_all, no_node}
 use Rattle.std.specs.List.Sorted.{IsStrictlySortedBy}
 use Rattle.std.specs.Map.{keys_of}
 use Rattle.std.specs.Ordering.{nat_cmp}
-use Rattle.cap_model.specs.declared.object.Object.{Object}
-use Rattle.cap_model.specs.declared.object.Object.TheVariants.{CNode}
 use Rattle.cap_model.specs.Kept.{rise}
-use Rattle.cap_model.specs.State.{Node, State, no_node}
 
 -- a state, and the number of steps since boot
 pub record Progress : Type 0 where

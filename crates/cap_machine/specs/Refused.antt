@@ -1,8 +1,7 @@
 -- What `apply` says where it refuses: the first answer of the stated order, and then the table has no next state; or
 -- want of memory, for the steps that may take memory.
 use Rattle.std.specs.Prelude.{◌≡◌, Some, None}
-use Rattle.cap_model.specs.declared.spec.Spec.{Spec}
-use Rattle.cap_model.specs.State.{State}
+use Rattle.cap_machine.specs.Below.{Spec, State}
 use Rattle.cap_machine.specs.declared.step.Step.{Step}
 use Rattle.cap_machine.specs.declared.step.Step.TheVariants.{Take, Put, Grant, Call, Reply, SetCspace, SetVspace, Map, Bind, Drop, Save, ReplyTo}
 use Rattle.cap_machine.specs.declared.state.StepError.{StepError}

@@ -1,10 +1,8 @@
 -- Runs and reach. A run is a list of steps, of any threads in any order, each of which leads from the state that the
 -- one before it left. An edge is reached where some run from the boot state leads to a state that has it.
 use Rattle.std.specs.Prelude.{◌≡◌, ℕ, List, [], ◌∷◌}
-use Rattle.authorities.specs.declared.authority.Authority.{Authority}
+use Rattle.cap_machine.specs.Below.{Authority, Spec, State, boot}
 use Rattle.cap_model.specs.Auth.{Auth}
-use Rattle.cap_model.specs.declared.spec.Spec.{Spec}
-use Rattle.cap_model.specs.State.{State, boot}
 use Rattle.cap_machine.specs.declared.step.Step.{Step}
 use Rattle.cap_machine.specs.StepTable.{StepTo}
 

@@ -1,13 +1,9 @@
 -- A small system, steps of it, and their answers: each answer once, and each kind of step where it is legal.
 use Rattle.std.specs.Prelude.{ℕ, true, false, List, [], ◌∷◌, Option, Some, None, Result, Ok, Err, codes}
+use Rattle.cap_machine.specs.Below.{CNode, Endpoint, Frame, Irq, Notification, Object, Pages, Rights, Spec, State, Thread, boot}
 use Rattle.cap_model.specs.Example.{rights, plain, cap, named}
-use Rattle.cap_model.specs.State.{State, boot}
 use Rattle.cap_model.specs.declared.level.Arch.TheVariants.{Arm11}
 use Rattle.cap_model.specs.declared.level.Level.TheVariants.{Directory}
-use Rattle.cap_model.specs.declared.object.Object.{Object}
-use Rattle.cap_model.specs.declared.object.Object.TheVariants.{Endpoint, Notification, CNode, Thread, Frame, Pages, Irq}
-use Rattle.cap_model.specs.declared.rights.Rights.{Rights}
-use Rattle.cap_model.specs.declared.spec.Spec.{Spec}
 use Rattle.cap_machine.specs.declared.change.Change.{Change}
 use Rattle.cap_machine.specs.declared.step.Step.{Step}
 use Rattle.cap_machine.specs.declared.step.Step.TheVariants as steps

@@ -1,16 +1,8 @@
 -- The edges of a state by what they come from: capabilities, slots, links of threads and interrupts, the parts that a
 -- state takes from its spec. These words say the same as the definition of a state's authorities, source by source.
 use Rattle.std.specs.Prelude.{◌≡◌, ◌⊎◌, ℕ, true, List, slice_get, Option, Some}
-use Rattle.cap_model.specs.ObjectLabels.{label_of}
-use Rattle.authorities.specs.declared.authority.Authority.{Authority}
-use Rattle.authorities.specs.declared.authority.Authority.TheVariants.{Control, AsyncSend}
-use Rattle.cap_model.specs.declared.edge.Edge.{Edge}
-use Rattle.cap_model.specs.declared.cap.Cap.{Cap}
-use Rattle.cap_model.specs.declared.object.Object.{Object}
-use Rattle.cap_model.specs.declared.object.Object.TheVariants.{Endpoint, Notification, CNode, Thread, Frame, Pages, Irq}
+use Rattle.cap_machine.specs.Below.{AsyncSend, Authority, CNode, Cap, Control, Edge, Endpoint, Frame, Irq, Notification, Object, Pages, Spec, Thread, confers, label_of}
 use Rattle.cap_model.specs.declared.object.Tcb.{Tcb}
-use Rattle.cap_model.specs.declared.spec.Spec.{Spec}
-use Rattle.cap_model.specs.Confers.{confers}
 
 -- the edges that some item of the list is the source of; P takes the item's place too
 pub record OfEach {A : Type 0} (P : ℕ → A → Edge → Type 0) (items : List A) (e : Edge) : Type 0 where

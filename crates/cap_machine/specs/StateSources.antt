@@ -1,20 +1,9 @@
 -- The edges of a state by what they come from. These words say the same as the definition of a state's authorities,
 -- source by source.
 use Rattle.std.specs.Prelude.{◌≡◌, ◌⊎◌, ℕ, true, List, Option}
+use Rattle.cap_machine.specs.Below.{AsyncSend, Capability, Content, Control, Edge, Mapped, Node, Object, Pages, Reply, SavedReply, Spec, State, Thread, ThreadState, kind_confers, label_of}
 use Rattle.cap_machine.specs.Sources.{OfEach, OfOption, OfLink, OfCap, OfSlots}
-use Rattle.cap_model.specs.ObjectLabels.{label_of}
-use Rattle.authorities.specs.declared.authority.Authority.TheVariants.{Control, AsyncSend, Reply}
-use Rattle.cap_model.specs.declared.edge.Edge.{Edge}
-use Rattle.cap_model.specs.Confers.{kind_confers}
-use Rattle.cap_model.specs.State.{Node, State}
 use Rattle.cap_model.specs.declared.kind.Kind.TheVariants as kinds
-use Rattle.cap_model.specs.declared.object.Object.{Object}
-use Rattle.cap_model.specs.declared.object.Object.TheVariants.{Thread, Pages}
-use Rattle.cap_model.specs.declared.spec.Spec.{Spec}
-use Rattle.cap_model.specs.declared.state.Content.{Content}
-use Rattle.cap_model.specs.declared.state.Content.TheVariants.{Capability, SavedReply}
-use Rattle.cap_model.specs.declared.state.Mapped.{Mapped}
-use Rattle.cap_model.specs.declared.state.ThreadState.{ThreadState}
 
 -- what a CNode with this label has at a number
 abbrev pub OfContent : Spec → List ℕ → ℕ → Content → Edge → Type 0

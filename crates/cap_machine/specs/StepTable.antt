@@ -4,15 +4,8 @@
 -- "A copy" has the object and the badge, and those of the rights that are in r; pending and saved replies are never
 -- copied.
 use Rattle.std.specs.Prelude.{◌≡◌, ◌≢◌, ℕ, Bool, true, false, ◌&&◌, ◌||◌, [], ◌∷◌, ◌++◌, Some, None, slice_set}
-use Rattle.cap_model.specs.declared.cap.Cap.{Cap}
+use Rattle.cap_machine.specs.Below.{Cap, Capability, Content, Pending, SavedReply, Spec, State, both_rights, content_in, is_at, is_space_root, lessened, thread_at}
 use Rattle.cap_model.specs.declared.kind.Kind.TheVariants as kinds
-use Rattle.cap_model.specs.declared.spec.Spec.{Spec}
-use Rattle.cap_model.specs.declared.state.Content.{Content}
-use Rattle.cap_model.specs.declared.state.Content.TheVariants.{Capability, SavedReply}
-use Rattle.cap_model.specs.declared.state.Pending.{Pending}
-use Rattle.cap_model.specs.Kinds.{is_at, is_space_root}
-use Rattle.cap_model.specs.Lessened.{lessened, both_rights}
-use Rattle.cap_model.specs.State.{State, thread_at, content_in}
 use Rattle.cap_machine.specs.declared.step.Step.{Step}
 use Rattle.cap_machine.specs.declared.step.Step.TheVariants.{Take, Put, Grant, Call, Reply, SetCspace, SetVspace, Map, Bind, Drop, Save, ReplyTo}
 use Rattle.cap_machine.specs.Effects.{read_write, with_root, with_space, added, dropped, called, replied, saved, released}

@@ -1,7 +1,6 @@
 -- The codes of tokens: what the grammar asks of one. Lines name codes by the kinds below, and never by their numbers.
 use Rattle.std.specs.Prelude.{ℕ, List, [], ◌∷◌}
-use Rattle.cap_model.specs.declared.level.Level.{Level}
-use Rattle.cap_model.specs.declared.level.Level.TheVariants.{Global, Upper, Directory, Table}
+use Rattle.capdl_text.specs.Below.{Directory, Global, Level, Table, Upper}
 use Rattle.capdl_text.specs.declared.field.Field.{Field}
 use Rattle.capdl_text.specs.declared.field.Field.TheVariants as fields
 use Rattle.capdl_text.specs.declared.token.Kind.{Kind}

@@ -1,8 +1,6 @@
 -- Tokens as readers keep them: without the value of a number, which its bytes have.
 use Rattle.std.specs.Prelude.{ℕ, List, map, unwrap_or, Result, Ok, Err}
-use Rattle.cam_base.specs.Numbers.{number_value}
-use Rattle.cam_base.specs.declared.error.Refused.{Refused}
-use Rattle.cam_base.specs.declared.text_fault.TextFault.{TextFault}
+use Rattle.capdl_text.specs.Below.{Refused, TextFault, number_value}
 use Rattle.capdl_text.specs.declared.seen.Seen.{Seen}
 use Rattle.capdl_text.specs.declared.token.Kind.{Kind}
 use Rattle.capdl_text.specs.declared.token.Kind.TheVariants as kinds

@@ -1,9 +1,7 @@
 -- The tokens of a text, and its first fault of tokens.
 use Rattle.std.specs.Prelude.{◌≡◌, ℕ, true, ◌-◌, ◌+◌, List, [], ◌∷◌, ◌++◌, length, Some, None, Result, Ok, Err}
-use Rattle.std.specs.Option.{is_some}
-use Rattle.cam_base.specs.declared.error.Refused.{Refused}
+use Rattle.capdl_text.specs.Below.{Refused, TextFault, is_some}
 use Rattle.cam_base.specs.declared.error.Refused.TheVariants as refused
-use Rattle.cam_base.specs.declared.text_fault.TextFault.{TextFault}
 use Rattle.capdl_text.specs.declared.token.Kind.{Kind}
 use Rattle.capdl_text.specs.declared.token.Span.{Span}
 use Rattle.capdl_text.specs.declared.token.Token.{Token}

@@ -1,9 +1,6 @@
 -- Words that end in a digit, as most names of objects do: few of them have a meaning of their own.
 use Rattle.std.specs.Prelude.{ℕ, Bool, false, ◌-◌, ◌||◌, if◌then◌else◌, List, length, codes}
-use Rattle.std.specs.List.{slice_get}
-use Rattle.std.specs.Option.{option_map_or}
-use Rattle.std.specs.Str.{bytes_eq}
-use Rattle.cam_base.specs.Numbers.{is_digit}
+use Rattle.capdl_text.specs.Below.{bytes_eq, is_digit, option_map_or, slice_get}
 use Rattle.capdl_text.specs.declared.token.Word.{Word}
 use Rattle.capdl_text.specs.declared.token.Word.TheVariants as words
 

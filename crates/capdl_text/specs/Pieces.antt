@@ -1,8 +1,6 @@
 -- One step of the lexer: what stands at the front of bytes.
 use Rattle.std.specs.Prelude.{◌≡◌, ℕ, List, [], ◌∷◌, Option, Some, None, if◌then◌else◌, ◌==◌}
-use Rattle.std.specs.Option.{option_map}
-use Rattle.cam_base.specs.Names.{is_letter, is_word_byte}
-use Rattle.cam_base.specs.Numbers.{is_digit}
+use Rattle.capdl_text.specs.Below.{is_digit, is_letter, is_word_byte, option_map}
 use Rattle.capdl_text.specs.declared.piece.Piece.{Piece}
 use Rattle.capdl_text.specs.declared.piece.Piece.TheVariants as pieces
 use Rattle.capdl_text.specs.declared.token.Kind.{Kind}

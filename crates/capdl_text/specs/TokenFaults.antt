@@ -9,13 +9,7 @@
 -- Limit stands at a word of more than 127 bytes.
 -- LeftOut stands at a word and at a size that this profile leaves out.
 use Rattle.std.specs.Prelude.{ℕ, Bool, false, ◌==◌, nat_lt, not, if◌then◌else◌, List, [], ◌∷◌, length, Option, Some, None, codes}
-use Rattle.std.specs.List.{list_any}
-use Rattle.std.specs.Option.{is_some}
-use Rattle.std.specs.Str.{bytes_eq}
-use Rattle.cam_base.specs.declared.text_fault.TextCode.{TextCode}
-use Rattle.cam_base.specs.declared.text_fault.TextCode.TheVariants.{CapdlByte, CapdlLimit, CapdlLeftOut}
-use Rattle.cam_base.specs.Names.{is_letter, is_word_byte}
-use Rattle.cam_base.specs.Numbers.{is_digit}
+use Rattle.capdl_text.specs.Below.{CapdlByte, CapdlLeftOut, CapdlLimit, TextCode, bytes_eq, is_digit, is_letter, is_some, is_word_byte, list_any}
 use Rattle.capdl_text.specs.Gaps.{is_blank, after_slash, after_dash}
 use Rattle.capdl_text.specs.TokenKinds.{digits_kind, mark_of}
 

@@ -6,11 +6,7 @@
 --   a text: a quote, bytes that are no quote and no line feed, a quote;
 --   a mark: { } ( ) [ ] = : ,
 use Rattle.std.specs.Prelude.{ℕ, ◌==◌, Bool, true, false, not, ◌&&◌, if◌then◌else◌, List, [], ◌∷◌, codes, Option, Some, None}
-use Rattle.std.specs.List.{list_all}
-use Rattle.std.specs.Option.{option_map}
-use Rattle.std.specs.Str.{bytes_eq}
-use Rattle.cam_base.specs.Names.{is_letter, is_word_byte}
-use Rattle.cam_base.specs.Numbers.{is_digit, number_value}
+use Rattle.capdl_text.specs.Below.{bytes_eq, is_digit, is_letter, is_word_byte, list_all, number_value, option_map}
 use Rattle.capdl_text.specs.declared.token.Kind.{Kind}
 use Rattle.capdl_text.specs.declared.token.Kind.TheVariants as kinds
 use Rattle.capdl_text.specs.declared.token.Mark.{Mark}

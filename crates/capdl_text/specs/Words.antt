@@ -1,9 +1,6 @@
 -- The words of capDL that have a meaning of their own. Each may be the name of an object too.
 use Rattle.std.specs.Prelude.{ℕ, ◌==◌, leb, Bool, not, ◌&&◌, ◌||◌, if◌then◌else◌, List, [], ◌∷◌, length, count_by, codes, Option, Some, None, unwrap_or}
-use Rattle.std.specs.List.{list_all, list_any}
-use Rattle.std.specs.Option.{option_map, option_or}
-use Rattle.std.specs.Str.{bytes_eq}
-use Rattle.cap_model.specs.declared.level.Level.TheVariants.{Global, Upper, Directory, Table}
+use Rattle.capdl_text.specs.Below.{Directory, Global, Table, Upper, bytes_eq, list_all, list_any, option_map, option_or}
 use Rattle.capdl_text.specs.declared.field.Field.{Field}
 use Rattle.capdl_text.specs.declared.field.Field.TheVariants as fields
 use Rattle.capdl_text.specs.declared.token.Word.{Word}

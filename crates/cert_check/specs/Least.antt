@@ -1,10 +1,7 @@
 -- The least violation: the least rule that fails, and of its violations the least by (first edge, lacking edge, second
 -- edge) in the order of edges.
 use Rattle.std.specs.Prelude.{◌≡◌, ◌<◌, ℕ, List, [], ◌∷◌, Option, Some, None}
-use Rattle.cap_model.specs.Edges.{AtMost}
-use Rattle.cap_model.specs.Tables.{Finds}
-use Rattle.cap_model.specs.declared.edge.Edge.{Edge}
-use Rattle.cap_model.specs.declared.spec.Spec.{Spec}
+use Rattle.cert_check.specs.Below.{AtMost, Edge, Finds, Spec}
 use Rattle.cert_check.specs.declared.rule.Rule.{Rule}
 use Rattle.cert_check.specs.declared.rule.Rule.TheVariants as rules
 use Rattle.cert_check.specs.declared.violation.Violation.{Violation}

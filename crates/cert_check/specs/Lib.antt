@@ -1,3 +1,4 @@
+pub mod Below
 pub mod Least
 pub mod Meetings
 pub mod Parts

@@ -1,13 +1,10 @@
 -- Words for the contracts of private functions alone: the three rules over two labels that meet at a third, one by the
 -- first edge of the rule and its partner by another. No public call cites them.
 use Rattle.std.specs.Prelude.{◌≡◌, ◌⊎◌, ◌<◌, ◌≤◌, ℕ, true, List, length, slice_get, Option, Some, None}
+use Rattle.cert_check.specs.Below.{AtMost, Authority, Before, Edge, edge, has}
 use Rattle.std.specs.List.{Contains}
 use Rattle.cap_model.specs.Classes.{OutAlike}
-use Rattle.cap_model.specs.Edges.{edge, AtMost, Before}
-use Rattle.cap_model.specs.Tables.{has}
-use Rattle.authorities.specs.declared.authority.Authority.{Authority}
 use Rattle.authorities.specs.declared.authority.Authority.TheVariants as authorities
-use Rattle.cap_model.specs.declared.edge.Edge.{Edge}
 use Rattle.cert_check.specs.Violations.{BreaksGrant, BreaksCall, BreaksGrantBack}
 use Rattle.cert_check.specs.declared.meetings.Meeting.{Meeting}
 use Rattle.cert_check.specs.declared.meetings.Meeting.TheVariants.{Grant, Call, GrantBack}

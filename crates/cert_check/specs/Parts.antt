@@ -1,17 +1,12 @@
 -- Words for the contracts of private functions alone: what each part of the search looks for. No public call cites them.
 use Rattle.std.specs.Prelude.{◌≡◌, ◌≢◌, ◌<◌, ◌≤◌, ◌⊎◌, ℕ, Bool, true, false, List, slice_get, Option, Some, None}
-use Rattle.cap_model.specs.Edges.{AtMost, Before}
+use Rattle.cert_check.specs.Below.{AsyncSend, AtMost, Authority, Before, Control, Edge, Spec, has}
 use Rattle.cap_model.specs.ObjectLabels.{label_of}
-use Rattle.cap_model.specs.Tables.{has}
-use Rattle.authorities.specs.declared.authority.Authority.{Authority}
-use Rattle.authorities.specs.declared.authority.Authority.TheVariants.{AsyncSend, Control}
-use Rattle.cap_model.specs.declared.edge.Edge.{Edge}
 use Rattle.cap_model.specs.Confers.{confers}
 use Rattle.cap_model.specs.declared.cap.Cap.{Cap}
 use Rattle.cap_model.specs.declared.object.Object.{Object}
 use Rattle.cap_model.specs.declared.object.Object.TheVariants.{Endpoint, Notification, CNode, Thread, Frame, Pages, Irq}
 use Rattle.cap_model.specs.declared.object.Tcb.{Tcb}
-use Rattle.cap_model.specs.declared.spec.Spec.{Spec}
 use Rattle.cert_check.specs.Least.{FindsLeast, NotAfter}
 use Rattle.cert_check.specs.Violations.{MissingEither}
 use Rattle.cert_check.specs.declared.violation.Violation.{Violation}

@@ -11,14 +11,8 @@
 --
 -- All of them speak of labels and of the boot state alone, of no run.
 use Rattle.std.specs.Prelude.{◌≢◌, ℕ, List}
-use Rattle.cap_model.specs.Tables.{Has}
-use Rattle.authorities.specs.declared.authority.Authority.{Authority}
-use Rattle.authorities.specs.declared.authority.Authority.TheVariants.{Receive, AsyncSend, Grant, Control, Call, Reply, GrantBack, Handle}
-use Rattle.cap_model.specs.declared.edge.Edge.{Edge}
+use Rattle.cert_check.specs.Below.{AsyncSend, Authority, Call, Control, Edge, Grant, GrantBack, Handle, Has, Held, Receive, Reply, Spec, Structural, boot}
 use Rattle.cap_machine.specs.Runs.{Reaches}
-use Rattle.cap_model.specs.Auth.{Held, Structural}
-use Rattle.cap_model.specs.State.{boot}
-use Rattle.cap_model.specs.declared.spec.Spec.{Spec}
 
 -- each edge other than Reply out of s goes out of r too
 abbrev pub Passes : List Edge → ℕ → ℕ → Type 0

@@ -1,7 +1,6 @@
 -- What `check` answers: Yes where the rules hold, else the least violation, and then they don't hold.
 use Rattle.std.specs.Prelude.{◌≡◌, ℕ, List}
-use Rattle.cap_model.specs.declared.edge.Edge.{Edge}
-use Rattle.cap_model.specs.declared.spec.Spec.{Spec}
+use Rattle.cert_check.specs.Below.{Edge, Spec}
 use Rattle.cert_check.specs.declared.rule.Rule.{Rule}
 use Rattle.cert_check.specs.declared.verdict.Verdict.{Verdict}
 use Rattle.cert_check.specs.declared.verdict.Verdict.TheVariants.{Yes, No}

@@ -2,13 +2,7 @@
 -- besides. The first of the two is the edge that the rule names first (of the control rule, the Control edge); the
 -- second is the edge to be copied, or, of the call and bind rules, the other edge of the condition.
 use Rattle.std.specs.Prelude.{◌≡◌, ◌≢◌, ◌⊎◌, ℕ, List, false, true}
-use Rattle.cap_model.specs.Edges.{edge}
-use Rattle.cap_model.specs.Tables.{Has, has}
-use Rattle.authorities.specs.declared.authority.Authority.TheVariants.{Receive, AsyncSend, Grant, Control, Call, Reply, GrantBack, Handle}
-use Rattle.cap_model.specs.declared.edge.Edge.{Edge}
-use Rattle.cap_model.specs.Auth.{Held, Structural}
-use Rattle.cap_model.specs.State.{boot}
-use Rattle.cap_model.specs.declared.spec.Spec.{Spec}
+use Rattle.cert_check.specs.Below.{AsyncSend, Call, Control, Edge, Grant, GrantBack, Handle, Has, Held, Receive, Reply, Spec, Structural, boot, edge, has}
 use Rattle.cert_check.specs.declared.violation.Violation.{Violation}
 
 pub record BreaksBoot (spec : Spec) (labels : List ℕ) (cert : List Edge) (lack : Edge) : Type 0 where

@@ -1,15 +1,10 @@
 -- What the rights of a row confer.
 use Rattle.std.specs.Prelude.{Bool, ◌&&◌, ◌==◌, not, cond, Option, Some, None}
-use Rattle.adl_meaning.specs.Prelude.{From}
-use Rattle.adl_meaning.specs.declared.connector.Connector.TheVariants.{Interrupt}
-use Rattle.authorities.specs.Authorities.{number_of}
-use Rattle.authorities.specs.declared.authority.Authority.{Authority}
-use Rattle.authorities.specs.declared.authority.Authority.TheVariants.{Reset}
+use Rattle.conn_rules.specs.Below.{Authority, From, Interrupt, Reset, Rights, number_of}
 use Rattle.cap_model.specs.Confers.{kind_confers, option_confers}
 use Rattle.cap_model.specs.Lessened.{both_rights}
 use Rattle.cap_model.specs.declared.kind.Kind.{Kind}
 use Rattle.cap_model.specs.declared.kind.Kind.TheVariants.{Endpoint, Notification, Frame, Irq}
-use Rattle.cap_model.specs.declared.rights.Rights.{Rights}
 use Rattle.conn_rules.specs.Row.{W, same_connector, same_role}
 use Rattle.conn_rules.specs.declared.rule.ObjectKind.{ObjectKind}
 use Rattle.conn_rules.specs.declared.rule.ObjectKind.TheVariants.{NoObject, OfEndpoint, OfNotification, OfFrames, OfDevice, OfIrq}

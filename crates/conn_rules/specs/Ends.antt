@@ -8,11 +8,9 @@
 --   Interrupt     hardware emits      software consumes   1, 1
 --   Direct        software uses       software provides   1 or more, 1
 use Rattle.std.specs.Prelude.{ℕ, Bool, true, false, ◌&&◌, nat_le, Option, Some, None}
+use Rattle.conn_rules.specs.Below.{Connector, Direct, From, Interrupt, Mmio, Notification, Role, Rpc, SharedMemory, To}
 use Rattle.adl_ast.specs.declared.component.InterfaceKind.{InterfaceKind}
 use Rattle.adl_ast.specs.declared.component.InterfaceKind.TheVariants.{Uses, Provides, Emits, Consumes, Dataport}
-use Rattle.adl_meaning.specs.Prelude.{From, Role, To}
-use Rattle.adl_meaning.specs.declared.connector.Connector.{Connector}
-use Rattle.adl_meaning.specs.declared.connector.Connector.TheVariants.{Direct, Interrupt, Mmio, Notification, Rpc, SharedMemory}
 use Rattle.conn_rules.specs.declared.end.EndRule.{EndRule}
 
 abbrev pub one_software : InterfaceKind → EndRule

@@ -1,3 +1,4 @@
+pub mod Below
 pub mod Confer
 pub mod Ends
 pub mod Row

@@ -19,14 +19,8 @@
 -- lessened to what the end's access setting allows. The row of an interrupt's `from` end stands for the interrupt
 -- object's slot, which holds the notification.
 use Rattle.std.specs.Prelude.{◌^◌, ℕ, Bool, true, false, ◌&&◌, ◌==◌, List, [], ◌∷◌, Option, None, Some}
-use Rattle.adl_meaning.specs.Prelude.{From, Role, To, filter, list_any}
-use Rattle.adl_meaning.specs.declared.connector.Connector.{Connector}
-use Rattle.adl_meaning.specs.declared.connector.Connector.TheVariants.{Direct, Interrupt, Mmio, Notification, Rpc, SharedMemory}
+use Rattle.conn_rules.specs.Below.{AsyncSend, Authority, Call, Connector, Direct, From, Handle, Interrupt, Mmio, Notification, Read, Receive, Reset, Rights, Role, Rpc, SharedMemory, SyncSend, To, Write, filter, list_any, number_of}
 use Rattle.std.specs.Int.Bits.{bit_or}
-use Rattle.authorities.specs.Authorities.{number_of}
-use Rattle.authorities.specs.declared.authority.Authority.{Authority}
-use Rattle.authorities.specs.declared.authority.Authority.TheVariants.{Receive, SyncSend, AsyncSend, Reset, Read, Write, Call, Handle}
-use Rattle.cap_model.specs.declared.rights.Rights.{Rights}
 use Rattle.conn_rules.specs.declared.rule.ObjectKind.{ObjectKind}
 use Rattle.conn_rules.specs.declared.rule.ObjectKind.TheVariants.{NoObject, OfEndpoint, OfNotification, OfFrames, OfDevice, OfIrq}
 use Rattle.conn_rules.specs.declared.rule.RuleRow.{RuleRow}

@@ -1,7 +1,7 @@
 -- The fault of a limit of the layouts: it stands at the keyword of the first assembly, and its name says which limit it is.
 use Rattle.std.specs.Prelude.{ℕ, List, [], ◌∷◌, Option, Some, None, option_map, slice_get}
-use Rattle.adl_meaning.specs.Prelude.{Assembly, Ended, Fault, Item, Place, Source, SourceFile, assemblies, option_or}
-use Rattle.adl_meaning.specs.declared.item_at.ItemAt.{ItemAt}
+use Rattle.cspace_layout.specs.Below.{Ended, Fault, Item, ItemAt, Place, Source, SourceFile, assemblies, option_or}
+use Rattle.adl_meaning.specs.Prelude.{Assembly}
 use Rattle.adl_ast.specs.declared.file.Item.TheVariants as items
 use Rattle.cam_base.specs.declared.code.Code.TheVariants as code
 

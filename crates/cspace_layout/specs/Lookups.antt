@@ -1,12 +1,7 @@
 -- Ends and their settings by number.
 use Rattle.std.specs.Prelude.{ℕ, Option, slice_get, option_map}
-use Rattle.adl_meaning.specs.Prelude.{option_and_then}
-use Rattle.adl_meaning.specs.declared.connector.Connector.{Connector}
-use Rattle.adl_meaning.specs.declared.flat.Flat.{Flat}
-use Rattle.adl_meaning.specs.declared.flat.FlatConnection.{FlatConnection}
-use Rattle.adl_meaning.specs.declared.flat.FlatEnd.{FlatEnd}
+use Rattle.cspace_layout.specs.Below.{Connector, Flat, FlatConnection, FlatEnd, Settled, option_and_then}
 use Rattle.adl_meaning.specs.declared.settled.EndSetting.{EndSetting}
-use Rattle.adl_meaning.specs.declared.settled.Settled.{Settled}
 
 abbrev pub end_in : ℕ → FlatConnection → Option (Connector × FlatEnd)
 end_in n c = option_map (λ e. (c.connector, e)) (slice_get c.ends n)

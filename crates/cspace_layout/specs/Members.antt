@@ -1,9 +1,7 @@
 -- The members of a leaf are those of its component, which stands in the source where the leaf says.
 use Rattle.std.specs.Prelude.{ℕ, Bool, true, false, List, [], Option, Some, None, slice_get}
-use Rattle.adl_meaning.specs.Prelude.{Ended, Item, Member, Source, SourceFile}
-use Rattle.adl_meaning.specs.declared.flat.Flat.{Flat}
+use Rattle.cspace_layout.specs.Below.{Ended, Flat, Item, ItemAt, Member, Source, SourceFile}
 use Rattle.adl_meaning.specs.declared.flat.Leaf.{Leaf}
-use Rattle.adl_meaning.specs.declared.item_at.ItemAt.{ItemAt}
 use Rattle.adl_ast.specs.declared.component.Member.TheVariants as members
 use Rattle.adl_ast.specs.declared.file.Item.TheVariants as items
 

@@ -2,12 +2,11 @@
 -- of a limit stands at the keyword of the assembly, and its name says which one is passed. Both stand at one place, so the
 -- first of them in this order is told.
 use Rattle.std.specs.Prelude.{ℕ, List, [], ◌∷◌, ◌++◌, map, length, max, sum, codes, Option}
+use Rattle.cspace_layout.specs.Below.{Flat, ItemAt}
 use Rattle.std.specs.List.{flat_map}
 use Rattle.cam_base.specs.declared.place.Fault.{Fault}
 use Rattle.adl_ast.specs.declared.composition.Assembly.{Assembly}
 use Rattle.adl_ast.specs.declared.source.Source.{Source}
-use Rattle.adl_meaning.specs.declared.flat.Flat.{Flat}
-use Rattle.adl_meaning.specs.declared.item_at.ItemAt.{ItemAt}
 use Rattle.adl_meaning.specs.Faults.{least}
 use Rattle.adl_meaning.specs.Items.{assemblies}
 use Rattle.adl_meaning.specs.SizeFaults.{limit_passed}

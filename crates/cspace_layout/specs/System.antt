@@ -1,8 +1,6 @@
 -- What slots and spaces are laid out from: a source, its flat system, and the settings of that.
 use Rattle.std.specs.Prelude.{◌≡◌, List}
-use Rattle.adl_meaning.specs.Prelude.{Source}
-use Rattle.adl_meaning.specs.declared.flat.Flat.{Flat}
-use Rattle.adl_meaning.specs.declared.settled.Settled.{Settled}
+use Rattle.cspace_layout.specs.Below.{Flat, Settled, Source}
 use Rattle.cspace_layout.specs.declared.end_at.EndAt.{EndAt}
 use Rattle.cspace_layout.specs.LeafEnds.{ends_of}
 use Rattle.cspace_layout.specs.Within.{IsWithin}

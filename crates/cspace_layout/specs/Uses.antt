@@ -2,16 +2,12 @@
 -- interface that they join and then by connection, and then its locks. An end of an RPC or a notification has one slot.
 -- The `to` end of an interrupt has two: one for the notification, and then one for the interrupt. No other end has any.
 use Rattle.std.specs.Prelude.{ℕ, if◌then◌else◌, List, [], ◌∷◌, ◌++◌, map, Option, Some, None}
+use Rattle.cspace_layout.specs.Below.{Connector, Flat, FlatConnection, FlatEnd, gather}
 use Rattle.adl_ast.specs.declared.component.Member.{Member}
 use Rattle.adl_ast.specs.declared.composition.Role.{Role}
 use Rattle.adl_ast.specs.declared.composition.Role.TheVariants.{From, To}
 use Rattle.adl_ast.specs.declared.source.Source.{Source}
-use Rattle.adl_meaning.specs.declared.connector.Connector.{Connector}
 use Rattle.adl_meaning.specs.declared.connector.Connector.TheVariants.{Rpc, Notification, SharedMemory, Mmio, Interrupt, Direct}
-use Rattle.adl_meaning.specs.declared.flat.Flat.{Flat}
-use Rattle.adl_meaning.specs.declared.flat.FlatConnection.{FlatConnection}
-use Rattle.adl_meaning.specs.declared.flat.FlatEnd.{FlatEnd}
-use Rattle.cam_base.specs.Gather.{gather}
 use Rattle.cspace_layout.specs.LeafEnds.{joins}
 use Rattle.cspace_layout.specs.Members.{leaf_members, is_lock}
 use Rattle.cspace_layout.specs.declared.plan.SlotUse.{SlotUse}

@@ -3,12 +3,8 @@
 -- numbers below 2^32. Whoever has the flat system of a source without faults of names and sizes shows it from what that
 -- system is defined as.
 use Rattle.std.specs.Prelude.{◌≡◌, ◌<◌, ◌^◌, ℕ, length, slice_get, Some}
-use Rattle.adl_meaning.specs.Prelude.{Source, assemblies}
+use Rattle.cspace_layout.specs.Below.{Flat, FlatConnection, FlatEnd, IsIn, Source, assemblies}
 use Rattle.adl_meaning.specs.declared.flat.Domain.{Domain}
-use Rattle.adl_meaning.specs.declared.flat.Flat.{Flat}
-use Rattle.adl_meaning.specs.declared.flat.FlatConnection.{FlatConnection}
-use Rattle.adl_meaning.specs.declared.flat.FlatEnd.{FlatEnd}
-use Rattle.cam_base.specs.Gather.{IsIn}
 use Rattle.cspace_layout.specs.Members.{leaf_members}
 
 pub record IsWithin (source : Source) (flat : Flat) : Type 0 where

@@ -1,3 +1,4 @@
+pub mod Below
 pub mod Pages
 pub mod Rows
 pub mod Tables

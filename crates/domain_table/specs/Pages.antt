@@ -2,20 +2,10 @@
 -- slot's address is that of its table, and behind it so many times what a slot of its level spans as the slot's number says.
 -- Addresses are numbers of 64 bits; within the levels of an architecture no sum passes them.
 use Rattle.std.specs.Prelude.{ℕ, ◌+◌, ◌*◌, ◌%◌, ◌^◌, List, [], ◌∷◌, codes, decimal, Option, Some, None, find}
-use Rattle.std.specs.Option.{option_map}
-use Rattle.std.specs.List.{flat_map}
-use Rattle.std.specs.Str.{bytes_eq}
-use Rattle.cam_base.specs.Hex.{hex_text}
-use Rattle.cam_base.specs.Texts.{together}
-use Rattle.cap_model.specs.declared.cap.Cap.{Cap}
+use Rattle.domain_table.specs.Below.{CNode, Cap, Endpoint, Frame, Irq, Notification, Object, Pages, Spec, Thread, bytes_eq, flat_map, hex_text, name_at, object_at, option_map, rights_word, together}
 use Rattle.cap_model.specs.declared.level.Arch.{Arch}
 use Rattle.cap_model.specs.declared.level.Arch.TheVariants.{Arm11, Aarch64}
 use Rattle.cap_model.specs.declared.object.Fill.{Fill}
-use Rattle.cap_model.specs.declared.object.Object.{Object}
-use Rattle.cap_model.specs.declared.object.Object.TheVariants.{Endpoint, Notification, CNode, Thread, Frame, Pages, Irq}
-use Rattle.cap_model.specs.declared.spec.Spec.{Spec}
-use Rattle.cap_model.specs.Lookup.{name_at, object_at}
-use Rattle.cap_model.specs.RightsWord.{rights_word}
 use Rattle.domain_table.specs.Rows.{Row}
 
 -- what a slot of each level spans, from the root down

@@ -1,7 +1,6 @@
 -- Rows of a table: the texts of their cells, and a row between bars, as Markdown has it.
 use Rattle.std.specs.Prelude.{ℕ, List, [], ◌∷◌, ◌++◌, codes}
-use Rattle.std.specs.List.{flat_map}
-use Rattle.cam_base.specs.Texts.{together}
+use Rattle.domain_table.specs.Below.{flat_map, together}
 
 -- the texts of its cells
 abbrev pub Row : Type 0

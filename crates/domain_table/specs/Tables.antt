@@ -18,20 +18,10 @@
 --   |---|---|---|---|
 --   | 0x10000 | frame_0 | R | Client 0x1000 2048 |
 use Rattle.std.specs.Prelude.{ℕ, ◌==◌, Bool, false, if◌then◌else◌, List, [], ◌∷◌, ◌++◌, codes, decimal, find, map, Option, Some, None, slice_get}
-use Rattle.std.specs.List.{flat_map, position}
-use Rattle.std.specs.Option.{option_and_then, option_map_or}
-use Rattle.std.specs.Str.{bytes_eq}
+use Rattle.domain_table.specs.Below.{CNode, Cap, Endpoint, Frame, Irq, Notification, Object, Pages, Spec, Thread, bytes_eq, flat_map, hex_text, name_at, object_at, option_and_then, option_map_or, position, rights_word, together}
 use Rattle.adl_meaning.specs.declared.flat.Flat.{Flat}
 use Rattle.adl_meaning.specs.declared.flat.FlatEnd.{FlatEnd}
-use Rattle.cam_base.specs.Hex.{hex_text}
 use Rattle.cam_base.specs.Paths.{joined}
-use Rattle.cam_base.specs.Texts.{together}
-use Rattle.cap_model.specs.declared.cap.Cap.{Cap}
-use Rattle.cap_model.specs.declared.object.Object.{Object}
-use Rattle.cap_model.specs.declared.object.Object.TheVariants.{Endpoint, Notification, CNode, Thread, Frame, Pages, Irq}
-use Rattle.cap_model.specs.declared.spec.Spec.{Spec}
-use Rattle.cap_model.specs.Lookup.{name_at, object_at}
-use Rattle.cap_model.specs.RightsWord.{rights_word}
 use Rattle.cspace_layout.specs.declared.end_at.EndAt.{EndAt}
 use Rattle.cspace_layout.specs.Lookups.{end_of}
 use Rattle.system_spec.specs.MapText.{Named, connection_path, leaf_path, member_name}

@@ -1,8 +1,6 @@
 -- Runs of acts: each act leads from the world that the one before it left.
 use Rattle.std.specs.Prelude.{◌≡◌, ℕ, Bool, List, [], ◌∷◌}
-use Rattle.std.specs.List.{filter}
-use Rattle.cap_model.specs.ObjectLabels.{label_of}
-use Rattle.cap_model.specs.declared.spec.Spec.{Spec}
+use Rattle.flow_model.specs.Below.{Spec, filter, label_of}
 use Rattle.flow_model.specs.Act.{Act, actor}
 use Rattle.flow_model.specs.ActTable.{ActTo}
 use Rattle.flow_model.specs.World.{World, IsBoot}

@@ -5,17 +5,11 @@
 -- isn't possible is refused. In each case a thread sees what became of its attempt. An interrupt may fire at any time
 -- while it is bound, and a device may change its frame at any time.
 use Rattle.std.specs.Prelude.{◌≡◌, ℕ, Bool, true, false, [], Option, Some}
-use Rattle.authorities.specs.declared.authority.Authority.TheVariants.{Read, Write}
+use Rattle.flow_model.specs.Below.{Cap, Read, SavedReply, Spec, State, Write, content_in, irq_at, is_at, object_at, thread_at}
 use Rattle.cap_machine.specs.StepTable.{Acts, Own, Owes, Peer, StepTo}
-use Rattle.cap_model.specs.Kinds.{is_at}
-use Rattle.cap_model.specs.Lookup.{object_at}
-use Rattle.cap_model.specs.State.{State, content_in, irq_at, thread_at}
-use Rattle.cap_model.specs.declared.cap.Cap.{Cap}
 use Rattle.cap_model.specs.declared.kind.Kind.TheVariants as kinds
 use Rattle.cap_model.specs.declared.object.Object.{Object}
 use Rattle.cap_model.specs.declared.object.Object.TheVariants.{Frame}
-use Rattle.cap_model.specs.declared.spec.Spec.{Spec}
-use Rattle.cap_model.specs.declared.state.Content.TheVariants.{SavedReply}
 use Rattle.cap_model.specs.declared.state.Pending.{Pending}
 use Rattle.flow_model.specs.Access.{Access}
 use Rattle.flow_model.specs.Act.{Act, Attempt, maker, thread_of, step, store, load, send, tell, tell_saved, signal, await, allowed, refused, fire, device}

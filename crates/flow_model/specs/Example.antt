@@ -1,8 +1,8 @@
 -- Acts of the small system of the machine's sample, in which one comes to see or to have what another one does.
 use Rattle.std.specs.Prelude.{◌≡◌, ℕ, List, [], ◌∷◌}
+use Rattle.flow_model.specs.Below.{boot}
 use Rattle.cap_machine.specs.Sample.{sample, all}
 use Rattle.cap_machine.specs.declared.step.Step.TheVariants as steps
-use Rattle.cap_model.specs.State.{boot}
 use Rattle.flow_model.specs.Act.{Act, Attempt, step, store, load, send, signal, await, allowed, refused}
 use Rattle.flow_model.specs.ActRuns.{ActRun}
 use Rattle.flow_model.specs.World.{World, Sight, content, done, denied, signals, message}

@@ -9,10 +9,7 @@
 -- What a capability with Grant, Call or GrantBack does, it does to whom SyncSend or Receive of the same capability reaches,
 -- and a reply goes to whom a call came from: so those four pass nothing that SyncSend and Receive don't.
 use Rattle.std.specs.Prelude.{◌≡◌, ℕ, Bool, true, false, List}
-use Rattle.cap_model.specs.Tables.{Has}
-use Rattle.authorities.specs.declared.authority.Authority.{Authority}
-use Rattle.authorities.specs.declared.authority.Authority.TheVariants.{Receive, SyncSend, AsyncSend, Read, Write, Control, Handle}
-use Rattle.cap_model.specs.declared.edge.Edge.{Edge}
+use Rattle.flow_model.specs.Below.{AsyncSend, Authority, Control, Edge, Handle, Has, Read, Receive, SyncSend, Write}
 
 -- whether something passes from the label that has the authority
 abbrev pub goes_along : Authority → Bool

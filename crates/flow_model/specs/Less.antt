@@ -2,16 +2,8 @@
 -- other spec too, with at least those rights. Capabilities may be gone, or stand at another number with another badge; roots,
 -- spaces, buffers and bindings may be gone.
 use Rattle.std.specs.Prelude.{◌≡◌, ℕ, Some}
-use Rattle.std.specs.List.{Contains}
-use Rattle.cap_model.specs.Auth.{buffer_of, table_of}
-use Rattle.cap_model.specs.Kinds.{kind_at}
+use Rattle.flow_model.specs.Below.{Cap, Capability, Contains, Rights, Spec, boot, buffer_of, irq_at, kind_at, node_at, object_at, table_of, thread_at}
 use Rattle.cap_model.specs.Lessened.{both_rights}
-use Rattle.cap_model.specs.Lookup.{object_at}
-use Rattle.cap_model.specs.State.{boot, node_at, thread_at, irq_at}
-use Rattle.cap_model.specs.declared.cap.Cap.{Cap}
-use Rattle.cap_model.specs.declared.rights.Rights.{Rights}
-use Rattle.cap_model.specs.declared.spec.Spec.{Spec}
-use Rattle.cap_model.specs.declared.state.Content.TheVariants.{Capability}
 
 -- a capability to the same object, with some of the rights
 pub record IsPart (cap : Cap) (whole : Cap) : Type 0 where

@@ -1,10 +1,7 @@
 -- What a policy lets a label do: what its own edges say, and what those of labels say that it controls. Within one label
 -- all is let.
 use Rattle.std.specs.Prelude.{◌≡◌, ◌⊎◌, ℕ, List, [], ◌∷◌}
-use Rattle.cap_model.specs.Tables.{Has}
-use Rattle.authorities.specs.declared.authority.Authority.{Authority}
-use Rattle.authorities.specs.declared.authority.Authority.TheVariants.{Receive, Control}
-use Rattle.cap_model.specs.declared.edge.Edge.{Edge}
+use Rattle.flow_model.specs.Below.{Authority, Control, Edge, Has, Receive}
 
 -- by edges with Control one comes from l over these labels to m
 abbrev pub Leads : List Edge → ℕ → List ℕ → ℕ → Type 0

@@ -1,7 +1,7 @@
 -- Threads that run programs: what a thread attempts next depends on what it has seen, and on nothing else. When it is whose
 -- turn is open, and so is what interrupts and devices bring.
 use Rattle.std.specs.Prelude.{◌≡◌, ◌⊎◌, ℕ, Bool, true, List, [], ◌∷◌, Option, Some, None}
-use Rattle.cap_model.specs.declared.spec.Spec.{Spec}
+use Rattle.flow_model.specs.Below.{Spec}
 use Rattle.flow_model.specs.Act.{Act, Attempt, actor, allowed, refused, fire, device}
 use Rattle.flow_model.specs.ActTable.{ActTo}
 use Rattle.flow_model.specs.Agree.{in_set}

@@ -3,7 +3,7 @@
 --
 -- A world from which acts go on is a boot world, or one that acts led to from a boot world.
 use Rattle.std.specs.Prelude.{ℕ, Bool, List}
-use Rattle.cap_model.specs.declared.spec.Spec.{Spec}
+use Rattle.flow_model.specs.Below.{Spec}
 use Rattle.flow_model.specs.Act.{Act}
 use Rattle.flow_model.specs.ActRuns.{ActRun, IsReached, acts_in}
 use Rattle.flow_model.specs.Agree.{Agree}

@@ -8,12 +8,7 @@
 --   what a notification has pending         AsyncSend; Receive, by which all is taken away
 --   what a thread has seen                  SyncSend to an endpoint where it receives; Reply; nobody else but itself
 use Rattle.std.specs.Prelude.{◌≡◌, ◌⊎◌, ℕ, ◌==◌, List}
-use Rattle.std.specs.List.{filter}
-use Rattle.cap_model.specs.ObjectLabels.{label_of}
-use Rattle.authorities.specs.declared.authority.Authority.TheVariants.{Receive, SyncSend, AsyncSend, Grant, Write, Control, Call, Reply, Handle}
-use Rattle.cap_model.specs.declared.edge.Edge.{Edge}
-use Rattle.cap_model.specs.State.{node_at, thread_at, irq_at}
-use Rattle.cap_model.specs.declared.state.Mapped.{Mapped}
+use Rattle.flow_model.specs.Below.{AsyncSend, Call, Control, Edge, Grant, Handle, Mapped, Receive, Reply, SyncSend, Write, filter, irq_at, label_of, node_at, thread_at}
 use Rattle.flow_model.specs.World.{World}
 use Rattle.flow_model.specs.Lets.{Commands, Lets, Meets}
 

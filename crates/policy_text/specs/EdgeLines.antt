@@ -1,11 +1,6 @@
 -- Edges as they are printed, by the names of labels.
 use Rattle.std.specs.Prelude.{ℕ, ◌==◌, List, [], ◌∷◌, codes, if◌then◌else◌}
-use Rattle.std.specs.List.{flat_map}
-use Rattle.std.specs.Option.{unwrap_or}
-use Rattle.authorities.specs.Authorities.{text_of}
-use Rattle.cap_model.specs.Policies.{label_name}
-use Rattle.cap_model.specs.declared.edge.Edge.{Edge}
-use Rattle.cam_base.specs.Texts.{together}
+use Rattle.policy_text.specs.Below.{Edge, flat_map, label_name, text_of, together, unwrap_or}
 
 -- labels, by number and name
 abbrev pub LabelNames : Type 0

@@ -2,12 +2,8 @@
 -- zeros and stand as they are written, since a line may use one that no label has, and a fault tells it with all its digits:
 -- equal numbers have equal digits.
 use Rattle.std.specs.Prelude.{ℕ, ◌&&◌, if◌then◌else◌, List, [], ◌∷◌, Option, Some, None, codes}
-use Rattle.std.specs.Option.{option_map}
-use Rattle.std.specs.Str.{bytes_eq}
-use Rattle.authorities.specs.Authorities.{authority_of}
-use Rattle.cap_model.specs.Policies.{is_label_name}
+use Rattle.policy_text.specs.Below.{authority_of, bytes_eq, is_label_name, is_word, option_map}
 use Rattle.authorities.specs.declared.authority.Authority.{Authority}
-use Rattle.cam_base.specs.Names.{is_word}
 use Rattle.cam_base.specs.Numbers.{is_decimal, number_value}
 use Rattle.policy_text.specs.declared.kind.Kind.{Kind}
 use Rattle.policy_text.specs.declared.kind.Kind.TheVariants as kinds

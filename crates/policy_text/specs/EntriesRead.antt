@@ -1,12 +1,11 @@
 -- What entries mean that stand in a text, and the fields behind a field.
 use Rattle.std.specs.Prelude.{ℕ, List, [], map, Option, Some, None}
-use Rattle.std.specs.Borrow.{Bor}
+use Rattle.policy_text.specs.Below.{Bor, fields}
 use Rattle.policy_text.specs.Entries as spec
 use Rattle.policy_text.specs.PolicyFaults.{Told}
 use Rattle.policy_text.specs.declared.entry.Entry.{Entry}
 use Rattle.policy_text.specs.declared.entry.Entry.TheVariants.{Label, Object, Edge}
 use Rattle.policy_text.specs.declared.entry.EntryLine.{EntryLine}
-use Rattle.cam_base.specs.Fields.{fields}
 use Rattle.cam_base.specs.LinesLeft.{line_of}
 
 abbrev pub meant : Entry → spec.Entry

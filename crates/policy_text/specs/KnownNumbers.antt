@@ -1,11 +1,7 @@
 -- The numbers that have a label.
 use Rattle.std.specs.Prelude.{◌≡◌, ◌<◌, ◌^◌, ℕ, Bool, true, false, List, Option, Some, None}
-use Rattle.std.specs.Borrow.{Bor}
+use Rattle.policy_text.specs.Below.{Bor, bytes_eq, list_any, nat_cmp, option_map_or}
 use Rattle.std.specs.BTreeSet.{BTreeSet, contains}
-use Rattle.std.specs.List.{list_any}
-use Rattle.std.specs.Option.{option_map_or}
-use Rattle.std.specs.Ordering.{nat_cmp}
-use Rattle.std.specs.Str.{bytes_eq}
 use Rattle.policy_text.specs.Entries.{Number, value}
 use Rattle.policy_text.specs.WordSets.{has}
 use Rattle.policy_text.specs.declared.words.Words.{Words}

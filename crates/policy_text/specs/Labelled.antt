@@ -1,12 +1,7 @@
 -- The labels of a spec's objects: each has the one that the policy's object line of its name gives.
 use Rattle.std.specs.Prelude.{◌≡◌, ℕ, List, find, map, Option, Some, None, Result, Ok, Err}
-use Rattle.std.specs.Option.{option_map, is_none}
-use Rattle.std.specs.Str.{bytes_eq}
+use Rattle.policy_text.specs.Below.{Policy, Refused, TextFault, Unlabelled, bytes_eq, is_none, option_map}
 use Rattle.cap_model.specs.declared.object_labels.Labels.{Labels}
-use Rattle.cap_model.specs.declared.policy.Policy.{Policy}
-use Rattle.cam_base.specs.declared.error.Refused.{Refused}
-use Rattle.cam_base.specs.declared.text_fault.TextCode.TheVariants.{Unlabelled}
-use Rattle.cam_base.specs.declared.text_fault.TextFault.{TextFault}
 use Rattle.cap_model.specs.declared.spec.Entry.{Entry}
 use Rattle.cap_model.specs.declared.spec.Spec.{Spec}
 use Rattle.policy_text.specs.PolicyTexts.{IsFault}

@@ -1,19 +1,12 @@
 -- What is kept of the lines in front of a line.
 use Rattle.std.specs.Prelude.{◌≡◌, ◌<◌, ◌≤◌, ℕ, Bool, List, [], ◌∷◌, ◌++◌, count_by, Option, None, Result, Ok, Err, IfSome}
-use Rattle.std.specs.Borrow.{Bor}
-use Rattle.std.specs.List.{list_any}
-use Rattle.std.specs.Option.{option_map}
-use Rattle.cam_base.specs.declared.error.Refused.{Refused}
-use Rattle.cam_base.specs.declared.text_fault.TextCode.{TextCode}
-use Rattle.cam_base.specs.declared.text_fault.TextFault.{TextFault}
+use Rattle.policy_text.specs.Below.{Bor, Line, Refused, TextCode, TextFault, Wrong, list_any, option_map}
 use Rattle.policy_text.specs.Entries.{Number, Entry}
 use Rattle.policy_text.specs.PolicyFaults.{Told, gives, names_label, labels_object, says_edge, is_edge, is_label, is_object, new_edges, edges_limit, wrong_entry, fault_at}
 use Rattle.policy_text.specs.PolicyTexts.{IsFault}
 use Rattle.policy_text.specs.WordSets.{has}
 use Rattle.policy_text.specs.declared.seen.Seen.{Seen}
 use Rattle.policy_text.specs.declared.words.Words.{Words}
-use Rattle.cam_base.specs.LineFaults.{Wrong}
-use Rattle.cam_base.specs.Lines.{Line}
 
 -- no more of these lines say an edge than a text may have edges
 abbrev pub HasFewEdges : List Told → Type 0

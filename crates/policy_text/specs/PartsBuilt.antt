@@ -1,16 +1,11 @@
 -- What lines say together, with numbers in 32 bits.
 use Rattle.std.specs.Prelude.{◌≡◌, ℕ, if◌then◌else◌, List, [], ◌∷◌, ◌++◌, Option, Some, None}
-use Rattle.std.specs.List.{filter_map}
-use Rattle.cap_model.specs.Tables.{has, IsSorted}
-use Rattle.cap_model.specs.declared.edge.Edge.{Edge}
-use Rattle.cap_model.specs.declared.policy.Policy.{Policy}
-use Rattle.cam_base.specs.Names.{is_name}
+use Rattle.policy_text.specs.Below.{Edge, IsSorted, Line, Policy, filter_map, has, is_name}
 use Rattle.policy_text.specs.Entries.{Entry, label, object, edge}
 use Rattle.policy_text.specs.Numbers.{narrow}
 use Rattle.policy_text.specs.PolicyFaults.{Told}
 use Rattle.policy_text.specs.PolicyTexts.{by_number}
 use Rattle.policy_text.specs.declared.parts.Parts.{Parts}
-use Rattle.cam_base.specs.Lines.{Line}
 
 abbrev pub built_label : Told → Option (ℕ × List ℕ)
 built_label (line, label n name) = Some (narrow n, name)

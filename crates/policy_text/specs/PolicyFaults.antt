@@ -1,13 +1,7 @@
 -- What is wrong with the lines of a policy or a certificate, each in its turn.
 use Rattle.std.specs.Prelude.{ℕ, ◌+◌, Bool, true, false, not, ◌&&◌, ◌||◌, if◌then◌else◌, nat_le, nat_lt, List, [], ◌∷◌, ◌++◌, length, count_by, Option, Some, None}
-use Rattle.std.specs.List.{list_any}
-use Rattle.std.specs.Option.{option_map, option_map_or, option_or}
-use Rattle.std.specs.Str.{bytes_eq}
-use Rattle.cam_base.specs.declared.text_fault.TextFault.{TextFault}
-use Rattle.cam_base.specs.declared.text_fault.TextCode.TheVariants.{LabelTwice, UnknownLabel, ObjectTwice, PolicyLimit}
+use Rattle.policy_text.specs.Below.{LabelTwice, Line, ObjectTwice, PolicyLimit, TextFault, UnknownLabel, Wrong, at_line, bytes_eq, list_any, option_map, option_map_or, option_or}
 use Rattle.policy_text.specs.Entries.{Number, value, Entry, label, object, edge}
-use Rattle.cam_base.specs.LineFaults.{Wrong, at_line}
-use Rattle.cam_base.specs.Lines.{Line}
 
 -- ---- limits
 

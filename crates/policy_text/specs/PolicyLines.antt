@@ -1,11 +1,8 @@
 -- The one text that a policy, and a certificate, is written as. Numbers are decimal, an authority is its word, and edges stand
 -- in their order.
 use Rattle.std.specs.Prelude.{ℕ, List, [], ◌∷◌, codes, decimal}
-use Rattle.std.specs.List.{flat_map}
-use Rattle.authorities.specs.Authorities.{text_of}
-use Rattle.cap_model.specs.declared.edge.Edge.{Edge}
-use Rattle.cap_model.specs.declared.policy.Policy.{Policy}
-use Rattle.cam_base.specs.Texts.{◌⊹◌, together}
+use Rattle.policy_text.specs.Below.{Edge, Policy, flat_map, text_of, together}
+use Rattle.cam_base.specs.Texts.{◌⊹◌}
 
 -- `label 0 client`
 abbrev pub label_line : ℕ × List ℕ → List ℕ

@@ -2,28 +2,15 @@
 -- A policy's labels are those of its label lines, by number, its objects those of its object lines, in order, and its edges
 -- those of its edge lines. A certificate has edge lines alone, and its labels are those of a policy.
 use Rattle.std.specs.Prelude.{◌≡◌, ℕ, Bool, false, if◌then◌else◌, List, [], ◌∷◌, length, drop, find, fold, Option, Some, None, Result, Ok, Err, nat_lt, All, IsSome}
+use Rattle.policy_text.specs.Below.{Edge, IsSorted, Line, Policy, PolicyLimit, PolicySyntax, Refused, TextCode, TextFault, at_line, bytes_eq, fields, filter_map, has, is_none, is_some, label_name, lines, list_any, nat_cmp, option_map, option_map_or}
+use Rattle.policy_text.specs.Below.{option_or, unwrap_or}
 use Rattle.std.specs.BTreeMap.{insert_entry}
-use Rattle.std.specs.List.{filter_map, list_any}
-use Rattle.std.specs.Option.{option_map, option_map_or, option_or, is_some, is_none, unwrap_or}
-use Rattle.std.specs.Ordering.{nat_cmp}
-use Rattle.std.specs.Str.{bytes_eq}
-use Rattle.cap_model.specs.Policies.{label_name}
-use Rattle.cap_model.specs.Tables.{has, IsSorted}
-use Rattle.cap_model.specs.declared.edge.Edge.{Edge}
-use Rattle.cap_model.specs.declared.policy.Policy.{Policy}
-use Rattle.cam_base.specs.declared.error.Refused.{Refused}
 use Rattle.cam_base.specs.declared.error.Refused.TheVariants as refused
-use Rattle.cam_base.specs.declared.text_fault.TextCode.{TextCode}
-use Rattle.cam_base.specs.declared.text_fault.TextCode.TheVariants.{PolicySyntax, PolicyLimit}
-use Rattle.cam_base.specs.declared.text_fault.TextFault.{TextFault}
 use Rattle.policy_text.specs.declared.kind.Kind.{Kind}
 use Rattle.policy_text.specs.declared.kind.Kind.TheVariants as kinds
 use Rattle.policy_text.specs.Entries.{Number, value, Entry, label, object, edge, entry_of}
 use Rattle.policy_text.specs.PolicyFaults.{Told, gives, first_wrong}
 use Rattle.policy_text.specs.PolicyLines.{policy_header, cert_header}
-use Rattle.cam_base.specs.Fields.{fields}
-use Rattle.cam_base.specs.LineFaults.{at_line}
-use Rattle.cam_base.specs.Lines.{Line, lines}
 
 abbrev pub bytes_limit : ℕ
 bytes_limit = 67108864

@@ -1,7 +1,6 @@
 -- What the parts of reading answer.
 use Rattle.std.specs.Prelude.{◌≡◌, ◌≤◌, ◌+◌, ℕ, ◌||◌, if◌then◌else◌, List, [], ◌∷◌, ◌++◌, count_by, Option, Some, None, Result, Ok, Err}
-use Rattle.cam_base.specs.declared.error.Refused.{Refused}
-use Rattle.cam_base.specs.declared.text_fault.TextFault.{TextFault}
+use Rattle.policy_text.specs.Below.{Line, Refused, TextFault}
 use Rattle.policy_text.specs.Entries.{Entry}
 use Rattle.policy_text.specs.EntriesRead.{told_lines}
 use Rattle.policy_text.specs.KnownNumbers.{IsNear}
@@ -10,7 +9,6 @@ use Rattle.policy_text.specs.PolicyTexts.{said, told, form_fault, has_label, IsF
 use Rattle.policy_text.specs.WordSets.{has}
 use Rattle.policy_text.specs.declared.kind.Kind.{Kind}
 use Rattle.policy_text.specs.declared.read.Noted.{Noted}
-use Rattle.cam_base.specs.Lines.{Line}
 
 -- there is no fault, or this one, unless memory ran out
 abbrev pub FindsFault : Option TextFault → Result (Unit {0}) (Refused TextFault) → Type 0

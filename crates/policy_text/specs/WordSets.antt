@@ -1,7 +1,6 @@
 -- Sets of words that stand in a text.
 use Rattle.std.specs.Prelude.{◌≡◌, ℕ, ◌+◌, Bool, ◌||◌, if◌then◌else◌, List}
-use Rattle.std.specs.Option.{is_some}
-use Rattle.std.specs.Str.{bytes_eq}
+use Rattle.policy_text.specs.Below.{bytes_eq, is_some}
 use Rattle.name_tables.specs.Naming.{spread_found}
 use Rattle.policy_text.specs.declared.words.Words.{Words}
 

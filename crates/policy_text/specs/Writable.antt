@@ -1,10 +1,7 @@
 -- Policies and certificates that are read back from the text that is written of them: it passes no limit of such texts. That
 -- names are names, edges stand in their order, and numbers fit 32 bits, their types keep.
 use Rattle.std.specs.Prelude.{◌<◌, ◌≤◌, ◌^◌, List, length, All, AllPairs, IsTrue}
-use Rattle.cap_model.specs.Tables.{IsSorted}
-use Rattle.cap_model.specs.declared.edge.Edge.{Edge}
-use Rattle.cap_model.specs.declared.policy.Policy.{Policy}
-use Rattle.cam_base.specs.Names.{is_name}
+use Rattle.policy_text.specs.Below.{Edge, IsSorted, Policy, is_name}
 use Rattle.policy_text.specs.PolicyFaults.{labels_limit, objects_limit, edges_limit}
 use Rattle.policy_text.specs.PolicyLines.{policy_text, cert_text}
 use Rattle.policy_text.specs.PolicyTexts.{bytes_limit, AreLabelled}

@@ -2,17 +2,10 @@
 -- what each spec keeps. A CNode that holds a capability is the root of a thread of its own label, and no other CNode has that
 -- label. An endpoint shares its label with no other endpoint and with no notification.
 use Rattle.std.specs.Prelude.{◌≡◌, ◌⊎◌, ℕ, true, List, Some}
-use Rattle.std.specs.List.{Contains}
-use Rattle.cap_model.specs.ObjectLabels.{label_of}
+use Rattle.reach_laws.specs.Below.{Cap, Contains, Endpoint, Notification, Spec, boot, is_at, label_of, node_at, object_at}
 use Rattle.cap_model.specs.Kept.{IsKept}
-use Rattle.cap_model.specs.Kinds.{is_at}
-use Rattle.cap_model.specs.Lookup.{object_at}
-use Rattle.cap_model.specs.State.{boot, node_at}
-use Rattle.cap_model.specs.declared.cap.Cap.{Cap}
-use Rattle.cap_model.specs.declared.kind.Kind.TheVariants.{Endpoint, Notification}
 use Rattle.cap_model.specs.declared.object.Object.TheVariants.{Thread}
 use Rattle.cap_model.specs.declared.object.Tcb.{Tcb}
-use Rattle.cap_model.specs.declared.spec.Spec.{Spec}
 use Rattle.cap_model.specs.declared.state.Content.TheVariants.{Capability}
 
 -- the CNode c holds this capability at i

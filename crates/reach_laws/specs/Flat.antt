@@ -2,6 +2,7 @@
 -- is a device's just where the connector table says so; and an interrupt, or a connection to a device's registers, has one end
 -- at a device.
 use Rattle.std.specs.Prelude.{◌≡◌, ℕ, Bool, true, false, Some, None, slice_get}
+use Rattle.reach_laws.specs.Below.{EndAt}
 use Rattle.adl_ast.specs.declared.component.Member.{Member}
 use Rattle.adl_ast.specs.declared.source.Source.{Source}
 use Rattle.adl_meaning.specs.declared.connector.Connector.TheVariants.{Mmio, Interrupt}
@@ -9,7 +10,6 @@ use Rattle.adl_meaning.specs.declared.flat.Domain.{Domain}
 use Rattle.adl_meaning.specs.declared.flat.Flat.{Flat}
 use Rattle.adl_meaning.specs.declared.flat.FlatConnection.{FlatConnection}
 use Rattle.adl_meaning.specs.declared.flat.Leaf.{Leaf}
-use Rattle.arch_policy.specs.Ends.{EndAt}
 use Rattle.conn_rules.specs.Ends.{end_rule}
 use Rattle.cspace_layout.specs.Members.{members_at}
 use Rattle.cam_base.specs.Gather.{IsIn}

@@ -3,16 +3,8 @@
 -- assigned directly; of what CNodes hold, what stays within a label is what the domain may do with its locks; and no
 -- interrupt has the label of a CNode that holds a capability.
 use Rattle.std.specs.Prelude.{◌≡◌, ◌≢◌, ◌↔◌, ℕ, List, Some}
-use Rattle.cap_model.specs.Edges.{edge}
-use Rattle.cap_model.specs.ObjectLabels.{label_of}
-use Rattle.authorities.specs.declared.authority.Authority.{Authority}
-use Rattle.cap_model.specs.Auth.{Auth, Held}
-use Rattle.cap_model.specs.State.{boot, irq_at}
-use Rattle.cap_model.specs.declared.cap.Cap.{Cap}
-use Rattle.cap_model.specs.declared.spec.Spec.{Spec}
-use Rattle.arch_policy.specs.Tables.{Tables}
+use Rattle.reach_laws.specs.Below.{Auth, Authority, Cap, DirectReason, Held, Spec, Tables, boot, edge, irq_at, label_of}
 use Rattle.arch_policy.specs.Policies.{IsLockEdge}
-use Rattle.arch_policy.specs.Reasons.{DirectReason}
 use Rattle.reach_laws.specs.Arranged.{Holds, IsArranged}
 
 pub record IsLaidOut (t : Tables) (spec : Spec) (labels : List ℕ) : Type 0 where

@@ -2,14 +2,7 @@
 -- but Read and Write is theirs; page tables have windows; and what threads have, their roots, spaces and IPC buffers, stays
 -- within their labels.
 use Rattle.std.specs.Prelude.{◌≡◌, ◌≢◌, ◌⊎◌, ℕ, List}
-use Rattle.cap_model.specs.Edges.{edge}
-use Rattle.authorities.specs.declared.authority.Authority.{Authority}
-use Rattle.authorities.specs.declared.authority.Authority.TheVariants.{Read, Write}
-use Rattle.cap_model.specs.Auth.{Held, OfBuffer, OfIrq, OfRoot, OfSpace}
-use Rattle.cap_model.specs.State.{boot}
-use Rattle.cap_model.specs.declared.spec.Spec.{Spec}
-use Rattle.arch_policy.specs.Tables.{Tables}
-use Rattle.arch_policy.specs.Reasons.{DirectReason}
+use Rattle.reach_laws.specs.Below.{Authority, DirectReason, Held, OfBuffer, OfIrq, OfRoot, OfSpace, Read, Spec, Tables, Write, boot, edge}
 use Rattle.reach_laws.specs.Windows.{HasWindows}
 
 -- what CNodes and interrupts have

@@ -1,14 +1,11 @@
 -- Specs whose CNodes hold capabilities to endpoints, notifications and interrupts alone, to endpoints without G; and the steps
 -- that copy no capability and change no root, no space and no mapping.
 use Rattle.std.specs.Prelude.{◌≡◌, ℕ, Bool, true, false, not, Option, Some, None}
+use Rattle.reach_laws.specs.Below.{Cap, Rights, Spec, kind_at}
 use Rattle.cap_machine.specs.declared.step.Step.{Step}
 use Rattle.cap_machine.specs.declared.step.Step.TheVariants.{Take, Put, Grant, Call, Reply, SetCspace, SetVspace, Map, Bind, Drop, Save, ReplyTo}
-use Rattle.cap_model.specs.Kinds.{kind_at}
-use Rattle.cap_model.specs.declared.cap.Cap.{Cap}
 use Rattle.cap_model.specs.declared.kind.Kind.{Kind}
 use Rattle.cap_model.specs.declared.kind.Kind.TheVariants as kinds
-use Rattle.cap_model.specs.declared.rights.Rights.{Rights}
-use Rattle.cap_model.specs.declared.spec.Spec.{Spec}
 use Rattle.reach_laws.specs.Arranged.{Holds}
 
 abbrev pub plain_kind : Kind → Rights → Bool

@@ -1,23 +1,11 @@
 -- What page tables of a layout with frames hold that leads to other labels: pages of windows. Each end at memory has a window
 -- in the space of its leaf's domain, with the rights that its access leaves.
 use Rattle.std.specs.Prelude.{◌≡◌, ◌≢◌, ℕ, true, false, List, Option, Some}
-use Rattle.std.specs.List.{Contains}
+use Rattle.reach_laws.specs.Below.{Cap, Contains, EndAt, Frame, LeadsTo, Read, Rights, Spec, Tables, Write, kind_at, label_of, leaf_label, object_at, table_of}
 use Rattle.adl_meaning.specs.declared.settled.EndSetting.{EndSetting}
-use Rattle.cap_model.specs.ObjectLabels.{label_of}
-use Rattle.authorities.specs.declared.authority.Authority.TheVariants.{Read, Write}
-use Rattle.cap_model.specs.Auth.{table_of}
-use Rattle.cap_model.specs.Kinds.{kind_at}
-use Rattle.cap_model.specs.Lookup.{object_at}
-use Rattle.cap_model.specs.declared.cap.Cap.{Cap}
-use Rattle.cap_model.specs.declared.kind.Kind.TheVariants.{Frame}
-use Rattle.cap_model.specs.declared.rights.Rights.{Rights}
-use Rattle.cap_model.specs.declared.spec.Spec.{Spec}
 use Rattle.conn_rules.specs.declared.rule.ObjectKind.{ObjectKind}
 use Rattle.cspace_layout.specs.Lookups.{setting_of}
-use Rattle.arch_policy.specs.Tables.{Tables, leaf_label}
-use Rattle.arch_policy.specs.Ends.{EndAt}
 use Rattle.arch_policy.specs.Gives.{gives, leaves}
-use Rattle.arch_policy.specs.Reasons.{LeadsTo}
 
 abbrev pub window_rights : Option EndSetting → Rights
 window_rights o = record { read = leaves o Read; write = leaves o Write; grant = false; reply = false }

@@ -1,7 +1,6 @@
 -- What a table of threads finds.
 use Rattle.std.specs.Prelude.{ℕ, Bool, List, Option, Some, None}
-use Rattle.std.specs.Borrow.{Bor}
-use Rattle.std.specs.Str.{bytes_eq}
+use Rattle.step_text.specs.Below.{Bor, bytes_eq}
 use Rattle.indexmap.specs.IndexMap.{get_by}
 use Rattle.step_text.specs.declared.threads.Threads.{Threads}
 use Rattle.step_text.specs.Spelling.{any_word}

@@ -1,12 +1,8 @@
 -- What is read of one line.
 use Rattle.std.specs.Prelude.{◌≡◌, ℕ, List, Option, Some, None, Result, Ok, Err}
-use Rattle.std.specs.Borrow.{Bor}
-use Rattle.cam_base.specs.declared.error.Refused.{Refused}
+use Rattle.step_text.specs.Below.{Bor, Line, Refused, Step, TextFault}
 use Rattle.cam_base.specs.declared.error.Refused.TheVariants as refused
 use Rattle.cam_base.specs.declared.text_fault.TextCode.{TextCode}
-use Rattle.cam_base.specs.declared.text_fault.TextFault.{TextFault}
-use Rattle.cap_machine.specs.declared.step.Step.{Step}
-use Rattle.cam_base.specs.Lines.{Line}
 use Rattle.step_text.specs.Spelling.{spelled}
 use Rattle.step_text.specs.StepTexts.{wrong, fault_of, step_of}
 

@@ -1,12 +1,8 @@
 -- Steps that can be read back: each thread is the one that its name says, by a name of letters, digits and underscores,
 -- and the numbers fit in 64 bits.
 use Rattle.std.specs.Prelude.{◌≡◌, ◌<◌, ◌^◌, ℕ, true, Some, None}
-use Rattle.std.specs.List.{list_all}
-use Rattle.cam_base.specs.Names.{is_word_byte}
-use Rattle.cap_machine.specs.declared.step.Step.{Step}
+use Rattle.step_text.specs.Below.{Spec, Step, is_word_byte, list_all, name_at}
 use Rattle.cap_machine.specs.declared.step.Step.TheVariants as steps
-use Rattle.cap_model.specs.Lookup.{name_at}
-use Rattle.cap_model.specs.declared.spec.Spec.{Spec}
 use Rattle.step_text.specs.Threads.{thread_named}
 
 pub record IsNamed (spec : Spec) (t : ℕ) : Type 0 where

@@ -1,9 +1,6 @@
 -- Rights as a field: a word of R, W, G and P, each at most once, in any order, or - for none.
 use Rattle.std.specs.Prelude.{ℕ, ◌==◌, leb, Bool, false, not, ◌&&◌, ◌||◌, if◌then◌else◌, List, length, count_by, codes, Option, Some, None}
-use Rattle.std.specs.List.{list_all, list_any}
-use Rattle.std.specs.Str.{bytes_eq}
-use Rattle.cap_model.specs.RightsWord.{read_letter, write_letter, grant_letter, reply_letter}
-use Rattle.cap_model.specs.declared.rights.Rights.{Rights}
+use Rattle.step_text.specs.Below.{Rights, bytes_eq, grant_letter, list_all, list_any, read_letter, reply_letter, write_letter}
 
 abbrev pub is_right : ℕ → Bool
 is_right b = b == read_letter || (b == write_letter || (b == grant_letter || b == reply_letter))

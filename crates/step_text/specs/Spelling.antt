@@ -1,11 +1,8 @@
 -- How a step is spelled: a word, and behind it threads by name, numbers, and the rights that a copy is lessened to.
 use Rattle.std.specs.Prelude.{ℕ, if◌then◌else◌, List, [], ◌∷◌, Option, Some, None}
-use Rattle.std.specs.Option.{option_map}
-use Rattle.cam_base.specs.Names.{is_word}
+use Rattle.step_text.specs.Below.{Rights, Step, is_word, option_map}
 use Rattle.cam_base.specs.Numbers.{number_value}
-use Rattle.cap_machine.specs.declared.step.Step.{Step}
 use Rattle.cap_machine.specs.declared.step.Step.TheVariants as steps
-use Rattle.cap_model.specs.declared.rights.Rights.{Rights}
 use Rattle.step_text.specs.RightsFields.{rights_value}
 use Rattle.step_text.specs.declared.verb.Verb.{Verb}
 use Rattle.step_text.specs.declared.verb.Verb.TheVariants.{Take, Put, Grant, Call, Reply, SetCspace, SetVspace, Map, Bind, Drop, Save, ReplyTo}

@@ -1,14 +1,9 @@
 -- The one text of a list of steps: a line for each, with threads by name, numbers in decimal, and the letters of rights in
 -- the order R, W, G, P, or - for none.
 use Rattle.std.specs.Prelude.{ℕ, Bool, true, false, List, [], ◌∷◌, Some, None, codes, decimal}
-use Rattle.std.specs.List.{flat_map}
+use Rattle.step_text.specs.Below.{Rights, Spec, Step, flat_map, has_rights, name_at, rights_word}
 use Rattle.cam_base.specs.Texts.{together}
-use Rattle.cap_machine.specs.declared.step.Step.{Step}
 use Rattle.cap_machine.specs.declared.step.Step.TheVariants as steps
-use Rattle.cap_model.specs.Lookup.{name_at}
-use Rattle.cap_model.specs.RightsWord.{has_rights, rights_word}
-use Rattle.cap_model.specs.declared.rights.Rights.{Rights}
-use Rattle.cap_model.specs.declared.spec.Spec.{Spec}
 
 -- the letters, or - where there are none
 abbrev pub letters : Bool → Rights → List ℕ

@@ -1,16 +1,10 @@
 -- Texts of steps. Each line that says something spells one step, by its fields.
 use Rattle.std.specs.Prelude.{◌≡◌, ℕ, ◌+◌, nat_lt, if◌then◌else◌, List, [], ◌∷◌, length, Option, Some, None, Result, Ok, Err}
-use Rattle.std.specs.List.{filter_map, find}
-use Rattle.std.specs.Option.{option_map, option_or, is_some, is_none, unwrap_or}
-use Rattle.cam_base.specs.declared.error.Refused.{Refused}
+use Rattle.step_text.specs.Below.{Line, Refused, Spec, Step, TextFault, filter_map, find, is_none, is_some, lines, option_map, option_or, unwrap_or}
 use Rattle.cam_base.specs.declared.error.Refused.TheVariants as refused
 use Rattle.cam_base.specs.declared.text_fault.TextCode.TheVariants.{StepSyntax, StepUnknown, StepLimit}
-use Rattle.cam_base.specs.declared.text_fault.TextFault.{TextFault}
-use Rattle.cap_machine.specs.declared.step.Step.{Step}
-use Rattle.cap_model.specs.declared.spec.Spec.{Spec}
 use Rattle.cam_base.specs.Fields.{fields}
 use Rattle.cam_base.specs.LineFaults.{Wrong, at_line}
-use Rattle.cam_base.specs.Lines.{Line, lines}
 use Rattle.step_text.specs.Spelling.{spelled, any_word, names}
 use Rattle.step_text.specs.Threads.{thread_named}
 

@@ -1,10 +1,8 @@
 -- The threads of a spec by name.
 use Rattle.std.specs.Prelude.{ℕ, Bool, true, false, ◌&&◌, List, Option}
-use Rattle.std.specs.List.{position}
-use Rattle.std.specs.Str.{bytes_eq}
+use Rattle.step_text.specs.Below.{Spec, bytes_eq, position}
 use Rattle.cap_model.specs.declared.object.Object.{Object}
 use Rattle.cap_model.specs.declared.object.Object.TheVariants.{Thread}
-use Rattle.cap_model.specs.declared.spec.Spec.{Spec}
 
 abbrev pub is_thread : Object → Bool
 is_thread (Thread tcb) = true

@@ -1,7 +1,6 @@
 -- The words that steps begin with.
 use Rattle.std.specs.Prelude.{ℕ, if◌then◌else◌, List, codes, Option, Some, None}
-use Rattle.std.specs.Option.{option_or}
-use Rattle.std.specs.Str.{bytes_eq}
+use Rattle.step_text.specs.Below.{bytes_eq, option_or}
 use Rattle.step_text.specs.declared.verb.Verb.{Verb}
 use Rattle.step_text.specs.declared.verb.Verb.TheVariants.{Take, Put, Grant, Call, Reply, SetCspace, SetVspace, Map, Bind, Drop, Save, ReplyTo}
 

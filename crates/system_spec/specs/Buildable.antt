@@ -1,14 +1,8 @@
 -- What the making of a spec and of the map ask of the tables. Slots and spaces that were laid out for a system without faults,
 -- within its limits, keep it.
 use Rattle.std.specs.Prelude.{◌≡◌, ◌<◌, ◌+◌, ◌*◌, ◌^◌, ◌⊎◌, ℕ, List, Some, map, length, slice_get}
-use Rattle.cam_base.specs.Gather.{IsIn}
-use Rattle.cspace_layout.specs.declared.plan.SlotUse.{SlotUse}
-use Rattle.cspace_layout.specs.declared.plan.SlotUse.TheVariants.{OfEnd, Handler, OwnLock}
-use Rattle.page_tables.specs.Levels.{layers, sizes}
+use Rattle.system_spec.specs.Below.{Handler, IsIn, OfEnd, OwnLock, Page, SlotUse, Window, layers, shapes, sizes}
 use Rattle.page_tables.specs.Runs.{Rises}
-use Rattle.page_tables.specs.Shapes.{shapes}
-use Rattle.vspace_layout.specs.declared.spaces.Page.{Page}
-use Rattle.vspace_layout.specs.declared.spaces.Window.{Window}
 use Rattle.system_spec.specs.Parts.{page_mapping, parts}
 use Rattle.system_spec.specs.Tables.{Tables, arch, pages_at, threads_at, uses_at, windows_at}
 

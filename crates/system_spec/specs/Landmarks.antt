@@ -1,7 +1,6 @@
 -- Where the objects of domains stand, their page tables, and which parts have objects that are made one by one.
 use Rattle.std.specs.Prelude.{◌≡◌, ◌<◌, ℕ, List, [], ◌∷◌, length, ◌+◌, Bool, true, false, if◌then◌else◌}
-use Rattle.cap_model.specs.declared.object.Object.{Object}
-use Rattle.cam_base.specs.Gather.{IsIn, gather, before}
+use Rattle.system_spec.specs.Below.{Connector, FlatConnection, Handler, Interrupt, IsIn, Notification, Object, OfEnd, OwnLock, Rpc, SlotUse, before, gather}
 use Rattle.system_spec.specs.declared.landmarks.Landmarks.{Landmarks}
 use Rattle.system_spec.specs.declared.landmarks.Plan.{Plan}
 use Rattle.system_spec.specs.declared.part.Part.{Part}
@@ -9,11 +8,6 @@ use Rattle.system_spec.specs.declared.part.What.{What}
 use Rattle.system_spec.specs.declared.part.What.TheVariants.{CNodeOf, ThreadOf, EndpointOf, NotificationOf, LockOf, IrqOf, TableOf, FrameOf}
 use Rattle.system_spec.specs.Parts.{but_frames, first_of, place, tables_at}
 use Rattle.system_spec.specs.Tables.{Tables}
-use Rattle.adl_meaning.specs.declared.connector.Connector.{Connector}
-use Rattle.adl_meaning.specs.declared.connector.Connector.TheVariants.{Rpc, Notification, Interrupt}
-use Rattle.adl_meaning.specs.declared.flat.FlatConnection.{FlatConnection}
-use Rattle.cspace_layout.specs.declared.plan.SlotUse.{SlotUse}
-use Rattle.cspace_layout.specs.declared.plan.SlotUse.TheVariants.{OfEnd, Handler, OwnLock}
 use Rattle.system_spec.specs.declared.places.Places.{Places}
 use Rattle.system_spec.specs.declared.places.Standing.{Standing}
 use Rattle.system_spec.specs.declared.places.Standing.TheVariants as standings

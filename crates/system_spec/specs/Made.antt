@@ -1,11 +1,10 @@
 -- The spec of a system and the labels of its objects, both from one list of parts, so that an object and its label can't fall
 -- apart.
 use Rattle.std.specs.Prelude.{ℕ, List, map}
+use Rattle.system_spec.specs.Below.{Object, Spec}
 use Rattle.arch_policy.specs.Tables.{number_of}
 use Rattle.cap_model.specs.declared.object_labels.Labels.{Labels}
-use Rattle.cap_model.specs.declared.object.Object.{Object}
 use Rattle.cap_model.specs.declared.spec.Entry.{Entry}
-use Rattle.cap_model.specs.declared.spec.Spec.{Spec}
 use Rattle.system_spec.specs.declared.part.Part.{Part}
 use Rattle.system_spec.specs.Names.{name_of}
 use Rattle.system_spec.specs.Objects.{lines, object}

@@ -6,11 +6,7 @@
 --   each slot, by domain: of an end with its connection, or a lock of a leaf's own
 --   each window, by domain and address
 use Rattle.std.specs.Prelude.{ℕ, ◌+◌, ◌*◌, List, [], ◌∷◌, ◌++◌}
-use Rattle.cspace_layout.specs.declared.plan.SlotUse.{SlotUse}
-use Rattle.cspace_layout.specs.declared.plan.SlotUse.TheVariants.{OfEnd, Handler, OwnLock}
-use Rattle.cam_base.specs.Gather.{gather}
-use Rattle.vspace_layout.specs.declared.spaces.ThreadPlace.{ThreadPlace}
-use Rattle.vspace_layout.specs.declared.spaces.Window.{Window}
+use Rattle.system_spec.specs.Below.{Handler, OfEnd, OwnLock, SlotUse, ThreadPlace, Window, gather}
 use Rattle.system_spec.specs.declared.map_line.MapLine.{MapLine}
 use Rattle.system_spec.specs.declared.map_line.MapLine.TheVariants.{DomainLine, ThreadLine, SlotLine, OwnLine, WindowLine}
 use Rattle.system_spec.specs.declared.part.What.TheVariants.{ThreadOf}

@@ -8,20 +8,13 @@
 --
 -- PATH is that of a leaf, CONNECTION that of a connection. The label of a domain is the domain's path.
 use Rattle.std.specs.Prelude.{ℕ, List, [], ◌∷◌, codes, decimal, Option, Some, None, slice_get}
-use Rattle.std.specs.List.{flat_map}
-use Rattle.std.specs.Option.{option_map_or}
+use Rattle.system_spec.specs.Below.{Flat, Source, Spec, end_of, flat_map, leaf_members, name_at, option_map_or}
 use Rattle.adl_ast.specs.declared.component.Member.{Member}
 use Rattle.adl_ast.specs.declared.component.Member.TheVariants as members
-use Rattle.adl_ast.specs.declared.source.Source.{Source}
-use Rattle.adl_meaning.specs.declared.flat.Flat.{Flat}
 use Rattle.cam_base.specs.Hex.{hex_text}
 use Rattle.cam_base.specs.Paths.{joined}
 use Rattle.cam_base.specs.Texts.{◌⊹◌, together}
-use Rattle.cap_model.specs.declared.spec.Spec.{Spec}
-use Rattle.cap_model.specs.Lookup.{name_at}
 use Rattle.cspace_layout.specs.declared.end_at.EndAt.{EndAt}
-use Rattle.cspace_layout.specs.Lookups.{end_of}
-use Rattle.cspace_layout.specs.Members.{leaf_members}
 use Rattle.system_spec.specs.declared.map_line.MapLine.{MapLine}
 use Rattle.system_spec.specs.declared.map_line.MapLine.TheVariants.{DomainLine, ThreadLine, SlotLine, OwnLine, WindowLine}
 use Rattle.system_spec.specs.declared.map_text.MapNames.{MapNames}

@@ -13,26 +13,9 @@
 -- A part says what it is of and not what it holds. So where it stands is a sum over what stands before it, and what it holds
 -- (`Objects.antt`) may name every other part by its place.
 use Rattle.std.specs.Prelude.{ℕ, ◌+◌, ◌==◌, Bool, false, List, [], ◌∷◌, map, length, take}
-use Rattle.std.specs.List.{count_by, flat_map}
-use Rattle.adl_meaning.specs.declared.connector.Connector.{Connector}
-use Rattle.adl_meaning.specs.declared.connector.Connector.TheVariants.{Rpc, Notification, Interrupt}
-use Rattle.adl_meaning.specs.declared.flat.Domain.{Domain}
-use Rattle.adl_meaning.specs.declared.flat.FlatConnection.{FlatConnection}
-use Rattle.arch_policy.specs.declared.owner.Owner.{Owner}
-use Rattle.arch_policy.specs.declared.owner.Owner.TheVariants.{OfDomain, OfConnection}
-use Rattle.cap_model.specs.declared.level.Level.{Level}
-use Rattle.cap_model.specs.declared.level.Level.TheVariants.{Global, Upper, Directory, Table}
-use Rattle.cap_model.specs.declared.object.Object.{Object}
-use Rattle.cap_model.specs.declared.rights.Rights.{Rights}
-use Rattle.cspace_layout.specs.declared.plan.SlotUse.{SlotUse}
-use Rattle.cspace_layout.specs.declared.plan.SlotUse.TheVariants.{OfEnd, Handler, OwnLock}
-use Rattle.cam_base.specs.Gather.{before, gather}
+use Rattle.system_spec.specs.Below.{Connector, Directory, Domain, FlatConnection, FrameInfo, Global, Handler, Interrupt, Level, Notification, Object, OfConnection, OfDomain, OfEnd, OwnLock, Owner, Page, Rights, Rpc, SlotUse, Table, ThreadPlace}
+use Rattle.system_spec.specs.Below.{Upper, before, count_by, flat_map, gather, level_of, shapes, tables_of}
 use Rattle.page_tables.specs.declared.mapping.Mapping.{Mapping}
-use Rattle.page_tables.specs.Levels.{level_of, tables_of}
-use Rattle.page_tables.specs.Shapes.{shapes}
-use Rattle.vspace_layout.specs.declared.spaces.FrameInfo.{FrameInfo}
-use Rattle.vspace_layout.specs.declared.spaces.Page.{Page}
-use Rattle.vspace_layout.specs.declared.spaces.ThreadPlace.{ThreadPlace}
 use Rattle.system_spec.specs.declared.part.Owned.{Owned}
 use Rattle.system_spec.specs.declared.part.PageTable.{PageTable}
 use Rattle.system_spec.specs.declared.part.Part.{Part}

@@ -1,11 +1,6 @@
 -- What follows from the definitions, as statements.
 use Rattle.std.specs.Prelude.{◌≡◌, ℕ, Some, slice_get}
-use Rattle.adl_meaning.specs.declared.connector.Connector.TheVariants.{Rpc}
-use Rattle.adl_meaning.specs.declared.flat.Domain.{Domain}
-use Rattle.adl_meaning.specs.declared.flat.FlatConnection.{FlatConnection}
-use Rattle.arch_policy.specs.declared.owner.Owner.TheVariants.{OfConnection, OfDomain}
-use Rattle.cap_model.specs.Lookup.{name_at, object_at}
-use Rattle.cam_base.specs.Gather.{IsIn}
+use Rattle.system_spec.specs.Below.{Domain, FlatConnection, IsIn, OfConnection, OfDomain, Rpc, name_at, object_at}
 use Rattle.system_spec.specs.declared.part.Part.{Part}
 use Rattle.system_spec.specs.declared.part.What.TheVariants.{CNodeOf, EndpointOf}
 use Rattle.system_spec.specs.declared.series.Series.TheVariants as series

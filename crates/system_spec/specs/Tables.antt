@@ -1,34 +1,19 @@
 -- What the objects of a system are made from: the source, its flat, settled system, the images of its programs, the slots of
 -- its domains, its spaces, and the numbers of its labels. What is looked up by a number that nothing has is 0, empty or none.
 use Rattle.std.specs.Prelude.{ℕ, Bool, List, [], Option, slice_get}
-use Rattle.std.specs.List.{position}
-use Rattle.std.specs.Option.{option_and_then, option_map_or}
+use Rattle.system_spec.specs.Below.{Arch, Connector, Flat, FlatConnection, Images, Owner, Page, Settled, SlotUse, Source, ThreadPlace, Window, items_of_file, option_and_then, option_map_or, position, setting_of}
 use Rattle.adl_ast.specs.declared.file.Item.{Item}
 use Rattle.adl_ast.specs.declared.file.Item.TheVariants as items
-use Rattle.adl_ast.specs.declared.source.Source.{Source}
-use Rattle.adl_meaning.specs.declared.connector.Connector.{Connector}
-use Rattle.adl_meaning.specs.declared.flat.Flat.{Flat}
-use Rattle.adl_meaning.specs.declared.flat.FlatConnection.{FlatConnection}
 use Rattle.adl_meaning.specs.declared.flat.FlatEnd.{FlatEnd}
 use Rattle.adl_meaning.specs.declared.item_at.ItemAt.{ItemAt}
-use Rattle.adl_meaning.specs.declared.settled.Settled.{Settled}
 use Rattle.arch_policy.specs.declared.numbers.LabelNumbers.{LabelNumbers}
-use Rattle.arch_policy.specs.declared.owner.Owner.{Owner}
 use Rattle.arch_policy.specs.declared.owner.Owner.TheVariants as owners
-use Rattle.cap_model.specs.declared.level.Arch.{Arch}
 use Rattle.conn_rules.specs.Ends.{end_rule}
-use Rattle.cspace_layout.specs.declared.plan.SlotUse.{SlotUse}
 use Rattle.cspace_layout.specs.declared.plan.Slots.{Slots}
-use Rattle.cspace_layout.specs.Lookups.{setting_of}
-use Rattle.cspace_layout.specs.Members.{items_of_file}
-use Rattle.source_images.specs.declared.images.Images.{Images}
 use Rattle.source_images.specs.Images.{arch_of, image_number}
 use Rattle.vspace_layout.specs.declared.owner.Owner.{Owner as FrameOwner}
 use Rattle.vspace_layout.specs.declared.owner.Owner.TheVariants.{OfDomain, OfConnection, OfLeaf}
-use Rattle.vspace_layout.specs.declared.spaces.Page.{Page}
 use Rattle.vspace_layout.specs.declared.spaces.Spaces.{Spaces}
-use Rattle.vspace_layout.specs.declared.spaces.ThreadPlace.{ThreadPlace}
-use Rattle.vspace_layout.specs.declared.spaces.Window.{Window}
 use Rattle.system_spec.specs.declared.tables.Tables.{Tables as Given}
 
 pub record Tables : Type 0 where

@@ -1,10 +1,7 @@
 -- The tables of a source: its slots, its spaces and the numbers of its labels are those of its flat, settled system.
-use Rattle.adl_ast.specs.declared.source.Source.{Source}
-use Rattle.adl_meaning.specs.declared.flat.Flat.{Flat}
-use Rattle.adl_meaning.specs.declared.settled.Settled.{Settled}
+use Rattle.system_spec.specs.Below.{Flat, Images, Settled, Source}
 use Rattle.arch_policy.specs.Labels.{label_numbers}
 use Rattle.cspace_layout.specs.Uses.{slots_of}
-use Rattle.source_images.specs.declared.images.Images.{Images}
 use Rattle.vspace_layout.specs.Given.{given}
 use Rattle.vspace_layout.specs.Laid.{spaces_of}
 use Rattle.system_spec.specs.Tables.{Tables}

@@ -12,20 +12,16 @@
 --   page ROOT           the page of a compiled source
 use Rattle.std.specs.Prelude.{◌≡◌, ◌⊎◌, ◌≤◌, ℕ, Bool, true, false, if◌then◌else◌, List, [], ◌∷◌, codes, length, Option, Some, None, IfOk, Result, Ok, Err}
 use Rattle.std.specs.FinMap as map
-use Rattle.std.specs.Str.{bytes_eq, IsUtf8}
+use Rattle.view_tool.specs.Below.{Build, Fault, FrontEnd, IsUtf8, Named, Policy, TextFault, bytes_eq, domain_called, graph_of, picture_of}
 use Rattle.arch_compile.specs.Compiled.{IsCompiled}
-use Rattle.arch_compile.specs.declared.building.Build.{Build}
-use Rattle.cap_model.specs.declared.policy.Policy.{Policy}
-use Rattle.cam_base.specs.declared.place.Fault.{Fault}
 use Rattle.cam_base.specs.declared.error.Refused.{Refused as Refusal}
 use Rattle.cam_base.specs.declared.error.Refused.TheVariants as refused
-use Rattle.cam_base.specs.declared.text_fault.TextFault.{TextFault}
 use Rattle.cam_io.specs.Causes.{Rose}
 use Rattle.cam_io.specs.Contents.{Contents}
 use Rattle.cam_io.specs.Whole.{IsWhole}
 use Rattle.cam_io.specs.declared.whole.WholeError.{WholeError}
 use Rattle.cam_io.specs.declared.whole.WholeError.TheVariants as whole
-use Rattle.domain_table.specs.Tables.{domain_called, tables_of}
+use Rattle.domain_table.specs.Tables.{tables_of}
 use Rattle.cam_base.specs.declared.error.NoMemory.{NoMemory as Want}
 use Rattle.label_flow.specs.Told.{AreLines, IsTold}
 use Rattle.label_flow.specs.declared.told.Told.{Told}
@@ -33,13 +29,9 @@ use Rattle.label_flow.specs.declared.told.Told.TheVariants as told
 use Rattle.front_end.specs.Fronts.{IsFront}
 use Rattle.cam_base.specs.Unread.{SourceError}
 use Rattle.cam_base.specs.declared.error.Unread.TheVariants as error
-use Rattle.front_end.specs.declared.phases.FrontEnd.{FrontEnd}
 use Rattle.policy_text.specs.PolicyTexts.{IsPolicyRead}
-use Rattle.system_spec.specs.MapText.{Named}
 use Rattle.view_tool.specs.Pages.{Page, page_text}
 use Rattle.view_tool.specs.Shapes.{overview, shapes_of}
-use Rattle.view_text.specs.Graphs.{graph_of}
-use Rattle.view_text.specs.Pictures.{picture_of}
 use Rattle.view_text.specs.Spots.{limit, lint_line, spot_of, stands_in, view_of}
 use Rattle.view_tool.specs.Lines.{fault_line, fault_words, no_line, read_fault, refusal, text_fault_line}
 use Rattle.view_tool.specs.Notes.{AreNotes, ArePageNotes, of_build, of_front}

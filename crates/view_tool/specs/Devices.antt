@@ -1,21 +1,12 @@
 -- The devices of a source: where its memory stands, and which interrupts it raises, by the connections at its interfaces.
 use Rattle.std.specs.Prelude.{ℕ, Bool, false, if◌then◌else◌, List, [], ◌∷◌, codes, decimal, Option, Some, None, slice_get}
-use Rattle.std.specs.Option.{option_map_or}
+use Rattle.view_tool.specs.Below.{Flat, Named, Row, Settled, gather, is_device, joined, leaf_text, member_name, option_map_or, together}
 use Rattle.adl_meaning.specs.declared.connector.Connector.{Connector}
 use Rattle.adl_meaning.specs.declared.connector.Connector.TheVariants.{Mmio, Interrupt}
-use Rattle.adl_meaning.specs.declared.flat.Flat.{Flat}
 use Rattle.adl_meaning.specs.declared.flat.FlatConnection.{FlatConnection}
 use Rattle.adl_meaning.specs.declared.flat.FlatEnd.{FlatEnd}
 use Rattle.adl_meaning.specs.declared.settled.EndSetting.{EndSetting}
-use Rattle.adl_meaning.specs.declared.settled.Settled.{Settled}
-use Rattle.arch_policy.specs.Owners.{is_device}
 use Rattle.cam_base.specs.Hex.{hex_text}
-use Rattle.cam_base.specs.Paths.{joined}
-use Rattle.cam_base.specs.Texts.{together}
-use Rattle.domain_table.specs.Rows.{Row}
-use Rattle.domain_table.specs.Tables.{leaf_text}
-use Rattle.cam_base.specs.Gather.{gather}
-use Rattle.system_spec.specs.MapText.{Named, member_name}
 
 -- whether an end stands at a device
 abbrev pub is_at_device : Flat → FlatEnd → Bool

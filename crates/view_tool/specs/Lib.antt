@@ -1,3 +1,4 @@
+pub mod Below
 pub mod Answers
 pub mod Lines
 pub mod Notes

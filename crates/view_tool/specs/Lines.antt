@@ -1,10 +1,8 @@
 -- The lines that are printed where nothing is shown.
 use Rattle.std.specs.Prelude.{ℕ, List, [], ◌∷◌, codes, decimal}
+use Rattle.view_tool.specs.Below.{Fault, TextFault, together}
 use Rattle.cam_base.specs.Codes.{number_of, title_of}
 use Rattle.cam_base.specs.TextCodes as texts
-use Rattle.cam_base.specs.Texts.{together}
-use Rattle.cam_base.specs.declared.place.Fault.{Fault}
-use Rattle.cam_base.specs.declared.text_fault.TextFault.{TextFault}
 
 abbrev pub usage : List ℕ
 usage = together (

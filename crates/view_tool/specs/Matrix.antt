@@ -1,17 +1,10 @@
 -- Who may do what to whom: a row for each label that may do something, a column for each label to which something may be done,
 -- and in each cell the authorities of the row's label over the column's, each with the lines of its first reason.
 use Rattle.std.specs.Prelude.{ℕ, ◌==◌, Bool, if◌then◌else◌, List, [], ◌∷◌, ◌++◌, codes}
-use Rattle.std.specs.List.{flat_map, list_any}
-use Rattle.arch_policy.specs.Where.{where_true}
+use Rattle.view_tool.specs.Below.{Edge, Policy, escaped, flat_map, gather, list_any, note_at, tagged, together, where_true}
 use Rattle.authorities.specs.Authorities.{text_of}
 use Rattle.authorities.specs.declared.authority.Authority.{Authority}
-use Rattle.cap_model.specs.declared.edge.Edge.{Edge}
-use Rattle.cap_model.specs.declared.policy.Policy.{Policy}
-use Rattle.cam_base.specs.Texts.{together}
-use Rattle.cam_base.specs.Gather.{gather}
 use Rattle.view_tool.specs.declared.matrix.Mark.{Mark}
-use Rattle.view_text.specs.Graphs.{note_at}
-use Rattle.view_text.specs.Html.{escaped, tagged}
 
 -- an edge with a note
 abbrev pub marked : Edge → List ℕ → Mark

@@ -1,18 +1,11 @@
 -- The notes at the edges that a source assigns: each has the lines of its first reason.
 use Rattle.std.specs.Prelude.{◌≡◌, ℕ, leb, Bool, true, false, List, [], ◌∷◌, codes, length, slice_get, Result, Ok, Err}
-use Rattle.std.specs.Option.{option_map_or}
-use Rattle.adl_ast.specs.declared.source.Source.{Source}
-use Rattle.adl_meaning.specs.declared.flat.Flat.{Flat}
-use Rattle.adl_meaning.specs.declared.settled.Settled.{Settled}
-use Rattle.arch_compile.specs.declared.building.Build.{Build}
+use Rattle.view_tool.specs.Below.{Build, Edge, Flat, FrontEnd, Policy, Settled, Source, option_map_or}
 use Rattle.arch_policy.specs.Tables.{tables_of}
-use Rattle.cap_model.specs.declared.edge.Edge.{Edge}
-use Rattle.cap_model.specs.declared.policy.Policy.{Policy}
 use Rattle.explain.specs.Explained.{Explains}
 use Rattle.explain.specs.declared.reason.ExplainError.{ExplainError}
 use Rattle.explain.specs.declared.reason.ExplainError.TheVariants as error
 use Rattle.explain.specs.declared.reason.Reason.{Reason}
-use Rattle.front_end.specs.declared.phases.FrontEnd.{FrontEnd}
 use Rattle.explain.specs.Lines.{reason_text}
 use Rattle.view_tool.specs.declared.reasons.Grounds.{Grounds as Given}
 

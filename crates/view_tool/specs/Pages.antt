@@ -1,25 +1,16 @@
 -- A page of a source for whoever assesses it, as HTML: what is proved, the source's files, the summary, the devices, who may do
 -- what to whom, and what is inside each domain. Every text of the source stands in it escaped (`view_text`, Html.antt).
 use Rattle.std.specs.Prelude.{ℕ, List, [], ◌∷◌, ◌++◌, codes, decimal, length, map}
-use Rattle.adl_ast.specs.declared.source.Source.{Source}
+use Rattle.view_tool.specs.Below.{Named, Policy, Row, Settled, Source, gather, heading, joined, named, table_of, tables_in, tagged, together}
 use Rattle.adl_ast.specs.declared.source.SourceFile.{SourceFile}
 use Rattle.adl_meaning.specs.declared.flat.Domain.{Domain}
-use Rattle.adl_meaning.specs.declared.settled.Settled.{Settled}
-use Rattle.cap_model.specs.declared.policy.Policy.{Policy}
 use Rattle.arch_compile.specs.Summary.{summary_of}
 use Rattle.arch_compile.specs.declared.summary.Summary.{Summary}
-use Rattle.cam_base.specs.Paths.{joined}
-use Rattle.cam_base.specs.Texts.{together}
-use Rattle.domain_table.specs.Rows.{Row}
-use Rattle.domain_table.specs.Tables.{heading, tables_in}
 use Rattle.domain_table.specs.declared.table.DomainTables.{DomainTables}
-use Rattle.cam_base.specs.Gather.{gather}
 use Rattle.view_tool.specs.declared.page.Page.{Page as Given}
 use Rattle.view_tool.specs.Devices.{device_rows}
 use Rattle.view_tool.specs.Matrix.{matrix_of}
-use Rattle.system_spec.specs.MapText.{Named, named}
 use Rattle.system_spec.specs.declared.map_line.MapLine.{MapLine}
-use Rattle.view_text.specs.Html.{table_of, tagged}
 
 -- what a page tells of: the path of the root, the source with its flat system and its spec, the settings, the map, the policy,
 -- and the notes of the policy's edges

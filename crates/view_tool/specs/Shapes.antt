@@ -1,17 +1,8 @@
 -- The shapes of a source's labels: those of domains, of devices, and of connections, which are all others; and which of them are
 -- left out of an overview.
 use Rattle.std.specs.Prelude.{ℕ, ◌==◌, Bool, true, false, not, ◌||◌, if◌then◌else◌, List, [], ◌∷◌, map}
-use Rattle.std.specs.List.{flat_map, list_any}
-use Rattle.std.specs.Str.{bytes_eq}
-use Rattle.adl_meaning.specs.declared.flat.Flat.{Flat}
+use Rattle.view_tool.specs.Below.{Edge, Flat, bytes_eq, domain_labels, flat_map, gather, is_device, joined, list_any, shape_at, where_true}
 use Rattle.adl_meaning.specs.declared.flat.Leaf.{Leaf}
-use Rattle.arch_policy.specs.Owners.{is_device}
-use Rattle.arch_policy.specs.Where.{where_true}
-use Rattle.cap_model.specs.declared.edge.Edge.{Edge}
-use Rattle.cam_base.specs.Paths.{joined}
-use Rattle.domain_table.specs.Tables.{domain_labels}
-use Rattle.cam_base.specs.Gather.{gather}
-use Rattle.view_text.specs.Pictures.{shape_at}
 use Rattle.view_text.specs.declared.shape.Shape.{Shape}
 use Rattle.view_text.specs.declared.shape.Shape.TheVariants.{Domain, Connection, Device, LeftOut}
 

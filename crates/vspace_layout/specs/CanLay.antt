@@ -2,11 +2,7 @@
 -- 2^48; connections are at most 4,096. Whoever has the settings of a source without faults shows it from the bounds of their
 -- values and of the source's sizes.
 use Rattle.std.specs.Prelude.{◌≡◌, ◌<◌, ◌≤◌, ◌+◌, ◌*◌, ◌^◌, ℕ, length, slice_get, Some}
-use Rattle.adl_meaning.specs.declared.flat.Flat.{Flat}
-use Rattle.adl_meaning.specs.declared.flat.FlatConnection.{FlatConnection}
-use Rattle.adl_meaning.specs.declared.settled.Settled.{Settled}
-use Rattle.cspace_layout.specs.declared.end_at.EndAt.{EndAt}
-use Rattle.cam_base.specs.Gather.{IsIn}
+use Rattle.vspace_layout.specs.Below.{EndAt, Flat, FlatConnection, IsIn, Settled}
 use Rattle.vspace_layout.specs.Given.{Given}
 use Rattle.vspace_layout.specs.Memory.{memory_paddr, memory_pages}
 use Rattle.vspace_layout.specs.Regions.{window_pages, windows_of}

@@ -1,12 +1,6 @@
 -- The numbers of frames, as they are given: own frames one behind another, and the frames of memory behind all of them.
 use Rattle.std.specs.Prelude.{◌≡◌, ◌<◌, ◌+◌, ◌^◌, ◌==◌, if◌then◌else◌, ℕ, Bool, true, false, List, [], ◌∷◌, length, map, sum, slice_index_or, Option, Some, slice_get, ◌&&◌}
-use Rattle.std.specs.List.{count_by, position}
-use Rattle.std.specs.Option.{option_map_or, option_and_then}
-use Rattle.adl_meaning.specs.declared.flat.Flat.{Flat}
-use Rattle.adl_meaning.specs.declared.flat.FlatConnection.{FlatConnection}
-use Rattle.adl_meaning.specs.declared.flat.FlatEnd.{FlatEnd}
-use Rattle.adl_meaning.specs.declared.settled.Settled.{Settled}
-use Rattle.cam_base.specs.Gather.{before, gather}
+use Rattle.vspace_layout.specs.Below.{Flat, FlatConnection, FlatEnd, Settled, before, count_by, gather, option_and_then, option_map_or, position}
 use Rattle.vspace_layout.specs.declared.mapped.MappedPage.{MappedPage}
 use Rattle.vspace_layout.specs.declared.mapped.Shown.{Shown}
 use Rattle.vspace_layout.specs.declared.mapped.Shown.TheVariants.{Own, Memory}

@@ -3,15 +3,7 @@
 -- addresses. An own frame is its domain's, shared memory the connection's, registers the device's. The number of a frame is
 -- a sum over those before it.
 use Rattle.std.specs.Prelude.{ℕ, ◌+◌, ◌*◌, ◌==◌, Bool, false, if◌then◌else◌, List, [], ◌∷◌, ◌++◌, map, length, Option, Some, None, slice_get}
-use Rattle.std.specs.List.{range_with_len}
-use Rattle.std.specs.Option.{option_map_or}
-use Rattle.adl_meaning.specs.declared.flat.Domain.{Domain}
-use Rattle.adl_meaning.specs.declared.flat.Flat.{Flat}
-use Rattle.adl_meaning.specs.declared.flat.FlatConnection.{FlatConnection}
-use Rattle.adl_meaning.specs.declared.flat.FlatEnd.{FlatEnd}
-use Rattle.adl_meaning.specs.declared.settled.Settled.{Settled}
-use Rattle.cap_model.specs.declared.object.Fill.{Fill}
-use Rattle.cam_base.specs.Gather.{before, gather}
+use Rattle.vspace_layout.specs.Below.{Domain, Fill, Flat, FlatConnection, FlatEnd, Settled, before, gather, option_map_or, range_with_len}
 use Rattle.vspace_layout.specs.declared.mapped.Shown.{Shown}
 use Rattle.vspace_layout.specs.declared.mapped.Shown.TheVariants.{Own, Memory}
 use Rattle.vspace_layout.specs.declared.owner.Owner.{Owner}

@@ -1,15 +1,7 @@
 -- What spaces are laid out from: the source, its flat system, the settings of that, and the images of its programs.
 use Rattle.std.specs.Prelude.{ℕ, List, [], slice_get}
-use Rattle.std.specs.Option.{option_map_or}
-use Rattle.adl_ast.specs.declared.source.Source.{Source}
-use Rattle.adl_meaning.specs.declared.flat.Flat.{Flat}
-use Rattle.adl_meaning.specs.declared.settled.Settled.{Settled}
-use Rattle.cap_model.specs.declared.level.Arch.{Arch}
-use Rattle.cspace_layout.specs.declared.end_at.EndAt.{EndAt}
+use Rattle.vspace_layout.specs.Below.{Arch, EndAt, Flat, Images, Settled, Source, System, arch_of, option_map_or, sections_end, wired}
 use Rattle.cspace_layout.specs.LeafEnds as order
-use Rattle.cspace_layout.specs.System.{System, wired}
-use Rattle.source_images.specs.Images.{arch_of, sections_end}
-use Rattle.source_images.specs.declared.images.Images.{Images}
 
 pub record Given : Type 0 where
   pub source : Source

@@ -1,8 +1,6 @@
 -- The spaces of all domains and all frames: what the layout of spaces answers.
 use Rattle.std.specs.Prelude.{ℕ, ◌+◌, ◌*◌, [], ◌∷◌, length}
-use Rattle.adl_meaning.specs.declared.flat.Domain.{Domain}
-use Rattle.cspace_layout.specs.declared.end_at.EndAt.{EndAt}
-use Rattle.cam_base.specs.Gather.{gather}
+use Rattle.vspace_layout.specs.Below.{Domain, EndAt, gather}
 use Rattle.vspace_layout.specs.declared.mapped.MappedPage.{MappedPage}
 use Rattle.vspace_layout.specs.declared.spaces.Page.{Page}
 use Rattle.vspace_layout.specs.declared.spaces.Space.{Space}

@@ -1,3 +1,4 @@
+pub mod Below
 pub mod CanLay
 pub mod FrameNumbers
 pub mod Frames

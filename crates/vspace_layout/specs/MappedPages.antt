@@ -3,14 +3,7 @@
 -- pages as far as its end's access allows. What a page is of decides its frame: an own frame, or a page of a connection's
 -- memory.
 use Rattle.std.specs.Prelude.{ℕ, ◌+◌, ◌*◌, Bool, true, false, List, ◌++◌, map, Option, None}
-use Rattle.std.specs.List.{range_with_len}
-use Rattle.std.specs.Option.{option_map_or}
-use Rattle.adl_meaning.specs.declared.settled.EndSetting.{EndSetting}
-use Rattle.adl_meaning.specs.declared.settled.Settled.{Settled}
-use Rattle.cspace_layout.specs.Lookups.{setting_of}
-use Rattle.cam_base.specs.Gather.{gather}
-use Rattle.source_images.specs.ByAddress.{section_pages}
-use Rattle.source_images.specs.declared.images.Images.{Images}
+use Rattle.vspace_layout.specs.Below.{EndSetting, Images, Settled, gather, option_map_or, range_with_len, section_pages, setting_of}
 use Rattle.source_images.specs.declared.pages.SectionPage.{SectionPage}
 use Rattle.vspace_layout.specs.declared.mapped.MappedPage.{MappedPage}
 use Rattle.vspace_layout.specs.declared.mapped.Shown.{Shown}

@@ -2,18 +2,7 @@
 -- device has the device's, and connections to one dataport of a device have the same. Its size is settled at the first end
 -- of shared memory, and at the device's end, which is the `to` end.
 use Rattle.std.specs.Prelude.{ℕ, ◌/◌, ◌==◌, Bool, true, false, ◌&&◌, List, Option, Some, None, slice_get}
-use Rattle.std.specs.List.{position}
-use Rattle.std.specs.Option.{option_and_then, option_map_or}
-use Rattle.adl_ast.specs.declared.composition.Role.{Role}
-use Rattle.adl_ast.specs.declared.composition.Role.TheVariants.{From, To}
-use Rattle.adl_meaning.specs.declared.connector.Connector.{Connector}
-use Rattle.adl_meaning.specs.declared.connector.Connector.TheVariants.{SharedMemory, Mmio}
-use Rattle.adl_meaning.specs.declared.flat.Flat.{Flat}
-use Rattle.adl_meaning.specs.declared.flat.FlatConnection.{FlatConnection}
-use Rattle.adl_meaning.specs.declared.flat.FlatEnd.{FlatEnd}
-use Rattle.adl_meaning.specs.declared.settled.EndSetting.{EndSetting}
-use Rattle.adl_meaning.specs.declared.settled.Settled.{Settled}
-use Rattle.cspace_layout.specs.Lookups.{setting_of}
+use Rattle.vspace_layout.specs.Below.{Connector, EndSetting, Flat, FlatConnection, FlatEnd, From, Mmio, Role, Settled, SharedMemory, To, option_and_then, option_map_or, position, setting_of}
 
 abbrev pub is_to : Role → Bool
 is_to From = false

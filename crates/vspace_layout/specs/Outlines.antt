@@ -1,15 +1,7 @@
 -- The parts of which spaces are made, domain by domain.
 use Rattle.std.specs.Prelude.{◌≡◌, ◌<◌, ℕ, ◌+◌, ◌*◌, ◌≤◌, ◌^◌, List, [], ◌∷◌, ◌++◌, length, map, sum, Some, slice_get, slice_index_or}
-use Rattle.adl_meaning.specs.declared.flat.Domain.{Domain}
-use Rattle.adl_meaning.specs.declared.flat.Flat.{Flat}
-use Rattle.adl_meaning.specs.declared.settled.Settled.{Settled}
-use Rattle.cspace_layout.specs.declared.end_at.EndAt.{EndAt}
-use Rattle.cspace_layout.specs.System.{System, all_ends}
-use Rattle.cam_base.specs.Gather.{IsIn, before, gather}
-use Rattle.source_images.specs.ByAddress.{section_page_count}
-use Rattle.source_images.specs.Images.{arch_of, sections_end}
+use Rattle.vspace_layout.specs.Below.{Domain, EndAt, Flat, Images, IsIn, Settled, System, all_ends, arch_of, before, gather, section_page_count, sections_end}
 use Rattle.source_images.specs.Numbered.{AreApart}
-use Rattle.source_images.specs.declared.images.Images.{Images}
 use Rattle.vspace_layout.specs.declared.mapped.MappedPage.{MappedPage}
 use Rattle.vspace_layout.specs.declared.outline.Outline.{Outline}
 use Rattle.vspace_layout.specs.declared.region.Region.{Region}

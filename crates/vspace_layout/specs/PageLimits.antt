@@ -2,20 +2,17 @@
 -- faults stand at the keyword of the assembly, and their names say which limit is passed. Both stand at one place, so that
 -- of pages is told where both are passed. They come behind the limits on slots.
 use Rattle.std.specs.Prelude.{ℕ, nat_lt, if◌then◌else◌, List, [], ◌∷◌, ◌++◌, map, length, sum, codes, Option, None}
-use Rattle.std.specs.List.{flat_map}
+use Rattle.vspace_layout.specs.Below.{Arch, Source, flat_map, gather}
 use Rattle.adl_ast.specs.declared.composition.Assembly.{Assembly}
 use Rattle.adl_meaning.specs.declared.item_at.ItemAt.{ItemAt}
 use Rattle.adl_meaning.specs.Faults.{least}
 use Rattle.adl_meaning.specs.Items.{assemblies}
 use Rattle.adl_meaning.specs.SizeFaults.{limit_passed}
 use Rattle.cam_base.specs.declared.place.Fault.{Fault}
-use Rattle.cam_base.specs.Gather.{gather}
 use Rattle.page_tables.specs.Counts.{table_count}
 use Rattle.page_tables.specs.Shapes.{shapes}
 use Rattle.vspace_layout.specs.Given.{Given, arch}
 use Rattle.vspace_layout.specs.MappedPages.{mapped_pages}
-use Rattle.adl_ast.specs.declared.source.Source.{Source}
-use Rattle.cap_model.specs.declared.level.Arch.{Arch}
 use Rattle.cspace_layout.specs.Limit.{limit_fault}
 use Rattle.vspace_layout.specs.declared.mapped.MappedPage.{MappedPage}
 

@@ -6,17 +6,7 @@
 --
 -- where n is its number: the free pages up to it, and the pages of those before it.
 use Rattle.std.specs.Prelude.{ℕ, ◌+◌, ◌*◌, ◌/◌, Bool, true, false, if◌then◌else◌, List, [], ◌∷◌, ◌++◌, map, take, slice_get}
-use Rattle.std.specs.List.{flat_map}
-use Rattle.std.specs.Option.{option_map_or}
-use Rattle.adl_ast.specs.declared.composition.Role.{Role}
-use Rattle.adl_ast.specs.declared.composition.Role.TheVariants.{From}
-use Rattle.adl_meaning.specs.declared.connector.Connector.{Connector}
-use Rattle.adl_meaning.specs.declared.connector.Connector.TheVariants.{SharedMemory, Mmio}
-use Rattle.adl_meaning.specs.declared.flat.Flat.{Flat}
-use Rattle.adl_meaning.specs.declared.settled.Settled.{Settled}
-use Rattle.cspace_layout.specs.declared.end_at.EndAt.{EndAt}
-use Rattle.cspace_layout.specs.LeafEnds.{ends_at}
-use Rattle.cspace_layout.specs.Lookups.{end_of}
+use Rattle.vspace_layout.specs.Below.{Connector, EndAt, Flat, From, Mmio, Role, Settled, SharedMemory, end_of, ends_at, flat_map, option_map_or}
 use Rattle.vspace_layout.specs.declared.region.Content.{Content}
 use Rattle.vspace_layout.specs.declared.region.Content.TheVariants.{Stack, Buffer, Window}
 use Rattle.vspace_layout.specs.declared.region.Region.{Region}

@@ -1,14 +1,8 @@
 -- What follows from the definitions, as statements.
 use Rattle.std.specs.Prelude.{◌≡◌, ◌<◌, ◌≤◌, ℕ, ◌+◌, ◌*◌, ◌%◌, true, map, length, Option, Some, None, slice_get}
-use Rattle.std.specs.List.{All, AllPairs}
-use Rattle.cam_base.specs.Gather.{IsIn}
-use Rattle.adl_meaning.specs.declared.flat.FlatConnection.{FlatConnection}
-use Rattle.adl_meaning.specs.declared.flat.FlatEnd.{FlatEnd}
-use Rattle.cap_model.specs.declared.level.Arch.{Arch}
+use Rattle.vspace_layout.specs.Below.{All, AllPairs, Arch, Fill, FlatConnection, FlatEnd, IsIn, section_pages}
 use Rattle.cap_model.specs.declared.level.Arch.TheVariants.{Arm11, Aarch64}
-use Rattle.cap_model.specs.declared.object.Fill.{Fill}
 use Rattle.page_tables.specs.Runs.{Rises}
-use Rattle.source_images.specs.ByAddress.{section_pages}
 use Rattle.vspace_layout.specs.declared.mapped.MappedPage.{MappedPage}
 use Rattle.vspace_layout.specs.declared.mapped.Shown.TheVariants.{Own}
 use Rattle.vspace_layout.specs.declared.owner.Owner.TheVariants.{OfConnection, OfDomain}

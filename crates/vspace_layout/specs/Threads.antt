@@ -1,16 +1,7 @@
 -- The threads of a domain: leaf by leaf, the leaf's control thread and then one for each of its ends that serves calls. A
 -- thread is first known by its leaf and its end alone; addresses, objects and the lines of the map are made from this list.
 use Rattle.std.specs.Prelude.{ℕ, Bool, true, false, if◌then◌else◌, List, [], ◌∷◌, Option, Some, None}
-use Rattle.std.specs.List.{flat_map}
-use Rattle.std.specs.Option.{option_map_or}
-use Rattle.adl_ast.specs.declared.composition.Role.{Role}
-use Rattle.adl_ast.specs.declared.composition.Role.TheVariants.{To}
-use Rattle.adl_meaning.specs.declared.connector.Connector.{Connector}
-use Rattle.adl_meaning.specs.declared.connector.Connector.TheVariants.{Rpc}
-use Rattle.adl_meaning.specs.declared.flat.Flat.{Flat}
-use Rattle.cspace_layout.specs.declared.end_at.EndAt.{EndAt}
-use Rattle.cspace_layout.specs.LeafEnds.{ends_at}
-use Rattle.cspace_layout.specs.Lookups.{end_of}
+use Rattle.vspace_layout.specs.Below.{Connector, EndAt, Flat, Role, Rpc, To, end_of, ends_at, flat_map, option_map_or}
 use Rattle.vspace_layout.specs.declared.thread.ThreadOf.{ThreadOf}
 
 abbrev pub is_called : Connector → Role → Bool
