@@ -30,7 +30,8 @@ module _ (a b : List ℕ) (k l : ℕ) (source : Source) (n m : ℕ) (one : lengt
   first_told p false false = refl
 
   at_one : (xs : List (ItemAt × Assembly)) → length xs ≡ 1 → least (flat_map passed xs)
-      ≡ option_and_then (λ name. option_map (λ p. fault_at p name) (place_in (slice_get xs 0))) (name_by (nat_lt k n) (nat_lt l m))
+      ≡ option_and_then (λ name. option_map (λ p. fault_at p name) (place_in (slice_get xs 0)))
+      (name_by (nat_lt k n) (nat_lt l m))
   at_one [] e = absurd (omega arith)
   at_one (x ∷ []) e = first_told x.1.place (nat_lt k n) (nat_lt l m)
   at_one (x ∷ y ∷ xs) e = absurd (omega arith)

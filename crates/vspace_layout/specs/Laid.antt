@@ -25,7 +25,11 @@ thread_place t d i x = record {
 }
 
 abbrev pub window_at : Given → ℕ → ℕ → EndAt → Window
-window_at t d j e = record { end = e; vaddr = start t d (2 * length (threads_of t d) + j); pages = window_pages t.flat t.settled e }
+window_at t d j e = record {
+  end = e;
+  vaddr = start t d (2 * length (threads_of t d) + j);
+  pages = window_pages t.flat t.settled e;
+}
 
 abbrev pub space : Given → ℕ → Domain → Space
 space t d domain = record {

@@ -11,5 +11,5 @@ returns-in-Ok-clause-part c = rw c.position.ensures (part_ok value_line value_de
     c.args.at c.in-Ok.value c.read_value.new.at (rw c.new-left.ensures at c.in-Ok.ensures))
 
 pub returns-in-Err-clause-part : goal.returns-in-Err-clause-part
-returns-in-Err-clause-part c = part_refused value_line value_decides c.args.bytes.now c.args.tokens.now.list c.args.at value_closed
-    c.in-Err.error c.refusal_of.result (rw c.new-left.ensures at c.in-Err.ensures) c.refusal_of.ensures
+returns-in-Err-clause-part c = part_refused value_line value_decides c.args.bytes.now c.args.tokens.now.list c.args.at
+    value_closed c.in-Err.error c.refusal_of.result (rw c.new-left.ensures at c.in-Err.ensures) c.refusal_of.ensures

@@ -15,7 +15,8 @@ returns-in_err-second g c =
     let ts = c.args.at.now in
     let p = err_from_is_err_and c.from_residual-in_err-second.result c.from_residual-in_err-second.ensures.1 in
     rw (p.1, p.2) (fails token_code (first opens f) (reads f) g.R.Repeated.eats c.in_err-second.field-0.0 (c.args.first ∷ []) ts
-    (with_front (c.args.first ∷ []) (reads (Many f) ts)) (sym c.starts.ensures ∙ c.if-not-starts.false) c.in_err-second.ensures refl)
+    (with_front (c.args.first ∷ []) (reads (Many f) ts)) (sym c.starts.ensures ∙ c.if-not-starts.false) c.in_err-second.ensures
+    refl)
 
 pub returns-then-not-starts-2 : goal.returns-then-not-starts-2
 returns-then-not-starts-2 g c =

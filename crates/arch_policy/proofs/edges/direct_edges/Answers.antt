@@ -21,4 +21,5 @@ loop-place-preserved c =
     c.loop-place-test.true c.connection-item.is refl
     (c.loop-number.invariant
     ∙ ap (λ es. before ++ gather (λ n (e : FlatEnd). end_edges t c.loop-place.place x n e) es)
-    (take_all c.loop-number.number x.ends (subst (λ z. length z ≤ c.loop-number.number) c.as_slice-end-items.ensures c.loop-number-test.false)))
+    (take_all c.loop-number.number x.ends (subst (λ z. length z ≤ c.loop-number.number) c.as_slice-end-items.ensures
+    c.loop-number-test.false)))

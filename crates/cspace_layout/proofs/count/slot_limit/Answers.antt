@@ -6,9 +6,10 @@ use Rattle.cspace_layout.proofs.count.slot_limit.Goals as goal
 pub returns-then-count-gt4095 : goal.returns-then-count-gt4095
 returns-then-count-gt4095 c =
     let s = c.args.wiring.now in
-    let told = slots_over s c.source-source.ensures.within.assembly c.domains-domain-items.result.now c.domains-domain-items.ensures
-    c.loop-domain.domain-index c.loop-domain.all c.loop-domain.invariant.low c.domain-item.result c.count_domain-count.result _
-    c.loop-domain-test.true c.domain-item.is c.as_slice.ensures c.count_domain-count.ensures c.if-count-gt4095.true in
+    let told = slots_over s c.source-source.ensures.within.assembly c.domains-domain-items.result.now
+    c.domains-domain-items.ensures c.loop-domain.domain-index c.loop-domain.all c.loop-domain.invariant.low c.domain-item.result
+    c.count_domain-count.result _ c.loop-domain-test.true c.domain-item.is c.as_slice.ensures c.count_domain-count.ensures
+    c.if-count-gt4095.true in
     subst (λ z. IfOk c.limit_fault.result (λ fault. fault ≡ z)) (ap (λ x. limit_fault x (codes "slots"))
     c.source-source.ensures.source ∙ told) c.limit_fault.ensures
 
