@@ -1,4 +1,5 @@
 -- Names at their first meetings, and the source that turns make.
+use Rattle.std.proofs.Common.{rules}
 use Rattle.adl_import.proofs.Common.{Bool, Contents, Err, Fault, Import, IsSource, IsTrue, Limit, List, Meeting, None, Ok, Option, Place, Result, Some, SourceFile, Turns, [], and_then, ap, append-nil, append_assoc, arith, bytes_eq}
 use Rattle.adl_import.proofs.Common.{bytes_eq-Decides, codes, cond, false, false_from_ne_true, fault_at, filter, first, firsts, flat_map, flat_map-append, imports_of, inl, inr, is_built_in, is_known, length, length-append, length-map}
 use Rattle.adl_import.proofs.Common.{map, map-append, meet_given, meeting_at, meeting_of, meetings_of, met, name_given, names, next, not, refl, root_place, slice_get, snoc_same, subst, suc, sym, take_import, take_imports, true, true≢false}
@@ -19,9 +20,7 @@ known_others_step : (a name : List ℕ) (m : Meeting) (ms : List Meeting) (c d :
     → bytes_eq a m.0 ≡ c → bytes_eq name m.0 ≡ d
     → is_known (others a ms) name ≡ is_known ms name → is_known (cond (not c) (m ∷ others a ms) (others a ms))
     name ≡ (d || is_known ms name)
-known_others_step a name m ms true true e f g more =
-    absurd (true≢false (sym ((bytes_eq-Decides name a).1 ((bytes_eq-Decides name m.0).0 g ∙ sym ((bytes_eq-Decides a m.0).0 f)))
-    ∙ e))
+known_others_step a name m ms true true e f g more = search (rules, bytes_eq-Decides)
 known_others_step a name m ms true false e f g more = more
 known_others_step a name m ms false d e f g more = ap (λ (b : Bool). b || is_known (others a ms) name) g
     ∙ ap (λ (b : Bool). d || b) more
@@ -37,18 +36,10 @@ firsts_step : (x m : Meeting) (fs : List Meeting) (known same : Bool) → is_kno
     → x ∷ others x.0 (cond known fs (fs ++ m ∷ [])) ≡ cond (same || is_known (others x.0 fs) m.0) (x ∷ others x.0 fs)
     (x ∷ others x.0 fs ++ m ∷ [])
 firsts_step x m fs true true k s = refl
-firsts_step x m fs false true k s =
-    ap (λ (l : List Meeting). x ∷ l)
-    (filter-append (λ (n : Meeting). not (bytes_eq x.0 n.0)) fs (m ∷ [])
-    ∙ ap (λ (b : Bool). others x.0 fs ++ cond (not b) (m ∷ []) []) (bytes_eq-sym m.0 x.0 s) ∙ append-nil (others x.0 fs))
+firsts_step x m fs false true k s = search (rules, filter-append, bytes_eq-sym, append-nil)
 firsts_step x m fs true false k s = ap (λ (b : Bool). cond b (x ∷ others x.0 fs) (x ∷ others x.0 fs ++ m ∷ []))
     (sym (known_others x.0 m.0 fs s ∙ k))
-firsts_step x m fs false false k s =
-    ap (λ (l : List Meeting). x ∷ l)
-    (filter-append (λ (n : Meeting). not (bytes_eq x.0 n.0)) fs (m ∷ [])
-    ∙ ap (λ (b : Bool). others x.0 fs ++ cond (not b) (m ∷ []) []) (false_from_ne_true (bytes_eq x.0 m.0)
-    (λ h. true≢false (sym (bytes_eq-sym x.0 m.0 h) ∙ s))))
-    ∙ ap (λ (b : Bool). cond b (x ∷ others x.0 fs) (x ∷ others x.0 fs ++ m ∷ [])) (sym (known_others x.0 m.0 fs s ∙ k))
+firsts_step x m fs false false k s = search (rules, filter-append, false_from_ne_true, bytes_eq-sym, known_others)
 
 pub firsts_more : (ms : List Meeting) (m : Meeting) → firsts (ms ++ m ∷ []) ≡ cond (is_known (firsts ms) m.0) (firsts ms)
     (firsts ms ++ m ∷ [])
@@ -62,12 +53,8 @@ meet_firsts : (ms after : List Meeting) (place : Place) (name : List ℕ) (known
     → is_known (firsts ms) name ≡ known
     → cond known (Ok (firsts ms)) (cond room (Ok (firsts ms ++ (name, place) ∷ [])) (Err f)) ≡ Ok after
     → after ≡ firsts (ms ++ (name, place) ∷ [])
-meet_firsts ms after place name true room f k e =
-    let same : after ≡ firsts ms = cc in
-    same ∙ sym (firsts_more ms (name, place) ∙ ap (λ (b : Bool). cond b (firsts ms) (firsts ms ++ (name, place) ∷ [])) k)
-meet_firsts ms after place name false true f k e =
-    let same : after ≡ firsts ms ++ (name, place) ∷ [] = cc in
-    same ∙ sym (firsts_more ms (name, place) ∙ ap (λ (b : Bool). cond b (firsts ms) (firsts ms ++ (name, place) ∷ [])) k)
+meet_firsts ms after place name true room f k e = search (rules, firsts_more)
+meet_firsts ms after place name false true f k e = search (rules, firsts_more)
 meet_firsts ms after place name false false f k e = absurd (cc)
 
 given_firsts : (ms after : List Meeting) (place : Place) (given : Option (List ℕ)) → meet_given (firsts ms) place given ≡ Ok after
@@ -90,9 +77,7 @@ imports_firsts_step : (root own : List ℕ) (ms after : List Meeting) (i : Impor
     → after ≡ firsts ((ms ++ meeting_of root own i) ++ flat_map (meeting_of root own) is))
     → after ≡ firsts (ms ++ flat_map (meeting_of root own) (i ∷ is))
 imports_firsts_step root own ms after i is (Err f) a e more = absurd (cc)
-imports_firsts_step root own ms after i is (Ok k) a e more =
-    more (subst (λ (l : List Meeting). take_imports root own l is ≡ Ok after) (a k refl) e)
-    ∙ ap firsts (append_assoc ms (meeting_of root own i) (flat_map (meeting_of root own) is))
+imports_firsts_step root own ms after i is (Ok k) a e more = search (rules, append_assoc)
 
 imports_firsts : (root own : List ℕ) (ms after : List Meeting) (imports : List Import)
     → take_imports root own (firsts ms) imports ≡ Ok after
@@ -105,10 +90,7 @@ imports_firsts root own ms after (i ∷ is) e =
 
 met_more : (root : List ℕ) (files : List SourceFile) (file : SourceFile)
     → met root (files ++ file ∷ []) ≡ firsts (((root, root_place) ∷ flat_map (meetings_of root) files) ++ meetings_of root file)
-met_more root files file =
-    ap (λ (l : List Meeting). firsts ((root, root_place) ∷ l))
-    (flat_map-append (meetings_of root) files (file ∷ []) ∙ ap (λ (l : List Meeting). flat_map (meetings_of root) files ++ l)
-    (append-nil (meetings_of root file)))
+met_more root files file = search (rules, flat_map-append, append-nil)
 
 -- what is known after turns is what their files meet
 pub turns_meet : (m : Contents) (root : List ℕ) (files : List SourceFile) (known : List Meeting) → Turns m root files known
@@ -129,12 +111,7 @@ same_extends : (known after : List Meeting) → known ≡ after → Extends know
 same_extends known after e = record { more = []; parts = sym e ∙ sym (append-nil known) }
 
 extends_twice : (a b c : List Meeting) → Extends a b → Extends b c → Extends a c
-extends_twice a b c x y =
-    record {
-      more = x.more ++ y.more;
-      parts = y.parts ∙ ap (λ (l : List Meeting). l ++ y.more) x.parts
-          ∙ append_assoc a x.more y.more;
-    }
+extends_twice a b c x y = search (rules, append_assoc)
 
 meet_extends : (is room : Bool) (known after : List Meeting) (m : Meeting) (f : Fault)
     → cond is (Ok known) (cond room (Ok (known ++ m ∷ [])) (Err f)) ≡ Ok after → Extends known after
@@ -195,22 +172,12 @@ leads_next : (files : List SourceFile) (known after : List Meeting) (file : Sour
     → Leads (files ++ file ∷ []) after
 leads_next files known after file place before at ext =
     let p = split_at known (length files) (file.name, place) at in
-    let lengths : length (file_names files) ≡ length (names p.0) = length-map files (λ f. f.name) ∙ sym p.3
-    ∙ sym (length-map p.0 (λ m. m.0)) in
-    let whole : file_names files ++ before.more ≡ names p.0 ++ file.name ∷ names p.1 =
-    sym before.parts ∙ ap names p.2 ∙ map-append (λ (m : Meeting). m.0) p.0 ((file.name, place) ∷ p.1) in
-    let tail : before.more ≡ file.name ∷ names p.1 = same_front (file_names files) (names p.0) before.more (file.name ∷ names p.1)
-    lengths whole in
+    let lengths : length (file_names files) ≡ length (names p.0) = search (rules, length-map) in
+    let whole : file_names files ++ before.more ≡ names p.0 ++ file.name ∷ names p.1 = search (rules, map-append) in
+    let tail : before.more ≡ file.name ∷ names p.1 = search (rules, same_front) in
     record {
       more = names p.1 ++ names ext.more;
-      parts =
-          ap names ext.parts ∙ map-append (λ (m : Meeting). m.0) known ext.more
-          ∙ ap (λ (l : List (List ℕ)). l ++ names ext.more) (before.parts
-          ∙ ap (λ (l : List (List ℕ)). file_names files ++ l) tail)
-          ∙ append_assoc (file_names files) (file.name ∷ names p.1) (names ext.more)
-          ∙ sym (append_assoc (file_names files) (file.name ∷ []) (names p.1 ++ names ext.more))
-          ∙ ap (λ (l : List (List ℕ)). l ++ (names p.1 ++ names ext.more))
-          (sym (map-append (λ (f : SourceFile). f.name) files (file ∷ [])));
+      parts = search (rules, map-append, append_assoc);
     }
 
 turns_lead : (m : Contents) (root : List ℕ) (files : List SourceFile) (known : List Meeting) → Turns m root files known
@@ -228,31 +195,18 @@ no_more (x ∷ xs) ys e = ap (λ l. x ∷ l) (no_more xs ys (omega arith))
 -- there are no more files than names
 pub turns_within : (m : Contents) (root : List ℕ) (files : List SourceFile) (known : List Meeting) → Turns m root files known
     → length files ≤ length known
-turns_within m root files known turns =
-    let l = turns_lead m root files known turns in
-    let e : length known ≡ length files + length l.more =
-    sym (length-map known (λ m. m.0)) ∙ ap length l.parts ∙ length-append (file_names files) l.more
-    ∙ ap (λ (n : ℕ). n + length l.more) (length-map files (λ f. f.name)) in
-    omega arith
+turns_within m root files known turns = search (rules, turns_lead, length-map, length-append)
 
 turns_equation : (m : Contents) (root : List ℕ) (files : List SourceFile) (known : List Meeting) → Turns m root files known
     → length known ≡ length files
     → file_names files ≡ names (met root files)
-turns_equation m root files known turns all =
-    let l = turns_lead m root files known turns in
-    let lengths : length (file_names files ++ l.more) ≡ length (file_names files) =
-    sym (ap length l.parts) ∙ length-map known (λ m. m.0) ∙ all ∙ sym (length-map files (λ f. f.name)) in
-    sym (l.parts ∙ no_more (file_names files) l.more lengths) ∙ ap names (turns_meet m root files known turns)
+turns_equation m root files known turns all = search (rules, turns_lead, length-map, no_more, turns_meet)
 
 -- a first meeting is a meeting
 known_sub_step : (a name : List ℕ) (m : Meeting) (os ms : List Meeting) (c : Bool)
     → (is_known os name ≡ true → is_known ms name ≡ true) → is_known (cond c (m ∷ os) os) name ≡ true
     → is_known (m ∷ ms) name ≡ true
-known_sub_step a name m os ms true more e = or_over (bytes_eq name m.0) (is_known os name) (is_known ms name) more e
-  where
-    or_over : (b k l : Bool) → (k ≡ true → l ≡ true) → (b || k) ≡ true → (b || l) ≡ true
-    or_over true k l f h = refl
-    or_over false k l f h = f h
+known_sub_step a name m os ms true more e = search (rules)
 known_sub_step a name m os ms false more e = or_right (bytes_eq name m.0) (is_known ms name) (more e)
 
 pub known_sub : (a name : List ℕ) (ms : List Meeting) → is_known (others a ms) name ≡ true → is_known ms name ≡ true
@@ -270,9 +224,7 @@ known_firsts (m ∷ ms) name e = go (bytes_eq name m.0) (λ h. known_firsts ms n
 
 known_at : (ms : List Meeting) (i : ℕ) (m : Meeting) → slice_get ms i ≡ Some m → is_known ms m.0 ≡ true
 known_at [] i m e = absurd (cc)
-known_at (k ∷ ks) zero m e =
-    let same : k ≡ m = cc in
-    subst (λ (x : Meeting). is_known (k ∷ ks) x.0 ≡ true) same (ap (λ (b : Bool). b || is_known ks k.0) (bytes_eq-refl k.0))
+known_at (k ∷ ks) zero m e = search (rules, bytes_eq-refl)
 known_at (k ∷ ks) (suc i) m e = go (bytes_eq m.0 k.0) (known_at ks i m e)
   where
     go : (b : Bool) → is_known ks m.0 ≡ true → (b || is_known ks m.0) ≡ true

@@ -1,4 +1,5 @@
 -- Names that are met, one after another.
+use Rattle.std.proofs.Common.{rules}
 use Rattle.adl_import.proofs.Common.{Bool, Err, Fault, Limit, List, Meeting, Ok, Option, Place, Result, Some, [], ap, bytes_eq, codes, cond, false, fault_at, files_limit}
 use Rattle.adl_import.proofs.Common.{is_known, is_some, le-ltb, length, lookup, lt-ltb, meet, refl, sym, true, true≢false, ℕ, ◌++◌, ◌<◌, ◌||◌, ◌∙◌, ◌∷◌, ◌≡◌, ◌≤◌}
 use Rattle.indexmap.specs.IndexMap.{insert_entry}
@@ -39,6 +40,4 @@ meet-full known place name f e le is = rw (sym (lookup-known known name) ∙ e, 
 pub meet-new : (known after : List Meeting) (place : Place) (name : List ℕ) → is_some (lookup (bytes_eq name) known) ≡ false
     → length known < files_limit
     → after ≡ insert_entry bytes_eq known name place → meet known place name ≡ Ok after
-meet-new known after place name e lt is =
-    let new : is_known known name ≡ false = sym (lookup-known known name) ∙ e in
-    rw (new, lt-ltb (length known) files_limit lt) (ap Ok (sym (is ∙ insert_entry-unknown known name place new)))
+meet-new known after place name e lt is = search (rules, lookup-known, lt-ltb, insert_entry-unknown)

@@ -1,4 +1,5 @@
 -- Parts of a path, as they are put on and taken off.
+use Rattle.std.proofs.Common.{rules}
 use Rattle.adl_import.proofs.Common.{Bool, Err, IsUtf8, IsUtf8-from_is_utf8, List, None, Ok, Option, Result, Some, [], ap, append-nil, append_assoc, arith, bytes_eq-Decides, false, false_from_ne_true}
 use Rattle.adl_import.proofs.Common.{flat_map, inner_first, is_in_folder, is_up, is_utf8, is_utf8-from_IsUtf8, join_with_byte, map-append, one_up, parts_of, refl, reverse, reverse-append}
 use Rattle.adl_import.proofs.Common.{sym, true, true≢false, up, ℕ, ◌++◌, ◌<◌, ◌↔◌, ◌∙◌, ◌∷◌, ◌≡◌}
@@ -17,9 +18,7 @@ up-is part e = (bytes_eq-Decides part up).0 e
 pub one_up-push : (absolute : Bool) (items : List (Bor (List ℕ))) (part : Bor (List ℕ)) → is_in_folder (inner_first items) ≡ false
     → absolute ≡ false → is_up part.now ≡ true
     → one_up absolute (inner_first items) ≡ Some (inner_first (items ++ part ∷ []))
-one_up-push absolute items part outside relative is =
-    rw (outside, relative) (ap Some (ap (λ (p : List ℕ). p ∷ inner_first items) (sym (up-is part.now is))
-    ∙ sym (inner_first-push items part)))
+one_up-push absolute items part outside relative is = search (rules, up-is, inner_first-push)
 
 -- the first part, and the others behind slashes
 pub join_with_byte-first : (part : Bor (List ℕ)) (parts : List (Bor (List ℕ)))
@@ -36,8 +35,4 @@ is_utf8-tested (Err e) Q bs h = sym (false_from_ne_true (is_utf8 bs) (λ t. h.0 
 pub joined-pushed : (before front after : List ℕ) (parts rest : List (Bor (List ℕ))) (first : Bor (List ℕ)) → parts ≡ first ∷ rest
     → front ≡ before ++ first.now
     → after ≡ front ++ flat_map (λ (p : Bor (List ℕ)). 47 ∷ p.now) rest → after ≡ before ++ join_with_byte 47 (parts_of parts)
-joined-pushed before front after parts rest first is e f =
-    f ∙ ap (λ (l : List ℕ). l ++ flat_map (λ (p : Bor (List ℕ)). 47 ∷ p.now) rest) e
-    ∙ append_assoc before first.now (flat_map (λ (p : Bor (List ℕ)). 47 ∷ p.now) rest)
-    ∙ ap (λ (l : List ℕ). before ++ l) (sym (join_with_byte-first first rest)
-    ∙ sym (ap (λ (l : List (Bor (List ℕ))). join_with_byte 47 (parts_of l)) is))
+joined-pushed before front after parts rest first is e f = search (rules, append_assoc, join_with_byte-first)

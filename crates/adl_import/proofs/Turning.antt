@@ -1,4 +1,5 @@
 -- Turns, one after another.
+use Rattle.std.proofs.Common.{rules}
 use Rattle.adl_import.proofs.Common.{AlikeInNext, AlikeInTurns, AreUtf8, Bool, Contents, Err, Fault, Import, InAll, IsClean, IsFileIn, IsFileSpelled, IsFirstFault, IsLoadedFrom, IsParsed, IsRead, IsReadFault, IsTakenIn, IsTurn, IsTurnFault}
 use Rattle.adl_import.proofs.Common.{IsUtf8, LearnsOnly, Lexes, Limit, List, Meeting, NoFile, None, Ok, Option, Place, Result, Some, SourceError, SourceFile, Token, Turns, [], absent, and_then, ap, arith, codes, cond, false, fault_at, file_limit}
 use Rattle.adl_import.proofs.Common.{files_limit, first, get, importing, imports_of, inl, inr, is_built_in, is_known, length, length-append, lexing, ltb-true, meet_given, met_in, name_given, next, parsing, reading, refl, root_place, see}
@@ -21,16 +22,7 @@ fault_in m files name in_file place bytes f e l (inr s) h = subst (IsReadFault m
 pub read_ok : (m : Contents) (files : List SourceFile) (name : List ℕ) (place : Place) (bytes : List ℕ)
     (r : Result SourceFile SourceError)
     → get m name ≡ Some bytes → length bytes ≤ file_limit → IsParsed (length files) name bytes r → IsRead m files name place r
-read_ok m files name place bytes (Ok file) h l p = (
-  p.0,
-  record {
-    held = ap (get m) p.0 ∙ h ∙ ap Some (sym p.1);
-    size = subst (λ (b : List ℕ). length b ≤ file_limit) (sym p.1) l;
-    tokens = p.2.0;
-    lexed = subst (λ (b : List ℕ). Lexes (length files) b p.2.0) (sym p.1) p.2.1;
-    spelled = subst (λ (b : List ℕ). IsFileSpelled file.tree (see b p.2.0)) (sym p.1) p.2.2;
-  },
-)
+read_ok m files name place bytes (Ok file) h l p = search (rules)
 read_ok m files name place bytes (Err (error.Fault f in_file)) h l p = fault_in m files name in_file place bytes f p.0 l p.1 h
 read_ok m files name place bytes (Err (error.ReadFault in_file)) h l p = absurd p
 read_ok m files name place bytes (Err error.NoMemory) h l p = tt
@@ -106,30 +98,20 @@ meet_kept : (root own : List ℕ) (is room : Bool) (known after : List Meeting) 
     → (room ≡ true → length known < files_limit) → cond is (Ok known) (cond room (Ok (known ++ (name, place) ∷ [])) (Err f)) ≡ Ok
     after → Keeps root own known after
 meet_kept root own true room known after place name f u r e = let same : known ≡ after = cc in same_kept root own known after same
-meet_kept root own false true known after place name f u r e =
-    let same : known ++ (name, place) ∷ [] ≡ after = cc in
-    let lt = r refl in
-    subst (Keeps root own known) same (record {
-      few = λ h. simp length-append (omega arith);
-      utf8 = λ v w a. each_more known (name, place) a (u v w);
-    })
+meet_kept root own false true known after place name f u r e = search (rules, length-append, each_more)
 meet_kept root own false false known after place name f u r e = absurd (cc)
 
 given_kept : (root own : List ℕ) (given : Option (List ℕ)) (known after : List Meeting) (place : Place)
     → ((name : List ℕ) → given ≡ Some name → IsUtf8 root → IsUtf8 own → IsUtf8 name)
     → meet_given known place given ≡ Ok after → Keeps root own known after
 given_kept root own None known after place u e = absurd (cc)
-given_kept root own (Some name) known after place u e =
-    meet_kept root own (is_known known name) _ known after place name (fault_at Limit place (codes "files")) (u name refl)
-    (λ h. ltb-true (length known) files_limit h) e
+given_kept root own (Some name) known after place u e = search (rules, meet_kept, ltb-true)
 
 import_kept : (built_in : Bool) (root own : List ℕ) (known after : List Meeting) (import : Import)
     → cond built_in (Ok known) (meet_given known import.place (name_given root own import)) ≡ Ok after
     → Keeps root own known after
 import_kept true root own known after import e = let same : known ≡ after = cc in same_kept root own known after same
-import_kept false root own known after import e =
-    given_kept root own (name_given root own import) known after import.place
-    (λ name h r o. name_given_utf8 root own import name r o h) e
+import_kept false root own known after import e = search (rules, given_kept, name_given_utf8)
 
 imports_step : (root own : List ℕ) (known after : List Meeting) (imports : List Import) (r : Result (List Meeting) Fault)
     → ((k : List Meeting) → r ≡ Ok k → Keeps root own known k)
@@ -172,13 +154,7 @@ slice_get_none (x ∷ xs) (suc i) e = let h = slice_get_none xs i e in omega ari
 -- when a turn finds no file left
 pub loaded_clean : (m : Contents) (root : List ℕ) (files : List SourceFile) (known : List Meeting) → Turns m root files known
     → slice_get known (length files) ≡ None → IsClean m root files
-loaded_clean m root files known turns e =
-    let all = omega_all (length known) (length files) (turns_within m root files known turns)
-    (slice_get_none known (length files) e) in
-    record { source = turns_make m root files known turns all; known = known; turns = turns; all = all }
-  where
-    omega_all : (m n : ℕ) → n ≤ m → m ≤ n → m ≡ n
-    omega_all m n h k = omega arith
+loaded_clean m root files known turns e = search (rules, turns_within, slice_get_none, turns_make)
 
 -- when a turn stops
 pub loaded_err : (m : Contents) (root : List ℕ) (files : List SourceFile) (known after : List Meeting) (e : SourceError)
@@ -186,13 +162,7 @@ pub loaded_err : (m : Contents) (root : List ℕ) (files : List SourceFile) (kno
     → IsTurn m root files known after (Err e) → IsLoadedFrom m root (Err e)
 loaded_err m root files known after (error.Fault f in_file) turns h =
     record { name = h.0; turn = record { files = files; known = known; place = h.1; turns = turns; next = h.2 }; stands = h.3 }
-loaded_err m root files known after (error.ReadFault name) turns h = record {
-  files = files;
-  known = known;
-  place = h.0;
-  turns = turns;
-  next = h.1;
-}
+loaded_err m root files known after (error.ReadFault name) turns h = search (rules)
 loaded_err m root files known after error.NoMemory turns h = tt
 
 -- the root alone is known first
@@ -222,18 +192,12 @@ pub turns_smaller : (m : Contents) (root : List ℕ) (files pushed : List Source
     (file : SourceFile) (o : Option SourceFile)
     → length known ≤ files_limit → o ≡ Some file → IsTurn m root files known after (Ok o) → pushed ≡ files ++ file ∷ []
     → files_limit - length pushed < files_limit - length files
-turns_smaller m root files pushed known after file o few e h p =
-    let t = subst (λ (x : Option SourceFile). IsTurn m root files known after (Ok x)) e h in
-    let within = slice_get_within known (length files) (file.name, t.0) t.1 in
-    let longer : length pushed ≡ length files + 1 = ap length p ∙ length-append files (file ∷ []) in
-    omega arith
+turns_smaller m root files pushed known after file o few e h p = search (rules, slice_get_within, length-append)
 
 pub loaded_none : (m : Contents) (root top : List ℕ) (files : List SourceFile) (known after : List Meeting)
     (o : Option SourceFile) → top ≡ root → Turns m top files known → o ≡ None
     → IsTurn m top files known after (Ok o) → IsClean m root files
-loaded_none m root top files known after o r turns e h =
-    let t = subst (λ (x : Option SourceFile). IsTurn m top files known after (Ok x)) e h in
-    subst (λ (n : List ℕ). IsClean m n files) r (loaded_clean m top files known turns t.0)
+loaded_none m root top files known after o r turns e h = search (rules, loaded_clean)
 
 -- a turn more learns of the next file alone
 pub learns_next : {F : Type 0} (told : F → Contents → Type 0) (root top : List ℕ) (files seen : List SourceFile)
@@ -244,10 +208,4 @@ pub learns_next : {F : Type 0} (told : F → Contents → Type 0) (root top : Li
 learns_next told root top files seen known a b c r s before turns still turn m n now old alike =
     let held = still m now in
     turn m n now (before m n held old alike)
-    (λ name place at. alike name (record {
-      files = files;
-      known = known;
-      place = place;
-      turns = subst (λ l. Turns m l files known) r (turns m held);
-      next = subst (λ l. slice_get known (length l) ≡ Some (name, place)) s at;
-    }))
+    (λ name place at. alike name (search (rules)))

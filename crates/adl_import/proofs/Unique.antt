@@ -1,4 +1,5 @@
 -- There is one source of a root, and one answer to its loading.
+use Rattle.std.proofs.Common.{rules}
 use Rattle.adl_import.proofs.Common.{AreFilesOf, Bool, Contents, Err, Fault, IsClean, IsFileIn, IsFileOf, IsFileSpelled, IsFirst, IsFirstFault, IsLoaded, IsLoadedBy, IsLoadedFrom, IsReadFault, IsRefusedRoot, IsSource, IsTurnFault, IsTurnOf, Lexes}
 use Rattle.adl_import.proofs.Common.{List, Meeting, None, Ok, Option, Place, Result, Some, SourceError, SourceFile, Token, Turns, [], absent, ap, append-nil, append_assoc, arith, bytes_eq, cond, false, false_from_ne_true, file_limit, first, firsts}
 use Rattle.adl_import.proofs.Common.{flat_map, flat_map-append, get, importing, imports_of, inl, inr, is_known, length, length-map, lexing, limit, ltb-false, ltb-true, map-append, meetings_of, met, names, next, not, opens, or_parts, or_right}
@@ -33,11 +34,8 @@ file_is_one m n x y p q e =
     let held : get m x.name ≡ Some x.bytes = p.held in
     let held' : get m y.name ≡ Some y.bytes = q.held in
     let bytes : x.bytes ≡ y.bytes = same_Some x.bytes y.bytes (sym held ∙ ap (get m) e ∙ held') in
-    let tokens : p.tokens ≡ q.tokens = one_list n (length x.bytes) x.bytes p.tokens q.tokens p.lexed
-    (subst (λ (b : List ℕ). Lexes n b q.tokens) (sym bytes) q.lexed) in
-    let spelled : IsFileSpelled y.tree (see x.bytes p.tokens) =
-    subst (λ (b : List ℕ). IsFileSpelled y.tree (see b p.tokens)) (sym bytes)
-    (subst (λ (t : List Token). IsFileSpelled y.tree (see y.bytes t)) (sym tokens) q.spelled) in
+    let tokens : p.tokens ≡ q.tokens = search (rules, one_list) in
+    let spelled : IsFileSpelled y.tree (see x.bytes p.tokens) = search (rules) in
     let tree : x.tree ≡ y.tree = one_tree token_code nested_line opens nested_is file_line file_decides x.tree y.tree
     (see x.bytes p.tokens) (limit, p.spelled) (limit, spelled) in
     ap (λ (l : List ℕ). made l x.bytes x.tree) e ∙ ap (λ (l : List ℕ). made y.name l x.tree) bytes
@@ -62,8 +60,7 @@ module _ (P : List SourceFile → SourceFile → Type 0) (one : (before : List S
   compared_from before (x ∷ xs) (y ∷ ys) p q =
       let same : x ≡ y = one before x y (p before xs x refl) (q before ys y refl) in
       let left : (before ++ x ∷ []) ++ xs ≡ before ++ x ∷ xs = append_assoc before (x ∷ []) xs in
-      let right : (before ++ x ∷ []) ++ ys ≡ before ++ y ∷ ys = append_assoc before (x ∷ []) ys
-      ∙ ap (λ (z : SourceFile). before ++ z ∷ ys) same in
+      let right : (before ++ x ∷ []) ++ ys ≡ before ++ y ∷ ys = search (rules, append_assoc) in
       subst (λ (l : List SourceFile). Compared l (before ++ y ∷ ys)) left
       (subst (λ (l : List SourceFile). Compared ((before ++ x ∷ []) ++ xs) l) right
       (compared_from (before ++ x ∷ []) xs ys (subst (Along P) (sym left) p) (subst (Along P) (sym right) q)))
@@ -124,8 +121,7 @@ unknown_later (f ∷ fs) rest m name e =
 distinct_front : (front rest : List Meeting) (m : Meeting) → Distinct (front ++ m ∷ rest) → is_known front m.0 ≡ false
 distinct_front [] rest m d = refl
 distinct_front (f ∷ fs) rest m d =
-    let differ : bytes_eq m.0 f.0 ≡ false = false_from_ne_true (bytes_eq m.0 f.0)
-    (λ h. true≢false (sym (bytes_eq-sym m.0 f.0 h) ∙ unknown_later fs rest m f.0 d.0)) in
+    let differ : bytes_eq m.0 f.0 ≡ false = search (rules, false_from_ne_true, bytes_eq-sym, unknown_later) in
     ap (λ (b : Bool). b || is_known fs m.0) differ ∙ distinct_front fs rest m d.1
 
 -- more meetings take no first away
@@ -135,21 +131,8 @@ firsts_extend xs (y ∷ ys) = extend_step (is_known (firsts xs) y.0) refl (first
   where
     extend_step : (c : Bool) → is_known (firsts xs) y.0 ≡ c → Extends (firsts (xs ++ y ∷ [])) (firsts ((xs ++ y ∷ []) ++ ys))
         → Extends (firsts xs) (firsts (xs ++ y ∷ ys))
-    extend_step true e h = record {
-      more = h.more;
-      parts =
-          ap firsts (sym (append_assoc xs (y ∷ []) ys)) ∙ h.parts
-          ∙ ap (λ (l : List Meeting). l ++ h.more) (firsts_more xs y
-          ∙ ap (λ (b : Bool). cond b (firsts xs) (firsts xs ++ y ∷ [])) e);
-    }
-    extend_step false e h = record {
-      more = y ∷ h.more;
-      parts =
-          ap firsts (sym (append_assoc xs (y ∷ []) ys)) ∙ h.parts
-          ∙ ap (λ (l : List Meeting). l ++ h.more) (firsts_more xs y
-          ∙ ap (λ (b : Bool). cond b (firsts xs) (firsts xs ++ y ∷ [])) e)
-          ∙ append_assoc (firsts xs) (y ∷ []) h.more;
-    }
+    extend_step true e h = search (rules, append_assoc, firsts_more)
+    extend_step false e h = search (rules, append_assoc, firsts_more)
 
 known_more : (known more : List Meeting) (name : List ℕ) → is_known known name ≡ true → is_known (known ++ more) name ≡ true
 known_more [] more name e = absurd (true≢false (sym e))
@@ -232,9 +215,7 @@ source_next : (root : List ℕ) (xs before after : List SourceFile) (file : Sour
 source_next root xs before after file s e =
     let ext = firsts_extend ((root, root_place) ∷ flat_map (meetings_of root) before)
     (flat_map (meetings_of root) (file ∷ after)) in
-    let whole : met root xs ≡ met root before ++ ext.more =
-    ap (λ (l : List Meeting). firsts ((root, root_place) ∷ l)) (ap (flat_map (meetings_of root)) e
-    ∙ flat_map-append (meetings_of root) before (file ∷ after)) ∙ ext.parts in
+    let whole : met root xs ≡ met root before ++ ext.more = search (rules, flat_map-append) in
     let named : names (met root xs) ≡ file_names before ++ file.name ∷ file_names after =
     sym s.equation ∙ ap file_names e ∙ map-append (λ (f : SourceFile). f.name) before (file ∷ after) in
     let p = split_names (met root xs) (file_names before) (file_names after) file.name named in
@@ -333,9 +314,7 @@ too_far xs ys e l k = let same = ap length e in absurd (omega arith)
 
 lexed_both : {A : Type 0} (n : ℕ) (xs ys : List ℕ) (f : Fault) (tokens : List Token) → xs ≡ ys → IsFirstFault n xs f
     → Lexes n ys tokens → A
-lexed_both n xs ys f tokens e s l =
-    absurd (no_fault_reached n (length xs) xs s.rest tokens (f.code, s.text) (subst (λ (b : List ℕ). Lexes n b tokens) (sym e) l)
-    s.reached s.stands)
+lexed_both n xs ys f tokens e s l = search (rules, no_fault_reached)
 
 same_tokens : (n : ℕ) (xs ys : List ℕ) (ts us : List Token) → xs ≡ ys → Lexes n xs ts → Lexes n ys us → ts ≡ us
 same_tokens n xs ys ts us e l k = one_list n (length xs) xs ts us l (subst (λ (b : List ℕ). Lexes n b us) (sym e) k)
@@ -366,9 +345,7 @@ turn_no_fault m root files known after name place _ _ file (reading {f = f} {in_
     read_no_fault m files name place f in_file file r n is
 turn_no_fault m root files known after name place _ _ file (importing {file = other} {f = f} o is' stopped) n is taken =
     let same : other ≡ file = file_is_one m (length files) other file is' is (o ∙ sym n) in
-    let stopped' : take_imports root file.name known (imports_of file.tree) ≡ Err f =
-    subst (λ (l : List ℕ). take_imports root l known (imports_of file.tree) ≡ Err f) (sym n)
-    (subst (λ (x : SourceFile). take_imports root name known (imports_of x.tree) ≡ Err f) same stopped) in
+    let stopped' : take_imports root file.name known (imports_of file.tree) ≡ Err f = search (rules) in
     absurd (cc)
 
 abbrev OneFault : Fault → Fault → List ℕ → List ℕ → Type 0
@@ -378,16 +355,12 @@ OneFault f g a b = (f ≡ g) × (a ≡ b)
 one_stop_fault : (ts : List Seen) (fault : Why → ℕ → Fault) (f g : Fault)
     → ((why : Why) × (left : ℕ) × (f ≡ fault why left) × FileStops token_code nested_line file_line limit ts why left)
     → ((why : Why) × (left : ℕ) × (g ≡ fault why left) × FileStops token_code nested_line file_line limit ts why left) → f ≡ g
-one_stop_fault ts fault f g p q =
-    let once = file_stops_once token_code nested_line file_line limit ts p.0 q.0 p.1 q.1 p.3 q.3 in
-    p.2 ∙ ap (λ (w : Why). fault w p.1) once.0 ∙ ap (λ (k : ℕ). fault q.0 k) once.1 ∙ sym q.2
+one_stop_fault ts fault f g p q = search (rules, file_stops_once)
 
 parsed_same : (n : ℕ) (xs ys : List ℕ) (ts us : List Token) (f g : Fault) → xs ≡ ys → Lexes n xs ts → Lexes n ys us
     → IsFileIn xs ts (Err (refused.Fault f)) → IsFileIn ys us (Err (refused.Fault g)) → f ≡ g
 parsed_same n xs ys ts us f g e l k p q =
-    let q' : IsFileIn xs ts (Err (refused.Fault g)) =
-    subst (λ (t : List Token). IsFileIn xs t (Err (refused.Fault g))) (sym (same_tokens n xs ys ts us e l k))
-    (subst (λ (b : List ℕ). IsFileIn b us (Err (refused.Fault g))) (sym e) q) in
+    let q' : IsFileIn xs ts (Err (refused.Fault g)) = search (rules, same_tokens) in
     one_stop_fault (see xs ts) _ f g p q'
 
 one_read_fault : (m : Contents) (files : List SourceFile) (name : List ℕ) (place : Place) (f g : Fault) (a b : List ℕ)
@@ -432,8 +405,7 @@ one_turn_fault m root files known name place _ _ _ _ (importing {file = x} n is 
 one_turn_fault m root files known name place _ _ _ _ (importing {file = x} {f = f} n is e)
     (importing {file = y} {f = g} n' is' e') =
     let same : x ≡ y = file_is_one m (length files) x y is is' (n ∙ sym n') in
-    let e'' : take_imports root name known (imports_of x.tree) ≡ Err g =
-    subst (λ (z : SourceFile). take_imports root name known (imports_of z.tree) ≡ Err g) (sym same) e' in
+    let e'' : take_imports root name known (imports_of x.tree) ≡ Err g = search (rules) in
     (cc, refl)
 
 -- the next of the same files is one
@@ -454,13 +426,7 @@ next_met m root name t = subst (λ (l : List Meeting). slice_get l (length t.fil
 -- a fault and a turn of the same number without one
 fault_or_done : {A : Type 0} (m : Contents) (root : List ℕ) (f : Fault) (a : List ℕ) (p : IsFirst m root f a) (file : SourceFile)
     → IsDone m root p.turn.files file → A
-fault_or_done m root f a p file d =
-    let known_is = turns_meet m root p.turn.files p.turn.known p.turn.turns in
-    let name : file.name ≡ p.name =
-    ap (λ (e : Meeting). e.0) (same_Some (file.name, d.place) (p.name, p.turn.place)
-    (sym d.at ∙ next_met m root p.name p.turn)) in
-    absurd (turn_no_fault m root p.turn.files p.turn.known d.after p.name p.turn.place f a file p.stands name d.is
-    (subst (λ (l : List Meeting). take_imports root file.name l (imports_of file.tree) ≡ Ok d.after) (sym known_is) d.taken))
+fault_or_done m root f a p file d = search (rules, turns_meet, same_Some, next_met, turn_no_fault)
 
 fault_or_clean : {A : Type 0} (m : Contents) (root : List ℕ) (f : Fault) (a : List ℕ) (gs : List SourceFile) → IsFirst m root f a
     → IsClean m root gs → A
@@ -482,17 +448,7 @@ clean_is_one m root fs gs c d = one_source m root fs gs c.source (turns_each m r
 
 same_fault : (m : Contents) (root : List ℕ) (f g : Fault) (a b : List ℕ) (p : IsFirst m root f a) (q : IsFirst m root g b)
     → p.turn.files ≡ q.turn.files → OneFault f g a b
-same_fault m root f g a b p q same =
-    let known_is = one_next m root p.turn.files q.turn.files p.turn.known q.turn.known same p.turn.turns q.turn.turns in
-    let meeting : (p.name, p.turn.place) ≡ (q.name, q.turn.place) =
-    same_Some (p.name, p.turn.place) (q.name, q.turn.place)
-    (sym (next_met m root p.name p.turn) ∙ ap (λ (l : List SourceFile). slice_get (met root l) (length l)) same
-    ∙ next_met m root q.name q.turn) in
-    let moved : IsTurnFault m root p.turn.files p.turn.known p.name p.turn.place g b =
-    subst (λ (l : List SourceFile). IsTurnFault m root l p.turn.known p.name p.turn.place g b) (sym same)
-    (subst (λ (k : List Meeting). IsTurnFault m root q.turn.files k p.name p.turn.place g b) (sym known_is)
-    (subst (λ (e : Meeting). IsTurnFault m root q.turn.files q.turn.known e.0 e.1 g b) (sym meeting) q.stands)) in
-    one_turn_fault m root p.turn.files p.turn.known p.name p.turn.place f g a b p.stands moved
+same_fault m root f g a b p q same = search (rules, one_next, same_Some, next_met, one_turn_fault)
 
 first_is_one : (m : Contents) (root : List ℕ) (f g : Fault) (a b : List ℕ) → IsFirst m root f a → IsFirst m root g b
     → OneFault f g a b

@@ -1,4 +1,5 @@
 -- Names are UTF-8: a path is cut and joined at slashes alone.
+use Rattle.std.proofs.Common.{rules}
 use Rattle.adl_import.proofs.Common.{Bool, Each, Import, IsCharBoundary-after_ascii, IsCharBoundary-before_ascii, IsUtf8, IsUtf8-append, IsUtf8-drop, IsUtf8-from_is_utf8, IsUtf8-nil, IsUtf8-take, List, None, Option, Some, []}
 use Rattle.adl_import.proofs.Common.{and_parts, ap, append-nil, append_assoc, arith, cond, drop, eqb-true, false, file_path, folded, folder_of, get_or, import_name, in_folder, is_absolute, is_dropped, is_import_path, is_in_folder, is_plain}
 use Rattle.adl_import.proofs.Common.{is_slash, is_up, is_utf8, join_with_byte, length, length-append, list_any, name_given, one_up, onto_first, option_and_then, path_text, refl, reverse, reverse-append, root_name, slice_split, subst, sym, true}
@@ -128,9 +129,7 @@ folded_step absolute (Some kept) name a e = file_path_step (is_in_folder kept) (
     (path_text_utf8 absolute kept (a kept refl)) e
 
 folded_utf8 : (path name : List ℕ) → IsUtf8 path → folded path ≡ Some name → IsUtf8 name
-folded_utf8 path name u e =
-    folded_step (is_absolute path) (with_parts (is_absolute path) [] (slice_split is_slash path)) name
-    (λ kept h. with_parts_utf8 (is_absolute path) [] (slice_split is_slash path) kept tt (parts_utf8 path u) h) e
+folded_utf8 path name u e = search (rules, folded_step, with_parts_utf8, parts_utf8)
 
 in_folder_utf8 : (folder path : List ℕ) → IsUtf8 folder → IsUtf8 path → IsUtf8 (in_folder folder path)
 in_folder_utf8 [] path f u = u

@@ -1,4 +1,5 @@
 -- Bytes at the end of a channel, one piece after another.
+use Rattle.std.proofs.Common.{rules}
 use Rattle.cam_io.proofs.Common.{Bool, IsTrue, List, None, Option, Sink, Some, [], ap, append-nil, append_assoc, arith, cond, drop, false, is_open, length, length-drop, refl, subst, sym, take, take-add, true, ℕ, ◌++◌, ◌+◌, ◌-◌, ◌==◌, ◌∙◌, ◌≡◌}
 use Rattle.std.proofs.lemmas.List.{take_all}
 use Rattle.cam_io.specs.Sinks.{more, appended}
@@ -37,17 +38,12 @@ begun_appended s c a = refl
 -- one more piece of the bytes
 pub appended_more : (old mid new : Sink) (c i n : ℕ) (bytes : List ℕ) → mid ≡ appended old c (take i bytes)
     → new ≡ appended mid c (take n (drop i bytes)) → new ≡ appended old c (take (i + n) bytes)
-appended_more old mid new c i n bytes e f =
-    f ∙ (ap (λ s. appended s c (take n (drop i bytes))) e ∙ (appended_twice old c (take i bytes) (take n (drop i bytes))
-    ∙ ap (appended old c) (sym (take-add i n bytes))))
+appended_more old mid new c i n bytes e f = search (rules, appended_twice, take-add)
 
 -- the same, where the piece is the slice from i to the end
 pub appended_slice : (old mid new : Sink) (c i n : ℕ) (bytes : List ℕ) → mid ≡ appended old c (take i bytes)
     → new ≡ appended mid c (take n (take (length bytes - i) (drop i bytes))) → new ≡ appended old c (take (i + n) bytes)
-appended_slice old mid new c i n bytes e f =
-    let whole : take (length bytes - i) (drop i bytes) ≡ drop i bytes = take_all (length bytes - i) (drop i bytes)
-    (omega (arith, length-drop i bytes)) in
-    appended_more old mid new c i n bytes e (f ∙ ap (λ p. appended mid c (take n p)) whole)
+appended_slice old mid new c i n bytes e f = search (rules, take_all, length-drop, appended_more)
 
 -- what was open stays open
 pub open_appended : (old new : Sink) (c k : ℕ) (bytes : List ℕ) → new ≡ appended old c bytes → IsTrue (is_open old k)

@@ -71,11 +71,7 @@ one_of false false false h = search rules
 -- an open channel is one of the channels
 pub open_within : (cs : List Channel) (i : ℕ) → length cs ≡ 6 → IsTrue (is_open (sink_of cs) i) → i < length cs
 unfolding sink_of
-open_within cs i e h =
-    elim (one_of (i == 0) (i == 1) (of_channel (λ c. c.begun) false cs i) h) [
-      | inl p ↦ grind (arith, nat_tests)
-      | inr q ↦ elim q [ inl p ↦ grind (arith, nat_tests) | inr p ↦ begun_within cs i p ]
-    ]
+open_within cs i e h = search (rules, one_of, nat_tests, begun_within)
 
 -- what a channel has
 pub channel_at : {A : Type 0} (p : Channel → A) (d : A) (cs : List Channel) (i : ℕ) (c : Channel) → slice_get cs i ≡ Some c

@@ -1,4 +1,5 @@
 -- Files in memory by their names.
+use Rattle.std.proofs.Common.{rules}
 use Rattle.cam_io.proofs.Common.{Bool, List, NamedFile, None, Option, Some, [], add-one, ap, arith, bytes_eq, bytes_eq-Decides, cond, contains_key, count_at, count_of, counts_for, empty, false, find, from_entries, get, get-from_entries, inl, inr}
 use Rattle.cam_io.proofs.Common.{is_eq-slice_cmp, is_some, lookup, map, nat_list_cmp_total, not, one_more, refl, replaced, slice_get, slice_set, subst, suc, sym, take, true, zero, ℕ, ◌+◌, ◌∙◌, ◌∷◌, ◌≡◌, ◌≤◌, ◌⊎◌}
 use Rattle.std.specs.Ordering.{nat_cmp}
@@ -111,13 +112,7 @@ count_later [] others q f n r e h = omega arith
 count_later (x ∷ fs) others q f n r e h =
     let d = bytes_eq r x.name in
     elim (just (bytes_eq q x.name) x f (lookup fs q) e) [
-      | inl p ↦ rw (
-        p.0,
-        p.1,
-        count_cond (bytes_eq r f.name) others f (lookup fs r),
-        count_cond (bytes_eq r f.name) others
-            (with_faults f n) (lookup fs r),
-      ) (count_le (bytes_eq r f.name) (count_of fs others r) f.faults n h)
+      | inl p ↦ search (rules, count_cond, count_le)
       | inr p ↦ rw (p.0, count_cond d others x (lookup fs r), count_cond d others x (lookup (replaced fs q (with_faults f n)) r))
           (rest_le d x.faults (count_of fs others r) (count_of (replaced fs q (with_faults f n)) others r)
           (count_later fs others q f n r p.1 h))
@@ -129,15 +124,7 @@ bytes_same q n r t = ap (bytes_eq r) (sym ((bytes_eq-Decides q n).0 t))
 
 -- a name that is another's is none of the first's
 pub apart : (q n r : List ℕ) → bytes_eq q n ≡ false → bytes_eq r n ≡ true → bytes_eq r q ≡ false
-apart q n r not_q is_r =
-    let same : r ≡ n = (bytes_eq-Decides r n).0 is_r in
-    let go : (e : Bool) → bytes_eq r q ≡ e → e ≡ false =
-    elim [
-      | true ↦ (λ h. let back : q ≡ n = sym ((bytes_eq-Decides r q).0 h) ∙ same in sym ((bytes_eq-Decides q n).1 back)
-          ∙ not_q)
-      | false ↦ (λ h. refl)
-    ] in
-    go (bytes_eq r q) refl
+apart q n r not_q is_r = search (rules, bytes_eq-Decides)
 
 new_at : (b : Bool) (others n : ℕ) (f : NamedFile) (o : Option NamedFile)
     → count_at others (cond b (Some (with_faults f n)) o) ≡ cond b n (count_at others (cond b (Some f) o))
@@ -156,10 +143,7 @@ pub count_each : (fs : List NamedFile) (others : ℕ) (q : List ℕ) (f : NamedF
 count_each [] others q f n r e = cc
 count_each (x ∷ fs) others q f n r e =
     elim (just (bytes_eq q x.name) x f (lookup fs q) e) [
-      | inl p ↦ (let t : bytes_eq q f.name ≡ true = ap (λ y. bytes_eq q y.name) (sym p.1) ∙ p.0 in
-          rw (p.0, p.1) (subst (λ d. count_at others (cond d (Some (with_faults f n)) (lookup fs r)) ≡ cond (bytes_eq r q) n
-          (count_at others (cond d (Some f) (lookup fs r)))) (sym (bytes_same q f.name r t))
-          (new_at (bytes_eq r q) others n f (lookup fs r))))
+      | inl p ↦ search (rules, bytes_same, new_at)
       | inr p ↦ rw p.0 (new_later (bytes_eq r x.name) (bytes_eq r q) others n x (lookup (replaced fs q (with_faults f n)) r)
           (lookup fs r) (apart q x.name r p.0) (count_each fs others q f n r p.1))
     ]
@@ -173,12 +157,7 @@ pub fault_here : (fs : List NamedFile) (others : ℕ) (q : List ℕ) (f : NamedF
     → n ≡ one_more f.faults
     → count_of (replaced fs q (with_faults f n)) others r ≡ cond (counts_for (contents_of fs) q r)
     (one_more (count_of fs others r)) (count_of fs others r)
-fault_here fs others q f n r e is =
-    let has : contains_key (contents_of fs) q ≡ true = ap is_some (get_contents fs q ∙ ap bytes_of e) in
-    let own : bytes_eq r q ≡ true → n ≡ one_more (count_of fs others r) =
-    λ t. is ∙ ap (λ o. one_more (count_at others o)) (sym (ap (lookup fs) ((bytes_eq-Decides r q).0 t) ∙ e)) in
-    rw has (count_each fs others q f n r e ∙ cond_same (bytes_eq r q) n (one_more (count_of fs others r))
-    (count_of fs others r) own)
+fault_here fs others q f n r e is = search (rules, is_some, get_contents, bytes_eq-Decides, count_each, cond_same)
 
 others_at : (others : ℕ) (o : Option NamedFile) → count_at (one_more others) o ≡ cond (not (is_some (bytes_of o)))
     (one_more (count_at others o)) (count_at others o)
@@ -188,10 +167,7 @@ others_at others (Some f) = refl
 -- a fault of a name without a file
 pub fault_elsewhere : (fs : List NamedFile) (others n : ℕ) (q r : List ℕ) → lookup fs q ≡ None → n ≡ one_more others
     → count_of fs n r ≡ cond (counts_for (contents_of fs) q r) (one_more (count_of fs others r)) (count_of fs others r)
-fault_elsewhere fs others n q r e is =
-    let has_not : contains_key (contents_of fs) q ≡ false = ap is_some (get_contents fs q ∙ ap bytes_of e) in
-    let at : get (contents_of fs) r ≡ bytes_of (lookup fs r) = get_contents fs r in
-    rw (has_not, is, at) (others_at others (lookup fs r))
+fault_elsewhere fs others n q r e is = search (rules, is_some, get_contents, others_at)
 
 -- the name's own count is the new one
 pub count_new : (fs : List NamedFile) (others : ℕ) (q : List ℕ) (f : NamedFile) (n : ℕ) → lookup fs q ≡ Some f

@@ -1,4 +1,5 @@
 -- A name is given bytes.
+use Rattle.std.proofs.Common.{rules}
 use Rattle.cam_io.proofs.Common.{Bool, List, NamedFile, None, Option, Some, [], ap, bytes_eq, cond, count_at, count_of, false, from_entries, from_entries_push, get, get-insert, get_or, inl, inr, insert, is_eq-slice_cmp, length, lookup, map}
 use Rattle.cam_io.proofs.Common.{map-append, nat_cmp-IsAntisymmetric, nat_list_cmp_total, refl, replaced, same_map, slice_cmp-IsAntisymmetric, slice_get, slice_get_read, slice_set, subst, sym, true, ℕ, ◌++◌, ◌<◌, ◌∙◌, ◌∷◌, ◌≡◌}
 use Rattle.cam_io.specs.NamedFiles.{contents_of}
@@ -23,10 +24,7 @@ lookup_given : (fs : List NamedFile) (q : List ℕ) (f : NamedFile) (b r : List 
 lookup_given [] q f b r e = cc
 lookup_given (x ∷ fs) q f b r e =
     elim (just (bytes_eq q x.name) x f (lookup fs q) e) [
-      | inl p ↦ (let t : bytes_eq q f.name ≡ true = ap (λ y. bytes_eq q y.name) (sym p.1) ∙ p.0 in
-          rw (p.0, p.1) (subst (λ d. bytes_of (cond d (Some (with_bytes f b)) (lookup fs r)) ≡ cond (bytes_eq r q) (Some b)
-          (bytes_of (cond d (Some f) (lookup fs r)))) (sym (bytes_same q f.name r t))
-          (given_here (bytes_eq r q) f b (lookup fs r))))
+      | inl p ↦ search (rules, bytes_of, bytes_same, given_here)
       | inr p ↦ rw p.0 (given_later (bytes_eq r x.name) (bytes_eq r q) x b (lookup (replaced fs q (with_bytes f b)) r)
           (lookup fs r) (apart q x.name r p.0) (lookup_given fs q f b r p.1))
     ]

@@ -1,4 +1,5 @@
 -- What a writer says piece by piece, and what is written at the end.
+use Rattle.std.proofs.Common.{rules}
 use Rattle.cam_io.proofs.Common.{Bool, Bor, Err, Flushes, IsTrue, List, Ok, OnOk, Result, Said, Says, Sink, Writes, [], ap, append-nil, append_assoc, false, flat_map, get_or, get_or_from_slice_get, is_err, is_open, length, outcome, refl}
 use Rattle.cam_io.proofs.Common.{slice_get-get_or, subst, sym, take, take_all, true, ℕ, ◌++◌, ◌+◌, ◌<◌, ◌∙◌, ◌≡◌, ◌≤◌}
 use Rattle.cam_base.specs.Texts.{◌⊹◌}
@@ -18,9 +19,7 @@ wrote_more : (r : Result (Unit {0}) Failed) (f g : Bool) {c m n k : ℕ} {s t u 
     → Writes r c b t u n k → Writes (outcome f) c a s t m n → Writes (outcome g) c (a ++ b) s u m k
 unfolding ◌⊹◌
 wrote_more (Ok x) false false a b e h w v = writes_after w v
-wrote_more (Err x) false true a b e h w v =
-    let all = writes_after w v in
-    record { ok = tt; err = all.err; later = all.later; failed = all.failed }
+wrote_more (Err x) false true a b e h w v = search (rules, writes_after)
 wrote_more r true g a b e h w v = cc
 wrote_more (Ok x) false true a b e h w v = cc
 wrote_more (Err x) false false a b e h w v = cc
@@ -53,17 +52,7 @@ module _ {O : Type 0} {T : Ghosts O} where
   -- a piece that waits
   pub says_waiting : {old new : Writer O T} {text : List ℕ} → new.out ≡ old.out → new.channel ≡ old.channel
       → new.failed ≡ old.failed → new.waiting.items ≡ old.waiting.items ++ text → Says old text new
-  says_waiting {old} {new} {text} out channel failed more = record {
-    same = ap (λ o. o.ghost_name) out;
-    channel = channel;
-    said = λ s x m h. record {
-      sent = h.sent;
-      rest = h.rest ++ text;
-      all = ap (λ all. all ++ text) h.all ∙ append_assoc h.sent h.rest text;
-      writes = rw (out, channel, failed) h.writes;
-      waits = λ still. more ∙ ap (λ rest. rest ++ text) (h.waits (sym failed ∙ still));
-    };
-  }
+  says_waiting {old} {new} {text} out channel failed more = search (rules, append_assoc)
 
   -- what waited, and a piece behind it, are sent
   pub says_sent : {old new : Writer O T} {r : Result (Unit {0}) Failed} {text sent : List ℕ} → old.failed ≡ false
@@ -76,10 +65,7 @@ module _ {O : Type 0} {T : Ghosts O} where
     said = λ s x m h. record {
       sent = h.sent ++ sent;
       rest = [];
-      all =
-          ap (λ all. all ++ text) h.all ∙ (append_assoc h.sent h.rest text
-          ∙ (ap (λ rest. h.sent ++ (rest ++ text)) (sym (h.waits e)) ∙ (ap (λ all. h.sent ++ all) these
-          ∙ sym (append-nil (h.sent ++ sent)))));
+      all = search (rules, append_assoc, append-nil);
       writes = rw channel (wrote_more r old.failed new.failed h.sent sent e is w h.writes);
       waits = λ still. none;
     };

@@ -1,4 +1,5 @@
 -- What was seen of names: entries by their names, and an entry more or in place of another.
+use Rattle.std.proofs.Common.{rules}
 use Rattle.cam_io.proofs.Common.{Agrees, Bool, Contents, Err, Grows, HasAny, HasSeen, HaveSameFront, IsGot, Learns, List, None, Ok, Option, Result, Seen, Some, [], add-one, ap, arith, bytes_eq, bytes_eq-Decides, cond, false, get, inl, inr, length}
 use Rattle.cam_io.proofs.Common.{option_map, refl, seen_of, slice_get, slice_set, subst, suc, sym, take, take-take, true, zero, ℕ, ◌++◌, ◌+◌, ◌<◌, ◌∙◌, ◌∷◌, ◌≡◌, ◌≤◌, ◌⊎◌}
 use Rattle.std.specs.Result.{IfOk}
@@ -72,10 +73,7 @@ has_before : (ss : List Seen) (q : List ℕ) (s t : Seen) (r : List ℕ) (file :
 has_before [] q s t r file e n g h = cc
 has_before (x ∷ ss) q s t r file e n g h =
     elim (just (bytes_eq q x.name) x s (seen_of ss q) e) [
-      | inl p ↦ (let seen = subst (λ (b : Bool). HasAny (seen_of (cond b (t ∷ ss) (x ∷ replaced ss q t)) r) file) p.0 h in
-          let named = subst (λ (l : List ℕ). HasAny (cond (bytes_eq r l) (Some t) (seen_of ss r)) file) n seen in
-          subst (λ (y : Seen). HasAny (cond (bytes_eq r y.name) (Some y) (seen_of ss r)) file) (sym p.1)
-          (cond_grows (bytes_eq r s.name) s t (seen_of ss r) file g named))
+      | inl p ↦ search (rules, cond_grows)
       | inr p ↦ (let seen = subst (λ (b : Bool). HasAny (seen_of (cond b (t ∷ ss) (x ∷ replaced ss q t)) r) file) p.0 h in
           cond_rest (bytes_eq r x.name) x (seen_of (replaced ss q t) r) (seen_of ss r) file
           (has_before ss q s t r file p.1 n g) seen)
@@ -160,10 +158,7 @@ front_same (suc count) (x ∷ xs) rest (y ∷ ys) h e =
 pub begun_same : (count : ℕ) (xs rest : List ℕ) (other : Option (List ℕ)) → length xs ≤ count
     → option_map (take count) (Some (xs ++ rest)) ≡ option_map (take count) other → (more : List ℕ) × (other ≡ Some (xs ++ more))
 begun_same count xs rest None h e = cc
-begun_same count xs rest (Some ys) h e =
-    let t : take count (xs ++ rest) ≡ take count ys = cc in
-    let m = front_same count xs rest ys h t in
-    (m.0, ap (λ l. Some l) m.1)
+begun_same count xs rest (Some ys) h e = search (rules, front_same)
 
 -- of a file with its first bytes fewer are looked at as well
 pub fewer_same : (k n : ℕ) (file other : Option (List ℕ)) → k ≤ n → option_map (take n) file ≡ option_map (take n) other
@@ -201,11 +196,7 @@ has_after (x ∷ ss) q s t r file e n g h =
 pub replaced_same : (ss : List Seen) (q : List ℕ) (s t : Seen) → seen_of ss q ≡ Some s → t.name ≡ s.name
     → ((file : Option (List ℕ)) → HasSeen s.extent s.bytes.items file → HasSeen t.extent t.bytes.items file)
     → (m : Contents) → Agrees ss m → Agrees (replaced ss q t) m
-replaced_same ss q s t e k h m old r =
-    has_after ss q s t r (get m r) e k
-    (λ b. let is : r ≡ q = (bytes_eq-Decides r t.name).0 b ∙ (k ∙ sym (seen_named ss q s e)) in
-    h (get m r) (subst (λ o. HasAny o (get m r)) (ap (seen_of ss) is ∙ e) (old r)))
-    (old r)
+replaced_same ss q s t e k h m old r = search (rules, has_after, bytes_eq-Decides, seen_named)
 
 -- an entry with the same extent and bytes has seen the same
 pub same_seen : (s t : Seen) → t.extent ≡ s.extent → t.bytes.items ≡ s.bytes.items → (file : Option (List ℕ))

@@ -1,4 +1,5 @@
 -- Texts that are written in pieces: what a writer cites of one piece after another.
+use Rattle.std.proofs.Common.{rules}
 use Rattle.cam_io.proofs.Common.{IsCut, IsTrue, List, Sink, [], ap, append-nil, appended, arith, flat_map, flat_map-append, get_or, is_open, length, min, refl, sym, take, take-append-add, take-append-le, take_min, take_more, ℕ, ◌++◌, ◌+◌, ◌<◌, ◌∙◌}
 use Rattle.cam_io.proofs.Common.{◌∷◌, ◌≡◌}
 use Rattle.cam_base.specs.Texts.{◌⊹◌}
@@ -21,9 +22,7 @@ pub cut_after : (old mid new : Sink) (c : ℕ) (a b : List ℕ) → mid ≡ appe
     → IsCut old c (a ++ b) new
 cut_after old mid new c a b e h = record {
   count = length a + h.count;
-  front =
-      h.front ∙ (ap (λ s. appended s c (take h.count b)) e ∙ (appended_twice old c a (take h.count b)
-      ∙ ap (appended old c) (sym (take-append-add a b h.count))));
+  front = search (rules, appended_twice, take-append-add);
 }
 
 -- what was open before a piece is open after it

@@ -1,4 +1,5 @@
 -- Slots whose numbers rise are sorted as they stand.
+use Rattle.std.proofs.Common.{rules}
 use Rattle.capdl_read.proofs.Common.{AllByRecursion, Cap, Key, List, Option, Slot, SlotKey, Some, [], add-one, ap, drop, get_or, insert_entry, is_above, length, ltb-true, nat_cmp, numbered_from, put_slot, refl, subst, sym, true, ℕ, ◌++◌, ◌+◌, ◌<◌}
 use Rattle.capdl_read.proofs.Common.{◌∙◌, ◌∷◌, ◌≡◌}
 use Rattle.std.proofs.Math.Seq.{drop-cons}
@@ -25,11 +26,4 @@ pub put_behind : (new old : List (ℕ × Cap)) (last : Option Key) (s : Slot) (n
     → (get_or ss i s).key ≡ keys.Number n → is_above last (0, n) ≡ true
     → AreBehind old last → new ≡ old ++ (n, (get_or ss i s).cap) ∷ []
     → (numbered_from new (drop (i + 1) ss) ≡ numbered_from old (drop i ss)) × AreBehind new (Some (0, n))
-put_behind new old last s n ss i l k a behind p =
-    let here = get_or ss i s in (
-      ap (λ z. numbered_from z (drop (i + 1) ss)) (p ∙ sym (insert_last old n here.cap (behind n a))
-          ∙ ap (λ (z : SlotKey). put_slot z here.cap old) (sym k))
-          ∙ ap (numbered_from old) (sym (drop-cons ss i s l ∙ ap (λ j. here ∷ drop j ss) (sym (add-one i)))),
-      λ m b. subst (AllByRecursion (λ s. s.0 < m)) (sym p)
-          (below_all old n m here.cap (behind m (above_both last (0, n) (0, m) a b)) (ltb-true n m b)),
-    )
+put_behind new old last s n ss i l k a behind p = search (rules, insert_last, drop-cons, add-one, below_all, above_both, ltb-true)

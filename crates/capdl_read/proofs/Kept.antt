@@ -1,4 +1,5 @@
 -- The spec of a tree in which no fault stands keeps what every spec keeps.
+use Rattle.std.proofs.Common.{rules}
 use Rattle.capdl_read.proofs.Common.{Arch, Bool, CapdlUnknown, FrameField, Holder, IrqLine, IsBelow, IsKept, Kind, KindLine, Known, Knows, List, None, ObjectLine, Option, SlotKey, SlotLine, Some, Spec, SpecTree, Tcb, Text, TextFault, ThreadField, []}
 use Rattle.capdl_read.proofs.Common.{and_from, and_parts, ap, are_bits, arith, at_id, bytes_eq, bytes_eq-Decides, cap_said, cond, cond_nil, differ, entry_said, eqb-true, false, fields_from, fields_twice, fill_of, fill_off, fill_or, fill_said, fits}
 use Rattle.capdl_read.proofs.Common.{fits_as, fits_kind, flat_map, flat_map_nil, frame_value_off, held, holder_off, if_any, inl, inr, insert_entry, irq_keyed, irq_off, is_at, is_kind, is_root_object, is_space_root, keeps, keeps_cnode, keeps_fill}
@@ -179,11 +180,7 @@ module _ (t : SpecTree) (sound : tree_faults t ≡ []) where
   rows = nil_append ((((names_a ++ fields_b) ++ names_c) ++ slots_d) ++ numbers_e) names_f twice_nil
 
   objects_once : names_a ≡ []
-  objects_once =
-      let a = (nil_append (((names_a ++ fields_b) ++ names_c) ++ slots_d) numbers_e rows.0).0 in
-      let b = (nil_append ((names_a ++ fields_b) ++ names_c) slots_d a).0 in
-      let c = (nil_append (names_a ++ fields_b) names_c b).0 in
-      (nil_append names_a fields_b c).0
+  objects_once = search (rules, nil_append, rows)
 
   differs : differ bytes_eq (map (λ i. i.name) (map (λ o. o.id) t.objects)) ≡ true
   differs = names_differ (map (λ o. o.id) t.objects) objects_once
@@ -199,26 +196,12 @@ module _ (t : SpecTree) (sound : tree_faults t ≡ []) where
   names_kept = ap (differ bytes_eq) (names_same t.objects) ∙ differs
 
   few_objects : length t.objects ≤ most_objects
-  few_objects =
-      let e : past most_objects (map (λ o. o.id) t.objects) ≡ [] =
-      (nil_append (past most_objects (map (λ o. o.id) t.objects)) _ limit_nil).0 in
-      let l = none_past most_objects (map (λ o. o.id) t.objects) e in
-      omega (arith, l, length-map t.objects (λ (o : ObjectLine). o.id))
+  few_objects = search (rules, nil_append, limit_nil, none_past, length-map)
 
   -- what a name stands for is an object of the spec, of that kind
   there : (n : List ℕ) (k : Known) → known n ≡ Some k → (kind_at spec k.place ≡ Some k.kind)
       × (is_root_object spec.arch (object_at spec k.place) ≡ is_root_kind t.arch k.kind)
-  there n k e =
-      let r = known_there t.arch 0 t.objects n k e in
-      let o = r.1 in
-      let place : k.place ≡ r.0 = ap (λ (z : Known). z.place) r.3 ∙ (let z : 0 + r.0 ≡ r.0 = omega arith in z) in
-      let kind : k.kind ≡ kind_said o.kind = ap (λ (z : Known). z.kind) r.3 in
-      let here : object_at spec k.place ≡ Some (object_said known o.kind (lines_of o)) = ap (object_at spec) place
-      ∙ ap entry_object (slice_get-map (entry_said known t.holders) t.objects r.0
-      ∙ ap (option_map (entry_said known t.holders)) r.2) in (
-        ap (option_map kind_of_object) here ∙ ap (λ z. Some z) (kind_is known o.kind (lines_of o) ∙ sym kind),
-        ap (is_root_object spec.arch) here ∙ root_is t.arch known o.kind (lines_of o) ∙ ap (is_root_kind t.arch) (sym kind),
-      )
+  there n k e = search (rules, known_there, slice_get-map, kind_is, root_is)
 
   -- the capability of a slot
   module _ (s : SlotLine) (k : Known) (is : known s.object.name ≡ Some k) where
@@ -241,29 +224,8 @@ module _ (t : SpecTree) (sound : tree_faults t ≡ []) where
   -- ---- holders
 
   good_lines : (j : ℕ) (o : ObjectLine) → slice_get t.objects j ≡ Some o → AllGood t.arch known (known_as t.arch j o) (lines_of o)
-  good_lines j o g = elim (held_cases t.holders o.id.name) [
-    | inl e ↦ subst (λ (ss : List SlotLine). AllGood t.arch known (known_as t.arch j o) ss) (sym e) tt
-    | inr p ↦
-        let h = p.1 in
-        let hk = known_as t.arch j o in
-        let named : known h.id.name ≡ Some hk = ap known (sym p.3) ∙ known_here t.arch 0 t.objects j o differs g
-        ∙ ap (λ i. Some (known_as t.arch i o)) (let z : 0 + j ≡ j = omega arith in z) in
-        let u = (nil_append (unknown known h.id) (flat_map (λ s. unknown known s.object) h.slots)
-        (flat_map_nil (unknown_in known) t.holders p.0 h (nil_append (flat_map (unknown_in known) t.holders) _
-        unknown_nil).0 p.2)).1 in
-        let off : slots_off t.arch known h.id (known h.id.name) h.slots ≡ [] =
-        flat_map_nil (off_in t.arch known) t.holders p.0 h (nil_append (flat_map (λ o. kind_off t.arch o.kind) t.objects)
-        (flat_map (off_in t.arch known) t.holders) (nil_append (flat_map (λ o. kind_off t.arch o.kind) t.objects
-        ++ flat_map (off_in t.arch known) t.holders) _ kind_nil).0).1 p.2 in
-        let off' : slots_off t.arch known h.id (Some hk) h.slots ≡ [] =
-        subst (λ (z : Option Known). slots_off t.arch known h.id z h.slots ≡ []) named off in
-        let below : slots_past h.id (size_of (known h.id.name)) h.slots ≡ [] = flat_map_nil (past_in known) t.holders p.0 h
-        range_nil p.2 in
-        let below' : slots_past h.id (size_of (Some hk)) h.slots ≡ [] =
-        subst (λ (z : Option Known). slots_past h.id (size_of z) h.slots ≡ []) named below in
-        subst (λ (ss : List SlotLine). AllGood t.arch known hk ss) (sym p.4) (all_good t.arch known h.id hk h.slots u
-        (nil_append (holder_off h.id (Some hk)) (flat_map (slot_off t.arch known h.id (Some hk)) h.slots) off').1 below')
-  ]
+  good_lines j o g =
+      search (rules, held_cases, known_here, differs, nil_append, flat_map_nil, unknown_nil, kind_nil, range_nil, all_good)
 
   abbrev held_by : ℕ → Kind → Option ℕ → Known
   held_by j kind size = record { place = j; kind = kind; size = size }
@@ -325,10 +287,7 @@ module _ (t : SpecTree) (sound : tree_faults t ≡ []) where
   node_kept : (j n : ℕ) (ss : List SlotLine) → are_bits n ≡ true
       → AllGood t.arch known (held_by j kinds.CNode (cond (are_bits n) (Some (2 ^ n)) None)) ss
       → keeps_cnode spec n (slots_said known ss) ≡ true
-  node_kept j n ss b g =
-      let size : cond (are_bits n) (Some (2 ^ n)) None ≡ Some (2 ^ n) = rw b refl in
-      let g' = subst (λ (z : Option ℕ). AllGood t.arch known (held_by j kinds.CNode z) ss) size g in
-      and_from _ _ b (said_kept t.arch known (fits spec) (2 ^ n) ss (node_fit j (2 ^ n) ss g'))
+  node_kept j n ss b g = search (rules, and_from, said_kept, node_fit)
 
   table_kept : (j : ℕ) (level : Level) (size : Option ℕ) (ss : List SlotLine) → is_some size ≡ true
       → AllGood t.arch known (held_by j (kinds.Pages level) size) ss → keeps_table spec level size (slots_said known ss) ≡ true
@@ -337,19 +296,7 @@ module _ (t : SpecTree) (sound : tree_faults t ≡ []) where
 
   tcb_kept : (h : Known) (fs : List ThreadField) (ss : List SlotLine) → flat_map (λ f. thread_value_off f.value) fs ≡ []
       → AllGood t.arch known h ss → keeps_tcb spec (thread_said known fs ss) ≡ true
-  tcb_kept h fs ss e g =
-      let begun = fields_from no_tcb fs in
-      let empty = fields_slots no_tcb fs (refl, refl, refl) in
-      let first : Fits t.arch known (is_at spec kinds.CNode) (is_space_root spec) (fits_as spec kinds.Frame) begun = (
-        ap (if_any (is_at spec kinds.CNode)) empty.0,
-        ap (if_any (is_space_root spec)) empty.1,
-        ap (if_any (fits_as spec kinds.Frame)) empty.2,
-      ) in
-      let f = named_fit t.arch known (is_at spec kinds.CNode) (is_space_root spec) (fits_as spec kinds.Frame) begun ss
-      (named_all h ss g) first in
-      let prio : leb (thread_said known fs ss).prio 255 ≡ true = ap (λ z. leb z 255) (named_prio t.arch known begun ss)
-      ∙ fields_prio no_tcb fs e refl in
-      and_from _ _ (and_from _ _ prio f.0) (and_from _ _ f.1 f.2)
+  tcb_kept h fs ss e g = search (rules, fields_slots, named_fit, named_all, named_prio, fields_prio, and_from)
 
   kind_kept : (j : ℕ) (k : KindLine) (ss : List SlotLine) → kind_off t.arch k ≡ []
       → AllGood t.arch known (held_by j (kind_said k) (size_said t.arch k)) ss → keeps spec (object_said known k ss) ≡ true
@@ -369,13 +316,7 @@ module _ (t : SpecTree) (sound : tree_faults t ≡ []) where
   objects_from (o ∷ os) h = and_from _ _ (h zero o refl) (objects_from os (λ i p g. h (suc i) p g))
 
   objects_kept : list_all (λ e. keeps spec e.object) spec.entries ≡ true
-  objects_kept =
-      let kinds_nil : flat_map (λ o. kind_off t.arch o.kind) t.objects ≡ [] =
-      (nil_append (flat_map (λ o. kind_off t.arch o.kind) t.objects) (flat_map (off_in t.arch known) t.holders)
-      (nil_append (flat_map (λ o. kind_off t.arch o.kind) t.objects ++ flat_map (off_in t.arch known) t.holders) _
-      kind_nil).0).0 in
-      objects_from t.objects (λ i o g. kind_kept i o.kind (lines_of o) (flat_map_nil (λ (o : ObjectLine). kind_off t.arch o.kind)
-      t.objects i o kinds_nil g) (good_lines i o g))
+  objects_kept = search (rules, nil_append, kind_nil, objects_from, kind_kept, flat_map_nil, good_lines)
 
   -- ---- interrupt lines
 
@@ -406,23 +347,7 @@ module _ (t : SpecTree) (sound : tree_faults t ≡ []) where
   -- different names stand for different objects
   places_apart : (n m : List ℕ) (k q : Known) → known n ≡ Some k → known m ≡ Some q → bytes_eq m n ≡ false
       → not (k.place == q.place) ≡ true
-  places_apart n m k q e f d = by_test (k.place == q.place) refl
-    where
-      same_get : (os : List ObjectLine) (i : ℕ) (o p : ObjectLine) → slice_get os i ≡ Some o → slice_get os i ≡ Some p → o ≡ p
-      same_get os i o p g h = let r = sym g ∙ h in cc
-
-      by_test : (b : Bool) → (k.place == q.place) ≡ b → not b ≡ true
-      by_test false c = refl
-      by_test true c =
-          let r = known_there t.arch 0 t.objects n k e in
-          let s = known_there t.arch 0 t.objects m q f in
-          let at : r.0 ≡ s.0 = (let x : k.place ≡ 0 + r.0 = ap (λ (z : Known). z.place) r.3 in
-          let y : q.place ≡ 0 + s.0 = ap (λ (z : Known). z.place) s.3 in let w = eqb-true k.place q.place c in
-          omega (arith, x, y, w)) in
-          let same : r.1 ≡ s.1 = same_get t.objects s.0 r.1 s.1 (subst (λ (i : ℕ). slice_get t.objects i ≡ Some r.1)
-          at r.2) s.2 in
-          let names : m ≡ n = s.4 ∙ ap (λ (o : ObjectLine). o.id.name) (sym same) ∙ sym r.4 in
-          absurd (let a : bytes_eq m n ≡ true = (bytes_eq-Decides m n).1 names in let b = sym a ∙ d in cc)
+  places_apart n m k q e f d = search (rules, slice_get, known_there, eqb-true, bytes_eq-Decides)
 
   abbrev AllLacked : List (ℕ × ℕ) → List IrqLine → Type 0
   AllLacked done [] = Unit {0}
@@ -438,8 +363,7 @@ module _ (t : SpecTree) (sound : tree_faults t ≡ []) where
   lacked_more done l (m ∷ ls) s a d g =
       let p = or_parts (bytes_eq m.object.name l.object.name) _ d in
       let apart : not (s.0.place == a.0.0.place) ≡ true = places_apart l.object.name m.object.name s.0 a.0.0 s.1 a.0.1 p.0 in
-      let apart' : not (place_of l == place_of m) ≡ true = ap (λ z. not (z == place_of m)) (ap place_or s.1)
-      ∙ ap (λ z. not (s.0.place == z)) (ap place_or a.0.1) ∙ apart in
+      let apart' : not (place_of l == place_of m) ≡ true = search (rules) in
       (all_insert (λ x. not (x.1 == place_of m)) done l.number.value (place_of l) g.0 apart', lacked_more done l ls s a.1 p.1 g.1)
 
   lines_from_kept : (done : List (ℕ × ℕ)) (ls : List IrqLine) → AllSound ls
@@ -449,8 +373,7 @@ module _ (t : SpecTree) (sound : tree_faults t ≡ []) where
   lines_from_kept done [] a d g r p k = and_from _ _ (and_from _ _ r p) k
   lines_from_kept done (l ∷ ls) a d g r p k =
       let q = and_parts (not (list_any (λ n. bytes_eq n l.object.name) (map (λ i. i.name) (map (λ l. l.object) ls)))) _ d in
-      let kind : is_at spec kinds.Irq (place_of l) ≡ true = ap (is_at spec kinds.Irq) (ap place_or a.0.1)
-      ∙ ap (λ (z : Option Kind). is_kind z kinds.Irq) (there l.object.name a.0.0 a.0.1).0 ∙ a.0.2 in
+      let kind : is_at spec kinds.Irq (place_of l) ≡ true = search (rules, there) in
       lines_from_kept (put done l) ls a.1 q.1 (lacked_more done l ls a.0 a.1 (not-true _ q.0) g.1)
       (rise_insert done l.number.value (place_of l) r) (differ_insert done l.number.value (place_of l) g.0 p)
       (all_insert (λ x. is_at spec kinds.Irq x.1) done l.number.value (place_of l) k kind)
@@ -460,21 +383,10 @@ module _ (t : SpecTree) (sound : tree_faults t ≡ []) where
   nothing_lacked (l ∷ ls) = (refl, nothing_lacked ls)
 
   lines_kept : keeps_lines spec spec.irqs ≡ true
-  lines_kept =
-      let u = (nil_append (flat_map (unknown_in known) t.holders) (flat_map (λ l. unknown known l.object) t.irqs)
-      unknown_nil).1 in
-      let f = (nil_append (flat_map (λ o. kind_off t.arch o.kind) t.objects ++ flat_map (off_in t.arch known) t.holders)
-      (flat_map (λ l. irq_off l.object (known l.object.name)) t.irqs) kind_nil).1 in
-      lines_from_kept [] t.irqs (sound_all t.irqs u f) (names_differ (map (λ l. l.object) t.irqs) rows.1) (nothing_lacked t.irqs)
-      refl refl refl
+  lines_kept = search (rules, nil_append, unknown_nil, kind_nil, lines_from_kept, sound_all, names_differ, rows, nothing_lacked)
 
   kept : IsKept spec
-  kept = record {
-    few = omega (arith, few_objects, length-map t.objects (entry_said known t.holders));
-    names = names_kept;
-    objects = objects_kept;
-    lines = lines_kept;
-  }
+  kept = search (rules, few_objects, length-map, names_kept, objects_kept, lines_kept)
 
 pub kept_text : (bytes : List ℕ) (s : Spec) → Text bytes s → IsKept s
 kept_text bytes s a = subst IsKept (sym a.means) (kept a.tree a.sound)

@@ -1,4 +1,5 @@
 -- What names stand for is there.
+use Rattle.std.proofs.Common.{rules}
 use Rattle.capdl_read.proofs.Common.{Arch, Bool, CapdlTwice, Id, Known, List, ObjectLine, Some, [], ap, arith, at_id, bytes_eq, bytes_eq-Decides, cond, differ, false, known_as, known_from, list_any, map, names_after, names_twice, nil_append, not}
 use Rattle.capdl_read.proofs.Common.{not-true, or_parts, refl, slice_get, suc, sym, true, zero, ℕ, ◌&&◌, ◌+◌, ◌||◌, ◌∙◌, ◌∷◌, ◌≡◌}
 use Rattle.capdl_read.proofs.Nothing.{is_false}
@@ -67,10 +68,7 @@ pub known_here : (arch : Arch) (place : ℕ) (os : List ObjectLine) (j : ℕ) (o
     → differ bytes_eq (map (λ i. i.name) (map (λ o. o.id) os)) ≡ true → slice_get os j ≡ Some o
     → known_from arch place os o.id.name ≡ Some (known_as arch (place + j) o)
 known_here arch place [] j o d g = absurd cc
-known_here arch place (q ∷ os) zero o d g =
-    let s : q ≡ o = cc in
-    let t : bytes_eq q.id.name q.id.name ≡ true = (bytes_eq-Decides q.id.name q.id.name).1 refl in
-    rw (← s) (rw t (ap (λ i. Some (known_as arch i q)) (let z : place ≡ place + 0 = omega arith in z)))
+known_here arch place (q ∷ os) zero o d g = search (rules, bytes_eq-Decides)
 known_here arch place (q ∷ os) (suc j) o d g =
     let k = parts (not (list_any (λ n. bytes_eq n q.id.name) (map (λ i. i.name) (map (λ o. o.id) os))))
     (differ bytes_eq (map (λ i. i.name) (map (λ o. o.id) os))) d in

@@ -1,4 +1,5 @@
 -- The objects of a text have names.
+use Rattle.std.proofs.Common.{rules}
 use Rattle.capdl_read.proofs.Common.{Entry, Holder, Id, IsSpecSpelled, IsSpelledBy, Knows, List, ObjectLine, Seen, Spec, SpecTree, Text, [], and_parts, entry_said, knows, list_all, map, object_form, refl, subst, sym, true, ℕ, ◌∷◌, ◌≡◌}
 use Rattle.cam_base.specs.Names.{is_name}
 use Rattle.capdl_text.specs.Forms.{object_line, spec_line}
@@ -7,9 +8,7 @@ use Rattle.cam_base.specs.Spelling.{Each}
 
 line_named : (o : ObjectLine) (ts : List Seen) → IsSpelledBy object_form o ts → is_name o.id.name ≡ true
 unfolding object_line
-line_named o ts (x, is, (a, b, parts, (s, id, one), rest)) =
-    subst (λ (z : ObjectLine). is_name z.id.name ≡ true) (sym is) (subst (λ (i : Id). is_name i.name ≡ true) (sym id)
-    (named_is s.text))
+line_named o ts (x, is, (a, b, parts, (s, id, one), rest)) = search (rules, named_is)
 
 lines_named : (os : List ObjectLine) (ts : List Seen) → Each (IsSpelledBy object_form) os ts
     → list_all (λ o. is_name o.id.name) os ≡ true
@@ -34,6 +33,4 @@ entries_named known holders (o ∷ os) all =
     rw both.0 (entries_named known holders os both.1)
 
 pub text_named : (bytes : List ℕ) (s : Spec) → Text bytes s → list_all (λ entry. is_name entry.name) s.entries ≡ true
-text_named bytes s text =
-    subst (λ (z : Spec). list_all (λ entry. is_name entry.name) z.entries ≡ true) (sym text.means)
-    (entries_named (knows text.tree) text.tree.holders text.tree.objects (tree_named text.tree _ text.spelled))
+text_named bytes s text = search (rules, entries_named, tree_named)

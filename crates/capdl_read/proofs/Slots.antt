@@ -1,4 +1,5 @@
 -- Slots of a holder in whose lines no fault stands.
+use Rattle.std.proofs.Common.{rules}
 use Rattle.capdl_read.proofs.Common.{Arch, Bool, Cap, CapdlUnknown, Id, IsBelow, Kind, Known, Knows, List, None, Option, SlotKey, SlotLine, Some, Tcb, [], at_id, badge_said, cap_off, cap_said, cond_nil, false, flat_map, has_badge, if_any}
 use Rattle.capdl_read.proofs.Common.{keeps_slots, key_off, key_past, kind_rights, list_all, named_from, nat_lt, nil_append, notification_said, numbered_or, param_off, params_off, place_said, put_named, put_slot, refl, rights_said, rise, slot_off}
 use Rattle.capdl_read.proofs.Common.{slots_from, slots_past, takes, true, unknown, within, ℕ, ◌&&◌, ◌++◌, ◌==◌, ◌||◌, ◌∙◌, ◌∷◌, ◌≡◌}
@@ -17,9 +18,7 @@ use Rattle.capdl_read.proofs.Sorted.{rise_insert, all_insert}
 pub rights_fit : (kind : Kind) (ps : List Param) → flat_map (param_off kind) ps ≡ []
     → within (rights_said ps) (kind_rights kind) ≡ true
 rights_fit kind [] e = refl
-rights_fit kind (params.Rights r place ∷ ps) e =
-    cond_nil (within r (kind_rights kind)) _ (nil_append (param_off kind (params.Rights r place))
-    (flat_map (param_off kind) ps) e).0
+rights_fit kind (params.Rights r place ∷ ps) e = search (rules, cond_nil, nil_append)
 rights_fit kind (params.Badge place n ∷ ps) e =
     rights_fit kind ps (nil_append (param_off kind (params.Badge place n)) (flat_map (param_off kind) ps) e).1
 
@@ -28,10 +27,7 @@ pub badge_fits : (kind : Kind) (ps : List Param) → flat_map (param_off kind) p
 badge_fits kind [] e = or-true (has_badge kind)
 badge_fits kind (params.Rights r place ∷ ps) e =
     badge_fits kind ps (nil_append (param_off kind (params.Rights r place)) (flat_map (param_off kind) ps) e).1
-badge_fits kind (params.Badge place n ∷ ps) e =
-    let h : has_badge kind ≡ true =
-    cond_nil (has_badge kind) _ (nil_append (param_off kind (params.Badge place n)) (flat_map (param_off kind) ps) e).0 in
-    rw h refl
+badge_fits kind (params.Badge place n ∷ ps) e = search (rules, cond_nil, nil_append)
 
 -- ---- lines
 
@@ -77,18 +73,7 @@ module _ (arch : Arch) (known : Knows) where
       → slot_off arch known id (Some h) s ≡ [] → IsBelow h.size s.key → IsGood h s
   good_one id h s None k u e b =
       absurd (let p : false ≡ true = rw k at (cond_nil (is_some (known s.object.name)) (at_id CapdlUnknown s.object) u) in cc)
-  good_one id h s (Some o) k u e b =
-      let all : (key_off id (Some h) s ++ cap_off arch (Some h) s (Some o)) ++ params_off s (Some o) ≡ [] = rw k at e in
-      let p = nil_append (key_off id (Some h) s ++ cap_off arch (Some h) s (Some o)) (params_off s (Some o)) all in
-      let q = nil_append (key_off id (Some h) s) (cap_off arch (Some h) s (Some o)) p.0 in
-      record {
-        object = o;
-        is = k;
-        key = cond_nil (has_key h.kind s.key) _ q.0;
-        takes = cond_nil (takes arch (Some h) s.key o.kind s.params) _ q.1;
-        params = p.1;
-        below = b;
-      }
+  good_one id h s (Some o) k u e b = search (rules, nil_append, cond_nil)
 
   good_from : (id : Id) (h : Known) (ss : List SlotLine) → flat_map (λ s. unknown known s.object) ss ≡ []
       → flat_map (slot_off arch known id (Some h)) ss ≡ [] → AllBelow h.size ss → AllGood h ss

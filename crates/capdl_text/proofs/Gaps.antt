@@ -1,4 +1,5 @@
 -- Where a gap stands, no token and no fault does.
+use Rattle.std.proofs.Common.{rules}
 use Rattle.capdl_text.proofs.Common.{Bool, Found, Kind, List, None, Option, Some, TextCode, [], after_close, after_dash, after_line, after_slash, arith, cases_Bool, cond, false, inl, inr, is_blank, is_digit, is_end, is_letter, is_star, length}
 use Rattle.capdl_text.proofs.Common.{mark_fault, nat_tests, none_is_not, refl, same_Some, sym, true, unless, ℕ, ◌<◌, ◌==◌, ◌||◌, ◌∙◌, ◌∷◌, ◌≡◌, ◌≤◌}
 use Rattle.capdl_text.specs.Gaps.{one_gap}
@@ -12,14 +13,7 @@ is_gap_byte b = is_blank b || (b == 47 || b == 45)
 
 pub gap_byte : (b : ℕ) (bs cs : List ℕ) → one_gap (b ∷ bs) ≡ Some cs → is_gap_byte b ≡ true
 unfolding one_gap is_gap_byte
-gap_byte b bs cs e = go (is_blank b) (b == 47) (b == 45) e
-  where
-    go : (x y z : Bool) → cond x (Some bs) (cond y (after_slash bs) (cond z (after_dash bs) None)) ≡ Some cs
-        → (x || (y || z)) ≡ true
-    go true y z p = refl
-    go false true z p = refl
-    go false false true p = refl
-    go false false false p = none_is_not cs p
+gap_byte b bs cs e = search (rules, none_is_not)
 
 not_letter : (b : ℕ) → is_gap_byte b ≡ true → is_letter b ≡ false
 unfolding is_gap_byte
@@ -40,17 +34,7 @@ not_mark b h = grind (arith, nat_tests)
 -- a token begins with no byte of a gap
 pub token_no_gap_byte : (b : ℕ) (text : List ℕ) (k : Kind) → kind_of (b ∷ text) ≡ Some k → is_gap_byte b ≡ true → ⊥
 unfolding kind_of
-token_no_gap_byte b text k e h =
-    go (is_end text) (let p : kind_of (b ∷ text) ≡ cond (is_end text) None None = rw (
-      not_letter b h,
-      not_digit b h,
-      not_quote b h,
-      not_mark b h,
-    ) refl in sym p ∙ e)
-  where
-    go : (t : Bool) → cond t None None ≡ Some k → ⊥
-    go true p = none_is_not k p
-    go false p = none_is_not k p
+token_no_gap_byte b text k e h = search (rules, not_letter, not_digit, not_quote, not_mark, none_is_not)
 
 after_line_le : (bs : List ℕ) → length (after_line bs) ≤ length bs
 after_line_le [] = omega arith
@@ -62,33 +46,17 @@ after_line_le (b ∷ bs) = elim (cases_Bool (b == 10)) [
 
 after_slash_le : (bs cs : List ℕ) → after_slash bs ≡ Some cs → length cs ≤ length bs
 after_slash_le [] cs e = none_is_not cs e
-after_slash_le (b ∷ bs) cs e = go (b == 47) (b == 42) e
-  where
-    go : (x y : Bool) → cond x (Some (after_line bs)) (cond y (after_close bs) None) ≡ Some cs → length cs ≤ length (b ∷ bs)
-    go true y p = let same = same_Some (after_line bs) cs p in let le = after_line_le bs in rw (← same) (omega arith)
-    go false true p = let le = after_close_le bs cs p in omega arith
-    go false false p = none_is_not cs p
+after_slash_le (b ∷ bs) cs e = search (rules, same_Some, after_line_le, after_close_le, none_is_not)
 
 after_dash_le : (bs cs : List ℕ) → after_dash bs ≡ Some cs → length cs ≤ length bs
 after_dash_le [] cs e = none_is_not cs e
-after_dash_le (b ∷ bs) cs e = go (b == 45) e
-  where
-    go : (x : Bool) → cond x (Some (after_line bs)) None ≡ Some cs → length cs ≤ length (b ∷ bs)
-    go true p = let same = same_Some (after_line bs) cs p in let le = after_line_le bs in rw (← same) (omega arith)
-    go false p = none_is_not cs p
+after_dash_le (b ∷ bs) cs e = search (rules, same_Some, after_line_le, none_is_not)
 
 -- a gap has bytes
 pub gap_eats : (bs cs : List ℕ) → one_gap bs ≡ Some cs → length cs < length bs
 unfolding one_gap
 gap_eats [] cs e = none_is_not cs e
-gap_eats (b ∷ bs) cs e = go (is_blank b) (b == 47) (b == 45) e
-  where
-    go : (x y z : Bool) → cond x (Some bs) (cond y (after_slash bs) (cond z (after_dash bs) None)) ≡ Some cs
-        → length cs < length (b ∷ bs)
-    go true y z p = let same = same_Some bs cs p in rw (← same) (omega arith)
-    go false true z p = let le = after_slash_le bs cs p in omega arith
-    go false false true p = let le = after_dash_le bs cs p in omega arith
-    go false false false p = none_is_not cs p
+gap_eats (b ∷ bs) cs e = search (rules, same_Some, after_slash_le, after_dash_le, none_is_not)
 
 -- where a fault stands, no gap does
 pub fault_no_gap : (bs cs : List ℕ) (f : TextCode × List ℕ) → fault_at bs ≡ Some f → one_gap bs ≡ Some cs → ⊥

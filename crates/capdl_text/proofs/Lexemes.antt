@@ -1,4 +1,5 @@
 -- Tokens as readers keep them are the tokens.
+use Rattle.std.proofs.Common.{rules}
 use Rattle.capdl_text.proofs.Common.{Bool, IsTokenAt, Kind, Lexeme, List, Mark, None, Option, Some, Token, [], after_close, after_dash, after_line, after_slash, ap, append_assoc, arith, bytes_eq, codes, cond, digits_kind, drop, drop-map}
 use Rattle.capdl_text.proofs.Common.{drop_at, ends_text, false, is_blank, is_digit, is_end, is_letter, is_word_byte, kind_with, length, length-append, length-map, list_all, mark_of, none_is_not}
 use Rattle.capdl_text.proofs.Common.{number_value, option_map, place_of, refl, same_Some, see, sees, sort_of, subst, sym, take, take_at, text_at, token_of, tokens_of, true, unwrap_or, value_at, word_of, ℕ, ◌&&◌, ◌++◌, ◌-◌}
@@ -58,32 +59,16 @@ line_tail_of b bs rest p = tail_of b bs rest (subst (λ (w : List ℕ). IsTail b
 
 slash_tail : (bs rest : List ℕ) → after_slash bs ≡ Some rest → IsTail bs rest
 slash_tail [] rest e = none_is_not rest e
-slash_tail (b ∷ bs) rest e = go (b == 47) (b == 42) e
-  where
-    go : (x y : Bool) → cond x (Some (after_line bs)) (cond y (after_close bs) None) ≡ Some rest → IsTail (b ∷ bs) rest
-    go true y p = line_tail_of b bs rest p
-    go false true p = tail_of b bs rest (close_tail bs rest p)
-    go false false p = none_is_not rest p
+slash_tail (b ∷ bs) rest e = search (rules, line_tail_of, tail_of, close_tail, none_is_not)
 
 dash_tail : (bs rest : List ℕ) → after_dash bs ≡ Some rest → IsTail bs rest
 dash_tail [] rest e = none_is_not rest e
-dash_tail (b ∷ bs) rest e = go (b == 45) e
-  where
-    go : (x : Bool) → cond x (Some (after_line bs)) None ≡ Some rest → IsTail (b ∷ bs) rest
-    go true p = line_tail_of b bs rest p
-    go false p = none_is_not rest p
+dash_tail (b ∷ bs) rest e = search (rules, line_tail_of, none_is_not)
 
 gap_tail : (bs rest : List ℕ) → one_gap bs ≡ Some rest → IsTail bs rest
 unfolding one_gap
 gap_tail [] rest e = none_is_not rest e
-gap_tail (b ∷ bs) rest e = go (is_blank b) (b == 47) (b == 45) e
-  where
-    go : (x y z : Bool) → cond x (Some bs) (cond y (after_slash bs) (cond z (after_dash bs) None)) ≡ Some rest
-        → IsTail (b ∷ bs) rest
-    go true y z p = (b ∷ [], ap (λ (w : List ℕ). b ∷ w) (same_Some bs rest p))
-    go false true z p = tail_of b bs rest (slash_tail bs rest p)
-    go false false true p = tail_of b bs rest (dash_tail bs rest p)
-    go false false false p = none_is_not rest p
+gap_tail (b ∷ bs) rest e = search (rules, same_Some, tail_of, slash_tail, dash_tail, none_is_not)
 
 tail_on : (bs mid rest front : List ℕ) → IsTail bs mid → mid ≡ front ++ rest → IsTail bs rest
 tail_on bs mid rest front t e = (t.0 ++ front, t.1 ∙ ap (λ (w : List ℕ). t.0 ++ w) e ∙ sym (append_assoc t.0 front rest))
@@ -94,12 +79,7 @@ tail_past_gap bytes bs rest t e = let g = gap_tail bs rest e in tail_on bytes bs
 -- ---- a token's bytes have its value
 
 digits_number : (w : List ℕ) (n : ℕ) → digits_kind w ≡ Some (kinds.Number n) → number_value w ≡ Some n
-digits_number w n e = go (bytes_eq w (codes "4k")) (number_value w) e
-  where
-    go : (t : Bool) (v : Option ℕ) → cond t (Some kinds.Page) (option_map kinds.Number v) ≡ Some (kinds.Number n) → v ≡ Some n
-    go true v p = absurd cc
-    go false None p = none_is_not (kinds.Number n) p
-    go false (Some m) p = let q : m ≡ n = cc in ap (λ (x : ℕ). Some x) q
+digits_number w n e = search (rules, none_is_not)
 
 number_text : (text : List ℕ) (n : ℕ) → kind_of text ≡ Some (kinds.Number n) → number_value text ≡ Some n
 unfolding kind_of
@@ -130,24 +110,14 @@ value_kept (kinds.Mark mark) text e = refl
 -- the bytes between two places
 pub text_there : (front text rest : List ℕ) (total : ℕ) → total ≡ length (front ++ (text ++ rest))
     → text_at (front ++ (text ++ rest)) (record { first = total - length (text ++ rest); end = total - length rest }) ≡ text
-text_there front text rest total e =
-    let a : length front ≡ total - length (text ++ rest) = omega (arith, e, length-append front (text ++ rest)) in
-    let b : length text ≡ (total - length rest) - (total - length (text ++ rest)) =
-    omega (arith, e, length-append front (text ++ rest), length-append text rest) in
-    ap (take ((total - length rest) - (total - length (text ++ rest))))
-    (drop_at front (text ++ rest) (total - length (text ++ rest)) a)
-    ∙ take_at text rest ((total - length rest) - (total - length (text ++ rest))) b
+text_there front text rest total e = search (rules, length-append, drop_at, take_at)
 
 module _ (bytes bs rest : List ℕ) (k : Kind) (token : IsTokenAt bs k rest) (tail : IsTail bytes bs) where
   pub tail_past_token : IsTail bytes rest
   tail_past_token = tail_on bytes bs rest token.text tail token.parts
 
   text_kept : text_at bytes (place_of (length bytes) bs rest) ≡ token.text
-  text_kept =
-      let whole : bytes ≡ tail.0 ++ (token.text ++ rest) = tail.1 ∙ ap (λ (w : List ℕ). tail.0 ++ w) token.parts in
-      subst (λ (w : List ℕ). text_at w (place_of (length bytes) bs rest) ≡ token.text) (sym whole)
-      (subst (λ (w : List ℕ). text_at (tail.0 ++ (token.text ++ rest)) (place_of (length bytes) w rest) ≡ token.text)
-      (sym token.parts) (text_there tail.0 token.text rest (length bytes) (ap length whole)))
+  text_kept = search (rules, text_there)
 
   -- the token is that of the lexeme at its place
   pub kind_kept : kind_with (sort_of k) (value_at bytes (place_of (length bytes) bs rest)) ≡ k

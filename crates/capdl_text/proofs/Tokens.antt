@@ -1,4 +1,5 @@
 -- What the step takes from the front is a token, and the longest one there.
+use Rattle.std.proofs.Common.{rules}
 use Rattle.capdl_text.proofs.Common.{Bool, IsTokenAt, Kind, List, Mark, None, Option, Some, [], after_run, after_text, and_parts, ap, append-nil, arith, bytes_eq, bytes_eq-Decides, cases_Bool, codes, cond, digits_kind, digits_taken, ends_text}
 use Rattle.capdl_text.proofs.Common.{eqb-true, false, fault_at, fits, if◌then◌else◌, inl, inr, is_decimal, is_digit, is_end, is_hex_digit, is_hexadecimal, is_letter, is_some, is_word_byte, length, list_all, mark_of, mark_taken, nat_tests}
 use Rattle.capdl_text.proofs.Common.{none_is_not, number_value, option_map, refl, run, same_Some, subst, suc, sym, text_taken, true, true_is_not_false, word_of, word_taken, ℕ, ◌&&◌, ◌++◌, ◌==◌, ◌||◌, ◌∙◌, ◌∷◌, ◌≡◌}
@@ -170,9 +171,7 @@ text_at bs rest e clean = record {
   where
     go : (longer after : List ℕ) → rest ≡ longer ++ after → is_some (kind_of (34 ∷ upto bs ++ longer)) ≡ true → longer ≡ []
     go [] after p q = refl
-    go (c ∷ cs) after p q =
-        let no : ends_text (upto bs ++ c ∷ cs) ≡ false = upto_ends bs rest (c ∷ cs) e in
-        true_is_not_false (is_some (kind_of (34 ∷ upto bs ++ c ∷ cs))) q (rw no refl)
+    go (c ∷ cs) after p q = search (rules, upto, upto_ends, true_is_not_false)
 
 mark_at : (b : ℕ) (bs : List ℕ) (m : Mark) → is_letter b ≡ false → is_digit b ≡ false → (b == 34) ≡ false → mark_of b ≡ Some m
     → fault_at (b ∷ bs) ≡ None → IsTokenAt (b ∷ bs) (kinds.Mark m) bs
@@ -199,18 +198,12 @@ token_at (b ∷ bs) k rest e clean = by_test (is_letter b) (is_digit b) (b == 34
         → w ≡ b ∷ run is_word_byte bs → r ≡ after_run is_word_byte bs → option_map {U = Kind × List ℕ} (λ k. (k, r)) k' ≡ Some
         (k, rest) → IsTokenAt (b ∷ bs) k rest
     digits_go None w r l d p a c q = none_is_not (k, rest) q
-    digits_go (Some j) w r l d p a c q =
-        let t = digits_at b bs j l d (ap digits_kind (sym a) ∙ p) clean in
-        let both : (j, r) ≡ (k, rest) = same_Some (j, r) (k, rest) q in
-        subst (λ (x : Kind × List ℕ). IsTokenAt (b ∷ bs) x.0 x.1) both (subst (λ (z : List ℕ). IsTokenAt (b ∷ bs) j z) (sym c) t)
+    digits_go (Some j) w r l d p a c q = search (rules, digits_at, same_Some)
 
     text_go : (r : Option (List ℕ)) → b ≡ 34 → after_text bs ≡ r → option_map {U = Kind × List ℕ} (λ rest. (kinds.Text, rest))
         r ≡ Some (k, rest) → IsTokenAt (b ∷ bs) k rest
     text_go None s p q = none_is_not (k, rest) q
-    text_go (Some r) s p q =
-        let t = text_at bs r p (ap (λ (z : ℕ). fault_at (z ∷ bs)) (sym s) ∙ clean) in
-        subst (λ (x : Kind × List ℕ). IsTokenAt (b ∷ bs) x.0 x.1) (same_Some (kinds.Text, r) (k, rest) q)
-        (subst (λ (z : ℕ). IsTokenAt (z ∷ bs) kinds.Text r) (sym s) t)
+    text_go (Some r) s p q = search (rules, text_at, same_Some)
 
     mark_go : (m : Option Mark) → is_letter b ≡ false → is_digit b ≡ false → (b == 34) ≡ false → mark_of b ≡ m
         → option_map {U = Kind × List ℕ} (λ m. (kinds.Mark m, bs)) m ≡ Some (k, rest) → IsTokenAt (b ∷ bs) k rest
@@ -222,13 +215,7 @@ token_at (b ∷ bs) k rest e clean = by_test (is_letter b) (is_digit b) (b == 34
         → cond l (word_taken (b ∷ bs)) (cond d (digits_taken (b ∷ bs)) (cond q (text_taken bs) (mark_taken b bs)))
         ≡ Some (k, rest)
         → IsTokenAt (b ∷ bs) k rest
-    by_test true d q le de qe p =
-        let w : is_word_byte b ≡ true = word_or b le in
-        let front : run is_word_byte (b ∷ bs) ≡ b ∷ run is_word_byte bs = rw w refl in
-        let back : after_run is_word_byte (b ∷ bs) ≡ after_run is_word_byte bs = rw w refl in
-        let both : (kinds.Word (word_of (b ∷ run is_word_byte bs)), after_run is_word_byte bs) ≡ (k, rest) =
-        same_Some _ _ (rw (front, back) at p) in
-        subst (λ (x : Kind × List ℕ). IsTokenAt (b ∷ bs) x.0 x.1) both (word_at b bs le clean)
+    by_test true d q le de qe p = search (rules, word_or, same_Some, word_at)
     by_test false true q le de qe p =
         let w : is_word_byte b ≡ true = digit_or b de in
         digits_go (digits_kind (run is_word_byte (b ∷ bs))) (run is_word_byte (b ∷ bs)) (after_run is_word_byte (b ∷ bs)) le de

@@ -278,10 +278,7 @@ fine_held_tcb spec name tcb true more w h f =
     let k = and_parts (if_any (is_named spec) tcb.cspace) (if_any (is_named spec) tcb.vspace
     && if_any (is_target spec) tcb.buffer) h in
     let g = and_parts (if_any (is_named spec) tcb.vspace) (if_any (is_target spec) tcb.buffer) k.1 in
-    fine_holder name (tcb_slots spec tcb) more w
-    (fine_cspace spec tcb.cspace _ k.0
-    (fine_vspace spec tcb.vspace _ g.0 (fine_buffer spec tcb.buffer (brace_r (codes "\n") ∷ more) g.1
-    (fine_end (codes "\n") more refl f))))
+    search (rules, fine_holder, fine_cspace, fine_vspace, fine_buffer, fine_end)
 
 fine_held_irq : (spec : Spec) (name : List ℕ) (o : Option ℕ) (more : List Piece) → is_word name ≡ true
     → if_any (is_named spec) o ≡ true → Fine more → Fine (held_irq spec name o more)
@@ -351,25 +348,7 @@ fine_arch Aarch64 more f = (refl, refl, refl, refl, f)
 
 fine_last : (spec : Spec) → list_all (is_line spec) spec.irqs ≡ true → Fine (last_pieces spec)
 unfolding kind_of fault_at mark_of is_left_out_word
-fine_last spec h = (
-  refl,
-  refl,
-  refl,
-  refl,
-  (
-    refl,
-    refl,
-    refl,
-    refl,
-    (
-      refl,
-      refl,
-      refl,
-      refl,
-      (refl, refl, refl, refl, fine_irqs spec spec.irqs (brace_r (codes "\n") ∷ []) h (fine_end (codes "\n") [] refl tt)),
-    ),
-  ),
-)
+fine_last spec h = search (rules, fine_irqs, fine_end)
 
 fine_caps : (spec : Spec) → are_words spec.entries ≡ true → list_all (λ e. has_named spec e.object) spec.entries ≡ true
     → Fine (last_pieces spec) → Fine (caps_pieces spec)

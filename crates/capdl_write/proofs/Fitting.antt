@@ -1,4 +1,5 @@
 -- The pieces of a canonical text are tokens without faults, and none runs into the next.
+use Rattle.std.proofs.Common.{rules}
 use Rattle.capdl_write.proofs.Common.{Bool, Fine, List, None, Option, Piece, Rights, Some, Tcb, [], after_text, all_blank, and_parts, ap, arith, codes, colon, comma, dec, drop, elf_pieces, ends_text, false, goes_on, has_rights, if_any, is_letter}
 use Rattle.capdl_write.proofs.Common.{is_name, is_number, is_plain, is_tcb, is_word, is_word_byte, laid, leb, length, letter, list_all, ltb-true, nat_lt, nat_tests, not, paren_r, refl, rights_word, run, suc, tcb_pieces, true, word, word_fault}
 use Rattle.capdl_write.proofs.Common.{word_of, word_or, ℕ, ◌&&◌, ◌++◌, ◌<◌, ◌==◌, ◌^◌, ◌||◌, ◌∙◌, ◌∷◌, ◌≡◌}
@@ -10,10 +11,7 @@ use Rattle.capdl_write.proofs.Laying.{run_all}
 use Rattle.capdl_write.proofs.Numbers.{decimal_fine, hex_fine}
 
 word_long : (b : ℕ) (bs : List ℕ) → leb (length bs) 126 ≡ true → nat_lt 127 (length (b ∷ bs)) ≡ false
-word_long b bs h = go (length bs) h
-  where
-    go : (n : ℕ) → leb n 126 ≡ true → nat_lt 127 (suc n) ≡ false
-    go n h = grind (arith, nat_tests)
+word_long b bs h = search (rules, nat_tests)
 
 -- a name that isn't left out is a word without a fault
 pub word_fine : (n : List ℕ) → is_word n ≡ true → (kind_of n ≡ Some (kinds.Word (word_of n))) × (fault_at n ≡ None)
@@ -55,26 +53,7 @@ text_fine text h = let r = plain_ends text h in (rw (r.0) refl, rw (r.1) refl)
 -- a word of rights
 pub rights_are : (r : Rights) → has_rights r ≡ true → is_word (rights_word r) ≡ true
 unfolding is_left_out_word
-rights_are r h = go r.read r.write r.grant r.reply h
-  where
-    go : (a b c d : Bool) → (a || (b || (c || d))) ≡ true
-        → is_word (letter a 82 (letter b 87 (letter c 71 (letter d 80 [])))) ≡ true
-    go true true true true e = refl
-    go true true true false e = refl
-    go true true false true e = refl
-    go true true false false e = refl
-    go true false true true e = refl
-    go true false true false e = refl
-    go true false false true e = refl
-    go true false false false e = refl
-    go false true true true e = refl
-    go false true true false e = refl
-    go false true false true e = refl
-    go false true false false e = refl
-    go false false true true e = refl
-    go false false true false e = refl
-    go false false false true e = refl
-    go false false false false e = absurd cc
+rights_are r h = search (rules)
 
 fine_elf : (elf : Option (List ℕ)) (more : List Piece) → if_any is_plain elf ≡ true → Fine more → Fine (elf_pieces elf more)
 unfolding kind_of fault_at mark_of is_left_out_word

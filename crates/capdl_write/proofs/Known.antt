@@ -1,4 +1,5 @@
 -- What the names of a canonical text stand for: each for the object that has it.
+use Rattle.std.proofs.Common.{rules}
 use Rattle.capdl_write.proofs.Common.{Arch, Bool, CNode, Entry, Irq, Known, Knows, List, None, Object, Option, Pages, Piece, Some, Span, Spec, [], and_parts, ap, arith, bytes_eq, bytes_eq-Decides, entry_name}
 use Rattle.capdl_write.proofs.Common.{entry_object, false, kind_of_object, known_as, known_from, list_all, list_any, map, name_at, names_differ, node_size, not, not-true, object_at, refl, size, slice_get, suc, true, zero, ℕ, ◌&&◌}
 use Rattle.capdl_write.proofs.Common.{◌+◌, ◌||◌, ◌∙◌, ◌∷◌, ◌≡◌}
@@ -65,9 +66,4 @@ KnowsAll spec known = (j : ℕ) (e : Entry) → slice_get spec.entries j ≡ Som
 
 pub known_place : (spec : Spec) (known : Knows) → KnowsAll spec known → (place : ℕ) (o : Object) → object_at spec place ≡ Some o
     → known (name_at spec place) ≡ Some (known_object spec.arch place o)
-known_place spec known all place o h = go (slice_get spec.entries place) refl h
-  where
-    go : (m : Option Entry) → slice_get spec.entries place ≡ m → entry_object m ≡ Some o
-        → known (entry_name m) ≡ Some (known_object spec.arch place o)
-    go None g h = absurd cc
-    go (Some e) g h = let s : e.object ≡ o = cc in all place e g ∙ ap (λ x. Some (known_object spec.arch place x)) s
+known_place spec known all place o h = search (rules, slice_get)

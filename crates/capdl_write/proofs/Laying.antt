@@ -74,12 +74,7 @@ word_reads b t rest k l e f ends =
         )
 
 digits_runs : (w : List ℕ) (k : Kind) → digits_kind w ≡ Some k → runs_on k ≡ true
-digits_runs w k e = by_test (bytes_eq w (codes "4k")) (number_value w) e
-  where
-    by_test : (b : Bool) (v : Option ℕ) → cond b (Some kinds.Page) (option_map kinds.Number v) ≡ Some k → runs_on k ≡ true
-    by_test true v q = ap runs_on (sym (same_Some kinds.Page k q))
-    by_test false None q = none_is_not k q
-    by_test false (Some n) q = ap runs_on (sym (same_Some (kinds.Number n) k q))
+digits_runs w k e = search (rules, same_Some, none_is_not)
 
 digits_reads : (b : ℕ) (t rest : List ℕ) (k : Kind) → is_letter b ≡ false → is_digit b ≡ true → kind_of (b ∷ t) ≡ Some k
     → fault_at (b ∷ t) ≡ None → (runs_on k ≡ true → goes_on rest ≡ false) → Read (b ∷ t ++ rest) k rest
@@ -101,48 +96,16 @@ digits_reads b t rest k l d e f ends =
 
 quote_reads : (t rest : List ℕ) (k : Kind) → kind_of (34 ∷ t) ≡ Some k → Read (34 ∷ t ++ rest) k rest
 unfolding kind_of one_token fault_at
-quote_reads t rest k e = by_test (ends_text t) refl e
-  where
-    by_test : (a : Bool) → ends_text t ≡ a → cond a (Some kinds.Text) None ≡ Some k → Read (34 ∷ t ++ rest) k rest
-    by_test false h q = none_is_not k q
-    by_test true h q = search (rules, text_ends, same_Some)
+quote_reads t rest k e = search (rules, none_is_not, text_ends, same_Some)
 
 mark_reads : (b : ℕ) (t rest : List ℕ) (k : Kind) → is_letter b ≡ false → is_digit b ≡ false → (b == 34) ≡ false
     → kind_of (b ∷ t) ≡ Some k → fault_at (b ∷ t) ≡ None → Read (b ∷ t ++ rest) k rest
 unfolding kind_of one_token fault_at
-mark_reads b [] rest k l d q e f =
-    let kind : option_map kinds.Mark (mark_of b) ≡ Some k =
-    (let p : kind_of (b ∷ []) ≡ option_map kinds.Mark (mark_of b) = rw (l, d, q) refl in sym p ∙ e) in
-    let taken : one_token (b ∷ rest) ≡ mark_taken b rest = rw (l, d, q) refl in
-    let found : fault_at (b ∷ rest) ≡ cond (is_blank b) None
-    (cond (b == 47) (unless (after_slash rest) (cond (is_star rest) (b ∷ rest) (b ∷ [])))
-    (cond (b == 45) (unless (after_dash rest) (b ∷ [])) (mark_fault b))) = rw (l, d, q) refl in
-    let alone : fault_at (b ∷ []) ≡ cond (is_blank b) None (cond (b == 47) (Some (CapdlByte, b ∷ []))
-    (cond (b == 45) (Some (CapdlByte, b ∷ [])) (mark_fault b))) = rw (l, d, q) refl in
-    (taken ∙ by_mark (mark_of b) kind, found ∙ by_test (is_blank b) (b == 47) (b == 45) (mark_fault b) (sym alone ∙ f))
-  where
-    by_mark : (m : Option Mark) → option_map kinds.Mark m ≡ Some k → option_map {U = Kind × List ℕ} (λ m. (kinds.Mark m, rest))
-        m ≡ Some (k, rest)
-    by_mark None p = none_is_not k p
-    by_mark (Some m) p = ap (λ (j : Kind). let r : Taken = Some (j, rest) in r) (same_Some (kinds.Mark m) k p)
-
-    by_test : (x y z : Bool) (m : Found)
-        → cond x None (cond y (Some (CapdlByte, b ∷ [])) (cond z (Some (CapdlByte, b ∷ [])) m)) ≡ None
-        → cond x None (cond y (unless (after_slash rest) (cond (is_star rest) (b ∷ rest) (b ∷ [])))
-        (cond z (unless (after_dash rest) (b ∷ [])) m)) ≡ None
-    by_test true y z m p = refl
-    by_test false true z m p = absurd cc
-    by_test false false true m p = absurd cc
-    by_test false false false m p = p
+mark_reads b [] rest k l d q e f = search (rules, none_is_not, same_Some)
 mark_reads b (c ∷ t) rest k l d q e f = none_is_not k (let p : kind_of (b ∷ c ∷ t) ≡ None = rw (l, d, q) refl in sym p ∙ e)
 
 ends_of : (k : Kind) (rest : List ℕ) → (not (runs_on k) || not (goes_on rest)) ≡ true → runs_on k ≡ true → goes_on rest ≡ false
-ends_of k rest h r = by_test (runs_on k) (goes_on rest) r h
-  where
-    by_test : (x y : Bool) → x ≡ true → (not x || not y) ≡ true → y ≡ false
-    by_test true true p q = true_is_not_false false q refl
-    by_test true false p q = refl
-    by_test false y p q = true_is_not_false false p refl
+ends_of k rest h r = search (rules, true_is_not_false)
 
 piece_reads : (text rest : List ℕ) (k : Kind) → kind_of text ≡ Some k → fault_at text ≡ None
     → (not (runs_on k) || not (goes_on rest)) ≡ true → Read (text ++ rest) k rest

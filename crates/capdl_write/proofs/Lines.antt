@@ -127,12 +127,7 @@ module _ (spec : Spec) where
       → laid (held_irq spec name n more) ≡ irq_text spec name n ++ laid more
   unfolding chain hex_text hex_digits
   held_irq_is name None more = refl
-  held_irq_is name (Some n) more =
-      hex_zero ∙ sym (parts (name ∷ codes " {\n0x0: " ∷ name_at spec n ∷ codes "\n}\n" ∷ []) (laid more))
-    where
-      hex_zero : laid (held_irq spec name (Some n) more) ≡ chain (name ∷ codes " {\n0x0: " ∷ name_at spec n ∷ codes "\n}\n"
-          ∷ []) (laid more)
-      hex_zero = refl
+  held_irq_is name (Some n) more = search (rules, parts, chain)
 
   held_is : (name : List ℕ) (o : Object) (more : List Piece) → laid (held_pieces spec name o more) ≡ holder_text spec name
       o ++ laid more

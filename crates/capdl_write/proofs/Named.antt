@@ -89,23 +89,7 @@ named_table spec w level (Some n) slots k a = search (rules, named_slots, there_
 
 named_tcb : (spec : Spec) → are_words spec.entries ≡ true → (tcb : Tcb) → keeps_tcb spec tcb ≡ true → is_tcb tcb ≡ true
     → has_named spec (Thread tcb) ≡ true
-named_tcb spec w tcb k l =
-    let a = and_parts (leb tcb.prio 255 && if_any (is_at spec kinds.CNode) tcb.cspace) (if_any (is_space_root spec) tcb.vspace
-    && if_any (fits_as spec kinds.Frame) tcb.buffer) k in
-    let b = and_parts (leb tcb.prio 255) (if_any (is_at spec kinds.CNode) tcb.cspace) a.0 in
-    let c = and_parts (if_any (is_space_root spec) tcb.vspace) (if_any (fits_as spec kinds.Frame) tcb.buffer) a.1 in
-    let d = and_parts (is_number tcb.addr && is_number tcb.ip) (is_number tcb.sp
-    && (if_any is_plain tcb.elf && if_any (λ c. is_number c.badge) tcb.buffer)) l in
-    let e = and_parts (is_number tcb.sp) (if_any is_plain tcb.elf && if_any (λ c. is_number c.badge) tcb.buffer) d.1 in
-    and_from _ _ (named_any (is_at spec kinds.CNode) (is_named spec) tcb.cspace
-    (λ p h. named_there spec p w (there_is spec kinds.CNode p h)) b.1)
-    (and_from _ _ (named_any (is_space_root spec) (is_named spec) tcb.vspace (λ p h. named_there spec p w (there_root spec p h))
-    c.0) (buffer_named tcb.buffer c.1 (and_parts (if_any is_plain tcb.elf) (if_any (λ c. is_number c.badge) tcb.buffer) e.1).1))
-  where
-    buffer_named : (o : Option Cap) → if_any (fits_as spec kinds.Frame) o ≡ true → if_any (λ c. is_number c.badge) o ≡ true
-        → if_any (is_target spec) o ≡ true
-    buffer_named None h n = refl
-    buffer_named (Some cap) h n = search (rules, and_from, named_there, there_fits, and_parts)
+named_tcb spec w tcb k l = search (rules, and_parts, and_from, named_any, named_there, there_is, there_root, there_fits)
 
 named_object : (spec : Spec) → are_words spec.entries ≡ true → (o : Object) → keeps spec o ≡ true → is_laid o ≡ true
     → has_named spec o ≡ true

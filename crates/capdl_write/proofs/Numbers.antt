@@ -1,4 +1,5 @@
 -- Numbers that are written are tokens without faults.
+use Rattle.std.proofs.Common.{rules}
 use Rattle.capdl_write.proofs.Common.{Bool, List, None, Some, [], and_parts, ap, arith, bytes_eq, bytes_eq-Decides, codes, cond, decimal, digits_fault, digits_kind, eqb-true, false, hex_text, is_decimal, is_digit, is_hexadecimal, is_letter}
 use Rattle.capdl_write.proofs.Common.{is_word_byte, length, list_all, nat_tests, number_value, number_word, refl, run, sym, true, ℕ, ◌&&◌, ◌<◌, ◌==◌, ◌^◌, ◌||◌, ◌∙◌, ◌∷◌, ◌≡◌}
 use Rattle.std.specs.Str.Parse.{digits_value}
@@ -25,37 +26,11 @@ number_fine b bs n d v k =
     digit_no_letter b d = grind (arith, nat_tests)
 
 value_digit : (b : ℕ) (bs : List ℕ) (n : ℕ) → number_value (b ∷ bs) ≡ Some n → is_digit b ≡ true
-value_digit b [] n e = decimal_first b [] (fits_true (is_decimal (b ∷ [])) (digits_value 10 (b ∷ [])) n e)
-  where
-    decimal_first : (b : ℕ) (bs : List ℕ) → is_decimal (b ∷ bs) ≡ true → is_digit b ≡ true
-    decimal_first b bs h = by_test (b == 48) refl h
-      where
-        by_test : (z : Bool) → (b == 48) ≡ z → cond z (length bs == 0) (is_digit b && list_all is_digit bs) ≡ true
-            → is_digit b ≡ true
-        by_test true e g = let s : b ≡ 48 = eqb-true b 48 e in rw s refl
-        by_test false e g = (and_parts (is_digit b) (list_all is_digit bs) g).0
-value_digit b (x ∷ ds) n e = by_hex (b == 48 && (x == 120 || x == 88)) refl e
-  where
-    by_test : (z : Bool) → (b == 48) ≡ z → cond z (length (x ∷ ds) == 0) (is_digit b && list_all is_digit (x ∷ ds)) ≡ true
-        → is_digit b ≡ true
-    by_test true e g = let s : b ≡ 48 = eqb-true b 48 e in rw s refl
-    by_test false e g = (and_parts (is_digit b) (list_all is_digit (x ∷ ds)) g).0
-
-    by_hex : (t : Bool) → (b == 48 && (x == 120 || x == 88)) ≡ t → cond t (fits (is_hexadecimal ds) (digits_value 16 ds))
-        (fits (is_decimal (b ∷ x ∷ ds)) (digits_value 10 (b ∷ x ∷ ds))) ≡ Some n → is_digit b ≡ true
-    by_hex true t q = let s : b ≡ 48 = eqb-true b 48 (and_parts (b == 48) (x == 120 || x == 88) t).0 in rw s refl
-    by_hex false t q = by_test (b == 48) refl (fits_true (is_decimal (b ∷ x ∷ ds)) (digits_value 10 (b ∷ x ∷ ds)) n q)
+value_digit b [] n e = search (rules, fits_true, eqb-true, and_parts)
+value_digit b (x ∷ ds) n e = search (rules, eqb-true, and_parts, fits_true)
 
 not_size : (ds : List ℕ) (n : ℕ) → number_value ds ≡ Some n → bytes_eq ds (codes "4k") ≡ false
-not_size ds n v = by_test (bytes_eq ds (codes "4k")) refl
-  where
-    none_value : number_value (codes "4k") ≡ None
-    none_value = refl
-
-    by_test : (b : Bool) → bytes_eq ds (codes "4k") ≡ b → b ≡ false
-    by_test true e = absurd (let s : ds ≡ codes "4k" = (bytes_eq-Decides ds (codes "4k")).0 e in
-        let p = sym none_value ∙ ap number_value (sym s) ∙ v in cc)
-    by_test false e = refl
+not_size ds n v = search (rules, bytes_eq-Decides)
 
 -- a number is one token
 pub value_fine : (ds : List ℕ) (n : ℕ) → number_value ds ≡ Some n → (kind_of ds ≡ Some (kinds.Number n)) × (fault_at ds ≡ None)

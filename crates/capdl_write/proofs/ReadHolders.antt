@@ -13,32 +13,7 @@ use Rattle.capdl_write.proofs.Shown.{shown}
 -- a word of rights stands for rights, and says them
 rights_back : (r : Rights) → has_rights r ≡ true → (word_of (rights_word r) ≡ words.Rights) × (rights_of (rights_word r) ≡ r)
 unfolding word_of field_of
-rights_back r h = go r.read r.write r.grant r.reply h
-  where
-    go : (a b c d : Bool) → (a || (b || (c || d))) ≡ true
-        → (word_of (letter a 82 (letter b 87 (letter c 71 (letter d 80 [])))) ≡ words.Rights)
-        × (rights_of (letter a 82 (letter b 87 (letter c 71 (letter d 80 [])))) ≡ (let s : Rights = record {
-          read = a;
-          write = b;
-          grant = c;
-          reply = d;
-        } in s))
-    go true true true true e = (refl, refl)
-    go true true true false e = (refl, refl)
-    go true true false true e = (refl, refl)
-    go true true false false e = (refl, refl)
-    go true false true true e = (refl, refl)
-    go true false true false e = (refl, refl)
-    go true false false true e = (refl, refl)
-    go true false false false e = (refl, refl)
-    go false true true true e = (refl, refl)
-    go false true true false e = (refl, refl)
-    go false true false true e = (refl, refl)
-    go false true false false e = (refl, refl)
-    go false false true true e = (refl, refl)
-    go false false true false e = (refl, refl)
-    go false false false true e = (refl, refl)
-    go false false false false e = absurd cc
+rights_back r h = search (rules)
 
 next_param_eats : Eats (reads (behind (mark_code marks.Comma) param_form))
 next_param_eats = behind_eats token_code (mark_code marks.Comma ∷ []) (reads param_form) param_eats

@@ -1,4 +1,5 @@
 -- Reading the tokens of a whole canonical text gives its tree: the lists of slots, holders and interrupt lines, and the whole.
+use Rattle.std.proofs.Common.{rules}
 use Rattle.capdl_write.proofs.Common.{Aarch64, Arch, Arm11, CNode, Cap, Entry, Holder, Irq, IsSpecSpelled, IsWritable, List, None, Object, Ok, Option, Pages, Piece, Seen, SlotKey, SlotLine, Some, Span, Spec, Tcb}
 use Rattle.capdl_write.proofs.Common.{Thread, [], and_parts, arch_form, arch_word, brace_l, brace_r, buffer_pieces, caps_pieces, codes, colon, dec, false, has_rights, has_slot, held_irq, held_pieces, held_slots, held_tcb, hex, holder_eats}
 use Rattle.capdl_write.proofs.Common.{holder_form, holder_pieces, holders_pieces, if_any, irq_eats, irq_form, irqs_pieces, is_left_out_word, is_name, is_number, is_word, key_codes, last_pieces, left_out_is, left_out_line, list_all, many, many_none}
@@ -293,16 +294,7 @@ module _ (pl : List Piece → Span) where
   read_tree spec w =
       let objects = read_objects pl spec.entries (caps_pieces spec) (all_from (λ e. is_word e.name) (λ e. is_word e.name)
       (λ e. is_name e.name) spec.entries (λ e h g. word_name e.name h) w.names w.names) refl in
-      rw (
-        word-arch,
-        read_arch spec.arch (word (codes "objects") (codes " ") ∷ brace_l (codes "\n") ∷ objects_pieces spec.entries
-            (caps_pieces spec)),
-        word-objects,
-        objects,
-        word-caps,
-        (read_holders spec spec.entries (last_pieces spec) w.names (all_named spec w) refl),
-        read_last spec (lines_named spec w),
-      ) refl
+      search (rules, word-arch, read_arch, word-objects, word-caps, read_holders, all_named, read_last, lines_named)
 
   pub tree_spelled : (spec : Spec) → IsWritable spec → IsSpecSpelled (tree_at spec) (shown pl (pieces spec))
   tree_spelled spec w = whole_found token_code left_out_line opens left_out_is spec_line spec_decides 0 (shown pl (pieces spec))

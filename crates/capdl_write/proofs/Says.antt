@@ -48,15 +48,7 @@ rise_below (x ∷ z ∷ xs) y ys r =
 -- ---- parameters
 
 no_rights_is : (pl : List Piece → Span) (r : Rights) → has_rights r ≡ false → no_rights_at pl ≡ r
-no_rights_is pl r h = go r.read r.write r.grant r.reply h
-  where
-    go : (a b c d : Bool) → (a || (b || (c || d))) ≡ false
-        → no_rights_at pl ≡ (let s : Rights = record { read = a; write = b; grant = c; reply = d } in s)
-    go true b c d e = absurd cc
-    go false true c d e = absurd cc
-    go false false true d e = absurd cc
-    go false false false true e = absurd cc
-    go false false false false e = refl
+no_rights_is pl r h = search (rules, no_rights_at)
 
 rights_back : (pl : List Piece → Span) (r b : Bool) (rights : Rights) (badge : ℕ) (more : List Piece)
     → (r ≡ false → no_rights_at pl ≡ rights) → rights_said (params_at pl r b rights badge more) ≡ rights
@@ -73,11 +65,7 @@ badge_back pl false true rights badge more h = refl
 badge_back pl true true rights badge more h = refl
 
 zero_badge : (n : ℕ) → not (n == 0) ≡ false → 0 ≡ n
-zero_badge n h = sym (eqb-true n 0 (go (n == 0) h))
-  where
-    go : (b : Bool) → not b ≡ false → b ≡ true
-    go true e = refl
-    go false e = absurd cc
+zero_badge n h = search (rules, eqb-true)
 
 cap_of : (o : ℕ) (r : Rights) (n : ℕ) (c : Cap) → o ≡ c.object → r ≡ c.rights → n ≡ c.badge
     → (let d : Cap = record { object = o; rights = r; badge = n } in d) ≡ c
@@ -120,17 +108,12 @@ module _ (pl : List Piece → Span) (spec : Spec) (known : Knows) (all : KnowsAl
       with_buffer : (tcb : Tcb) (b : Option Cap) → tcb.buffer ≡ None → if_any (fits_as spec kinds.Frame) b ≡ true
           → named_from known tcb (buffer_at pl spec b more) ≡ record tcb { buffer = b }
       with_buffer tcb None n r = ap (λ (x : Option Cap). record tcb { buffer = x }) n
-      with_buffer tcb (Some cap) n r = ap (λ (x : Cap). record tcb { buffer = Some x })
-          (cap_back keys.Buffer (word (codes "ipc_buffer_slot") []) cap more (and_parts (is_at spec kinds.Frame cap.object)
-          (fits spec cap) r).1)
+      with_buffer tcb (Some cap) n r = search (rules, cap_back, and_parts)
 
       with_vspace : (tcb : Tcb) (v : Option ℕ) → tcb.vspace ≡ None → tcb.buffer ≡ None → if_any (is_space_root spec) v ≡ true
           → named_from known tcb (vspace_at pl spec v b more) ≡ record tcb { vspace = v; buffer = b }
       with_vspace tcb None n m q = with_buffer tcb b m r ∙ ap (λ (x : Option ℕ). record tcb { vspace = x; buffer = b }) n
-      with_vspace tcb (Some p) n m q =
-          let o = root_object spec p q in
-          with_buffer (record tcb { vspace = Some (place_or (known (name_at spec p))) }) b m r
-          ∙ ap (λ (x : ℕ). record tcb { vspace = Some x; buffer = b }) (place_back p o.0 o.1)
+      with_vspace tcb (Some p) n m q = search (rules, root_object, with_buffer, place_back)
 
       with_cspace : (c : Option ℕ) → if_any (is_at spec kinds.CNode) c ≡ true
           → named_from known tcb (cspace_at pl spec c v b more) ≡ record tcb { cspace = c; vspace = v; buffer = b }
@@ -179,21 +162,13 @@ module _ (pl : List Piece → Span) (spec : Spec) (known : Knows) (all : KnowsAl
 
   object_back : (o : Object) (more tail : List Piece) → keeps spec o ≡ true
       → object_said known (kind_line_at pl o more) (lines_at pl spec o tail) ≡ o
-  object_back (CNode bits slots) more tail k =
-      let f = fit_slots (fits spec) (2 ^ bits) slots (λ c f. f) (and_parts (nat_lt 0 bits && leb bits 16)
-      (keeps_slots (fits spec) (2 ^ bits) slots) k).1 in
-      ap (λ (x : List (ℕ × Cap)). CNode bits x) (slots_back [] slots (brace_r (codes "\n") ∷ tail) f.0 f.1)
+  object_back (CNode bits slots) more tail k = search (rules, fit_slots, and_parts, slots_back)
   object_back (Thread tcb) more tail k =
       ap Thread (thread_back tcb (fields_at pl tcb more) (brace_r (codes "\n") ∷ tail)
       (fields_back tcb.addr tcb.ip tcb.sp (addr_tail pl tcb more) (ip_tail pl tcb more) (sp_tail pl tcb more) tcb.elf
       (prio_tail pl tcb.prio more) tcb.prio more) k)
-  object_back (Frame paddr fill) more tail k =
-      let f = frame_back paddr fill (paren_r (codes "\n") ∷ more) in
-      ap (λ (x : Option ℕ). Frame x (fill_said (frame_fields pl paddr fill (paren_r (codes "\n") ∷ more)))) f.0
-      ∙ ap (λ (x : Option Fill). Frame paddr x) f.1
-  object_back (Pages level slots) more tail k =
-      let f = table_slots level (size spec.arch level) slots k in
-      ap (λ (x : List (ℕ × Cap)). Pages level x) (slots_back [] slots (brace_r (codes "\n") ∷ tail) f.0 f.1)
+  object_back (Frame paddr fill) more tail k = search (rules, frame_back, frame_fields)
+  object_back (Pages level slots) more tail k = search (rules, table_slots, slots_back)
   object_back (Irq n) more tail k = ap Irq (irq_back n (brace_r (codes "\n") ∷ tail) k)
   object_back _ more tail k = refl
 
@@ -213,12 +188,7 @@ module _ (pl : List Piece → Span) (spec : Spec) (known : Knows) (all : KnowsAl
       (held_none name es more k.1)
     where
       other : (a b : List ℕ) → bytes_eq b a ≡ false → bytes_eq a b ≡ false
-      other a b h = go (bytes_eq a b) refl
-        where
-          go : (t : Bool) → bytes_eq a b ≡ t → t ≡ false
-          go true e = let s : a ≡ b = (bytes_eq-Decides a b).0 e in let p : bytes_eq b a ≡ true =
-              (bytes_eq-Decides b a).1 (sym s) in absurd (let q = sym p ∙ h in cc)
-          go false e = refl
+      other a b h = search (rules, bytes_eq-Decides)
 
       step : (lines : List SlotLine) → bytes_eq name e.name ≡ false → held (holders_at pl spec es more) name ≡ []
           → held (held_at pl e.name (pl (held_pieces spec e.name e.object (holders_pieces spec es more))) lines
@@ -255,8 +225,7 @@ module _ (pl : List Piece → Span) (spec : Spec) (known : Knows) (all : KnowsAl
       let p = and_parts (keeps spec e.object) (list_all (λ e. keeps spec e.object) es) k in
       let rest = objects_pieces es more in
       let said : object_said known (kind_line_at pl e.object rest) (held hs e.name) ≡ e.object =
-      ap (λ (ls : List SlotLine). object_said known (kind_line_at pl e.object rest) ls) h.0 ∙ object_back e.object rest
-      (holders_pieces spec es tail) p.0 in
+      search (rules, kind_line_at, object_back) in
       ap (λ (x : Object). let d : Entry = record { name = e.name; object = x } in
       d ∷ map (entry_said known hs) (objects_at pl es more)) said ∙ ap (λ (xs : List Entry). e ∷ xs)
       (entries_from hs es more tail h.1 p.1)
@@ -275,7 +244,6 @@ module _ (pl : List Piece → Span) (spec : Spec) (known : Knows) (all : KnowsAl
       let p = and_parts (is_at spec kinds.Irq l.1) (list_all (λ l. is_at spec kinds.Irq l.1) ls) k in
       let o = is_object spec kinds.Irq l.1 p.0 in
       let put : insert_entry nat_cmp done l.0 (place_or (known (name_at spec l.1))) ≡ done ++ l ∷ [] =
-      ap (λ (x : ℕ). insert_entry nat_cmp done l.0 x) (place_back l.1 o.0 o.1)
-      ∙ insert_end done l.0 l.1 (rise_below done l ls r) in
+      search (rules, place_back, insert_end, rise_below) in
       let same : (done ++ l ∷ []) ++ ls ≡ done ++ l ∷ ls = append_assoc done (l ∷ []) ls in
       ap (λ d. lines_from known d (irqs_at pl spec ls more)) put ∙ lines_back (done ++ l ∷ []) ls more (rw same r) p.1 ∙ same

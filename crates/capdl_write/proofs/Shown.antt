@@ -1,4 +1,5 @@
 -- The tokens of a laid-out text, with their bytes.
+use Rattle.std.proofs.Common.{rules}
 use Rattle.capdl_write.proofs.Common.{List, Piece, Seen, Span, [], ap, append_assoc, laid, length, refl, subst, sym, tokens, ℕ, ◌++◌, ◌-◌, ◌∙◌, ◌∷◌, ◌≡◌}
 use Rattle.capdl_text.proofs.Lexemes.{text_there}
 use Rattle.capdl_text.specs.TokensSeen.{see, text_at}
@@ -20,8 +21,7 @@ seen_from whole front [] e = refl
 seen_from whole front (p ∷ ps) e =
     let rest = p.blanks ++ laid ps in
     let at : Span = record { first = length whole - length (p.text ++ rest); end = length whole - length rest } in
-    let t : text_at whole at ≡ p.text = subst (λ (w : List ℕ). text_at w at ≡ p.text) (sym e)
-    (text_there front p.text rest (length whole) (ap length e)) in
+    let t : text_at whole at ≡ p.text = search (rules, text_there) in
     rw (
       t,
       seen_from whole ((front ++ p.text) ++ p.blanks) ps (e ∙ sym (append_assoc front p.text rest)

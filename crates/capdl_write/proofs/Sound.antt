@@ -54,34 +54,15 @@ numbers_unmet {A} met x xs r u = search (rules, all_from, not_either, apart, ris
 
 pub fits_object : (spec : Spec) (cap : Cap) → fits spec cap ≡ true → (o : Object) × (object_at spec cap.object ≡ Some o)
     × (fits_kind (Some (kind_of_object o)) cap ≡ true)
-fits_object spec cap h = go (object_at spec cap.object) refl h
-  where
-    go : (m : Option Object) → object_at spec cap.object ≡ m → fits_kind (option_map kind_of_object m) cap ≡ true
-        → (o : Object) × (object_at spec cap.object ≡ Some o) × (fits_kind (Some (kind_of_object o)) cap ≡ true)
-    go None g k = absurd cc
-    go (Some o) g k = (o, g, k)
+fits_object spec cap h = search (rules)
 
 pub is_object : (spec : Spec) (kind : Kind) (place : ℕ) → is_at spec kind place ≡ true
     → (o : Object) × (object_at spec place ≡ Some o) × (same_kind (kind_of_object o) kind ≡ true)
-is_object spec kind place h = go (object_at spec place) refl h
-  where
-    go : (m : Option Object) → object_at spec place ≡ m → is_kind (option_map kind_of_object m) kind ≡ true
-        → (o : Object) × (object_at spec place ≡ Some o) × (same_kind (kind_of_object o) kind ≡ true)
-    go None g k = absurd cc
-    go (Some o) g k = (o, g, k)
+is_object spec kind place h = search (rules)
 
 pub root_object : (spec : Spec) (place : ℕ) → is_space_root spec place ≡ true → (o : Object) × (object_at spec place ≡ Some o)
     × (root_kind spec.arch (kind_of_object o) ≡ true)
-root_object spec place h = go (object_at spec place) refl h
-  where
-    as_kind : (o : Object) → is_root_object spec.arch (Some o) ≡ true → root_kind spec.arch (kind_of_object o) ≡ true
-    as_kind (Pages level slots) k = k
-    as_kind _ k = absurd cc
-
-    go : (m : Option Object) → object_at spec place ≡ m → is_root_object spec.arch m ≡ true
-        → (o : Object) × (object_at spec place ≡ Some o) × (root_kind spec.arch (kind_of_object o) ≡ true)
-    go None g k = absurd cc
-    go (Some o) g k = (o, g, as_kind o k)
+root_object spec place h = search (rules)
 
 same_there : (spec : Spec) (kind : Kind) (place : ℕ) (o : Object) → is_at spec kind place ≡ true → object_at spec place ≡ Some o
     → same_kind (kind_of_object o) kind ≡ true
@@ -481,12 +462,9 @@ module _ (pl : List Piece → Span) (spec : Spec) (known : Knows) (all : KnowsAl
       let p = and_parts (is_at spec kinds.Irq l.1) (list_all (λ l. is_at spec kinds.Irq l.1) ls) k in
       let q = and_parts (not (met (name_at spec l.1))) (list_all (λ l. not (met (name_at spec l.1))) ls) u in
       let e = and_parts (not (list_any (λ m. m == l.1) (map (λ l. l.1) ls))) (differ (λ a b. a == b) (map (λ l. l.1) ls)) d in
-      let others : list_all (λ (m : ℕ × ℕ). not (m.1 == l.1)) ls ≡ true = any_none (λ (m : ℕ × ℕ). m.1) (λ m. m == l.1) ls
-      (not-true _ e.0) in
+      let others : list_all (λ (m : ℕ × ℕ). not (m.1 == l.1)) ls ≡ true = search (rules, any_none, not-true) in
       let apart_names : list_all (λ (m : ℕ × ℕ). not (bytes_eq (name_at spec m.1) (name_at spec l.1))) ls ≡ true =
-      all_from (λ (m : ℕ × ℕ). is_at spec kinds.Irq m.1) (λ (m : ℕ × ℕ). not (m.1 == l.1))
-      (λ (m : ℕ × ℕ). not (bytes_eq (name_at spec m.1) (name_at spec l.1))) ls (λ m g h. names_apart m.1 l.1 g p.0 h)
-      p.1 others in
+      search (rules, all_from, names_apart) in
       rw (not-true (met (name_at spec l.1)) q.0) (irq_names_once (λ m. met m || bytes_eq m (name_at spec l.1)) ls more e.1 p.1
       (all_from (λ (m : ℕ × ℕ). not (met (name_at spec m.1)))
       (λ (m : ℕ × ℕ). not (bytes_eq (name_at spec m.1) (name_at spec l.1)))

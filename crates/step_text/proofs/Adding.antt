@@ -1,4 +1,5 @@
 -- A table of threads that is filled object by object.
+use Rattle.std.proofs.Common.{rules}
 use Rattle.step_text.proofs.Common.{Bool, Entry, List, None, Option, Some, Spec, ap, at_drop_all, bytes_eq, cond, drop, false, is_thread, length, option_or, option_or-none, position, position_from, refl, sym}
 use Rattle.step_text.proofs.Common.{is_some, thread_named, true, true≢false, ℕ, ◌&&◌, ◌+◌, ◌<◌, ◌∙◌, ◌∷◌, ◌≡◌, ◌≤◌}
 use mathlib.Core.Path.{fun_ext}
@@ -12,15 +13,7 @@ is_named name entry = is_thread entry.object && bytes_eq entry.name name
 pub inserted : (f g : List ℕ → Option ℕ) (key : List ℕ) (x : ℕ) → is_some (f key) ≡ false
     → ((name : List ℕ) → g name ≡ cond (bytes_eq key name) (Some x) (f name)) → (name : List ℕ)
     → g name ≡ option_or (f name) (cond (bytes_eq key name) (Some x) None)
-inserted f g key x absent updates name = go (bytes_eq key name) refl
-  where
-    none_or : (o : Option ℕ) → is_some o ≡ false → Some x ≡ option_or o (Some x)
-    none_or None e = refl
-    none_or (Some y) e = absurd (true≢false e)
-
-    go : (a : Bool) → bytes_eq key name ≡ a → g name ≡ option_or (f name) (cond (bytes_eq key name) (Some x) None)
-    go true e = updates name ∙ rw e (none_or (f name) (ap (λ k. is_some (f k)) (sym ((bytes_eq-Decides key name).0 e)) ∙ absent))
-    go false e = updates name ∙ rw e (option_or-none (f name))
+inserted f g key x absent updates name = search (rules, bytes_eq-Decides, option_or-none)
 
 -- all objects: what the table finds is the first thread of the name
 pub added_all : (spec : Spec) (entries : List Entry) (found : List ℕ → Option ℕ) (i : ℕ) → entries ≡ spec.entries

@@ -1,4 +1,5 @@
 -- Where no fault stands each line spells one step.
+use Rattle.std.proofs.Common.{rules}
 use Rattle.step_text.proofs.Common.{Bool, Line, List, None, Option, Some, Spec, Step, [], ap, at_line, bytes_limit, false, fault_of, fields, filter_map, first_fault, first_fault_of, length, lines, misspelled, neither, refl, spelled, step_of}
 use Rattle.step_text.proofs.Common.{nat_lt, steps_of, suc, thread_named, true, ℕ, ◌+◌, ◌∷◌, ◌≡◌}
 
@@ -18,8 +19,4 @@ each_line place before (line ∷ more) none =
 
 pub each_line_spells : (spec : Spec) (bytes : List ℕ) → first_fault spec bytes ≡ None
     → length (steps_of spec bytes) ≡ length (lines bytes)
-each_line_spells spec bytes none = go (nat_lt bytes_limit (length bytes)) refl
-  where
-    go : (long : Bool) → nat_lt bytes_limit (length bytes) ≡ long → length (steps_of spec bytes) ≡ length (lines bytes)
-    go true e = let is = rw e at none in absurd cc
-    go false e = each_line (thread_named spec) 0 (lines bytes) (rw e at none)
+each_line_spells spec bytes none = search (rules, each_line)

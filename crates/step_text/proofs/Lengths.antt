@@ -1,4 +1,5 @@
 -- How long the text of steps is, where names are names and numbers fit 64 bits.
+use Rattle.std.proofs.Common.{rules}
 use Rattle.step_text.proofs.Common.{All, All-head, All-tail, Bool, Entry, IsReadable, List, None, Option, Rights, Some, Spec, Step, [], all_at, arith, call_line, codes, copy_line, decimal, false, grant_line, is_name}
 use Rattle.step_text.proofs.Common.{length, length-append, list_all, name_at, number_line, numbers_line, refl, reply_line, rights_field, slice_get, step_line, steps_text, thread_line, true, ℕ, ◌*◌, ◌<◌, ◌^◌}
 use Rattle.step_text.proofs.Common.{◌∷◌, ◌≡◌, ◌≤◌}
@@ -10,25 +11,7 @@ use Rattle.cam_base.proofs.ShortTexts.{all_short, decimal_short}
 -- ---- fields
 
 rights_short : (r : Rights) → length (rights_field r) ≤ 4
-rights_short r = go r.read r.write r.grant r.reply
-  where
-    go : (a b c d : Bool) → length (rights_field (record { read = a; write = b; grant = c; reply = d })) ≤ 4
-    go true true true true = omega arith
-    go true true true false = omega arith
-    go true true false true = omega arith
-    go true true false false = omega arith
-    go true false true true = omega arith
-    go true false true false = omega arith
-    go true false false true = omega arith
-    go true false false false = omega arith
-    go false true true true = omega arith
-    go false true true false = omega arith
-    go false true false true = omega arith
-    go false true false false = omega arith
-    go false false true true = omega arith
-    go false false true false = omega arith
-    go false false false true = omega arith
-    go false false false false = omega arith
+rights_short r = search (rules)
 
 -- ---- lines
 

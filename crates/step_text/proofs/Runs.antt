@@ -103,11 +103,7 @@ found_below ((n, x) ∷ slots) i bound content all there = go (n == i) refl (λ 
 first_of_both : {A : Type 0} (p q : A → Bool) (xs : List A) (t : ℕ) (x : A) → slice_get xs t ≡ Some x → p x ≡ true
     → position_or_len q xs ≡ t → position_or_len (λ y. p y && q y) xs ≡ t
 first_of_both p q [] t x there passes first = absurd cc
-first_of_both p q (y ∷ xs) zero x there passes first = go (q y) refl
-  where
-    go : (b : Bool) → q y ≡ b → position_or_len (λ y. p y && q y) (y ∷ xs) ≡ 0
-    go true e = let same : y ≡ x = cc in let here : p y ≡ true = ap p same ∙ passes in rw (here, e) refl
-    go false e = let none : 1 + position_or_len q xs ≡ 0 = rw e at first in absurd (let no : ⊥ = omega (arith, none) in no)
+first_of_both p q (y ∷ xs) zero x there passes first = search (rules)
 first_of_both p q (y ∷ xs) (suc t) x there passes first = go (q y) refl (λ less. first_of_both p q xs t x there passes less)
   where
     neither_passes : (b : Bool) → position_or_len (λ y. p y && q y) xs ≡ t
@@ -121,11 +117,7 @@ first_of_both p q (y ∷ xs) (suc t) x there passes first = go (q y) refl (λ le
     go false e rest = grind (arith, neither_passes)
 
 place_is : (n t length : ℕ) → cond (nat_lt n length) (Some n) None ≡ Some t → n ≡ t
-place_is n t length is = go (nat_lt n length) refl
-  where
-    go : (b : Bool) → nat_lt n length ≡ b → n ≡ t
-    go true e = let same : ◌≡◌ {A = Option ℕ} (Some n) (Some t) = rw e at is in cc
-    go false e = let no : ◌≡◌ {A = Option ℕ} None (Some t) = rw e at is in absurd cc
+place_is n t length is = search (rules)
 
 thread_of : (object : Object) → kind_of_object object ≡ kinds.Thread → is_thread object ≡ true
 thread_of (objects.Thread tcb) is = refl
@@ -154,8 +146,7 @@ module _ (spec : Spec) (kept : IsKept spec) (named : list_all (λ entry. is_name
           place_is _ t (length spec.entries) (found spec t entry kept there) in
           let both = first_of_both (λ (e : Entry). is_thread e.object) (λ e. bytes_eq e.name entry.name) spec.entries t entry
           there thread first in
-          let less : nat_lt t (length spec.entries) ≡ true =
-          (Decides-ltb t (length spec.entries)).1 (slice_get_within spec.entries t entry there) in
+          let less : nat_lt t (length spec.entries) ≡ true = search (rules, slice_get_within) in
           rw (both, less) refl
 
   thread_is_named : (t : ℕ) → is_at spec kinds.Thread t ≡ true → IsNamed spec t
