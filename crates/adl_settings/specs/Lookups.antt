@@ -3,7 +3,6 @@ use Rattle.adl_meaning.specs.Prelude.{Bor, Given, Hierarchy, Id, Name, Path, Set
 use Rattle.std.specs.Prelude.{Bool, List, None, Option, Some, [], false, slice_index_or, ℕ, ◌&&◌, ◌++◌, ◌∷◌, ◌≡◌}
 use Rattle.adl_items.specs.Pointed.{pointed}
 use Rattle.adl_settings.specs.Named.{AreNames}
-use Rattle.adl_settings.specs.declared.search.Memo.{Memo}
 use Rattle.adl_settings.specs.declared.tables.SettingTable.{SettingTable}
 use Rattle.adl_settings.specs.declared.tables.SettingTables.{SettingTables}
 
@@ -36,11 +35,6 @@ IsTable h k t = (p : Path) (x : Name) → setting_found t (p ++ x ∷ []) ≡ se
 abbrev pub AreTables : Hierarchy → SettingTables → Type 0
 AreTables h ts = (k : ℕ) → IsTable h k (slice_index_or ts.bodies.items k ts.top)
 
--- the tables of settings, and the names that have a value in some body, if they were looked for
-pub record IsLookup (h : Hierarchy) (ts : SettingTables) (names : Option (List (Bor Name))) : Type 0 where
-  pub tables : AreTables h ts
-  pub valued : AreNames h names
-
 -- ---- values
 
 -- the value of an attribute of the body at a path; the assembly has none
@@ -54,8 +48,15 @@ given_from refer None = None
 given_from refer (Some s) = given refer (last_name s.words) (Some s.setter)
 
 -- what is remembered, by the path and the name
-abbrev pub remembered : Memo → Path → Name → Option (Option Given)
-remembered m p x = lookup (λ k. same_path p k.0.now && bytes_eq x k.1.now) m.found.entries
+abbrev pub remembered : List ((Bor Path × Bor Name) × Option Given) → Path → Name → Option (Option Given)
+remembered found p x = lookup (λ k. same_path p k.0.now && bytes_eq x k.1.now) found
 
-pub record IsRemembered (h : Hierarchy) (m : Memo) : Type 0 where
-  pub values : (p : Path) (x : Name) (g : Option Given) → remembered m p x ≡ Some g → g ≡ value_at h p x
+abbrev pub AreValues : Hierarchy → (Path → Name → Option (Option Given)) → Type 0
+AreValues h found = (p : Path) (x : Name) (g : Option Given) → found p x ≡ Some g → g ≡ value_at h p x
+
+-- the tables of settings, the names that have a value in some body, if they were looked for, and what is remembered
+pub record IsLookup (h : Hierarchy) (ts : SettingTables) (names : Option (List (Bor Name)))
+    (found : List ((Bor Path × Bor Name) × Option Given)) : Type 0 where
+  pub tables : AreTables h ts
+  pub valued : AreNames h names
+  pub values : AreValues h (remembered found)

@@ -7,9 +7,8 @@ ghost use Rattle.adl_settings.specs.EndMeaning.{end_setting};
 ghost use Rattle.adl_settings.specs.Judged.{is_judged};
 ghost use Rattle.adl_settings.specs.Meant.{where_set};
 ghost use Rattle.adl_settings.specs.Settled.{end_settings, leaf_found};
-ghost use Rattle.adl_settings.specs.Lookups.{IsRemembered};
 
-use crate::search::{Lookup, Memo, value_at};
+use crate::search::Lookup;
 use crate::{Found, Given, Joint, LeafFound, is_shared};
 use adl_ast::{Component, Interface, Item, Member, Role, Source};
 use adl_meaning::{EndSetting, EndSettings, Flat, FlatConnection, FlatEnd, ItemAt, Leaf};
@@ -59,161 +58,139 @@ fn joint_of<'a>(
     })
 }
 
-/// The value of a setting of the interface that an end joins.
-fn value_of<'a>(
-    lookup: &Lookup<'_, 'a>,
-    memo: &mut Memo<'a>,
-    joint: &Joint<'a>,
-    setting: &[u8],
-) -> Made<Option<Given<'a>>>
-    requires { IsRemembered lookup.now memo.old }
-    ensures value { IfOk result (λ o. o ≡ value_of lookup.now joint.now setting.now) }
-    ensures memo { OnOk result (IsRemembered lookup.now memo.new) }
-{
-    let front = joint.interface.id.name.as_bytes();
-    let mut name = Vec::with_capacity(lookup.alloc, front.len().saturating_add(setting.len()))?;
-    name.extend_from_slice(front)?;
-    name.extend_from_slice(setting)?;
-    value_at(lookup, memo, joint.leaf.path.names(), name.as_slice())
-}
-
-/// The value of a setting of the interface that an end joins, where it has a meaning. Where no name has a value, none is made.
-#[inline(always)]
-#[tactic(auto, using(crate::proofs::Unvalued::unvalued))]
-fn value_where<'a>(
-    lookup: &Lookup<'_, 'a>,
-    memo: &mut Memo<'a>,
-    on: bool,
-    joint: &Joint<'a>,
-    setting: &[u8],
-) -> Made<Option<Given<'a>>>
-    requires { IsRemembered lookup.now memo.old }
-    ensures value { IfOk result (λ o. o ≡ where_set on (value_of lookup.now joint.now setting.now)) }
-    ensures memo { OnOk result (IsRemembered lookup.now memo.new) }
-{
-    if !on || lookup.is_bare() {
-        return Ok(None);
+impl<'t, 'a> Lookup<'t, 'a> {
+    /// The value of a setting of the interface that an end joins.
+    fn value_of(&mut self, joint: &Joint<'a>, setting: &[u8]) -> Made<Option<Given<'a>>>
+        ensures value { IfOk result (λ o. o ≡ value_of self.old joint.now setting.now) }
+        ensures same { self.new ≡ self.old }
+    {
+        let front = joint.interface.id.name.as_bytes();
+        let mut name = Vec::with_capacity(self.alloc, front.len().saturating_add(setting.len()))?;
+        name.extend_from_slice(front)?;
+        name.extend_from_slice(setting)?;
+        self.value_at(joint.leaf.path.names(), name.as_slice())
     }
-    value_of(lookup, memo, joint, setting)
-}
 
-/// The value of the size of shared memory, or else of a device's registers.
-fn size_of<'a>(
-    lookup: &Lookup<'_, 'a>,
-    memo: &mut Memo<'a>,
-    joint: &Joint<'a>,
-) -> Made<Option<Given<'a>>>
-    requires { IsRemembered lookup.now memo.old }
-    ensures value { IfOk result (λ o. o ≡ size_of lookup.now joint.now) }
-    ensures memo { OnOk result (IsRemembered lookup.now memo.new) }
-{
-    let connection = joint.connection;
-    if is_shared(connection.connector) {
-        return value_at(lookup, memo, connection.path.names(), b"size");
-    }
-    value_where(lookup, memo, joint.is_device_memory(), joint, b"_size")
-}
-
-/// The values of the settings of an end.
-fn found_at<'a>(lookup: &Lookup<'_, 'a>, memo: &mut Memo<'a>, joint: Joint<'a>) -> Made<Found<'a>>
-    requires { IsRemembered lookup.now memo.old }
-    ensures value { IfOk result (λ f. f ≡ found_at lookup.now joint.entry) }
-    ensures memo { OnOk result (IsRemembered lookup.now memo.new) }
-{
-    let access = value_where(lookup, memo, joint.has_access(), &joint, b"_access")?;
-    let badge = value_where(lookup, memo, joint.has_badge(), &joint, b"_attributes")?;
-    let size = size_of(lookup, memo, &joint)?;
-    let paddr = value_where(lookup, memo, joint.is_device_memory(), &joint, b"_paddr")?;
-    let has_irq = joint.is_device_event();
-    let irq = value_where(lookup, memo, has_irq, &joint, b"_irq_number")?;
-    Ok(Found {
-        joint,
-        access,
-        badge,
-        size,
-        paddr,
-        irq,
-    })
-}
-
-/// Adds the settings of an end, where it joins an interface, and what was found there if it is judged.
-fn add_end<'a>(
-    lookup: &Lookup<'_, 'a>,
-    memo: &mut Memo<'a>,
-    joint: Option<Joint<'a>>,
-    settings: &mut List<EndSetting>,
-    judged: &mut Vec<Found<'a>>,
-) -> Made<()>
-    requires { IsRemembered lookup.now memo.old }
-    ensures settings { OnOk result ((rest : Seq End) → settings.new ++ map end_setting rest
-        ≡ settings.old ++ map end_setting (cons_option (option_map (found_at lookup.now) joint.entry) rest)) }
-    ensures judged { OnOk result ((rest : Seq End) → judged.new.items ++ filter is_judged rest
-        ≡ judged.old.items ++ filter is_judged (cons_option (option_map (found_at lookup.now) joint.entry) rest)) }
-    ensures memo { OnOk result (IsRemembered lookup.now memo.new) }
-{
-    if let Some(joint) = joint {
-        let found = found_at(lookup, memo, joint)?;
-        settings.push(found.setting())?;
-        if found.is_judged() {
-            judged.push(found)?;
+    /// The value of a setting of the interface that an end joins, where it has a meaning. Where no name has a value, none is made.
+    #[inline(always)]
+    #[tactic(auto, using(crate::proofs::Unvalued::unvalued))]
+    fn value_where(
+        &mut self,
+        on: bool,
+        joint: &Joint<'a>,
+        setting: &[u8],
+    ) -> Made<Option<Given<'a>>>
+        ensures value { IfOk result (λ o. o ≡ where_set on (value_of self.old joint.now setting.now)) }
+        ensures same { self.new ≡ self.old }
+    {
+        if !on || self.is_bare() {
+            return Ok(None);
         }
+        self.value_of(joint, setting)
     }
-    Ok(())
-}
 
-/// The settings of a connection's ends, and what was found at those that are judged, in place of what stood there.
-pub fn settings_on<'a>(
-    lookup: &Lookup<'_, 'a>,
-    memo: &mut Memo<'a>,
-    source: &'a Source,
-    flat: &'a Flat,
-    connection: &'a FlatConnection,
-    judged: &mut Vec<Found<'a>>,
-) -> Made<EndSettings>
-    requires { IsRemembered lookup.now memo.old }
-    ensures settings { IfOk result (λ k. k ≡ end_settings (found_on lookup.now source.now flat.now connection.now)) }
-    ensures judged { OnOk result (judged.new.items
-        ≡ filter is_judged (found_on lookup.now source.now flat.now connection.now)) }
-    ensures memo { OnOk result (IsRemembered lookup.now memo.new) }
-{
-    judged.clear();
-    let room = connection.ends.len();
-    let mut settings = List::from_vec(Vec::with_capacity(lookup.alloc, room)?);
-    let mut before: u64 = 0;
-    for end in connection.ends.as_slice() {
-        let joint = joint_of(source, flat, connection, before + 1, *end);
-        add_end(lookup, memo, joint, &mut settings, judged)?;
-        if end.role == Role::From {
-            before += 1;
+    /// The value of the size of shared memory, or else of a device's registers.
+    fn size_of(&mut self, joint: &Joint<'a>) -> Made<Option<Given<'a>>>
+        ensures value { IfOk result (λ o. o ≡ size_of self.old joint.now) }
+        ensures same { self.new ≡ self.old }
+    {
+        let connection = joint.connection;
+        if is_shared(connection.connector) {
+            return self.value_at(connection.path.names(), b"size");
         }
+        self.value_where(joint.is_device_memory(), joint, b"_size")
     }
-    Ok(EndSettings { ends: settings })
-}
 
-/// The values of the settings of a leaf.
-pub fn leaf_found<'a>(
-    lookup: &Lookup<'_, 'a>,
-    memo: &mut Memo<'a>,
-    leaf: &'a Leaf,
-) -> Made<LeafFound<'a>>
-    requires { IsRemembered lookup.now memo.old }
-    ensures found { IfOk result (λ f. f ≡ leaf_found lookup.now leaf.entry.now) }
-    ensures memo { OnOk result (IsRemembered lookup.now memo.new) }
-{
-    if leaf.hardware {
-        let (priority, stack) = (None, None);
-        return Ok(LeafFound {
+    /// The values of the settings of an end.
+    fn found_at(&mut self, joint: Joint<'a>) -> Made<Found<'a>>
+        ensures value { IfOk result (λ f. f ≡ found_at self.old joint.entry) }
+        ensures same { self.new ≡ self.old }
+    {
+        let access = self.value_where(joint.has_access(), &joint, b"_access")?;
+        let badge = self.value_where(joint.has_badge(), &joint, b"_attributes")?;
+        let size = self.size_of(&joint)?;
+        let paddr = self.value_where(joint.is_device_memory(), &joint, b"_paddr")?;
+        let irq = self.value_where(joint.is_device_event(), &joint, b"_irq_number")?;
+        Ok(Found {
+            joint,
+            access,
+            badge,
+            size,
+            paddr,
+            irq,
+        })
+    }
+
+    /// Adds the settings of an end, where it joins an interface, and what was found there if it is judged.
+    fn add_end(
+        &mut self,
+        joint: Option<Joint<'a>>,
+        settings: &mut List<EndSetting>,
+        judged: &mut Vec<Found<'a>>,
+    ) -> Made<()>
+        ensures settings { OnOk result ((rest : Seq End) → settings.new ++ map end_setting rest
+            ≡ settings.old ++ map end_setting (cons_option (option_map (found_at self.old) joint.entry) rest)) }
+        ensures judged { OnOk result ((rest : Seq End) → judged.new.items ++ filter is_judged rest
+            ≡ judged.old.items ++ filter is_judged (cons_option (option_map (found_at self.old) joint.entry) rest)) }
+        ensures same { self.new ≡ self.old }
+    {
+        if let Some(joint) = joint {
+            let found = self.found_at(joint)?;
+            settings.push(found.setting())?;
+            if found.is_judged() {
+                judged.push(found)?;
+            }
+        }
+        Ok(())
+    }
+
+    /// The settings of a connection's ends, and what was found at those that are judged, in place of what stood there.
+    pub fn settings_on(
+        &mut self,
+        source: &'a Source,
+        flat: &'a Flat,
+        connection: &'a FlatConnection,
+        judged: &mut Vec<Found<'a>>,
+    ) -> Made<EndSettings>
+        ensures settings { IfOk result (λ k. k ≡ end_settings (found_on self.old source.now flat.now connection.now)) }
+        ensures judged { OnOk result (judged.new.items
+            ≡ filter is_judged (found_on self.old source.now flat.now connection.now)) }
+        ensures same { self.new ≡ self.old }
+    {
+        judged.clear();
+        let room = connection.ends.len();
+        let mut settings = List::from_vec(Vec::with_capacity(self.alloc, room)?);
+        let mut before: u64 = 0;
+        for end in connection.ends.as_slice() {
+            let joint = joint_of(source, flat, connection, before + 1, *end);
+            self.add_end(joint, &mut settings, judged)?;
+            if end.role == Role::From {
+                before += 1;
+            }
+        }
+        Ok(EndSettings { ends: settings })
+    }
+
+    /// The values of the settings of a leaf.
+    pub fn leaf_found(&mut self, leaf: &'a Leaf) -> Made<LeafFound<'a>>
+        ensures found { IfOk result (λ f. f ≡ leaf_found self.old leaf.entry.now) }
+        ensures same { self.new ≡ self.old }
+    {
+        if leaf.hardware {
+            let (priority, stack) = (None, None);
+            return Ok(LeafFound {
+                leaf,
+                priority,
+                stack,
+            });
+        }
+        let path = leaf.path.names();
+        let priority = self.value_at(path, b"_priority")?;
+        let stack = self.value_at(path, b"_stack_size")?;
+        Ok(LeafFound {
             leaf,
             priority,
             stack,
-        });
+        })
     }
-    let path = leaf.path.names();
-    let priority = value_at(lookup, memo, path, b"_priority")?;
-    let stack = value_at(lookup, memo, path, b"_stack_size")?;
-    Ok(LeafFound {
-        leaf,
-        priority,
-        stack,
-    })
 }

@@ -1,9 +1,9 @@
 //! The search for the value of a setting.
 
 ghost use Rattle.adl_meaning.specs.Prelude.{Name as Bytes, body, default_in, option_and_then, option_copied, option_map_or, setting_of, value_at};
-ghost use Rattle.std.specs.Prelude.{IfOk, List as Seq, None, OnOk, Some, [], false, slice_get, true, ◌++◌, ◌∷◌, ◌≡◌};
+ghost use Rattle.std.specs.Prelude.{IfOk, List as Seq, None, Some, [], false, slice_get, true, ◌++◌, ◌∷◌, ◌≡◌};
 ghost use Rattle.adl_items.specs.Pointed.{pointed};
-ghost use Rattle.adl_settings.specs.Lookups.{IsRemembered, attribute_at, given_from, within};
+ghost use Rattle.adl_settings.specs.Lookups.{attribute_at, given_from, within};
 ghost use Rattle.adl_settings.specs.Named.{is_valued};
 
 use crate::Given;
@@ -16,13 +16,6 @@ use indexmap::{IndexMap, IndexSet};
 use std::alloc::Global;
 use std::marker::Model;
 
-/// The values of attributes that settings refer to, as far as they were looked for before, by the path of the instance. It may be
-/// that there is no value.
-#[derive(Drop)]
-pub struct Memo<'a> {
-    pub found: IndexMap<(&'a [Name], &'a [u8]), Option<Given<'a>>>,
-}
-
 /// What the search looks at. Contracts see it as the hierarchy of the source.
 #[derive(Drop)]
 pub struct Lookup<'t, 'a> {
@@ -31,6 +24,9 @@ pub struct Lookup<'t, 'a> {
     pub settings: SettingTables<'a>,
     /// The names that have a value in some body, if they were looked for.
     pub names: Option<IndexSet<&'a [u8]>>,
+    /// The values of attributes that settings refer to, as far as they were looked for before, by the path of the instance. It may
+    /// be that there is no value.
+    pub referred: IndexMap<(&'a [Name], &'a [u8]), Option<Given<'a>>>,
 }
 
 impl<'t, 'a> Model for Lookup<'t, 'a> {
@@ -48,7 +44,7 @@ impl<'t, 'a> Model for Lookup<'t, 'a> {
 
     ghost view = { λ l. l.bodies.now };
 
-    ghost invariant = { λ l. IsLookup l.bodies.now l.settings (option_map (λ s. s.keys) l.names) };
+    ghost invariant = { λ l. IsLookup l.bodies.now l.settings (option_map (λ s. s.keys) l.names) l.referred.entries };
 }
 
 impl<'t, 'a> Lookup<'t, 'a> {
@@ -99,6 +95,78 @@ impl<'t, 'a> Lookup<'t, 'a> {
         let name = attribute.id.name.as_bytes();
         Some(Given { value, name })
     }
+
+    /// What a setting gives, of the body at the path. The assembly, at the empty path, has no attributes.
+    #[cycle(value)]
+    fn given_by(
+        &mut self,
+        setting: Option<&'a Setting>,
+        path: &'a [Name],
+    ) -> Made<Option<Given<'a>>>
+        ensures value { IfOk result (λ o. o ≡ given_from (attribute_at self.old path.now) (option_copied setting.entry)) }
+        ensures same { self.new ≡ self.old }
+    {
+        match setting {
+            None => Ok(None),
+            Some(setting) => match &setting.setter {
+                Setter::Literal(value) => Ok(Some(Given {
+                    value,
+                    name: last_name(setting.words.as_slice()),
+                })),
+                Setter::Reference(attribute) => {
+                    if path.is_empty() {
+                        return Ok(None);
+                    }
+                    self.referred(path, attribute.name.as_bytes())
+                }
+            },
+        }
+    }
+
+    /// The value of the setting at a path, searched for from the outermost body inwards.
+    #[cycle(value)]
+    fn search(&mut self, path: &'a [Name], name: &[u8]) -> Made<Option<Given<'a>>>
+        ensures value { IfOk result (λ o. o ≡ value_at self.old path.now name.now) }
+        ensures same { self.new ≡ self.old }
+    {
+        let key = key_of(self.alloc, path, name)?;
+        let mut number = Some(self.bodies.top_number());
+        for at in 0..path.len().max(1) {
+            let setting = self.setting(number, &key[at..]);
+            match self.given_by(setting, &path[..at])? {
+                Some(given) => return Ok(Some(given)),
+                None => number = self.behind(number, path, at),
+            }
+        }
+        Ok(self.default(number, name))
+    }
+
+    /// The value of an attribute of the instance at a path.
+    #[cycle(value)]
+    fn referred(&mut self, path: &'a [Name], name: &'a [u8]) -> Made<Option<Given<'a>>>
+        ensures value { IfOk result (λ o. o ≡ value_at self.old path.now name.now) }
+        ensures same { self.new ≡ self.old }
+    {
+        if let Some(found) = self.referred.get(&(path, name)) {
+            return Ok(again(found));
+        }
+        let found = self.search(path, name)?;
+        self.referred.insert((path, name), again(&found))?;
+        Ok(found)
+    }
+
+    /// The value of the setting at a path. It is searched for where its name can have a value.
+    #[inline(always)]
+    #[tactic(auto, using(crate::proofs::Unvalued::unvalued))]
+    pub fn value_at(&mut self, path: &'a [Name], name: &[u8]) -> Made<Option<Given<'a>>>
+        ensures value { IfOk result (λ o. o ≡ value_at self.old path.now name.now) }
+        ensures same { self.new ≡ self.old }
+    {
+        if !self.may_be_valued(name) {
+            return Ok(None);
+        }
+        self.search(path, name)
+    }
 }
 
 fn again<'a>(found: &Option<Given<'a>>) -> Option<Given<'a>>
@@ -117,96 +185,4 @@ fn key_of<'q>(alloc: Global, path: &'q [Name], name: &'q [u8]) -> Made<Vec<&'q [
     }
     key.push(name)?;
     Ok(key)
-}
-
-/// What a setting gives, of the body at the path. The assembly, at the empty path, has no attributes.
-#[cycle(value)]
-fn given_by<'a>(
-    lookup: &Lookup<'_, 'a>,
-    memo: &mut Memo<'a>,
-    setting: Option<&'a Setting>,
-    path: &'a [Name],
-) -> Made<Option<Given<'a>>>
-    requires { IsRemembered lookup.now memo.old }
-    ensures value { IfOk result (λ o. o ≡ given_from (attribute_at lookup.now path.now) (option_copied setting.entry)) }
-    ensures memo { OnOk result (IsRemembered lookup.now memo.new) }
-{
-    match setting {
-        None => Ok(None),
-        Some(setting) => match &setting.setter {
-            Setter::Literal(value) => Ok(Some(Given {
-                value,
-                name: last_name(setting.words.as_slice()),
-            })),
-            Setter::Reference(attribute) => {
-                if path.is_empty() {
-                    return Ok(None);
-                }
-                referred(lookup, memo, path, attribute.name.as_bytes())
-            }
-        },
-    }
-}
-
-/// The value of the setting at a path, searched for from the outermost body inwards.
-#[cycle(value)]
-fn search<'a>(
-    lookup: &Lookup<'_, 'a>,
-    memo: &mut Memo<'a>,
-    path: &'a [Name],
-    name: &[u8],
-) -> Made<Option<Given<'a>>>
-    requires { IsRemembered lookup.now memo.old }
-    ensures value { IfOk result (λ o. o ≡ value_at lookup.now path.now name.now) }
-    ensures memo { OnOk result (IsRemembered lookup.now memo.new) }
-{
-    let key = key_of(lookup.alloc, path, name)?;
-    let mut number = Some(lookup.bodies.top_number());
-    for at in 0..path.len().max(1) {
-        let setting = lookup.setting(number, &key[at..]);
-        match given_by(lookup, memo, setting, &path[..at])? {
-            Some(given) => return Ok(Some(given)),
-            None => number = lookup.behind(number, path, at),
-        }
-    }
-    Ok(lookup.default(number, name))
-}
-
-/// The value of an attribute of the instance at a path.
-#[cycle(value)]
-fn referred<'a>(
-    lookup: &Lookup<'_, 'a>,
-    memo: &mut Memo<'a>,
-    path: &'a [Name],
-    name: &'a [u8],
-) -> Made<Option<Given<'a>>>
-    requires { IsRemembered lookup.now memo.old }
-    ensures value { IfOk result (λ o. o ≡ value_at lookup.now path.now name.now) }
-    ensures memo { OnOk result (IsRemembered lookup.now memo.new) }
-{
-    if let Some(found) = memo.found.get(&(path, name)) {
-        return Ok(again(found));
-    }
-    let found = search(lookup, memo, path, name)?;
-    memo.found.insert((path, name), again(&found))?;
-    Ok(found)
-}
-
-/// The value of the setting at a path. It is searched for where its name can have a value.
-#[inline(always)]
-#[tactic(auto, using(crate::proofs::Unvalued::unvalued))]
-pub fn value_at<'a>(
-    lookup: &Lookup<'_, 'a>,
-    memo: &mut Memo<'a>,
-    path: &'a [Name],
-    name: &[u8],
-) -> Made<Option<Given<'a>>>
-    requires { IsRemembered lookup.now memo.old }
-    ensures value { IfOk result (λ o. o ≡ value_at lookup.now path.now name.now) }
-    ensures memo { OnOk result (IsRemembered lookup.now memo.new) }
-{
-    if !lookup.may_be_valued(name) {
-        return Ok(None);
-    }
-    search(lookup, memo, path, name)
 }

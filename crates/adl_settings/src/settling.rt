@@ -6,13 +6,11 @@ ghost use Rattle.adl_settings.specs.BadValue.{bad_in_leaf};
 ghost use Rattle.adl_settings.specs.DeviceOverlap.{regions};
 ghost use Rattle.adl_settings.specs.IrqTwice.{irqs};
 ghost use Rattle.adl_settings.specs.Joints.{founds_in};
-ghost use Rattle.adl_settings.specs.Lookups.{IsRemembered};
 ghost use Rattle.adl_settings.specs.SettingFaults.{faults_on, first_setting_fault, value_faults};
 ghost use Rattle.adl_settings.specs.Settled.{end_settings, leaf_setting, leaves_found, settled_from, settled_of};
 
-use crate::finding::{leaf_found, settings_on};
 use crate::names::names_for;
-use crate::search::{Lookup, Memo};
+use crate::search::Lookup;
 use crate::tables::setting_tables;
 use crate::value_faults::{Judged, note_bad_leaf};
 use adl_ast::Source;
@@ -23,81 +21,73 @@ use cam_base::{Fault, List, Made, Refused};
 use indexmap::IndexMap;
 use std::alloc::Global;
 
-/// The settings of all leaves; notes their values that aren't allowed.
-fn settle_leaves<'a>(
-    lookup: &Lookup<'_, 'a>,
-    memo: &mut Memo<'a>,
-    flat: &'a Flat,
-    first: &mut Earliest<'a>,
-) -> Made<List<LeafSetting>>
-    requires { IsRemembered lookup.now memo.old }
-    ensures settings { IfOk result (λ list. list ≡ map leaf_setting (leaves_found lookup.now flat.now)) }
-    ensures noted { OnOk result (first.new ≡ noted first.old (flat_map bad_in_leaf (leaves_found lookup.now flat.now))) }
-    ensures memo { OnOk result (IsRemembered lookup.now memo.new) }
-{
-    let mut settings = Vec::with_capacity(lookup.alloc, flat.leaves.len())?;
-    for leaf in flat.leaves.as_slice() {
-        let found = leaf_found(lookup, memo, leaf)?;
-        note_bad_leaf(&found, first);
-        settings.push(found.setting())?;
+impl<'t, 'a> Lookup<'t, 'a> {
+    /// The settings of all leaves; notes their values that aren't allowed.
+    fn settle_leaves(&mut self, flat: &'a Flat, first: &mut Earliest<'a>) -> Made<List<LeafSetting>>
+        ensures settings { IfOk result (λ list. list ≡ map leaf_setting (leaves_found self.old flat.now)) }
+        ensures noted { OnOk result (first.new ≡ noted first.old (flat_map bad_in_leaf (leaves_found self.old flat.now))) }
+        ensures same { self.new ≡ self.old }
+    {
+        let mut settings = Vec::with_capacity(self.alloc, flat.leaves.len())?;
+        for leaf in flat.leaves.as_slice() {
+            let found = self.leaf_found(leaf)?;
+            note_bad_leaf(&found, first);
+            settings.push(found.setting())?;
+        }
+        Ok(List::from_vec(settings))
     }
-    Ok(List::from_vec(settings))
-}
 
-/// The settings of all ends, whose values are judged one connection after the other.
-fn settle_ends<'a>(
-    lookup: &Lookup<'_, 'a>,
-    memo: &mut Memo<'a>,
-    source: &'a Source,
-    flat: &'a Flat,
-    judged: &mut Judged<'a>,
-) -> Made<List<EndSettings>>
-    requires { IsRemembered lookup.now memo.old }
-    ensures settings { IfOk result (λ list. list ≡ map end_settings (founds_in lookup.now source.now flat.now)) }
-    ensures first { OnOk result (judged.new.first
-        ≡ noted judged.old.first (flat_map faults_on (founds_in lookup.now source.now flat.now))) }
-    ensures regions { OnOk result (judged.new.regions.items
-        ≡ judged.old.regions.items ++ regions (founds_in lookup.now source.now flat.now)) }
-    ensures irqs { OnOk result (judged.new.irqs.items
-        ≡ judged.old.irqs.items ++ irqs (founds_in lookup.now source.now flat.now)) }
-{
-    let mut settings = Vec::with_capacity(lookup.alloc, flat.connections.len())?;
-    let mut found = Vec::new(lookup.alloc);
-    for connection in flat.connections.as_slice() {
-        let ends = settings_on(lookup, memo, source, flat, connection, &mut found)?;
-        judged.add(lookup.alloc, found.as_slice())?;
-        settings.push(ends)?;
+    /// The settings of all ends, whose values are judged one connection after the other.
+    fn settle_ends(
+        &mut self,
+        source: &'a Source,
+        flat: &'a Flat,
+        judged: &mut Judged<'a>,
+    ) -> Made<List<EndSettings>>
+        ensures settings { IfOk result (λ list. list ≡ map end_settings (founds_in self.old source.now flat.now)) }
+        ensures first { OnOk result (judged.new.first
+            ≡ noted judged.old.first (flat_map faults_on (founds_in self.old source.now flat.now))) }
+        ensures regions { OnOk result (judged.new.regions.items
+            ≡ judged.old.regions.items ++ regions (founds_in self.old source.now flat.now)) }
+        ensures irqs { OnOk result (judged.new.irqs.items
+            ≡ judged.old.irqs.items ++ irqs (founds_in self.old source.now flat.now)) }
+    {
+        let mut settings = Vec::with_capacity(self.alloc, flat.connections.len())?;
+        let mut found = Vec::new(self.alloc);
+        for connection in flat.connections.as_slice() {
+            let ends = self.settings_on(source, flat, connection, &mut found)?;
+            judged.add(self.alloc, found.as_slice())?;
+            settings.push(ends)?;
+        }
+        Ok(List::from_vec(settings))
     }
-    Ok(List::from_vec(settings))
-}
 
-/// The settings of all leaves and ends of a flat system, behind what was noted before.
-#[tactic(auto, using(adl_meaning::proofs::Noting::noting))]
-fn settle_flat<'a>(
-    lookup: &Lookup<'_, 'a>,
-    memo: &mut Memo<'a>,
-    source: &'a Source,
-    flat: &'a Flat,
-    first: Earliest<'a>,
-) -> Result<Settled, Refused<Fault>>
-    requires { IsRemembered lookup.now memo.old }
-    ensures fault { Refuses result (noted first.entry
-        (value_faults (leaves_found lookup.now flat.now) (founds_in lookup.now source.now flat.now))) }
-    ensures settled { IfOk result (λ x. x
-        ≡ settled_from (leaves_found lookup.now flat.now) (founds_in lookup.now source.now flat.now)) }
-{
-    let mut judged = Judged {
-        first,
-        regions: Vec::new(lookup.alloc),
-        irqs: Vec::new(lookup.alloc),
-    };
-    let leaves = settle_leaves(lookup, memo, flat, &mut judged.first)?;
-    let connections = settle_ends(lookup, memo, source, flat, &mut judged)?;
-    judged.refuse(lookup.alloc)?;
-    Ok(Settled {
-        leaves,
-        connections,
-    })
+    /// The settings of all leaves and ends of a flat system, behind what was noted before.
+    #[tactic(auto, using(adl_meaning::proofs::Noting::noting))]
+    fn settle_flat(
+        &mut self,
+        source: &'a Source,
+        flat: &'a Flat,
+        first: Earliest<'a>,
+    ) -> Result<Settled, Refused<Fault>>
+        ensures fault { Refuses result (noted first.entry
+            (value_faults (leaves_found self.old flat.now) (founds_in self.old source.now flat.now))) }
+        ensures settled { IfOk result (λ x. x
+            ≡ settled_from (leaves_found self.old flat.now) (founds_in self.old source.now flat.now)) }
+    {
+        let mut judged = Judged {
+            first,
+            regions: Vec::new(self.alloc),
+            irqs: Vec::new(self.alloc),
+        };
+        let leaves = self.settle_leaves(flat, &mut judged.first)?;
+        let connections = self.settle_ends(source, flat, &mut judged)?;
+        judged.refuse(self.alloc)?;
+        Ok(Settled {
+            leaves,
+            connections,
+        })
+    }
 }
 
 /// The settings of all leaves and ends of a source with these bodies.
@@ -115,16 +105,14 @@ fn settle_bodies<'a>(
     let mut first = Earliest::none();
     let settings = setting_tables(alloc, bodies, &mut first)?;
     let names = names_for(alloc, bodies, flat.leaves.len())?;
-    let lookup = Lookup {
+    let mut lookup = Lookup {
         alloc,
         bodies,
         settings,
         names,
+        referred: IndexMap::new(alloc),
     };
-    let mut memo = Memo {
-        found: IndexMap::new(alloc),
-    };
-    settle_flat(&lookup, &mut memo, source, flat, first)
+    lookup.settle_flat(source, flat, first)
 }
 
 /// The settings of all leaves and ends of a source, over its program, in the order of the flat system. The source outlives the

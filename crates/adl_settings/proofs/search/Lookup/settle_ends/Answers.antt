@@ -1,11 +1,12 @@
-use Rattle.adl_settings.proofs.Common.{List, [], ap, append_assoc, drop_first, end_settings, flat_map, map, noted, subst, sym, ◌++◌, ◌<◌, ◌∙◌, ◌∷◌, ◌≡◌, length, get_or}
+use Rattle.adl_settings.proofs.Common.{List, [], ap, append_assoc, drop_first, end_settings, filter, flat_map, map, noted, subst, sym, ◌++◌, ◌<◌, ◌∙◌, ◌∷◌, ◌≡◌, length, get_or}
 use Rattle.adl_meaning.proofs.Noting.{noted_mapped}
 use Rattle.adl_settings.proofs.SettleCommon.{drop, found_on, ◌+◌}
 use Rattle.adl_settings.specs.DeviceOverlap.{regions_in}
 use Rattle.adl_settings.specs.IrqTwice.{irqs_in}
 use Rattle.adl_settings.proofs.JudgedEnds.{faults_judged, irqs_judged, regions_judged}
+use Rattle.adl_settings.specs.Judged.{is_judged}
 use Rattle.adl_settings.specs.SettingFaults.{faults_on}
-use Rattle.adl_settings.proofs.settling.settle_ends.Goals as goal
+use Rattle.adl_settings.proofs.search.Lookup.settle_ends.Goals as goal
 
 -- one connection more
 module _ {X : Type 0} (x : X) (left rest : List X) (e : left ≡ x ∷ rest) where
@@ -20,7 +21,7 @@ module _ {X : Type 0} (x : X) (left rest : List X) (e : left ≡ x ∷ rest) whe
 
 pub loop-connection-preserved : goal.loop-connection-preserved
 loop-connection-preserved c =
-    let f = found_on c.args.lookup.now c.args.source.now c.args.flat.now in
+    let f = found_on c.args.self.now c.args.source.now c.args.flat.now in
     let ks = c.args.flat.now.connections in
     let l = c.loop-connection in
     let i = l.connection-index in
@@ -30,12 +31,14 @@ loop-connection-preserved c =
     let here = subst (λ z. k ≡ get_or z i k) all c.connection-item.is in
     let rest = map f (drop (i + 1) ks) in
     let next = ap (map f) (drop_first ks i k less here) in
-    let judged = c.as_slice.ensures.value ∙ c.in_ok-ends.ensures.judged in
+    let found = ap (λ h. found_on h c.args.source.now c.args.flat.now k) l.invariant.same in
+    let judged = c.as_slice.ensures.value ∙ c.in_ok-ends.ensures.judged ∙ ap (filter is_judged) found in
     let a = c.in_ok-add.ensures in
     record {
       settings =
           one_added (f k) (map f (drop i ks)) rest next end_settings l.settings.items c.push.new.self.items
-          (c.in_ok-push.ensures.items ∙ ap (λ v. l.settings.items ++ v ∷ []) c.in_ok-ends.ensures.settings)
+          (c.in_ok-push.ensures.items
+          ∙ ap (λ v. l.settings.items ++ v ∷ []) (c.in_ok-ends.ensures.settings ∙ ap end_settings found))
           ∙ l.invariant.settings;
       first =
           noted_mapped faults_on f c.add.new.self.first l.judged.first ks i k less here
@@ -46,5 +49,5 @@ loop-connection-preserved c =
       irqs =
           all_added (f k) (map f (drop i ks)) rest next irqs_in l.judged.irqs.items c.add.new.self.irqs.items
           (a.irqs ∙ ap (λ z. l.judged.irqs.items ++ z) (ap irqs_in judged ∙ irqs_judged (f k))) ∙ l.invariant.irqs;
-      memo = c.in_ok-ends.ensures.memo;
+      same = c.in_ok-ends.ensures.same ∙ l.invariant.same;
     }
