@@ -7,7 +7,7 @@ use Rattle.std.specs.FinMap.{get}
 use Rattle.camkes_tool.specs.ReadBack.{AreReadBack}
 use Rattle.cam_base.specs.declared.error.Refused.TheVariants as refused
 use Rattle.camkes_tool.proofs.Accepting.{labels_stand, none_some}
-use Rattle.cam_base.specs.declared.error.Unread.TheVariants.{NoMemory, ReadFault}
+use Rattle.text_commands.proofs.Turning.{then_ok}
 use Rattle.camkes_tool.proofs.Statuses.{exact_status}
 use Rattle.camkes_tool.proofs.TrioValid.{trio_valid}
 use Rattle.camkes_tool.proofs.SpecBack.{spec_back}
@@ -39,23 +39,27 @@ module _ (m : Contents) (old new : List ℕ → ℕ) where
     -- ---- what is read
 
     spec_read : (spec : Spec) → IsSystem m old new cdl (Ok spec) → Text (canonical b.spec) spec
-    spec_read spec (inl (bytes, input, told)) =
+    spec_read spec turn =
+        let (bytes, input, told) = then_ok spec turn in
         subst (λ z. Text z spec) (same_bytes cdl bytes (canonical b.spec) capdl_here input.1) told
-    spec_read spec (inr (e, input, is)) = absurd cc
 
     allowed_read : (allowed : Policy) → IsPolicy m old new policy (Ok allowed) → IsPolicyText (policy_text b.policy) allowed
-    allowed_read allowed (inl (bytes, input, told)) =
+    allowed_read allowed turn =
+        let (bytes, input, told) = then_ok allowed turn in
         subst (λ z. IsPolicyText z allowed) (same_bytes policy bytes (policy_text b.policy) policy_here input.1) told
-    allowed_read allowed (inr (e, input, is)) = absurd cc
 
     edges_read : (allowed : Policy) (edges : List Edge) → IsCert m old new allowed cert (Ok edges)
         → IsCertText allowed (cert_text b.cert) edges
-    edges_read allowed edges (inl (bytes, input, told)) =
+    edges_read allowed edges turn =
+        let (bytes, input, told) = then_ok edges turn in
         subst (λ z. IsCertText allowed z edges) (same_bytes cert bytes (cert_text b.cert) cert_here input.1) told
-    edges_read allowed edges (inr (e, input, is)) = absurd cc
 
     well : (outcome : Outcome) → IsChecked m old new cdl policy cert (Ok outcome) → is_well outcome ≡ true
-    well outcome (inl (spec, system, inl (allowed, text, inl (edges, read, inl (labels, labelled, said))))) =
+    well outcome checked =
+        let (spec, system, after) = then_ok outcome checked in
+        let (allowed, text, over) = then_ok outcome after in
+        let (edges, read, given) = then_ok outcome over in
+        let (labels, labelled, said) = then_ok outcome given in
         let asked : IsReadAs b spec allowed labels = record {
           capdl = spec_read spec system;
           policy_is = allowed_read allowed text;
@@ -63,10 +67,6 @@ module _ (m : Contents) (old new : List ℕ → ℕ) where
         } in
         let yes = held.yes spec allowed labels edges said.0 asked (edges_read allowed edges read) said.2 in
         ap is_well said.1 ∙ ap is_yes yes
-    well outcome (inl (spec, system, inl (allowed, text, inl (edges, read, inr (e, labelled, is))))) = absurd cc
-    well outcome (inl (spec, system, inl (allowed, text, inr (e, read, is)))) = absurd cc
-    well outcome (inl (spec, system, inr (e, text, is))) = absurd cc
-    well outcome (inr (e, system, is)) = absurd cc
 
     -- ---- no fault is told
 
@@ -75,8 +75,7 @@ module _ (m : Contents) (old new : List ℕ → ℕ) where
         let same = same_bytes cdl bytes (canonical b.spec) capdl_here input.1 in
         no_fault_of_text bytes b.spec told.1.0 (subst (λ z. Text z b.spec) (sym same) back.spec.text) told.1.1
     capdl_right fault file (inr (Fault f g, input, is)) = no_fault cdl (canonical b.spec) capdl_here short_capdl f g input
-    capdl_right fault file (inr (ReadFault g, input, is)) = absurd cc
-    capdl_right fault file (inr (NoMemory, input, is)) = absurd cc
+    capdl_right fault file (inr (e, input, is)) = absurd cc
 
     policy_right : (fault : InputFault) (file : List ℕ) → IsPolicy m old new policy (Err (Fault fault file)) → ⊥
     policy_right fault file (inl (bytes, input, told)) =
@@ -85,8 +84,7 @@ module _ (m : Contents) (old new : List ℕ → ℕ) where
         none_some _ told.1.0 right.0 told.1.1
     policy_right fault file (inr (Fault f g, input, is)) = no_fault policy (policy_text b.policy) policy_here
         back.policy.writable.bytes f g input
-    policy_right fault file (inr (ReadFault g, input, is)) = absurd cc
-    policy_right fault file (inr (NoMemory, input, is)) = absurd cc
+    policy_right fault file (inr (e, input, is)) = absurd cc
 
     cert_right : (allowed : Policy) → IsPolicyText (policy_text b.policy) allowed → (fault : InputFault) (file : List ℕ)
         → IsCert m old new allowed cert (Err (Fault fault file)) → ⊥
@@ -97,8 +95,7 @@ module _ (m : Contents) (old new : List ℕ → ℕ) where
         ∙ right.0) told.1.1
     cert_right allowed text fault file (inr (Fault f g, input, is)) = no_fault cert (cert_text b.cert) cert_here
         back.cert.writable.bytes f g input
-    cert_right allowed text fault file (inr (ReadFault g, input, is)) = absurd cc
-    cert_right allowed text fault file (inr (NoMemory, input, is)) = absurd cc
+    cert_right allowed text fault file (inr (e, input, is)) = absurd cc
 
     labels_right : (spec : Spec) (allowed : Policy) → Text (canonical b.spec) spec → IsPolicyText (policy_text b.policy) allowed
         → (fault : InputFault) (file : List ℕ)
@@ -110,19 +107,15 @@ module _ (m : Contents) (old new : List ℕ → ℕ) where
 
     all_right : (fault : InputFault) (file : List ℕ) → IsChecked m old new cdl policy cert (Err (Fault fault file)) → ⊥
     all_right fault file (inr (Fault f g, system, is)) = capdl_right f g system
-    all_right fault file (inr (ReadFault g, system, is)) = absurd cc
-    all_right fault file (inr (NoMemory, system, is)) = absurd cc
+    all_right fault file (inr (e, system, is)) = absurd cc
     all_right fault file (inl (spec, system, inr (Fault f g, text, is))) = policy_right f g text
-    all_right fault file (inl (spec, system, inr (ReadFault g, text, is))) = absurd cc
-    all_right fault file (inl (spec, system, inr (NoMemory, text, is))) = absurd cc
+    all_right fault file (inl (spec, system, inr (e, text, is))) = absurd cc
     all_right fault file (inl (spec, system, inl (allowed, text, inr (Fault f g, read, is)))) =
         cert_right allowed (allowed_read allowed text) f g read
-    all_right fault file (inl (spec, system, inl (allowed, text, inr (ReadFault g, read, is)))) = absurd cc
-    all_right fault file (inl (spec, system, inl (allowed, text, inr (NoMemory, read, is)))) = absurd cc
+    all_right fault file (inl (spec, system, inl (allowed, text, inr (e, read, is)))) = absurd cc
     all_right fault file (inl (spec, system, inl (allowed, text, inl (edges, read, inr (Fault f g, labelled, is))))) =
         labels_right spec allowed (spec_read spec system) (allowed_read allowed text) f g labelled
-    all_right fault file (inl (spec, system, inl (allowed, text, inl (edges, read, inr (ReadFault g, labelled, is))))) = absurd cc
-    all_right fault file (inl (spec, system, inl (allowed, text, inl (edges, read, inr (NoMemory, labelled, is))))) = absurd cc
+    all_right fault file (inl (spec, system, inl (allowed, text, inl (edges, read, inr (e, labelled, is))))) = absurd cc
     all_right fault file (inl (spec, system, inl (allowed, text, inl (edges, read, inl (labels, labelled, said))))) = absurd said
 
     -- ---- the status

@@ -1,11 +1,10 @@
 -- For the same words and contents there is one answer, aside from failed reads and want of memory.
-use Rattle.camkes_tool.proofs.Common.{Answer, AreNamedBy, AreOne, AreOneButChoice, Audit, Begin, Build, Certify, Check, Command, Compile, Compiled, Contents, Err, Explain, Explained, Faulted, Fits, FitsCompiled, FitsExplained, FitsGenerated, rules}
+use Rattle.camkes_tool.proofs.Common.{Answer, AreNamedBy, AreOne, AreOneButChoice, Audit, Build, Certify, Check, Command, Compile, Compiled, Contents, Err, Explain, Explained, Faulted, Fits, FitsCompiled, FitsExplained, FitsGenerated, rules}
 use Rattle.camkes_tool.proofs.Common.{FitsListed, FitsTexts, Generate, Generated, InputError, IsAudited, IsCertified, IsChecked, IsExplained, IsGenerated, IsListed, IsPlanned, IsRun, IsTabled, List, Listed, Listing, NoMemory, None, Ok, Option}
 use Rattle.camkes_tool.proofs.Common.{Outcome, Plan, ReadFault, Refused, Replay, Result, Sections, Sink, Some, SourceError, Summary, Tells, TextNames, Told, Usage, Write, [], after, answer_but_choice, ap, arith, audited_one, build_first}
-use Rattle.camkes_tool.proofs.Common.{build_summary, builds_same, but_choice, canonical, cert_text, certified_one, checked_one, cond, false, inl, inr, is_chosen, is_well, leaves_choice, one_explained, one_first, one_listing, planned_one, policy_text}
-use Rattle.camkes_tool.proofs.Common.{ran_one, refl, script, status_of, string_bytes, subst, sym, tabled_one, text_of, texts_script, ℕ, ◌∙◌, ◌∷◌, ◌≡◌, ◌≤◌, ◌⊎◌}
+use Rattle.camkes_tool.proofs.Common.{builds_same, but_choice, certified_one, checked_one, cond, false, inl, inr, is_chosen, is_well, leaves_choice, one_explained, one_first, one_listing, planned_one}
+use Rattle.camkes_tool.proofs.Common.{ran_one, refl, script, status_of, subst, sym, tabled_one, text_of, texts_script, ℕ, ◌∙◌, ◌∷◌, ◌≡◌, ◌≤◌, ◌⊎◌}
 use Rattle.cam_base.specs.declared.place.Fault.{Fault}
-use Rattle.arch_compile.specs.Maps.{build_map}
 use Rattle.command_words.specs.declared.command.Command.TheVariants.{List as ListOf}
 use Rattle.cam_base.specs.Unread as errors
 use Rattle.cam_base.specs.declared.error.Unread.TheVariants as unread
@@ -23,19 +22,7 @@ equal_answers a b e = subst (λ z. AreOne a z) e (same_answer a)
 
 module _ (m : Contents) (root base : List ℕ) (old new later last : List ℕ → ℕ) where
   names_same : (a b : TextNames) (c : Build) → AreNamedBy base a → AreNamedBy base b → texts_script a c ≡ texts_script b c
-  names_same a b c x y =
-      ap (λ n. Begin 2 n ∷ Write 2 (canonical c.spec) ∷ Begin 3 (string_bytes a.policy) ∷ Write 3 (policy_text c.policy)
-      ∷ Begin 4 (string_bytes a.certificate) ∷ Write 4 (cert_text c.cert) ∷ Begin 5 (string_bytes a.map)
-      ∷ Write 5 (build_map c) ∷ Write 0 (build_summary c) ∷ []) (x.capdl ∙ sym y.capdl)
-      ∙ ap (λ n. Begin 2 (string_bytes b.capdl) ∷ Write 2 (canonical c.spec) ∷ Begin 3 n ∷ Write 3 (policy_text c.policy)
-      ∷ Begin 4 (string_bytes a.certificate) ∷ Write 4 (cert_text c.cert) ∷ Begin 5 (string_bytes a.map)
-      ∷ Write 5 (build_map c) ∷ Write 0 (build_summary c) ∷ []) (x.policy ∙ sym y.policy)
-      ∙ ap (λ n. Begin 2 (string_bytes b.capdl) ∷ Write 2 (canonical c.spec) ∷ Begin 3 (string_bytes b.policy)
-      ∷ Write 3 (policy_text c.policy) ∷ Begin 4 n ∷ Write 4 (cert_text c.cert) ∷ Begin 5 (string_bytes a.map)
-      ∷ Write 5 (build_map c) ∷ Write 0 (build_summary c) ∷ []) (x.certificate ∙ sym y.certificate)
-      ∙ ap (λ n. Begin 2 (string_bytes b.capdl) ∷ Write 2 (canonical c.spec) ∷ Begin 3 (string_bytes b.policy)
-      ∷ Write 3 (policy_text c.policy) ∷ Begin 4 (string_bytes b.certificate) ∷ Write 4 (cert_text c.cert) ∷ Begin 5 n
-      ∷ Write 5 (build_map c) ∷ Write 0 (build_summary c) ∷ []) (x.map ∙ sym y.map)
+  names_same a b c x y = rw (x.capdl, x.policy, x.certificate, x.map, y.capdl, y.policy, y.certificate, y.map)
 
   compiled_same : (a b : TextNames) (c d : Build) → FitsCompiled root base m old new (Compiled a c)
       → FitsCompiled root base m later last (Compiled b d) → AreOne (Compiled a c) (Compiled b d)

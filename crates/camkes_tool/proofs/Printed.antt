@@ -1,7 +1,7 @@
 -- What `certify`, `sections` and `audit` leave with status 0.
-use Rattle.camkes_tool.proofs.Common.{Answer, Audit, Certify, Command, Compiled, Contents, Edge, Explained, Faulted, Fits, FitsTexts, Generated, HoldSystem, Holds, InAll, InputError, IsAudited, IsCertificateWritten, IsCertified, IsLabelling}
-use Rattle.camkes_tool.proofs.Common.{IsLeastOf, IsReportOf, IsReportWritten, IsTableOf, IsTableWritten, IsTabled, LabelNames, List, Listed, NoMemory, Ok, Option, Outcome, ReadFault, Refused, Result, SaysYes, Sections, Sink, Some, Spec, Tells, Text}
-use Rattle.camkes_tool.proofs.Common.{Told, Usage, [], appended, cert_text, inl, inr, subst, text_of, ℕ, ◌≡◌}
+use Rattle.camkes_tool.proofs.Common.{Answer, Audit, Certify, Command, Contents, Edge, Fits, FitsTexts, HoldSystem, Holds, InAll, InputError, IsAudited, IsCertificateWritten, IsCertified, IsLabelling}
+use Rattle.camkes_tool.proofs.Common.{IsLeastOf, IsReportOf, IsReportWritten, IsTableOf, IsTableWritten, IsTabled, LabelNames, List, NoMemory, Ok, Option, Outcome, ReadFault, Refused, Result, SaysYes, Sections, Sink, Some, Spec, Tells, Text}
+use Rattle.camkes_tool.proofs.Common.{Told, [], appended, cert_text, inl, inr, subst, text_of, ℕ, ◌≡◌}
 use Rattle.cap_audit.specs.declared.report.AuditReport.{AuditReport}
 use Rattle.sect_table.specs.Elf.{Elf}
 use Rattle.std.specs.Prelude.{codes}
@@ -9,6 +9,7 @@ use Rattle.sect_table.specs.declared.image.Image.{Image}
 use Rattle.text_commands.proofs.AuditBack.{audit_replayed, audit_shown}
 use Rattle.text_commands.proofs.CertBack.{certificate_decides, text_back}
 use Rattle.text_commands.proofs.TableBack.{table_back}
+use Rattle.text_commands.proofs.Turning.{then_ok}
 use Rattle.text_commands.specs.Decisions.{HasReport, IsCertificate}
 use Rattle.text_commands.specs.declared.outcome.Outcome.TheVariants as found
 use Rattle.camkes_tool.proofs.OfBuild.{least_own, report_listed}
@@ -23,11 +24,11 @@ module _ (m : Contents) (before now : List ℕ → ℕ) where
 
   is_certified : (cdl policy : List ℕ) (o : Outcome) → IsCertified m before now cdl policy (Ok o)
       → (edges : List Edge) × (o ≡ found.Certified edges)
-  is_certified cdl policy o (inl (spec, system, inl (allowed, read, inl (labels, labelled, (edges, is, certificate))))) =
+  is_certified cdl policy o certified =
+      let (spec, system, after) = then_ok o certified in
+      let (allowed, read, given) = then_ok o after in
+      let (labels, labelled, (edges, is, certificate)) = then_ok o given in
       (edges, is)
-  is_certified cdl policy o (inl (spec, system, inl (allowed, read, inr (e, told, is)))) = absurd cc
-  is_certified cdl policy o (inl (spec, system, inr (e, told, is))) = absurd cc
-  is_certified cdl policy o (inr (e, told, is)) = absurd cc
 
   module _ (cdl policy : List ℕ) (edges : List Edge) (certified : IsCertified m before now cdl policy
       (Ok (found.Certified edges))) where
@@ -36,8 +37,11 @@ module _ (m : Contents) (before now : List ℕ → ℕ) where
     other_says cert held (other, (names, checked)) =
         (names, certificate_decides m before now (λ file. 0) (λ file. 0) cdl policy edges cert other names certified held checked)
 
-    least_by : IsCertified m before now cdl policy (Ok (found.Certified edges)) → IsLeastOf m cdl policy edges
-    least_by (inl (spec, system, inl (allowed, read, inl (labels, labelled, (cert, is, certificate))))) =
+    least_of : IsLeastOf m cdl policy edges
+    least_of =
+        let (spec, system, after) = then_ok (found.Certified edges) certified in
+        let (allowed, read, given) = then_ok (found.Certified edges) after in
+        let (labels, labelled, (cert, is, certificate)) = then_ok (found.Certified edges) given in
         let same : cert ≡ edges = cc in
         let least : IsCertificate spec labels.by_object edges = subst (λ z. IsCertificate spec labels.by_object z) same
         certificate in
@@ -61,22 +65,17 @@ module _ (m : Contents) (before now : List ℕ → ℕ) where
             λ some. other_says cert held some,
           );
         }
-    least_by (inl (spec, system, inl (allowed, read, inr (e, told, is)))) = absurd cc
-    least_by (inl (spec, system, inr (e, told, is))) = absurd cc
-    least_by (inr (e, told, is)) = absurd cc
-
-    least_of : IsLeastOf m cdl policy edges
-    least_of = least_by certified
 
   -- ---- tables
 
   is_tabled : (elf : List ℕ) (o : Outcome) → IsTabled m before now elf (Ok o) → (image : Image) × (o ≡ found.Tabled image)
-  is_tabled elf o (inl (image, turn, is)) = (image, is)
-  is_tabled elf o (inr (e, told, is)) = absurd cc
+  is_tabled elf o tabled = let (image, turn, is) = then_ok o tabled in (image, is)
 
   module _ (elf : List ℕ) (image : Image) (tabled : IsTabled m before now elf (Ok (found.Tabled image))) where
-    table_by : IsTabled m before now elf (Ok (found.Tabled image)) → IsTableOf m elf image
-    table_by (inl (made, inl (bytes, input, told), is)) =
+    table_of : IsTableOf m elf image
+    table_of =
+        let (made, turn, is) = then_ok (found.Tabled image) tabled in
+        let (bytes, input, told) = then_ok made turn in
         let same : made ≡ image = cc in
         record {
           bytes = bytes;
@@ -85,27 +84,24 @@ module _ (m : Contents) (before now : List ℕ → ℕ) where
           read_back = λ are file name answer read. table_back m before now elf bytes image tabled input.1 are file
               name answer read;
         }
-    table_by (inl (made, inr (e, input, told), is)) = absurd cc
-    table_by (inr (e, told, is)) = absurd cc
-
-    table_of : IsTableOf m elf image
-    table_of = table_by tabled
 
   -- ---- reports
 
   is_audited : (cdl policy : List ℕ) (o : Outcome) → IsAudited m before now cdl policy (Ok o)
       → (report : AuditReport) × (spec : Spec) × (names : LabelNames) × (o ≡ found.Audited report spec names)
-  is_audited cdl policy o (inl (spec, system, inl (allowed, read, inl (labels, labelled, (report, is, has))))) =
+  is_audited cdl policy o audited =
+      let (spec, system, after) = then_ok o audited in
+      let (allowed, read, given) = then_ok o after in
+      let (labels, labelled, (report, is, has)) = then_ok o given in
       (report, spec, allowed.labels, is)
-  is_audited cdl policy o (inl (spec, system, inl (allowed, read, inr (e, told, is)))) = absurd cc
-  is_audited cdl policy o (inl (spec, system, inr (e, told, is))) = absurd cc
-  is_audited cdl policy o (inr (e, told, is)) = absurd cc
 
   module _ (cdl policy : List ℕ) (report : AuditReport) (spec : Spec) (names : LabelNames)
       (audited : IsAudited m before now cdl policy (Ok (found.Audited report spec names))) where
-    report_by : IsAudited m before now cdl policy (Ok (found.Audited report spec names))
-        → IsReportOf m cdl policy report spec names
-    report_by (inl (read_as, system, inl (allowed, read, inl (labels, labelled, (shown, is, has))))) =
+    report_of : IsReportOf m cdl policy report spec names
+    report_of =
+        let (read_as, system, after) = then_ok (found.Audited report spec names) audited in
+        let (allowed, read, given) = then_ok (found.Audited report spec names) after in
+        let (labels, labelled, (shown, is, has)) = then_ok (found.Audited report spec names) given in
         let specs : read_as ≡ spec = cc in
         let reports : shown ≡ report = cc in
         let named : names ≡ allowed.labels = cc in
@@ -132,12 +128,6 @@ module _ (m : Contents) (before now : List ℕ → ℕ) where
           shown = λ few first last l a x has. audit_shown m before now first last cdl policy report spec names audited
               few l a x has;
         }
-    report_by (inl (read_as, system, inl (allowed, read, inr (e, told, is)))) = absurd cc
-    report_by (inl (read_as, system, inr (e, told, is))) = absurd cc
-    report_by (inr (e, told, is)) = absurd cc
-
-    report_of : IsReportOf m cdl policy report spec names
-    report_of = report_by audited
 
 module _ (told : Contents → Type 0) (some : (c : Contents) × told c) (before now : List ℕ → ℕ) (status : ℕ) (old new : Sink)
     (m n : ℕ) (zero : status ≡ 0) where
@@ -157,12 +147,7 @@ module _ (told : Contents → Type 0) (some : (c : Contents) × told c) (before 
       absurd cc
   told_whole Asked (ReadFault file) fits tells = let e = whole_status (ReadFault file) status old new m n tells zero in absurd cc
   told_whole Asked NoMemory fits tells = let e = whole_status NoMemory status old new m n tells zero in absurd cc
-  told_whole Asked (Compiled names b) fits tells = absurd (fits some.0 some.1)
-  told_whole Asked (Listed o) fits tells = absurd (fits some.0 some.1)
-  told_whole Asked (Explained o) fits tells = absurd (fits some.0 some.1)
-  told_whole Asked (Generated o) fits tells = absurd (fits some.0 some.1)
-  told_whole Asked (Faulted file fault) fits tells = absurd (fits some.0 some.1)
-  told_whole Asked Usage fits tells = absurd (fits some.0 some.1)
+  told_whole Asked _ fits tells = absurd (fits some.0 some.1)
 
   asked_as : (asked : Option Command) (command : Command) (answer : Answer) → asked ≡ Some command
       → InAll told (λ c. Fits asked c before now answer) → InAll told (λ c. Fits (Some command) c before now answer)

@@ -1,10 +1,11 @@
 -- A yes of `check` is sound.
-use Rattle.camkes_tool.proofs.Common.{Answer, Bool, Contents, Edge, FitsTexts, Holds, IsChecked, IsPolicy, IsPolicyText, IsSafe, IsSystem, List, Ok, Outcome, Policy, Spec, Stays, Text, cond, false, inl, inr, is_well, is_yes, refl, runs_stay}
+use Rattle.camkes_tool.proofs.Common.{Answer, Bool, Contents, Edge, FitsTexts, Holds, IsChecked, IsPolicy, IsPolicyText, IsSafe, IsSystem, List, Ok, Outcome, Policy, Spec, Stays, Text, cond, false, is_well, is_yes, refl, runs_stay}
 use Rattle.camkes_tool.proofs.Common.{status_of, subst, true, ℕ, ◌≡◌}
 use Rattle.cert_check.specs.Verdicts.{Judged}
 use Rattle.cert_check.specs.declared.verdict.Verdict.{Verdict}
 use Rattle.cert_check.specs.declared.verdict.Verdict.TheVariants.{Yes, No}
 use Rattle.camkes_tool.specs.declared.answer.Answer.TheVariants as answers
+use Rattle.text_commands.proofs.Turning.{then_ok}
 
 yes_stays : (spec : Spec) (labels : List ℕ) (policy cert : List Edge) (verdict : Verdict) → is_yes verdict ≡ true
     → Judged spec labels policy cert verdict → Stays spec labels policy
@@ -15,27 +16,26 @@ yes_stays spec labels policy cert (No rule have lack) well judged = absurd cc
 module _ (contents : Contents) (old new : List ℕ → ℕ) (cdl policy cert : List ℕ) where
   pub system_read : (spec : Spec) → IsSystem contents old new cdl (Ok spec) → (bytes : List ℕ) × Holds contents cdl bytes
       × Text bytes spec
-  system_read spec (inl (bytes, input, told)) = (bytes, input.1, told)
-  system_read spec (inr (e, input, is)) = absurd cc
+  system_read spec turn = let (bytes, input, told) = then_ok spec turn in (bytes, input.1, told)
 
   pub policy_read : (allowed : Policy) → IsPolicy contents old new policy (Ok allowed)
       → (bytes : List ℕ) × Holds contents policy bytes × IsPolicyText bytes allowed
-  policy_read allowed (inl (bytes, input, told)) = (bytes, input.1, told)
-  policy_read allowed (inr (e, input, is)) = absurd cc
+  policy_read allowed turn = let (bytes, input, told) = then_ok allowed turn in (bytes, input.1, told)
 
   checked_safe : (outcome : Outcome) → is_well outcome ≡ true → IsChecked contents old new cdl policy cert (Ok outcome)
       → IsSafe contents cdl policy
-  checked_safe outcome well (inl (spec, system, inl (allowed, text, inl (edges, read, inl (labels, labelled, said))))) = record {
-    spec = spec;
-    allowed = allowed;
-    labels = labels;
-    held = record { capdl = system_read spec system; text = policy_read allowed text; labelled = labelled };
-    stays = yes_stays spec labels.by_object allowed.edges edges said.0 (subst (λ o. is_well o ≡ true) said.1 well) said.2;
-  }
-  checked_safe outcome well (inl (spec, system, inl (allowed, text, inl (edges, read, inr (e, labelled, is))))) = absurd cc
-  checked_safe outcome well (inl (spec, system, inl (allowed, text, inr (e, read, is)))) = absurd cc
-  checked_safe outcome well (inl (spec, system, inr (e, text, is))) = absurd cc
-  checked_safe outcome well (inr (e, system, is)) = absurd cc
+  checked_safe outcome well checked =
+      let (spec, system, after) = then_ok outcome checked in
+      let (allowed, text, over) = then_ok outcome after in
+      let (edges, read, given) = then_ok outcome over in
+      let (labels, labelled, said) = then_ok outcome given in
+      record {
+        spec = spec;
+        allowed = allowed;
+        labels = labels;
+        held = record { capdl = system_read spec system; text = policy_read allowed text; labelled = labelled };
+        stays = yes_stays spec labels.by_object allowed.edges edges said.0 (subst (λ o. is_well o ≡ true) said.1 well) said.2;
+      }
 
   well_of : (b : Bool) → ◌≡◌ {A = ℕ} 0 (cond b 0 3) → b ≡ true
   well_of true e = refl
@@ -47,9 +47,4 @@ module _ (contents : Contents) (old new : List ℕ → ℕ) (cdl policy cert : L
   answered_safe (answers.Refused file fault) fits e = absurd cc
   answered_safe (answers.ReadFault file) fits e = absurd cc
   answered_safe answers.NoMemory fits e = absurd cc
-  answered_safe (answers.Compiled name spec) fits e = absurd fits
-  answered_safe (answers.Listed listing) fits e = absurd fits
-  answered_safe (answers.Explained answer) fits e = absurd fits
-  answered_safe (answers.Generated summary) fits e = absurd fits
-  answered_safe (answers.Faulted file fault) fits e = absurd fits
-  answered_safe answers.Usage fits e = absurd fits
+  answered_safe _ fits e = absurd fits

@@ -57,7 +57,7 @@ of_asked : (m : Contents) (asked : Option Command) (old new : List ℕ → ℕ) 
 of_asked m None old new a status x none e = of_usage m old new a status x e
 of_asked m (Some (Compile root base)) old new a status x none e = of_root m root base old new a status x none e
 of_asked m (Some (Check cdl policy cert)) old new a status x none e =
-    of_texts (IsChecked m old new cdl policy cert) a status (λ file h. none file (check_rose m old new cdl policy cert file h)) x
+    of_texts (IsChecked m old new cdl policy cert) a status (λ file h. none file (check_rose m old new file cdl policy cert h)) x
     e
 of_asked m (Some (ListOf root)) old new a status x none e =
     of_source Listed (λ listing. true) (λ o. refl) (IsListed root m old new) a status (λ file h. none file h.1)
@@ -66,18 +66,18 @@ of_asked m (Some (Explain root from authority to)) old new a status x none e =
     of_source Explained is_assigned (λ o. refl) (IsExplained from authority to root m old new) a status
     (λ file h. none file h.1) (explained_by (IsExplained from authority to root m old new) a x) e
 of_asked m (Some (Replay cdl policy steps)) old new a status x none e =
-    of_texts (IsRun m old new cdl policy steps) a status (λ file h. none file (run_rose m old new cdl policy steps file h)) x e
+    of_texts (IsRun m old new cdl policy steps) a status (λ file h. none file (run_rose m old new file cdl policy steps h)) x e
 of_asked m (Some (Generate count)) old new a status x none e =
     of_source Generated (λ summary. true) (λ o. refl) (IsGenerated count) a status (λ file h. h)
     (generated_by (IsGenerated count) a x) e
 of_asked m (Some (Audit cdl policy)) old new a status x none e =
-    of_texts (IsAudited m old new cdl policy) a status (λ file h. none file (audit_rose m old new cdl policy file h)) x e
+    of_texts (IsAudited m old new cdl policy) a status (λ file h. none file (audit_rose m old new file cdl policy h)) x e
 of_asked m (Some (Certify cdl policy)) old new a status x none e =
-    of_texts (IsCertified m old new cdl policy) a status (λ file h. none file (certify_rose m old new cdl policy file h)) x e
+    of_texts (IsCertified m old new cdl policy) a status (λ file h. none file (certify_rose m old new file cdl policy h)) x e
 of_asked m (Some (Plan cdl untypeds)) old new a status x none e =
-    of_texts (IsPlanned m old new cdl untypeds) a status (λ file h. none file (plan_rose m old new cdl untypeds file h)) x e
+    of_texts (IsPlanned m old new cdl untypeds) a status (λ file h. none file (plan_rose m old new file cdl untypeds h)) x e
 of_asked m (Some (Sections elf)) old new a status x none e =
-    of_texts (IsTabled m old new elf) a status (λ file h. none file (table_rose m old new elf file h)) x e
+    of_texts (IsTabled m old new elf) a status (λ file h. none file (table_rose m old new file elf h)) x e
 
 pub exact_status : (m : Contents) (asked : Option Command) (old new : List ℕ → ℕ) (answer : Answer) (status : ℕ)
     (sink left : Sink) (before now : ℕ)

@@ -1,6 +1,6 @@
 -- What `compile` leaves with status 0 is a sound build, written whole, whose texts are read back.
-use Rattle.camkes_tool.proofs.Common.{Answer, Check, Command, Compile, Compiled, Contents, Explained, Faulted, Fits, FitsCompiled, Generated, InAll, IsSafe, IsWritten, List, Listed, NoMemory, Option, ReadFault, Refused, Sink, Some, Tells, Told}
-use Rattle.camkes_tool.proofs.Common.{Usage, arith, build_sound, inl, inr, status_of, subst, sym, ℕ, ◌∙◌, ◌≡◌}
+use Rattle.camkes_tool.proofs.Common.{Answer, Check, Command, Compile, Compiled, Contents, Faulted, Fits, FitsCompiled, InAll, IsSafe, IsWritten, List, NoMemory, Option, ReadFault, Sink, Some, Tells}
+use Rattle.camkes_tool.proofs.Common.{arith, build_sound, inl, inr, status_of, subst, sym, ℕ, ◌∙◌, ◌≡◌}
 use Rattle.arch_compile.proofs.OfSources.{build_of_source}
 use Rattle.camkes_tool.proofs.Safe.{answered_safe}
 use Rattle.camkes_tool.proofs.SpecBack.{spec_back}
@@ -43,14 +43,9 @@ module _ (told : Contents → Type 0) (some : (c : Contents) × told c) (before 
   ]
   root_written (Faulted file fault) fits tells = let e = whole_status (Faulted file fault) status old new m n tells zero in
       absurd cc
-  root_written (Listed o) fits tells = absurd (fits some.0 some.1)
-  root_written (Explained o) fits tells = absurd (fits some.0 some.1)
-  root_written (Told o) fits tells = absurd (fits some.0 some.1)
-  root_written (Generated o) fits tells = absurd (fits some.0 some.1)
-  root_written (Refused file fault) fits tells = absurd (fits some.0 some.1)
-  root_written Usage fits tells = absurd (fits some.0 some.1)
   root_written (ReadFault file) fits tells = let e = whole_status (ReadFault file) status old new m n tells zero in absurd cc
   root_written NoMemory fits tells = let e = whole_status NoMemory status old new m n tells zero in absurd cc
+  root_written _ fits tells = absurd (fits some.0 some.1)
 
   pub compiled_written : (asked : Option Command) (answer : Answer) → asked ≡ Some (Compile root base)
       → InAll told (λ c. Fits asked c before now answer) → Tells answer status old new m n

@@ -38,20 +38,7 @@ pub bare_app : (c₀ c₁ c₂ c₃ c₄ c₅ : Command) → app_of c₀ ≡ new
     → fields_of c₄ ≡ record (fields_of c₃) { disable_version_flag = true }
     → fields_of c₅ ≡ record (fields_of c₄) { subcommand_required = true }
     → app_of c₅ ≡ bare
-bare_app c₀ c₁ c₂ c₃ c₄ c₅ is e₁ e₂ e₃ e₄ e₅ =
-    let e₂₁ = e₂ ∙ ap (λ (f : Command-F Command). record f { disable_help_flag = true }) e₁ in
-    let e₃₁ = e₃ ∙ ap (λ (f : Command-F Command). record f { disable_help_subcommand = true }) e₂₁ in
-    let e₄₁ = e₄ ∙ ap (λ (f : Command-F Command). record f { disable_version_flag = true }) e₃₁ in
-    let e₅₁ = e₅ ∙ ap (λ (f : Command-F Command). record f { subcommand_required = true }) e₄₁ in
-    ap app_of_fields e₅₁ ∙ ap (λ (a : App). record a {
-      top = record a.top {
-        no_binary_name = true;
-        disable_help_flag = true;
-        disable_help_subcommand = true;
-        disable_version_flag = true;
-        subcommand_required = true;
-      };
-    }) is
+bare_app c₀ c₁ c₂ c₃ c₄ c₅ is e₁ e₂ e₃ e₄ e₅ = search (rules)
 
 pub command_added : (old sub new : Command) (s : Shape) → AddsSubcommand old sub new → (fields_of sub).has_globals ≡ false
     → app_of sub ≡ record { top = s; subs = [] }

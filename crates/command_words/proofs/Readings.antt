@@ -1,4 +1,5 @@
 -- What the program's reader makes of its words is what `read_words` says.
+use Rattle.std.proofs.Common.{rules}
 use Rattle.command_words.proofs.Common.{AreUtf8, Bool, Box, Command, Err, HasKind, IfOk, IsUtf8, IsUtf8-string_bytes, Kinds, List, MatchResult, None, Ok, Option, OutOfMemory, Result, Row, Shape, Some, String, Text, [], ap, ap₂, built, bytes_eq}
 use Rattle.command_words.proofs.Common.{bytes_eq-Decides, codes, command_of, cond, count_of, false, fault_of, is_simple, is_simple_and_free, level_fault, made_of, map, nothing_held, of_count, of_four}
 use Rattle.command_words.proofs.Common.{of_one, of_three, of_two, option_and_then, option_map, read_words, reader, refl, rows_after, same_Some, string_bytes, subcommand_of, subcommand_rows, subst, sym, taken, true, true≢false, ℕ, ⊎_elim, ◌||◌, ◌∙◌}
@@ -237,11 +238,7 @@ are_texts [] = tt
 are_texts (x ∷ xs) = (IsUtf8-string_bytes x, are_texts xs)
 
 pub differs : (word name : Text) → (name ≡ word → ⊥) → bytes_eq word name ≡ false
-differs word name not_same = go (bytes_eq word name) refl
-  where
-    go : (b : Bool) → bytes_eq word name ≡ b → bytes_eq word name ≡ false
-    go true e = absurd (not_same (sym ((bytes_eq-Decides word name).0 e)))
-    go false e = e
+differs word name not_same = search (rules, bytes_eq-Decides)
 
 -- the subcommand's name and rows, as the getters give them
 pub met_is : {Z : Type 0} (o : Option (Box SubCommand Z)) (name : Text) (rows : List Row)

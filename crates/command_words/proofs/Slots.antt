@@ -161,15 +161,7 @@ module _ (s : Shape) (slots : has_slots s ≡ true) where
   positional_after : (a : Rule) (w : Text) (rows : List Row) (pending : Option (Text × List Text)) (p : ℕ) (t : Bool)
       → takes_one a ≡ true
       → to_positional c (Some a) w (at rows pending p t) (held rows pending) ≡ after a w rows pending p t
-  positional_after a w rows pending p t one =
-      let parts = and_parts (not (is_multiple a)) (not a.trailing_var_arg) ((and_parts (is_some a.index) _ one).1) in
-      let single : is_multiple a ≡ false = not-true (is_multiple a) parts.0 in
-      let alone : takes_several a ≡ false = (or_parts (takes_several a) _ single).0 in
-      let ends : a.trailing_var_arg ≡ false = not-true a.trailing_var_arg parts.1 in
-      let same : (is_pending a pending && takes_several a) ≡ false = ap (λ b. is_pending a pending && b) alone
-      ∙ and-false (is_pending a pending) in
-      let trails : (t || a.trailing_var_arg) ≡ t = ap (λ b. t || b) ends ∙ or-false t in
-      rw (single, same, trails) refl
+  positional_after a w rows pending p t one = search (rules, and_parts, is_some, not-true, or_parts, and-false, or-false)
 
   -- the step at a word goes the same way past a `--` and before it
   abbrev SameWalk : Walk → List Text → Walk → List Text → Type 0
@@ -190,10 +182,7 @@ module _ (s : Shape) (slots : has_slots s ≡ true) where
   step_same w rows pending p None e Goal rest = rest rows pending p
   step_same w rows pending p (Some a) e Goal rest =
       let one = find_passes _ takes_one c a slots e in
-      subst (λ (v : Walk). Goal v (to_positional c (Some a) w (at rows pending p true) (held rows pending)))
-      (sym (positional_after a w rows pending p false one))
-      (subst (λ (v : Walk). Goal (after a w rows pending p false) v) (sym (positional_after a w rows pending p true one))
-      (rest (settled_rows c pending rows) (Some (a.id, [] ++ w ∷ [])) (min (p + 1) usize_max)))
+      search (rules, positional_after, min)
 
   turn_then : (w : Text) (v : Walk) (ws : List Text) → walk_fault s [] v (w ∷ ws) ≡ or_else (turn_fault s [] v w)
       (walk_fault s [] (walked c [] v w) ws)
@@ -244,10 +233,7 @@ module _ (s : Shape) (slots : has_slots s ≡ true) where
       → is_dashed w ≡ true
       → turn_fault s [] (at rows pending p false) w ≡ UnknownArgument ∷ []
   unfolding flags_fault
-  flag_fails w rows pending p u d e = elim (dash_word w u d e) [
-    | inl h ↦ rw (d, h.1, no_long c h.0.0 slots) refl
-    | inr h ↦ rw (d, h.0, h.3, h.5, no_short c h.4 slots) refl
-  ]
+  flag_fails w rows pending p u d e = search (rules, dash_word, no_long, no_short)
 
   step_fails : (w : Text) (rows : List Row) (pending : Option (Text × List Text)) (p : ℕ) (ws : List Text)
       → bytes_eq w dashes ≡ false → is_dashed w ≡ false
@@ -300,8 +286,4 @@ module _ (s : Shape) (slots : has_slots s ≡ true) where
   -- a first word that no argument takes
   pub first_word_fails : (w : Text) → IsUtf8 w → bytes_eq w (codes "--") ≡ false → stray_fails s ≡ true → arg_by_index c 1 ≡ None
       → passes (turn_fault s [] (walk_from nothing_held) w) ≡ false
-  first_word_fails w u d stray none = go (is_dashed w) refl
-    where
-      go : (b : Bool) → is_dashed w ≡ b → passes (turn_fault s [] (walk_from nothing_held) w) ≡ false
-      go true e = ap (λ k. passes k) (flag_fails w [] None 1 u d e)
-      go false e = search (rules, turn_plain, not-true)
+  first_word_fails w u d stray none = search (rules, flag_fails, turn_plain, not-true)

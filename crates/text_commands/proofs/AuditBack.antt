@@ -1,7 +1,8 @@
 -- The steps of an audit are read back and made.
+use Rattle.std.proofs.Common.{rules}
 use Rattle.text_commands.proofs.Common.{All, Answers, AreEdgesOf, AreSteps, AuditReport, Audited, Authority, Contents, Done, Edge, Err, Fault, Has, HasReport, Holds, Illegal, InputError, IsAnswer, IsAudited, IsLabelling, IsPolicy, IsReplayed, IsRun}
-use Rattle.text_commands.proofs.Common.{IsSystem, IsTold, Labels, List, NoMemory, None, Ok, Outcome, Policy, Ran, ReadFault, Replayed, Result, Run, Some, Spec, State, Step, Then, ap, arith, boot, inl, inr, kept_text, length, length-append, list_all}
-use Rattle.text_commands.proofs.Common.{refl, subst, sym, tell_text, true, ℕ, ◌++◌, ◌<◌, ◌^◌, ◌∙◌, ◌≡◌, ◌≤◌}
+use Rattle.text_commands.proofs.Common.{IsSystem, IsTold, Labels, List, NoMemory, Ok, Outcome, Policy, Ran, ReadFault, Replayed, Result, Run, Spec, State, Step, Then, ap, arith, boot, inl, kept_text, length, length-append, list_all}
+use Rattle.text_commands.proofs.Common.{subst, sym, tell_text, true, ℕ, ◌++◌, ◌<◌, ◌^◌, ◌≡◌, ◌≤◌}
 use Rattle.cam_base.specs.Names.{is_name}
 use Rattle.capdl_read.proofs.Names.{text_named}
 use Rattle.capdl_text.specs.Texts as capdl
@@ -15,7 +16,7 @@ use Rattle.step_text.specs.StepLines.{steps_text}
 use Rattle.text_commands.proofs.OneAnswer.{labelled_one, policy_one, step_reads, system_one}
 use Rattle.text_commands.proofs.OneReplay.{not_done, run_one}
 use Rattle.text_commands.proofs.OneTurn.{then_goes, turn_one}
-use Rattle.text_commands.proofs.Turning.{turn_read}
+use Rattle.text_commands.proofs.Turning.{then_ok, turn_read}
 
 -- what an audit read and found
 record IsAuditOf (m : Contents) (old new : List ℕ → ℕ) (cdl policy : List ℕ) (report : AuditReport) (spec : Spec)
@@ -32,25 +33,7 @@ audit_of : (m : Contents) (old new : List ℕ → ℕ) (cdl policy : List ℕ) (
     (names : lines.LabelNames)
     → IsAudited m old new cdl policy (Ok (Audited report spec names))
     → IsAuditOf m old new cdl policy report spec names
-audit_of m old new cdl policy report spec names
-    (inl (found, system, inl (allowed, read, inl (labels, labelled, (shown, is, has))))) = record {
-      allowed = allowed;
-      labels = labels;
-      system = subst (λ z. IsSystem m old new cdl (Ok z)) specs system;
-      read = read;
-      labelled = subst (λ z. IsLabelling z allowed (Ok labels)) specs labelled;
-      named = let h = is in cc;
-      has = subst (λ z. HasReport z labels.by_object report) specs (subst (λ z. HasReport found labels.by_object z) reports has);
-    }
-  where
-    specs : found ≡ spec
-    specs = let h = is in cc
-
-    reports : shown ≡ report
-    reports = let h = is in cc
-audit_of m old new cdl policy report spec names (inl (found, system, inl (allowed, read, inr (e, told, is)))) = absurd cc
-audit_of m old new cdl policy report spec names (inl (found, system, inr (e, told, is))) = absurd cc
-audit_of m old new cdl policy report spec names (inr (e, told, is)) = absurd cc
+audit_of m old new cdl policy report spec names audited = search (rules, then_ok)
 
 module _ (m : Contents) (old new later last : List ℕ → ℕ) (cdl policy : List ℕ) (report : AuditReport) (spec : Spec)
     (names : lines.LabelNames)
@@ -89,15 +72,7 @@ module _ (m : Contents) (old new later last : List ℕ → ℕ) (cdl policy : Li
     made_of : (replayed : Replayed) (answer : Result Outcome InputError) → answer ≡ Ok (Ran replayed audit.allowed.labels)
         → IsReplayed spec numbers list replayed
         → (edges : List Edge) × (answer ≡ Ok (Ran (Done (length list) edges) names)) × AreEdgesOf spec numbers state edges
-    made_of (Done count edges) answer is replayed =
-        let counts : count ≡ length list = replayed.0 in
-        let leads = replayed.1 in
-        let states : leads.state ≡ state = run_one spec list (boot spec) leads.state state leads.run run in
-        let named : names ≡ audit.allowed.labels = audit.named in (
-          edges,
-          (let told : answer ≡ Ok (Ran (Done (length list) edges) names) = cc in told),
-          subst (λ z. AreEdgesOf spec numbers z edges) states leads.has,
-        )
+    made_of (Done count edges) answer is replayed = search (rules, run_one)
     made_of (Illegal number why) answer is replayed = absurd (not_done spec list state replayed.0 why run replayed.2)
 
     answered : (answer : Result Outcome InputError) → IsAnswer answer

@@ -1,11 +1,11 @@
 -- What is written of a least certificate is read back under its policy, and the checker says yes to it where it does to any.
-use Rattle.text_commands.proofs.Common.{All, Bool, Certified, Checked, Contents, Decides-eqb, Edge, Entry, Err, Holds, IsCert, IsCertText, IsCertificate, IsCertified, IsChecked, IsLabelling, IsPolicy}
-use Rattle.text_commands.proofs.Common.{IsPolicyRead, IsPolicyText, IsSystem, Judged, Labels, List, None, Ok, Option, Policy, Result, Some, Spec, Yes, [], ap, arith, false, find, has, inl, inr, is_some, kept_text}
-use Rattle.text_commands.proofs.Common.{least_valid, length, length-map, map, object_label, option_map, refl, subst, sym, tell_text, true, ℕ, ◌<◌, ◌==◌, ◌^◌, ◌||◌, ◌∙◌, ◌∷◌, ◌≡◌, ◌≤◌}
+use Rattle.std.proofs.Common.{rules}
+use Rattle.text_commands.proofs.Common.{All, Bool, Certified, Checked, Contents, Decides-eqb, Edge, Entry, Holds, IsCert, IsCertText, IsCertificate, IsCertified, IsChecked, IsLabelling, IsPolicy}
+use Rattle.text_commands.proofs.Common.{IsPolicyRead, IsPolicyText, IsSystem, Judged, Labels, List, Ok, Option, Policy, Some, Spec, Yes, [], ap, arith, false, find, has, inl, is_some, kept_text}
+use Rattle.text_commands.proofs.Common.{least_valid, length, length-map, map, object_label, option_map, refl, subst, sym, tell_text, true, ℕ, ◌<◌, ◌==◌, ◌^◌, ◌∙◌, ◌∷◌, ◌≡◌, ◌≤◌}
 use Rattle.std.proofs.lemmas.List.Elements.{All-head, All-tail}
 use Rattle.std.specs.Str.{bytes_eq}
 use Rattle.cap_model.specs.Policies.{label_name}
-use Rattle.cap_model.specs.Policies as policies
 use Rattle.capdl_text.specs.Texts as capdl
 use Rattle.cert_check.specs.Valid.{Valid}
 use Rattle.policy_text.specs.EdgeLines as names
@@ -17,7 +17,7 @@ use Rattle.policy_text.specs.PolicyLines.{cert_text}
 use Rattle.policy_text.specs.Writable.{IsWritableCert}
 use Rattle.text_commands.proofs.CertEnds.{is_among, least_ends}
 use Rattle.text_commands.proofs.OneAnswer.{labelled_one, policy_one, system_one}
-use Rattle.text_commands.proofs.Turning.{turn_read}
+use Rattle.text_commands.proofs.Turning.{then_ok, turn_read}
 
 -- ---- labels of objects are labels of the policy, below the limit
 
@@ -51,9 +51,7 @@ module _ (objects : List (List ℕ × ℕ)) (P : ℕ → Type 0) where
 labels_there : (spec : Spec) (policy : Policy) (labels : List ℕ)
     → map (λ n. Some n) labels ≡ map (λ entry. object_label policy.objects entry.name) spec.entries
     → length labels ≡ length spec.entries
-labels_there spec policy labels is =
-    sym (length-map labels (λ (n : ℕ). Some n)) ∙ ap (λ (xs : List (Option ℕ)). length xs) is ∙ length-map spec.entries
-    (λ (entry : Entry). object_label policy.objects entry.name)
+labels_there spec policy labels is = search (rules, length-map)
 
 -- ---- certificates of a system and a policy, as their texts say
 
@@ -101,75 +99,63 @@ module _ (cdl text : List ℕ) (spec : Spec) (allowed : Policy) (labels : Labels
 -- ---- over contents
 
 module _ (m : Contents) (old new later last : List ℕ → ℕ) (cdl policy : List ℕ) (edges : List Edge) where
+  -- what certify read and found
+  record IsCertificateRead : Type 0 where
+    spec : Spec
+    allowed : Policy
+    labels : Labels
+    system : IsSystem m old new cdl (Ok spec)
+    read : IsPolicy m old new policy (Ok allowed)
+    labelled : IsLabelling spec allowed (Ok labels)
+    certificate : IsCertificate spec labels.by_object edges
+
+  certificate_read : IsCertified m old new cdl policy (Ok (Certified edges)) → IsCertificateRead
+  certificate_read certified = search (rules, then_ok)
+
   -- what certify answers, told of the system, the policy and the labels that are read in other calls
-  certificate_of : (spec : Spec) (allowed : Policy) (labels : Labels) → IsCertified m old new cdl policy (Ok (Certified edges))
+  certificate_of : (spec : Spec) (allowed : Policy) (labels : Labels) → IsCertificateRead
       → IsSystem m later last cdl (Ok spec) → IsPolicy m later last policy (Ok allowed)
       → IsLabelling spec allowed (Ok labels) → IsCertificate spec labels.by_object edges
-  certificate_of spec allowed labels
-      (inl (spec0, system0, inl (allowed0, policy0, inl (labels0, labelled0, (cert, is, certificate))))) system read labelled =
-      go specs policies labelled0 certificate
-    where
-      specs : spec0 ≡ spec
-      specs = let same = system_one m old new later last cdl (Ok spec0) (Ok spec) tt tt system0 system in cc
-
-      policies : allowed0 ≡ allowed
-      policies = let same = policy_one m old new later last policy (Ok allowed0) (Ok allowed) tt tt policy0 read in cc
-
-      edges_same : cert ≡ edges
-      edges_same = let h = is in cc
-
-      go : spec0 ≡ spec → allowed0 ≡ allowed → IsLabelling spec0 allowed0 (Ok labels0)
-          → IsCertificate spec0 labels0.by_object cert → IsCertificate spec labels.by_object edges
-      go s p given is =
-          let mine : IsLabelling spec allowed (Ok labels0) = subst (λ z. IsLabelling z allowed (Ok labels0)) s
-          (subst (λ z. IsLabelling spec0 z (Ok labels0)) p given) in
-          let one = labelled_one m old new later last spec allowed policy (Ok labels0) (Ok labels) tt tt mine labelled in
-          let labels_same : labels0 ≡ labels = cc in
-          subst (λ z. IsCertificate z labels.by_object edges) s (subst (λ (z : Labels). IsCertificate spec0 z.by_object edges)
-          labels_same (subst (λ z. IsCertificate spec0 labels0.by_object z) edges_same is))
-  certificate_of spec allowed labels (inl (spec0, system0, inl (allowed0, policy0, inr (e, told, is)))) system read
-      labelled = absurd cc
-  certificate_of spec allowed labels (inl (spec0, system0, inr (e, told, is))) system read labelled = absurd cc
-  certificate_of spec allowed labels (inr (e, told, is)) system read labelled = absurd cc
-
-  -- and of its policy alone
-  some_system : (allowed : Policy) → IsCertified m old new cdl policy (Ok (Certified edges))
-      → IsPolicy m later last policy (Ok allowed)
-      → (spec : Spec) × (labels : Labels) × IsSystem m old new cdl (Ok spec) × IsLabelling spec allowed (Ok labels)
-      × IsCertificate spec labels.by_object edges
-  some_system allowed (inl (spec0, system0, inl (allowed0, policy0, inl (labels0, labelled0, (cert, is, certificate))))) read =
-      let same = policy_one m old new later last policy (Ok allowed0) (Ok allowed) tt tt policy0 read in
-      let policies : allowed0 ≡ allowed = cc in
-      let edges_same : cert ≡ edges = cc in (
-        spec0,
-        labels0,
-        system0,
-        subst (λ z. IsLabelling spec0 z (Ok labels0)) policies labelled0,
-        subst (λ z. IsCertificate spec0 labels0.by_object z) edges_same certificate,
-      )
-  some_system allowed (inl (spec0, system0, inl (allowed0, policy0, inr (e, told, is)))) read = absurd cc
-  some_system allowed (inl (spec0, system0, inr (e, told, is))) read = absurd cc
-  some_system allowed (inr (e, told, is)) read = absurd cc
+  certificate_of spec allowed labels c system read labelled =
+      let specs = system_one m old new later last cdl (Ok c.spec) (Ok spec) tt tt c.system system in
+      let policies = policy_one m old new later last policy (Ok c.allowed) (Ok allowed) tt tt c.read read in
+      let spec_same : c.spec ≡ spec = cc in
+      let policy_same : c.allowed ≡ allowed = cc in
+      let mine : IsLabelling spec allowed (Ok c.labels) = search (rules) in
+      let one = labelled_one m old new later last spec allowed policy (Ok c.labels) (Ok labels) tt tt mine labelled in
+      let labels_same : c.labels ≡ labels = cc in
+      subst (λ z. IsCertificate z labels.by_object edges) spec_same
+      (subst (λ (z : Labels). IsCertificate c.spec z.by_object edges) labels_same c.certificate)
 
   pub certificate_back : (cert : List ℕ) (allowed : Policy) → IsCertified m old new cdl policy (Ok (Certified edges))
       → IsPolicy m later last policy (Ok allowed) → Holds m cert (cert_text edges)
       → IsCert m later last allowed cert (Ok edges)
   certificate_back cert allowed certified read held =
-      let s = some_system allowed certified read in
-      let system = turn_read tell_text capdl.IsRead cdl m old new s.0 s.2 in
+      let c = certificate_read certified in
+      let policies = policy_one m old new later last policy (Ok c.allowed) (Ok allowed) tt tt c.read read in
+      let same : c.allowed ≡ allowed = cc in
+      let labelled : IsLabelling c.spec allowed (Ok c.labels) = subst (λ z. IsLabelling c.spec z (Ok c.labels)) same c.labelled in
+      let system = turn_read tell_text capdl.IsRead cdl m old new c.spec c.system in
       let text = turn_read tell_text IsPolicyRead policy m later last allowed read in
       inl (
         cert_text edges,
-        (text_short system.0 text.0 s.0 allowed s.1 system.1 text.1 s.3 edges s.4, held),
-        text_back system.0 text.0 s.0 allowed s.1 system.1 text.1 s.3 edges s.4,
+        (text_short system.0 text.0 c.spec allowed c.labels system.1 text.1 labelled edges c.certificate, held),
+        text_back system.0 text.0 c.spec allowed c.labels system.1 text.1 labelled edges c.certificate,
       )
 
   pub certificate_decides : (cert other : List ℕ) (labels : names.LabelNames)
       → IsCertified m old new cdl policy (Ok (Certified edges)) → Holds m cert (cert_text edges)
       → IsChecked m later last cdl policy other (Ok (Checked Yes labels))
       → IsChecked m later last cdl policy cert (Ok (Checked Yes labels))
-  certificate_decides cert other labels certified held
-      (inl (spec, system, inl (allowed, read, inl (others, given, inl (numbers, labelled, (verdict, is, judged)))))) =
+  certificate_decides cert other labels certified held checked =
+      let (spec, system, after) = then_ok (Checked Yes labels) checked in
+      let (allowed, read, given) = then_ok (Checked Yes labels) after in
+      let (others, _, labelling) = then_ok (Checked Yes labels) given in
+      let (numbers, labelled, (verdict, is, judged)) = then_ok (Checked Yes labels) labelling in
+      let least = certificate_of spec allowed numbers (certificate_read certified) system read labelled in
+      let yes : verdict ≡ Yes = cc in
+      let names_same : Checked Yes labels ≡ Checked Yes allowed.labels = cc in
+      let valid : Valid spec numbers.by_object allowed.edges others = search (rules) in
       inl (
         spec,
         system,
@@ -185,27 +171,9 @@ module _ (m : Contents) (old new later last : List ℕ → ℕ) (cdl policy : Li
               (
                 Yes,
                 names_same,
-                least_valid spec numbers.by_object edges least.least allowed.edges
-                    others valid,
+                least_valid spec numbers.by_object edges least.least allowed.edges others valid,
               ),
             ),
           ),
         ),
       )
-    where
-      least : IsCertificate spec numbers.by_object edges
-      least = certificate_of spec allowed numbers certified system read labelled
-
-      yes : verdict ≡ Yes
-      yes = let h = is in cc
-
-      names_same : Checked Yes labels ≡ Checked Yes allowed.labels
-      names_same = let h = is in cc
-
-      valid : Valid spec numbers.by_object allowed.edges others
-      valid = subst (λ v. Judged spec numbers.by_object allowed.edges others v) yes judged
-  certificate_decides cert other labels certified held
-      (inl (spec, system, inl (allowed, read, inl (others, given, inr (e, told, is))))) = absurd cc
-  certificate_decides cert other labels certified held (inl (spec, system, inl (allowed, read, inr (e, told, is)))) = absurd cc
-  certificate_decides cert other labels certified held (inl (spec, system, inr (e, told, is))) = absurd cc
-  certificate_decides cert other labels certified held (inr (e, told, is)) = absurd cc

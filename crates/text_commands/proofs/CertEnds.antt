@@ -67,9 +67,7 @@ module _ (spec : Spec) (labels : List ℕ) (kept : IsKept spec) (each : length l
 
   buffer_kept : (tcb : Tcb) (cap : Cap) → tcb.buffer ≡ Some cap → if_any (fits_as spec kinds.Frame) tcb.buffer ≡ true
       → cap.object < length spec.entries
-  buffer_kept tcb cap is h =
-      let test : fits_as spec kinds.Frame cap ≡ true = rw is at h in
-      fits_below spec cap (and_parts (is_at spec kinds.Frame cap.object) (fits spec cap) test).1
+  buffer_kept tcb cap is h = grind (arith, fits_below, and_parts)
 
   buffer_ends : (t : ℕ) (cap : Cap) (here : Option Object) → object_at spec t ≡ here → buffer_of here ≡ Some cap
       → (t < length spec.entries) × (cap.object < length spec.entries)

@@ -1,4 +1,5 @@
 -- A text of steps without a fault has at most as many steps as the limit says.
+use Rattle.std.proofs.Common.{rules}
 use Rattle.text_commands.proofs.Common.{Bool, List, None, Option, Some, Spec, Step, StepLimit, [], arith, false, filter_map, length, nat_lt, nat_tests, refl, true, ℕ, ◌+◌, ◌<◌, ◌∷◌, ◌≡◌, ◌≤◌}
 use Rattle.cam_base.specs.LineFaults.{at_line}
 use Rattle.cam_base.specs.Fields.{fields}
@@ -28,17 +29,7 @@ few_after place before (line ∷ more) l none =
         (at_line line (misspelled place (fields line.text))) = rw e refl in absurd cc
     go (Some step) e false t here others = let stands : fault_of place before line ≡ Some (at_line line (StepLimit, [])) =
         rw (e, t) refl in absurd cc
-    go (Some step) e true t here others =
-        let less = below before true t refl in
-        let rest = others (omega arith) in
-        rw e (omega arith)
+    go (Some step) e true t here others = grind (arith, below)
 
 pub few_steps : (spec : Spec) (bytes : List ℕ) → first_fault spec bytes ≡ None → length (steps_of spec bytes) ≤ 100000
-few_steps spec bytes none = go (nat_lt bytes_limit (length bytes)) refl
-  where
-    go : (long : Bool) → nat_lt bytes_limit (length bytes) ≡ long → length (steps_of spec bytes) ≤ 100000
-    go true e = let is = rw e at none in absurd cc
-    go false e =
-        let few : 0 + length (steps_of spec bytes) ≤ 100000 = few_after (thread_named spec) 0 (lines bytes) (omega arith)
-        (rw e at none) in
-        omega arith
+few_steps spec bytes none = search (rules, nat_lt, few_after)

@@ -1,4 +1,5 @@
 -- For the same contents each command has one answer.
+use Rattle.std.proofs.Common.{rules}
 use Rattle.text_commands.proofs.Common.{AreOne, AreOneButChoice, Checked, Contents, Entry, Err, InputError, IsAudited, IsCertRead, IsCertified, IsChecked, IsLabelling, IsPlanned, IsPolicy, IsPolicyRead, IsReplayed, IsRun, IsSystem, IsTabled, IsTold}
 use Rattle.text_commands.proofs.Common.{Judged, Labels, List, None, Ok, Option, Outcome, Policy, Ran, Refused, Replayed, Result, Some, Spec, Tabled, Verdict, [], answer_but_choice, ap, codes, find, inl, inr, is_none, map, object_label, option_map}
 use Rattle.text_commands.proofs.Common.{refl, sym, tell_elf, tell_text, tell_untyped, unlabelled, ℕ, ◌∙◌, ◌∷◌, ◌≡◌, ◌⊎◌}
@@ -48,25 +49,13 @@ cert_reads policy bytes = record {
 }
 
 pub step_reads : (spec : Spec) (bytes : List ℕ) → ReadsOne (steps.IsRead spec bytes)
-step_reads spec bytes = record {
-  value = λ x y h k. h.1 ∙ sym k.1;
-  fault = λ d e h k. cc;
-  either = λ x e h k. let none = h.0 in cc;
-}
+step_reads spec bytes = search (rules)
 
 region_reads : (bytes : List ℕ) → ReadsOne (untypeds.IsRead bytes)
 region_reads bytes = record { value = λ x y h k. h.1 ∙ sym k.1; fault = λ d e h k. cc; either = λ x e h k. let none = h.0 in cc }
 
 image_reads : (name bytes : List ℕ) → ReadsOne (elf.IsRead name bytes)
-image_reads name bytes = record {
-  value = λ x y h k.
-      let known : class_in bytes ≡ Ok h.class = h.known in
-      let other : class_in bytes ≡ Ok k.class = k.known in
-      let class : h.class ≡ k.class = cc in
-      h.is ∙ ap (elf.image_of name bytes) class ∙ sym k.is;
-  fault = λ d e h k. cc;
-  either = λ x e h k. let none = h.sound in cc;
-}
+image_reads name bytes = search (rules)
 
 labels_one : (x y : Labels) → x.by_object ≡ y.by_object → x ≡ y
 labels_one x y e = let same : ◌≡◌ {A = Labels} (record { by_object = x.by_object }) (record { by_object = y.by_object }) =
@@ -130,17 +119,10 @@ module _ (m : Contents) (old new later last : List ℕ → ℕ) where
       h.1 ∙ ap (λ z. Ran z allowed.labels) same ∙ sym k.1)))))
 
   pub tabled_one : (file : List ℕ) → AreOne (IsTabled m old new file) (IsTabled m later last file)
-  tabled_one file =
-      then_one _ _ _ _ (turn_one m old new later last file tell_elf (elf.IsRead (codes "image")) (image_reads (codes "image")))
-      (λ image.
-      answers_one (λ outcome. outcome ≡ Tabled image) (λ x y h k. h ∙ sym k))
+  tabled_one file = search (rules, then_one, turn_one, image_reads, answers_one)
 
   pub certified_one : (cdl policy : List ℕ) → AreOne (IsCertified m old new cdl policy) (IsCertified m later last cdl policy)
-  certified_one cdl policy =
-      then_one _ _ _ _ (system_one cdl) (λ spec.
-      then_one _ _ _ _ (policy_one policy) (λ allowed.
-      then_one _ _ _ _ (labelled_one spec allowed policy) (λ labels.
-      certificate_one cdl spec labels.by_object)))
+  certified_one cdl policy = search (rules, then_one, system_one, policy_one, labelled_one, certificate_one)
 
   abbrev SameButChoice : Result Outcome InputError → Result Outcome InputError → Type 0
   SameButChoice a b = answer_but_choice a ≡ answer_but_choice b

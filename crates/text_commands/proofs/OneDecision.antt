@@ -1,4 +1,5 @@
 -- Of a system one thing is decided.
+use Rattle.std.proofs.Common.{rules}
 use Rattle.text_commands.proofs.Common.{AreOne, AreOneButChoice, AuditReport, Audited, Certified, CloseRefused, Edge, Err, HasMoreThan, HasReport, InputFault, IsAudit, IsAuditable, IsCertificate, IsCertificateOf, IsPlan, List, None, Ok, Option}
 use Rattle.text_commands.proofs.Common.{Planned, Some, Spec, [], answer_but_choice, ap, arith, cases_lt, has, inl, inr, one_table, one_truth, refl, sym, tell_audit, tell_close, tell_plan, ℕ, ◌<◌, ◌∙◌, ◌≡◌, ◌≤◌, ◌⊎◌}
 use Rattle.boot_plan.specs.Devices.{device_refusal}
@@ -43,10 +44,7 @@ module _ (cdl : List ℕ) (spec : Spec) (labels : List ℕ) (names : LabelNames)
       cc
   audit_refusals_one (auditing.HoldsTcb c i) (auditing.Limit n k) p o s t a b = absurd (b.0 c i a.cap a.there a.thread)
   audit_refusals_one (auditing.Limit n k) (auditing.HoldsTcb d j) p o s t a b = absurd (a.0 d j b.cap b.there b.thread)
-  audit_refusals_one (auditing.Limit n k) (auditing.Limit l m) p o s t a b =
-      let cnodes : n ≡ l = a.1 ∙ sym b.1 in
-      let caps : k ≡ m = a.2 ∙ sym b.2 in
-      cc
+  audit_refusals_one (auditing.Limit n k) (auditing.Limit l m) p o s t a b = search (rules)
   audit_refusals_one auditing.NoMemory r p o s t a b = absurd cc
   audit_refusals_one (auditing.HoldsTcb c i) auditing.NoMemory p o s t a b = absurd cc
   audit_refusals_one (auditing.Limit n k) auditing.NoMemory p o s t a b = absurd cc
@@ -54,10 +52,7 @@ module _ (cdl : List ℕ) (spec : Spec) (labels : List ℕ) (names : LabelNames)
   not_auditable : (r : AuditRefusal) (p : InputFault × List ℕ) → tell_audit cdl spec r ≡ Some p → IsAuditable spec
       → AuditRefused spec r → ⊥
   not_auditable (auditing.HoldsTcb c i) p t a b = a.none c i b.cap b.there b.thread
-  not_auditable (auditing.Limit n k) p t a (none, cnodes, caps, over) =
-      let few = a.few in
-      let more = rw (cnodes, caps) at over in
-      omega (arith, few, more)
+  not_auditable (auditing.Limit n k) p t a (none, cnodes, caps, over) = search (rules)
   not_auditable auditing.NoMemory p t a b = cc
 
   reports_one : (a b : AuditReport) → HasReport spec labels a → HasReport spec labels b → a.edges ≡ b.edges
@@ -68,19 +63,7 @@ module _ (cdl : List ℕ) (spec : Spec) (labels : List ℕ) (names : LabelNames)
       (λ h. (x.shown.reached e.from e.authority e.to).1 ((y.shown.reached e.from e.authority e.to).0 h)))
 
   pub audit_one : AreOneButChoice (IsAudit cdl spec labels names) (IsAudit cdl spec labels names)
-  audit_one =
-      decided_alike (tell_audit cdl spec) (λ outcome. (report : AuditReport) × (outcome ≡ Audited report spec names)
-      × HasReport spec labels report) (AuditRefused spec)
-      (λ a b. answer_but_choice a ≡ answer_but_choice b) (λ e. refl) (record {
-        value = λ x y h k.
-            let edges : h.0.edges ≡ k.0.edges = reports_one h.0 k.0 h.2 k.2 in
-            let here : x ≡ Audited h.0 spec names = h.1 in
-            let there : y ≡ Audited k.0 spec names = k.1 in
-            ap (λ z. answer_but_choice (Ok z)) here ∙ ap (λ z. Ok (Audited (record { edges = z; steps = [] }) spec names)) edges
-            ∙ ap (λ z. answer_but_choice (Ok z)) (sym there);
-        refusal = audit_refusals_one;
-        either = λ x r p t h b. not_auditable r p t h.2.auditable b;
-      })
+  audit_one = search (rules, decided_alike, reports_one, audit_refusals_one, not_auditable)
 
 -- ---- certificates
 
@@ -127,27 +110,12 @@ module _ (cdl : List ℕ) (spec : Spec) (labels : List ℕ) where
 module _ (cdl untypeds : List ℕ) (spec : Spec) (regions : List Untyped) where
   rooms_one : (ns : List Need) (bits other need had have has : ℕ) → LacksRoom ns regions bits need have
       → LacksRoom ns regions other had has → (bits ≡ other) × (need ≡ had) × (have ≡ has)
-  rooms_one ns bits other need had have has a b = go (cases_lt bits other) (cases_lt other bits)
-    where
-      go : (bits < other) ⊎ (other ≤ bits) → (other < bits) ⊎ (bits ≤ other) → (bits ≡ other) × (need ≡ had) × (have ≡ has)
-      go (inl less) _ = absurd (let most = a.greatest other less in let no : ⊥ = omega (arith, most, b.needs, b.has, b.lacks) in
-          no)
-      go _ (inl less) = absurd (let most = b.greatest bits less in let no : ⊥ = omega (arith, most, a.needs, a.has, a.lacks) in
-          no)
-      go (inr more) (inr least) =
-          let same : bits ≡ other = omega (arith, more, least) in
-          let needs : need ≡ had = a.needs ∙ ap (λ z. needed z ns) same ∙ sym b.needs in
-          let haves : have ≡ has = a.has ∙ ap (λ z. rooms.had z regions) same ∙ sym b.has in
-          (same, needs, haves)
+  rooms_one ns bits other need had have has a b = search (rules, cases_lt)
 
   overlap_first : (ns : List Need) (first second : ℕ) (r : PlanRefusal) (p : InputFault × List ℕ)
       → tell_plan cdl untypeds spec r ≡ Some p → first_overlap regions ≡ Some (first, second)
       → plans.Refuses ns regions r → planning.Overlap first second ≡ r
-  overlap_first ns first second (planning.Overlap other earlier) p t a b =
-      let pairs : ◌≡◌ {A = ℕ × ℕ} (first, second) (other, earlier) = cc in
-      let one : first ≡ other = ap (λ (z : ℕ × ℕ). z.0) pairs in
-      let two : second ≡ earlier = ap (λ (z : ℕ × ℕ). z.1) pairs in
-      cc
+  overlap_first ns first second (planning.Overlap other earlier) p t a b = search (rules)
   overlap_first ns first second (planning.NoDevice frame) p t a b = let none : first_overlap regions ≡ None = b.0 in absurd cc
   overlap_first ns first second (planning.SharedFrame frame) p t a b = let none : first_overlap regions ≡ None = b.0 in absurd cc
   overlap_first ns first second (planning.NoRoom bits need have) p t a b = let none : first_overlap regions ≡ None =
@@ -174,12 +142,7 @@ module _ (cdl untypeds : List ℕ) (spec : Spec) (regions : List Untyped) where
   plan_refusals_one ns (planning.Overlap first second) r p o s t a b = overlap_first ns first second r o t a b
   plan_refusals_one ns (planning.NoDevice frame) r p o s t a b = of_device ns (planning.NoDevice frame) r o t a.0 a.1 b
   plan_refusals_one ns (planning.SharedFrame frame) r p o s t a b = of_device ns (planning.SharedFrame frame) r o t a.0 a.1 b
-  plan_refusals_one ns (planning.NoRoom bits need have) (planning.NoRoom other had has) p o s t a b =
-      let same = rooms_one ns bits other need had have has a.1 b.1 in
-      let one : bits ≡ other = same.0 in
-      let two : need ≡ had = same.1 in
-      let three : have ≡ has = same.2 in
-      cc
+  plan_refusals_one ns (planning.NoRoom bits need have) (planning.NoRoom other had has) p o s t a b = search (rules, rooms_one)
   plan_refusals_one ns (planning.NoRoom bits need have) (planning.Overlap first second) p o s t a b =
       let none : first_overlap regions ≡ None = a.0.regions in absurd cc
   plan_refusals_one ns (planning.NoRoom bits need have) (planning.NoDevice frame) p o s t a b =
@@ -200,11 +163,4 @@ module _ (cdl untypeds : List ℕ) (spec : Spec) (regions : List Untyped) where
   not_planned ns places planning.NoMemory p t a b = cc
 
   pub plan_one : AreOneButChoice (IsPlan cdl untypeds spec regions) (IsPlan cdl untypeds spec regions)
-  plan_one =
-      decided_alike (tell_plan cdl untypeds spec) (λ outcome. (plan : BootPlan) × (outcome ≡ Planned plan spec)
-      × plans.IsPlanned spec regions (Ok plan)) (λ refusal. plans.IsPlanned spec regions (Err refusal))
-      (λ a b. answer_but_choice a ≡ answer_but_choice b) (λ e. refl) (record {
-        value = λ x y h k. ap (λ z. answer_but_choice (Ok z)) h.1 ∙ ap (λ z. answer_but_choice (Ok z)) (sym k.1);
-        refusal = plan_refusals_one (needs spec);
-        either = λ x r p t h b. not_planned (needs spec) h.0.places r p t h.2 b;
-      })
+  plan_one = search (rules, decided_alike, plan_refusals_one, not_planned)

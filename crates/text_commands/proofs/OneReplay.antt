@@ -1,4 +1,5 @@
 -- Steps lead to one state, or stop at one place.
+use Rattle.std.proofs.Common.{rules}
 use Rattle.text_commands.proofs.Common.{AreEdgesOf, Done, Edge, Illegal, IsReplayed, LeadsTo, List, Replayed, Run, Some, Spec, State, Step, StopsAt, Why, [], ap, arith, boot, cases_lt, checks, first_failing, has, inl, inr, one_table}
 use Rattle.text_commands.proofs.Common.{one_truth, slice_get, subst, suc, sym, take, zero, ℕ, ◌+◌, ◌<◌, ◌∙◌, ◌∷◌, ◌≡◌, ◌≤◌, ◌⊎◌}
 use Rattle.cap_machine.proofs.Table.{next_passes, one_next}
@@ -16,9 +17,7 @@ module _ (spec : Spec) where
       → slice_get steps p ≡ Some step → Run spec s steps end
       → (new : State) × StepTo spec mid step new
   goes_on [] p s mid end step r at q = absurd cc
-  goes_on (x ∷ steps) zero s mid end step r at (then, one, rest) =
-      let is : x ≡ step = cc in
-      (then, subst (λ z. StepTo spec z step then) (sym r) (subst (λ z. StepTo spec s z then) is one))
+  goes_on (x ∷ steps) zero s mid end step r at (then, one, rest) = search (rules)
   goes_on (x ∷ steps) (suc p) s mid end step (one, made, more) at (then, other, rest) =
       let same : one ≡ then = one_next spec s x one then made other in
       goes_on steps p one mid end step more at (subst (λ z. Run spec z steps end) (sym same) rest)
@@ -29,9 +28,7 @@ module _ (spec : Spec) where
       → (new : State) × StepTo spec mid step new
   goes_on_in steps p zero s mid end step less r at q = let no : ⊥ = omega (arith, less) in absurd no
   goes_on_in [] p (suc q) s mid end step less r at run = absurd cc
-  goes_on_in (x ∷ steps) zero (suc q) s mid end step less r at (then, one, rest) =
-      let is : x ≡ step = cc in
-      (then, subst (λ z. StepTo spec z step then) (sym r) (subst (λ z. StepTo spec s z then) is one))
+  goes_on_in (x ∷ steps) zero (suc q) s mid end step less r at (then, one, rest) = search (rules)
   goes_on_in (x ∷ steps) (suc p) (suc q) s mid end step less (one, made, more) at (then, other, rest) =
       let same : one ≡ then = one_next spec s x one then made other in
       let fewer : p < q = omega (arith, less) in
@@ -59,16 +56,7 @@ module _ (spec : Spec) where
         go (inr more) (inr least) = omega (arith, more, least)
 
     reasons_one : (p : ℕ) (why when : Why) → StopsAt spec steps p why → StopsAt spec steps p when → why ≡ when
-    reasons_one p why when a b =
-        let states : a.state ≡ b.state = run_one (take p steps) (boot spec) a.state b.state a.run b.run in
-        let here : slice_get steps p ≡ Some a.step = a.here in
-        let there : slice_get steps p ≡ Some b.step = b.here in
-        let same : a.step ≡ b.step = cc in
-        let refused : first_failing (checks spec b.state b.step) ≡ Some why =
-        subst (λ z. first_failing (checks spec z b.step) ≡ Some why) states
-        (subst (λ z. first_failing (checks spec a.state z) ≡ Some why) same a.refused) in
-        let other : first_failing (checks spec b.state b.step) ≡ Some when = b.refused in
-        cc
+    reasons_one p why when a b = search (rules, run_one, slice_get)
 
   module _ (labels : List ℕ) where
     edges_one : (s : State) (a b : List Edge) → AreEdgesOf spec labels s a → AreEdgesOf spec labels s b → a ≡ b

@@ -74,60 +74,34 @@ pub told_one : {A E : Type 0} (tell : E → InputFault) (file : List ℕ) (reads
 told_one tell file reads one (Ok x) (Ok y) s t h k = ap (λ z. Ok z) (one.value x y h k)
 told_one tell file reads one (Ok x) (Err (Fault g l)) s t h k = absurd (one.either x k.1.0 h k.1.1)
 told_one tell file reads one (Err (Fault f l)) (Ok y) s t h k = absurd (one.either y h.1.0 k h.1.1)
-told_one tell file reads one (Err (Fault f l)) (Err (Fault g n)) s t h k =
-    let same : h.1.0 ≡ k.1.0 = one.fault h.1.0 k.1.0 h.1.1 k.1.1 in
-    let faults : f ≡ g = h.1.2 ∙ ap tell same ∙ sym k.1.2 in
-    let files : l ≡ n = h.0 ∙ sym k.0 in
-    cc
+told_one tell file reads one (Err (Fault f l)) (Err (Fault g n)) s t h k = search (rules)
 told_one tell file reads one _ _ s t h k = absurd (search rules)
 
 -- bytes and a fault of the same file
 apart : (m : Contents) (old new later last : List ℕ → ℕ) (file bytes : List ℕ) (f : InputFault) (name : List ℕ)
     → IsInput m old new file (Ok bytes) → IsInput m later last file (Err (Fault f name)) → ⊥
-apart m old new later last file bytes f name h (is, inl (e, none)) =
-    let there : contents.get m file ≡ Some bytes = h.1 in
-    let lacks : contents.get m file ≡ None = none in
-    absurd cc
-apart m old new later last file bytes f name h (is, inr (e, (more, there, long))) =
-    let few : length bytes ≤ most_bytes = h.0 in
-    let mine : contents.get m file ≡ Some bytes = h.1 in
-    let same : bytes ≡ more = cc in
-    let over : most_bytes < length bytes = subst (λ z. most_bytes < length z) (sym same) long in
-    omega (arith, few, over)
+apart m old new later last file bytes f name h (is, inl (e, none)) = search (rules)
+apart m old new later last file bytes f name h (is, inr (e, (more, there, long))) = search (rules)
 
 module _ (m : Contents) (old new later last : List ℕ → ℕ) (file : List ℕ) where
   faults_one : (f g : InputFault) (name other : List ℕ) → IsInput m old new file (Err (Fault f name))
       → IsInput m later last file (Err (Fault g other)) → (name ≡ other) × (f ≡ g)
   faults_one f g name other (is, inl (d, none)) (be, inl (e, lacks)) = (is ∙ sym be, d ∙ sym e)
-  faults_one f g name other (is, inl (d, none)) (be, inr (e, (bytes, there, long))) =
-      let lacks : contents.get m file ≡ None = none in
-      absurd cc
-  faults_one f g name other (is, inr (d, (bytes, there, long))) (be, inl (e, none)) =
-      let lacks : contents.get m file ≡ None = none in
-      absurd cc
+  faults_one f g name other (is, inl (d, none)) (be, inr (e, (bytes, there, long))) = search (rules)
+  faults_one f g name other (is, inr (d, (bytes, there, long))) (be, inl (e, none)) = search (rules)
   faults_one f g name other (is, inr (d, long)) (be, inr (e, longer)) = (is ∙ sym be, d ∙ sym e)
 
   pub input_one : AreOne (IsInput m old new file) (IsInput m later last file)
-  input_one (Ok x) (Ok y) s t h k =
-      let mine : contents.get m file ≡ Some x = h.1 in
-      let yours : contents.get m file ≡ Some y = k.1 in
-      cc
+  input_one (Ok x) (Ok y) s t h k = search (rules)
   input_one (Ok x) (Err (Fault g n)) s t h k = absurd (apart m old new later last file x g n h k)
   input_one (Err (Fault f l)) (Ok y) s t h k = absurd (apart m later last old new file y f l k h)
-  input_one (Err (Fault f l)) (Err (Fault g n)) s t h k =
-      let same = faults_one f g l n h k in
-      let files : l ≡ n = same.0 in
-      let faults : f ≡ g = same.1 in
-      cc
+  input_one (Err (Fault f l)) (Err (Fault g n)) s t h k = search (rules, faults_one)
   input_one _ _ s t h k = absurd (search rules)
 
   pub turn_one : {A E : Type 0} (tell : E → InputFault) (reads : List ℕ → Result A (Refused E) → Type 0)
       → ((bytes : List ℕ) → ReadsOne (reads bytes))
       → AreOne (Turn m old new tell reads file) (Turn m later last tell reads file)
-  turn_one tell reads one =
-      then_one (IsInput m old new file) (IsInput m later last file) (λ bytes. IsTold tell file (reads bytes))
-      (λ bytes. IsTold tell file (reads bytes)) input_one
-      (λ bytes. told_one tell file (reads bytes) (one bytes))
+  turn_one tell reads one = search (rules, then_one, input_one, told_one)
 
 -- ---- what is decided
 
@@ -146,13 +120,5 @@ module _ {A R : Type 0} (tell : R → Option (InputFault × List ℕ)) (accepts 
     decided_alike (Ok x) (Ok y) s t h k = one.value x y h k
     decided_alike (Ok x) (Err (Fault g n)) s t h k = absurd (one.either x k.0 (g, n) k.2 h k.1)
     decided_alike (Err (Fault f l)) (Ok y) s t h k = absurd (one.either y h.0 (f, l) h.2 k h.1)
-    decided_alike (Err (Fault f l)) (Err (Fault g n)) s t h k =
-        let same : h.0 ≡ k.0 = one.refusal h.0 k.0 (f, l) (g, n) h.2 k.2 h.1 k.1 in
-        let told : tell h.0 ≡ Some (f, l) = h.2 in
-        let tells : tell k.0 ≡ Some (g, n) = k.2 in
-        let pairs : ◌≡◌ {A = InputFault × List ℕ} (f, l) (g, n) = cc in
-        let faults : f ≡ g = ap (λ (z : InputFault × List ℕ). z.0) pairs in
-        let files : l ≡ n = ap (λ (z : InputFault × List ℕ). z.1) pairs in
-        let e : Fault f l ≡ Fault g n = cc in
-        subst (λ z. Same (Err (Fault f l)) (Err z)) e (same_error (Fault f l))
+    decided_alike (Err (Fault f l)) (Err (Fault g n)) s t h k = search (rules)
     decided_alike _ _ s t h k = absurd (search rules)

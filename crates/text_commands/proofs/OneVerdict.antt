@@ -1,4 +1,5 @@
 -- A certificate has one verdict.
+use Rattle.std.proofs.Common.{rules}
 use Rattle.text_commands.proofs.Common.{Edge, Judged, List, No, Option, Some, Spec, Verdict, Yes, [], ap, arith, at_most_both, cases_lt, inl, inr, refl, subst, suc, sym, zero, ℕ, ◌<◌, ◌∙◌, ◌∷◌, ◌≡◌, ◌≤◌, ◌⊎◌}
 use Rattle.cert_check.specs.Least.{Holds, Least, LeastAlone, LeastOf, LeastPair}
 use Rattle.cert_check.specs.Rules.{rule_number}
@@ -32,8 +33,7 @@ pair_one P have had lack lacked (v, p, is, e) (w, q, be, f) =
     let back = q.1 v p.0 in
     let first : v.first ≡ w.first = at_most_both v.first w.first there.by_first back.by_first in
     let lacks : v.lack ≡ w.lack = at_most_both v.lack w.lack (there.by_lack first) (back.by_lack (sym first)) in
-    let second : v.second ≡ w.second = at_most_both v.second w.second (there.by_second first lacks)
-    (back.by_second (sym first) (sym lacks)) in
+    let second : v.second ≡ w.second = search (rules, at_most_both) in
     (is ∙ ap (λ z. Some z ∷ Some v.second ∷ []) first ∙ ap (λ z. Some w.first ∷ Some z ∷ []) second ∙ sym be, e ∙ lacks ∙ sym f)
 
 module _ (spec : Spec) (labels : List ℕ) (policy cert : List Edge) where
@@ -56,26 +56,10 @@ module _ (spec : Spec) (labels : List ℕ) (policy cert : List Edge) where
 
   rules_one : (r q : Rule) (have had : List (Option Edge)) (lack lacked : Edge) → Least spec labels policy cert r have lack
       → Least spec labels policy cert q had lacked → r ≡ q
-  rules_one r q have had lack lacked a b = go (cases_lt (rule_number r) (rule_number q))
-      (cases_lt (rule_number q) (rule_number r))
-    where
-      go : (rule_number r < rule_number q) ⊎ (rule_number q ≤ rule_number r) → (rule_number q < rule_number r)
-          ⊎ (rule_number r ≤ rule_number q) → r ≡ q
-      go (inl less) _ = absurd (none_least r have lack (b.earlier r less) a.least)
-      go _ (inl less) = absurd (none_least q had lacked (a.earlier q less) b.least)
-      go (inr more) (inr least) =
-          let n : rule_number r ≡ rule_number q = omega (arith, more, least) in
-          sym (same_rule r) ∙ ap rule_of n ∙ same_rule q
+  rules_one r q have had lack lacked a b = search (rules, cases_lt, none_least, same_rule, rule_of)
 
   pub verdict_one : (a b : Verdict) → Judged spec labels policy cert a → Judged spec labels policy cert b → a ≡ b
   verdict_one Yes Yes h k = refl
   verdict_one Yes (No number have lack) h k = absurd (k.3 h)
   verdict_one (No number have lack) Yes h k = absurd (h.3 k)
-  verdict_one (No number have lack) (No other had lacked) h k =
-      let rule : h.0 ≡ k.0 = rules_one h.0 k.0 have had lack lacked h.2 k.2 in
-      let one = least_one k.0 have had lack lacked (subst (λ z. LeastOf spec labels policy cert z have lack) rule
-      h.2.least) k.2.least in
-      let n : number ≡ other = h.1 ∙ ap rule_number rule ∙ sym k.1 in
-      let haves : have ≡ had = one.0 in
-      let lacks : lack ≡ lacked = one.1 in
-      cc
+  verdict_one (No number have lack) (No other had lacked) h k = search (rules, rules_one, least_one)

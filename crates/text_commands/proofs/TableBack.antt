@@ -1,5 +1,5 @@
 -- The table that is printed of an ELF file is read back as its image, under any name.
-use Rattle.text_commands.proofs.Common.{Contents, Err, Holds, IsTabled, List, Ok, Refused, Result, Some, Tabled, ap, codes, inl, inr, refl, subst, ℕ, ◌≡◌, ◌⊎◌}
+use Rattle.text_commands.proofs.Common.{Contents, Err, Holds, IsTabled, List, Ok, Refused, Result, Some, Tabled, ap, codes, refl, subst, ℕ, ◌≡◌, ◌⊎◌}
 use Rattle.std.specs.FinMap as contents
 use Rattle.cam_base.specs.declared.error.Refused.TheVariants as refused
 use Rattle.cam_base.specs.declared.place.Fault.{Fault}
@@ -10,6 +10,7 @@ use Rattle.sect_table.specs.Elf.{Elf}
 use Rattle.sect_table.specs.Texts.{table_text}
 use Rattle.sect_table.specs.Tables as tables
 use Rattle.sect_table.specs.declared.image.Image.{Image}
+use Rattle.text_commands.proofs.Turning.{then_ok}
 
 abbrev renamed : List ℕ → Image → Image
 renamed name image = record image { name = name }
@@ -32,12 +33,12 @@ pub table_back : (m : Contents) (old new : List ℕ → ℕ) (elf bytes : List �
     → IsTabled m old new elf (Ok (Tabled image)) → Holds m elf bytes → AreBytes bytes
     → (file : ℕ) (name : List ℕ) (r : Result Image (Refused Fault)) → tables.IsRead file name (table_text image) r
     → (r ≡ Ok (renamed name image)) ⊎ (r ≡ Err refused.NoMemory)
-table_back m old new elf bytes image (inl (made, inl (there, input, told), is)) held are file name r read =
+table_back m old new elf bytes image tabled held are file name r read =
+    let (made, turn, is) = then_ok (Tabled image) tabled in
+    let (there, input, told) = then_ok made turn in
     let mine : contents.get m elf ≡ Some bytes = held in
     let other : contents.get m elf ≡ Some there = input.1 in
     let same : there ≡ bytes = cc in
     let images : made ≡ image = cc in
     read_back file name bytes image r are (subst (λ z. Elf (codes "image") z image) same (subst (λ z. Elf (codes "image") there z)
     images told)) read
-table_back m old new elf bytes image (inl (made, inr (e, input, told), is)) held are file name r read = absurd cc
-table_back m old new elf bytes image (inr (e, turn, is)) held are file name r read = absurd cc

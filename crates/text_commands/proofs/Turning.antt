@@ -1,8 +1,15 @@
 -- Turns of inputs, with other counts: what was read stays so, and a read fault from a later count is one from an earlier.
-use Rattle.text_commands.proofs.Common.{Contents, Err, Fault, InputError, InputFault, IsErrorOf, IsInput, IsTooLong, List, NoMemory, Ok, ReadFault, Refused, Result, TooLong, Turn, arith, inl, inr, of_file, rules, ℕ}
+use Rattle.text_commands.proofs.Common.{Contents, Err, Fault, InputError, InputFault, IsErrorOf, IsInput, IsTooLong, List, NoMemory, Ok, ReadFault, Refused, Result, TooLong, Turn, inl, inr, of_file, rules, ℕ, ◌≡◌, ◌⊎◌}
 use Rattle.cam_io.proofs.Counts.{rose_after}
 use Rattle.cam_io.specs.Causes.{NoneFell}
 use Rattle.cam_io.specs.Reading.{KeepsFiles}
+
+-- where there is an answer, what comes first is there, and the rest
+pub then_ok : {A B : Type 0} {First Rest : A → Type 0} {Stops : InputError → Type 0} (y : B)
+    → ((x : A) × First x × Rest x) ⊎ ((e : InputError) × Stops e × ◌≡◌ {A = Result B InputError} (Ok y) (Err e))
+    → (x : A) × First x × Rest x
+then_ok y (inl there) = there
+then_ok y (inr (e, stops, is)) = absurd cc
 
 -- the error of an input that is too long
 pub too_long : (contents : Contents) (before now : List ℕ → ℕ) (name : List ℕ) (e : InputError)
@@ -32,14 +39,12 @@ module _ {A E : Type 0} (tell : E → InputFault) (reads : List ℕ → Result A
   -- what was read, with any counts
   pub turn_done : (contents : Contents) (before now before' now' : List ℕ → ℕ) (x : A)
       → Turn contents before now tell reads file (Ok x) → Turn contents before' now' tell reads file (Ok x)
-  turn_done contents before now before' now' x (inl (bytes, input, told)) = inl (bytes, input, told)
-  turn_done contents before now before' now' x (inr (e, input, is)) = absurd cc
+  turn_done contents before now before' now' x turn = inl (then_ok x turn)
 
   -- what was read of a file, and its bytes
   pub turn_read : (contents : Contents) (before now : List ℕ → ℕ) (x : A) → Turn contents before now tell reads file (Ok x)
       → (bytes : List ℕ) × reads bytes (Ok x)
-  turn_read contents before now x (inl (bytes, input, told)) = (bytes, told)
-  turn_read contents before now x (inr (e, input, is)) = absurd cc
+  turn_read contents before now x turn = let read = then_ok x turn in (read.0, read.2)
 
 -- ---- over files, as calls leave them
 

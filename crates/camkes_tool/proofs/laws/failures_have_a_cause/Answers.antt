@@ -1,4 +1,4 @@
-use Rattle.camkes_tool.proofs.Common.{Answer, Bool, Build, Compiled, CutShort, Explained, Faulted, Generated, IsCut, List, Listed, NoMemory, ReadFault, Refused, Sink, Some, TextNames, Told, Usage, Write, [], answer_text, arith, cond, false}
+use Rattle.camkes_tool.proofs.Common.{Answer, Bool, Build, Compiled, CutShort, Explained, Generated, IsCut, List, Listed, Sink, Some, TextNames, Told, Write, [], answer_text, arith, cond, false}
 use Rattle.camkes_tool.proofs.Common.{generated_text, inl, inr, is_assigned, is_well, listing_text, said_as, same_Some, script, status_of, subst, text_of, texts_script, true, ℕ, ◌<◌, ◌∷◌, ◌≡◌, ◌≢◌, ◌≤◌}
 use Rattle.camkes_tool.proofs.Leaving.{Spares, cut_spared}
 use Rattle.camkes_tool.proofs.laws.failures_have_a_cause.Goals as goal
@@ -20,27 +20,16 @@ spares (Listed o) k l = (above k 0 (omega arith) l, tt)
 spares (Explained o) k l = (above k 0 (omega arith) l, tt)
 spares (Told outcome) k l = (above k 0 (omega arith) l, tt)
 spares (Generated o) k l = (above k 0 (omega arith) l, tt)
-spares (Faulted file fault) k l = (above k 1 (omega arith) l, tt)
-spares (Refused file fault) k l = (above k 1 (omega arith) l, tt)
-spares Usage k l = (above k 1 (omega arith) l, tt)
-spares (ReadFault file) k l = (above k 1 (omega arith) l, tt)
-spares NoMemory k l = (above k 1 (omega arith) l, tt)
+spares _ k l = (above k 1 (omega arith) l, tt)
 
 five_is_none : (b : Bool) → ◌≡◌ {A = ℕ} 5 (cond b 0 3) → ⊥
 five_is_none true e = cc
 five_is_none false e = cc
 
 not_five : (a : Answer) → 5 ≡ status_of a → ⊥
-not_five (Compiled names b) e = cc
-not_five (Listed o) e = cc
 not_five (Explained o) e = five_is_none (is_assigned o) e
 not_five (Told outcome) e = five_is_none (is_well outcome) e
-not_five (Generated o) e = cc
-not_five (Faulted file fault) e = cc
-not_five (Refused file fault) e = cc
-not_five Usage e = cc
-not_five (ReadFault file) e = cc
-not_five NoMemory e = cc
+not_five _ e = cc
 
 pub returns-clause-cause : goal.returns-clause-cause
 returns-clause-cause c answer old new before now tells = elim tells.told [
@@ -64,12 +53,7 @@ said (Listed o) old new text e cut = is_said text (listing_text o) old new e cut
 said (Explained o) old new text e cut = is_said text (answer_text o) old new e cut
 said (Told o) old new text e cut = is_said text (text_of o) old new e cut
 said (Generated o) old new text e cut = is_said text (generated_text o) old new e cut
-said (Compiled names b) old new text e cut = absurd cc
-said (Faulted file fault) old new text e cut = absurd cc
-said (Refused file fault) old new text e cut = absurd cc
-said Usage old new text e cut = absurd cc
-said (ReadFault file) old new text e cut = absurd cc
-said NoMemory old new text e cut = absurd cc
+said _ old new text e cut = absurd cc
 
 pub returns-clause-said : goal.returns-clause-said
 returns-clause-said c answer old new before now text tells is = elim tells.told [

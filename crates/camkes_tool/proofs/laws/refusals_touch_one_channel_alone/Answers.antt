@@ -1,4 +1,4 @@
-use Rattle.camkes_tool.proofs.Common.{Answer, Bool, Compiled, Explained, Faulted, Generated, IsAsBefore, Listed, NoMemory, ReadFault, Refused, Told, Usage, arith, cond, false, inl, inr, is_assigned, is_well, refl, script, status_of, subst, sym, true}
+use Rattle.camkes_tool.proofs.Common.{Answer, Bool, Compiled, Explained, Generated, IsAsBefore, Listed, Told, arith, cond, false, inl, inr, is_assigned, is_well, refl, script, status_of, subst, sym, true}
 use Rattle.camkes_tool.proofs.Common.{ℕ, ⊎_elim, ◌∙◌, ◌≡◌, ◌≢◌, ◌⊎◌}
 use Rattle.camkes_tool.proofs.Leaving.{Spares, after_spared}
 use Rattle.camkes_tool.proofs.laws.refusals_touch_one_channel_alone.Goals as goal
@@ -13,11 +13,7 @@ spares (Listed o) k n t m = absurd (n refl)
 spares (Generated o) k n t m = absurd (n refl)
 spares (Explained o) k n t m = absurd (⊎_elim n t (zero_or_three (is_assigned o)))
 spares (Told outcome) k n t m = absurd (⊎_elim n t (zero_or_three (is_well outcome)))
-spares (Faulted file fault) k n t m = (m, tt)
-spares (Refused file fault) k n t m = (m, tt)
-spares Usage k n t m = (m, tt)
-spares (ReadFault file) k n t m = (m, tt)
-spares NoMemory k n t m = (m, tt)
+spares _ k n t m = (m, tt)
 
 pub returns-clause-error : goal.returns-clause-error
 returns-clause-error c answer status old new before now tells not_done not_no not_cut k m = elim tells.told [
@@ -32,12 +28,7 @@ three (Explained o) k e n = (n, tt)
 three (Listed o) k e n = (n, tt)
 three (Generated o) k e n = (n, tt)
 three (Told outcome) k e n = (n, tt)
-three (Compiled names b) k e n = absurd cc
-three (Faulted file fault) k e n = absurd cc
-three (Refused file fault) k e n = absurd cc
-three Usage k e n = absurd cc
-three (ReadFault file) k e n = absurd cc
-three NoMemory k e n = absurd cc
+three _ k e n = absurd cc
 
 not_five : ◌≡◌ {A = ℕ} 3 5 → ⊥
 not_five e = omega arith

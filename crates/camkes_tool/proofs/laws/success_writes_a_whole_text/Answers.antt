@@ -1,4 +1,4 @@
-use Rattle.camkes_tool.proofs.Common.{Answer, Build, Compiled, Explained, Faulted, Generated, List, Listed, NoMemory, ReadFault, Refused, Sink, Some, TextNames, Told, Usage, after, answer_text, appended, generated_text, inl, inr, listing_text, refl}
+use Rattle.camkes_tool.proofs.Common.{Answer, Build, Compiled, Explained, Generated, List, Listed, Sink, Some, TextNames, Told, after, answer_text, appended, generated_text, inl, inr, listing_text, refl}
 use Rattle.camkes_tool.proofs.Common.{said_as, script, status_of, text_of, texts_script, ℕ, ◌≡◌, ◌⊎◌}
 use Rattle.camkes_tool.proofs.laws.success_writes_a_whole_text.Goals as goal
 use Rattle.camkes_tool.proofs.Written.{zero_not_five}
@@ -14,11 +14,7 @@ whole (Listed o) old new e told = inr (listing_text o, refl, told)
 whole (Explained o) old new e told = inr (answer_text o, refl, told)
 whole (Told outcome) old new e told = inr (text_of outcome, refl, told)
 whole (Generated summary) old new e told = inr (generated_text summary, refl, told)
-whole (Faulted file fault) old new e told = absurd cc
-whole (Refused file fault) old new e told = absurd cc
-whole Usage old new e told = absurd cc
-whole (ReadFault file) old new e told = absurd cc
-whole NoMemory old new e told = absurd cc
+whole _ old new e told = absurd cc
 
 pub returns : goal.returns
 returns c answer old new before now tells = elim tells.told [
