@@ -7,24 +7,35 @@ use adl_meaning::Flat;
 use cam_base::{List, Made, Text};
 use cspace_layout::end_of;
 use std::alloc::Global;
+use system_spec::MapNames;
 
-/// Whether the domain has the leaf.
-pub(crate) fn has_leaf(flat: &Flat, domain: u32, leaf: u32) -> bool
-    ensures { result ≡ has_leaf flat.now domain leaf }
-{
-    match flat.leaves.as_slice().get(leaf as usize) {
-        Some(leaf) => leaf.domain == Some(domain),
-        None => false,
-    }
+/// A domain of a system by its number, and what gives names to what is in it.
+#[derive(Drop)]
+pub(crate) struct NamedDomain<'a> {
+    pub alloc: Global,
+    pub names: MapNames<'a>,
+    pub number: u32,
 }
 
-/// Whether the domain has the leaf at which the end stands.
-pub(crate) fn has_end(flat: &Flat, domain: u32, connection: u32, end: u32) -> bool
-    ensures { result ≡ has_end flat.now domain connection end }
-{
-    match end_of(flat, connection, end) {
-        Some((_, end)) => has_leaf(flat, domain, end.leaf),
-        None => false,
+impl<'a> NamedDomain<'a> {
+    /// Whether the domain has the leaf.
+    pub fn has_leaf(&self, leaf: u32) -> bool
+        ensures { result ≡ has_leaf self.now.names.flat.now self.now.number leaf }
+    {
+        match self.names.flat.leaves.as_slice().get(leaf as usize) {
+            Some(leaf) => leaf.domain == Some(self.number),
+            None => false,
+        }
+    }
+
+    /// Whether the domain has the leaf at which the end stands.
+    pub fn has_end(&self, connection: u32, end: u32) -> bool
+        ensures { result ≡ has_end self.now.names.flat.now self.now.number connection end }
+    {
+        match end_of(self.names.flat, connection, end) {
+            Some((_, end)) => self.has_leaf(end.leaf),
+            None => false,
+        }
     }
 }
 

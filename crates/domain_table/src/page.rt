@@ -2,10 +2,13 @@
 
 ghost use Rattle.cap_model.specs.RightsWord.{rights_word};
 ghost use Rattle.domain_table.specs.Pages.{address, fill_text, frame_text, object_called, paddr_text, page_row, page_rows, rows_of_space, space_rows, steps, table_slots};
+ghost use Rattle.domain_table.specs.Tables.{root_name};
 ghost use Rattle.std.specs.Option.{option_map};
 ghost use Rattle.std.specs.Prelude.{◌≡◌, ◌++◌, ◌∷◌, [], IfOk, OnOk};
 
+use crate::domain::NamedDomain;
 use crate::row::push_row;
+use crate::table::root_name;
 use cam_base::{Boxed, List, Made, Text, hexadecimal};
 use cap_model::{Arch, Cap, Fill, Object, Rights, Spec};
 use itoa::Buffer;
@@ -81,64 +84,6 @@ fn rights_word(rights: &Rights) -> &[u8]
     rights.word()
 }
 
-fn push_page(
-    alloc: Global,
-    rows: &mut List<List<Text>>,
-    spec: &Spec,
-    at: u64,
-    cap: &Cap,
-) -> Made<()>
-    ensures { OnOk result (rows.new ≡ rows.old ++ page_row spec.now at cap.now ∷ []) }
-{
-    let holds = frame_text(alloc, spec.object(cap.object))?;
-    let mut digits = [0; 18];
-    let at = hexadecimal(at, &mut digits);
-    let name = spec.name(cap.object);
-    let rights = rights_word(&cap.rights);
-    push_row(alloc, rows, &[at, name, rights, holds.as_slice()])
-}
-
-/// Puts the pages that a capability at an address leads to behind the others, over the levels below it.
-fn push_pages(
-    alloc: Global,
-    rows: &mut List<List<Text>>,
-    spec: &Spec,
-    steps: &[u64],
-    at: u64,
-    cap: &Cap,
-) -> Made<()>
-    ensures { OnOk result (rows.new ≡ rows.old ++ page_rows spec.now steps.now at cap.now) }
-{
-    match steps {
-        [] => push_page(alloc, rows, spec, at, cap),
-        [step, below @ ..] => {
-            for slot in table_slots(spec.object(cap.object)) {
-                let place = address(at, slot.0, *step);
-                push_pages(alloc, rows, spec, below, place, &slot.1)?;
-            }
-            Ok(())
-        }
-    }
-}
-
-fn push_space(
-    alloc: Global,
-    rows: &mut List<List<Text>>,
-    spec: &Spec,
-    steps: &[u64],
-    slots: &[(u64, Cap)],
-) -> Made<()>
-    ensures { OnOk result (rows.new ≡ rows.old ++ space_rows spec.now steps.now slots.now) }
-{
-    let [step, below @ ..] = steps else {
-        return Ok(());
-    };
-    for slot in slots {
-        push_pages(alloc, rows, spec, below, address(0, slot.0, *step), &slot.1)?;
-    }
-    Ok(())
-}
-
 /// The object of that name.
 fn object_called<'a>(spec: &'a Spec, name: &[u8]) -> Option<&'a Object>
     ensures { option_map (λ o. o.now) result ≡ object_called spec.now name.now }
@@ -150,12 +95,62 @@ fn object_called<'a>(spec: &'a Spec, name: &[u8]) -> Option<&'a Object>
         .map(|entry| &entry.object)
 }
 
-/// The pages of the space whose root has that name.
-pub(crate) fn pages_of(alloc: Global, spec: &Spec, root: &[u8]) -> Made<List<List<Text>>>
-    ensures { IfOk result (λ rows. rows ≡ rows_of_space spec.now root.now) }
-{
-    let mut rows = List::new(alloc);
-    let slots = table_slots(object_called(spec, root));
-    push_space(alloc, &mut rows, spec, steps(spec.arch), slots)?;
-    Ok(rows)
+impl<'a> NamedDomain<'a> {
+    fn push_page(&self, rows: &mut List<List<Text>>, at: u64, cap: &Cap) -> Made<()>
+        ensures { OnOk result (rows.new ≡ rows.old ++ page_row self.now.names.spec.now at cap.now ∷ []) }
+    {
+        let spec = self.names.spec;
+        let holds = frame_text(self.alloc, spec.object(cap.object))?;
+        let mut digits = [0; 18];
+        let at = hexadecimal(at, &mut digits);
+        let name = spec.name(cap.object);
+        let rights = rights_word(&cap.rights);
+        push_row(self.alloc, rows, &[at, name, rights, holds.as_slice()])
+    }
+
+    /// Puts the pages that a capability at an address leads to behind the others, over the levels below it.
+    fn push_pages(&self, rows: &mut List<List<Text>>, steps: &[u64], at: u64, cap: &Cap) -> Made<()>
+        ensures { OnOk result (rows.new ≡ rows.old ++ page_rows self.now.names.spec.now steps.now at cap.now) }
+    {
+        match steps {
+            [] => self.push_page(rows, at, cap),
+            [step, below @ ..] => {
+                for slot in table_slots(self.names.spec.object(cap.object)) {
+                    let place = address(at, slot.0, *step);
+                    self.push_pages(rows, below, place, &slot.1)?;
+                }
+                Ok(())
+            }
+        }
+    }
+
+    fn push_space(
+        &self,
+        rows: &mut List<List<Text>>,
+        steps: &[u64],
+        slots: &[(u64, Cap)],
+    ) -> Made<()>
+        ensures { OnOk result (rows.new ≡ rows.old ++ space_rows self.now.names.spec.now steps.now slots.now) }
+    {
+        let [step, below @ ..] = steps else {
+            return Ok(());
+        };
+        for slot in slots {
+            self.push_pages(rows, below, address(0, slot.0, *step), &slot.1)?;
+        }
+        Ok(())
+    }
+
+    /// The rows of the pages of its space.
+    pub fn pages(&self) -> Made<List<List<Text>>>
+        ensures { IfOk result (λ rows. rows
+            ≡ rows_of_space self.now.names.spec.now (root_name self.now.names.spec.now self.now.number)) }
+    {
+        let spec = self.names.spec;
+        let root = root_name(self.alloc, spec, self.number)?;
+        let mut rows = List::new(self.alloc);
+        let slots = table_slots(object_called(spec, root.as_bytes()));
+        self.push_space(&mut rows, steps(spec.arch), slots)?;
+        Ok(rows)
+    }
 }

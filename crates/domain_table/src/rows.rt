@@ -1,27 +1,17 @@
 //! Rows of lines of the map.
 
-ghost use Rattle.cap_model.specs.Lookup.{name_at, object_at};
-ghost use Rattle.domain_table.specs.Tables.{badge_of, cap_in, registers_row, rights_of, slot_line, slot_row, thread_line, window_line};
+ghost use Rattle.domain_table.specs.Tables.{badge_of, cap_in, rights_of, slot_line, slot_row, thread_line, thread_row, window_line};
+ghost use Rattle.std.specs.List.{flat_map};
 ghost use Rattle.std.specs.Option.{option_map};
-ghost use Rattle.std.specs.Prelude.{◌≡◌, ◌∷◌, ◌++◌, [], OnOk};
+ghost use Rattle.std.specs.Prelude.{◌≡◌, ◌∷◌, ◌++◌, [], IfOk, OnOk};
 ghost use Rattle.system_spec.specs.MapText.{named};
 
-use crate::domain::{has_end, has_leaf};
+use crate::domain::NamedDomain;
 use crate::row::push_row;
-use crate::words::{end_text, lock_text, thread_text};
 use cam_base::{List, Made, Text, hexadecimal};
 use cap_model::{Cap, Object, Spec};
 use itoa::Buffer;
-use std::alloc::Global;
-use system_spec::{MapLine, MapNames};
-
-/// A slot of a domain's CNode, and the object in it.
-#[derive(Clone, Copy)]
-struct SlotPlace {
-    domain: u32,
-    slot: u64,
-    object: u32,
-}
+use system_spec::MapLine;
 
 /// A slot of a domain's CNode.
 fn cap_in(spec: &Spec, domain: u32, slot: u64) -> Option<&(u64, Cap)>
@@ -51,133 +41,135 @@ fn badge_of(slot: Option<&(u64, Cap)>) -> u64
     }
 }
 
-fn push_slot(
-    alloc: Global,
-    rows: &mut List<List<Text>>,
-    spec: &Spec,
-    place: SlotPlace,
-    of: &[u8],
-) -> Made<()>
-    ensures { OnOk result (rows.new ≡ rows.old ++ slot_row spec.now place.domain place.slot place.object of.now ∷ []) }
-{
-    let cap = cap_in(spec, place.domain, place.slot);
-    let mut digits = [0; 18];
-    let mut number = Buffer::new();
-    let slot = hexadecimal(place.slot, &mut digits);
-    let name = spec.name(place.object);
-    let rights = rights_of(cap);
-    let badge = number.format(badge_of(cap)).as_bytes();
-    push_row(alloc, rows, &[slot, name, rights, badge, of])
-}
-
-fn push_thread(
-    alloc: Global,
-    rows: &mut List<List<Text>>,
-    spec: &Spec,
-    tcb: u32,
-    what: &[u8],
-) -> Made<()>
-    ensures { OnOk result (rows.new ≡ rows.old ++ registers_row what.now (name_at spec.now tcb) (object_at spec.now tcb)) }
-{
-    match spec.object(tcb) {
-        Some(Object::Thread(registers)) => {
-            let registers = registers.get();
-            let (mut entry, mut stack, mut buffer) = ([0; 18], [0; 18], [0; 18]);
-            let entry = hexadecimal(registers.ip, &mut entry);
-            let stack = hexadecimal(registers.sp, &mut stack);
-            let buffer = hexadecimal(registers.addr, &mut buffer);
-            push_row(alloc, rows, &[what, spec.name(tcb), entry, stack, buffer])
-        }
-        _ => Ok(()),
+impl<'a> NamedDomain<'a> {
+    fn push_slot(&self, rows: &mut List<List<Text>>, slot: u64, object: u32, of: &[u8]) -> Made<()>
+        ensures { OnOk result (rows.new
+            ≡ rows.old ++ slot_row self.now.names.spec.now self.now.number slot object of.now ∷ []) }
+    {
+        let spec = self.names.spec;
+        let cap = cap_in(spec, self.number, slot);
+        let mut digits = [0; 18];
+        let mut number = Buffer::new();
+        let slot = hexadecimal(slot, &mut digits);
+        let name = spec.name(object);
+        let rights = rights_of(cap);
+        let badge = number.format(badge_of(cap)).as_bytes();
+        push_row(self.alloc, rows, &[slot, name, rights, badge, of])
     }
-}
 
-/// Puts the row of a line behind the others, where the line tells of a slot of the domain.
-pub(crate) fn push_slot_line(
-    alloc: Global,
-    rows: &mut List<List<Text>>,
-    names: &MapNames<'_>,
-    domain: u32,
-    line: MapLine,
-) -> Made<()>
-    ensures { OnOk result (rows.new ≡ rows.old ++ slot_line (named names.now) domain line) }
-{
-    match line {
-        MapLine::SlotLine {
-            connection,
-            end,
-            slot,
-            object,
-        } if has_end(names.flat, domain, connection, end) => {
-            let of = end_text(alloc, names, connection, end)?;
-            let place = SlotPlace {
-                domain,
+    fn push_thread(&self, rows: &mut List<List<Text>>, tcb: u32, what: &[u8]) -> Made<()>
+        ensures { OnOk result (rows.new ≡ rows.old ++ thread_row (named self.now.names) tcb what.now) }
+    {
+        let spec = self.names.spec;
+        match spec.object(tcb) {
+            Some(Object::Thread(registers)) => {
+                let registers = registers.get();
+                let (mut entry, mut stack, mut buffer) = ([0; 18], [0; 18], [0; 18]);
+                let entry = hexadecimal(registers.ip, &mut entry);
+                let stack = hexadecimal(registers.sp, &mut stack);
+                let buffer = hexadecimal(registers.addr, &mut buffer);
+                push_row(
+                    self.alloc,
+                    rows,
+                    &[what, spec.name(tcb), entry, stack, buffer],
+                )
+            }
+            _ => Ok(()),
+        }
+    }
+
+    /// Puts the row of a line behind the others, where the line tells of a slot of the domain.
+    fn push_slot_line(&self, rows: &mut List<List<Text>>, line: MapLine) -> Made<()>
+        ensures { OnOk result (rows.new ≡ rows.old ++ slot_line (named self.now.names) self.now.number line) }
+    {
+        match line {
+            MapLine::SlotLine {
+                connection,
+                end,
                 slot,
                 object,
-            };
-            push_slot(alloc, rows, names.spec, place, of.as_slice())
-        }
-        MapLine::OwnLine {
-            leaf,
-            member,
-            slot,
-            object,
-        } if has_leaf(names.flat, domain, leaf) => {
-            let of = lock_text(alloc, names, leaf, member)?;
-            let place = SlotPlace {
-                domain,
+            } if self.has_end(connection, end) => {
+                let of = self.end_text(connection, end)?;
+                self.push_slot(rows, slot, object, of.as_slice())
+            }
+            MapLine::OwnLine {
+                leaf,
+                member,
                 slot,
                 object,
-            };
-            push_slot(alloc, rows, names.spec, place, of.as_slice())
+            } if self.has_leaf(leaf) => {
+                let of = self.lock_text(leaf, member)?;
+                self.push_slot(rows, slot, object, of.as_slice())
+            }
+            _ => Ok(()),
         }
-        _ => Ok(()),
     }
-}
 
-/// Puts the row of a line behind the others, where the line tells of a thread of the domain.
-pub(crate) fn push_thread_line(
-    alloc: Global,
-    rows: &mut List<List<Text>>,
-    names: &MapNames<'_>,
-    domain: u32,
-    line: MapLine,
-) -> Made<()>
-    ensures { OnOk result (rows.new ≡ rows.old ++ thread_line (named names.now) domain line) }
-{
-    match line {
-        MapLine::ThreadLine { tcb, leaf, end } if has_leaf(names.flat, domain, leaf) => {
-            let what = thread_text(alloc, names, leaf, end)?;
-            push_thread(alloc, rows, names.spec, tcb, what.as_slice())
+    /// Puts the row of a line behind the others, where the line tells of a thread of the domain.
+    fn push_thread_line(&self, rows: &mut List<List<Text>>, line: MapLine) -> Made<()>
+        ensures { OnOk result (rows.new ≡ rows.old ++ thread_line (named self.now.names) self.now.number line) }
+    {
+        match line {
+            MapLine::ThreadLine { tcb, leaf, end } if self.has_leaf(leaf) => {
+                let what = self.thread_text(leaf, end)?;
+                self.push_thread(rows, tcb, what.as_slice())
+            }
+            _ => Ok(()),
         }
-        _ => Ok(()),
     }
-}
 
-/// Puts the row of a line behind the others, where the line tells of a window of the domain.
-pub(crate) fn push_window_line(
-    alloc: Global,
-    rows: &mut List<List<Text>>,
-    names: &MapNames<'_>,
-    domain: u32,
-    line: MapLine,
-) -> Made<()>
-    ensures { OnOk result (rows.new ≡ rows.old ++ window_line (named names.now) domain line) }
-{
-    match line {
-        MapLine::WindowLine {
-            connection,
-            end,
-            vaddr,
-            bytes,
-        } if has_end(names.flat, domain, connection, end) => {
-            let of = end_text(alloc, names, connection, end)?;
-            let mut digits = [0; 18];
-            let mut number = Buffer::new();
-            let vaddr = hexadecimal(vaddr, &mut digits);
-            let bytes = number.format(bytes).as_bytes();
-            push_row(alloc, rows, &[of.as_slice(), vaddr, bytes])
+    /// Puts the row of a line behind the others, where the line tells of a window of the domain.
+    fn push_window_line(&self, rows: &mut List<List<Text>>, line: MapLine) -> Made<()>
+        ensures { OnOk result (rows.new ≡ rows.old ++ window_line (named self.now.names) self.now.number line) }
+    {
+        match line {
+            MapLine::WindowLine {
+                connection,
+                end,
+                vaddr,
+                bytes,
+            } if self.has_end(connection, end) => {
+                let of = self.end_text(connection, end)?;
+                let mut digits = [0; 18];
+                let mut number = Buffer::new();
+                let vaddr = hexadecimal(vaddr, &mut digits);
+                let bytes = number.format(bytes).as_bytes();
+                push_row(self.alloc, rows, &[of.as_slice(), vaddr, bytes])
+            }
+            _ => Ok(()),
         }
-        _ => Ok(()),
+    }
+
+    /// The rows of its slots.
+    pub fn slots(&self, lines: &[MapLine]) -> Made<List<List<Text>>>
+        ensures { IfOk result (λ rows. rows ≡ flat_map (slot_line (named self.now.names) self.now.number) lines.now) }
+    {
+        let mut rows = List::new(self.alloc);
+        for line in lines {
+            self.push_slot_line(&mut rows, *line)?;
+        }
+        Ok(rows)
+    }
+
+    /// The rows of its threads.
+    pub fn threads(&self, lines: &[MapLine]) -> Made<List<List<Text>>>
+        ensures { IfOk result (λ rows. rows ≡ flat_map (thread_line (named self.now.names) self.now.number) lines.now) }
+    {
+        let mut rows = List::new(self.alloc);
+        for line in lines {
+            self.push_thread_line(&mut rows, *line)?;
+        }
+        Ok(rows)
+    }
+
+    /// The rows of its windows.
+    pub fn windows(&self, lines: &[MapLine]) -> Made<List<List<Text>>>
+        ensures { IfOk result (λ rows. rows ≡ flat_map (window_line (named self.now.names) self.now.number) lines.now) }
+    {
+        let mut rows = List::new(self.alloc);
+        for line in lines {
+            self.push_window_line(&mut rows, *line)?;
+        }
+        Ok(rows)
     }
 }

@@ -1,14 +1,11 @@
 //! The tables, one below another.
 
-ghost use Rattle.domain_table.specs.Pages.{rows_of_space};
-ghost use Rattle.domain_table.specs.Tables.{heading, page_head, root_name, slot_head, slot_line, table_text, tables_in, tables_of, tables_text, thread_head, thread_line, window_head, window_line};
-ghost use Rattle.std.specs.List.{flat_map};
+ghost use Rattle.domain_table.specs.Tables.{heading, page_head, root_name, slot_head, table_text, tables_in, tables_of, tables_text, thread_head, window_head};
 ghost use Rattle.std.specs.Prelude.{◌≡◌, ◌++◌, IfOk, OnOk};
 ghost use Rattle.system_spec.specs.MapText.{named};
 
-use crate::page::pages_of;
+use crate::domain::NamedDomain;
 use crate::row::add_rows;
-use crate::rows::{push_slot_line, push_thread_line, push_window_line};
 use cam_base::{List, Made, Name, Text};
 use cap_model::Spec;
 use std::alloc::Global;
@@ -16,7 +13,7 @@ use system_spec::{MapLine, MapNames, Series};
 use view_text::join;
 
 /// The name of the root of a domain's space.
-fn root_name(alloc: Global, spec: &Spec, domain: u32) -> Made<Name>
+pub(crate) fn root_name(alloc: Global, spec: &Spec, domain: u32) -> Made<Name>
     ensures { IfOk result (λ name. name ≡ root_name spec.now domain) }
 {
     Series::of_root(spec.arch).name(alloc, domain as u64)
@@ -42,58 +39,6 @@ pub fn heading(alloc: Global, names: &MapNames<'_>, domain: u32, label: &[u8]) -
     )
 }
 
-fn slots(
-    alloc: Global,
-    names: &MapNames<'_>,
-    lines: &[MapLine],
-    domain: u32,
-) -> Made<List<List<Text>>>
-    ensures { IfOk result (λ rows. rows ≡ flat_map (slot_line (named names.now) domain) lines.now) }
-{
-    let mut rows = List::new(alloc);
-    for line in lines {
-        push_slot_line(alloc, &mut rows, names, domain, *line)?;
-    }
-    Ok(rows)
-}
-
-fn threads(
-    alloc: Global,
-    names: &MapNames<'_>,
-    lines: &[MapLine],
-    domain: u32,
-) -> Made<List<List<Text>>>
-    ensures { IfOk result (λ rows. rows ≡ flat_map (thread_line (named names.now) domain) lines.now) }
-{
-    let mut rows = List::new(alloc);
-    for line in lines {
-        push_thread_line(alloc, &mut rows, names, domain, *line)?;
-    }
-    Ok(rows)
-}
-
-fn windows(
-    alloc: Global,
-    names: &MapNames<'_>,
-    lines: &[MapLine],
-    domain: u32,
-) -> Made<List<List<Text>>>
-    ensures { IfOk result (λ rows. rows ≡ flat_map (window_line (named names.now) domain) lines.now) }
-{
-    let mut rows = List::new(alloc);
-    for line in lines {
-        push_window_line(alloc, &mut rows, names, domain, *line)?;
-    }
-    Ok(rows)
-}
-
-fn pages(alloc: Global, spec: &Spec, domain: u32) -> Made<List<List<Text>>>
-    ensures { IfOk result (λ rows. rows ≡ rows_of_space spec.now (root_name spec.now domain)) }
-{
-    let root = root_name(alloc, spec, domain)?;
-    pages_of(alloc, spec, root.as_bytes())
-}
-
 /// What is inside a domain: the rows of its slots, threads, windows and pages.
 #[derive(Drop)]
 pub struct DomainTables {
@@ -112,11 +57,16 @@ pub fn tables_in(
 ) -> Made<DomainTables>
     ensures { IfOk result (λ tables. tables ≡ tables_in (named names.now) lines.now domain) }
 {
+    let domain = NamedDomain {
+        alloc,
+        names: *names,
+        number: domain,
+    };
     Ok(DomainTables {
-        slots: slots(alloc, names, lines, domain)?,
-        threads: threads(alloc, names, lines, domain)?,
-        windows: windows(alloc, names, lines, domain)?,
-        pages: pages(alloc, names.spec, domain)?,
+        slots: domain.slots(lines)?,
+        threads: domain.threads(lines)?,
+        windows: domain.windows(lines)?,
+        pages: domain.pages()?,
     })
 }
 

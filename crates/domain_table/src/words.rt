@@ -5,11 +5,12 @@ ghost use Rattle.std.specs.Prelude.{◌≡◌, IfOk};
 ghost use Rattle.cam_base.specs.Paths.{joined};
 ghost use Rattle.system_spec.specs.MapText.{connection_path, named};
 
+use crate::domain::NamedDomain;
 use adl_meaning::Flat;
 use cam_base::{List, Made, Text};
 use cspace_layout::{EndAt, end_of};
 use std::alloc::Global;
-use system_spec::{MapNames, member_name};
+use system_spec::member_name;
 use view_text::join;
 
 /// The text of the path of a leaf.
@@ -31,54 +32,39 @@ fn connection_text(alloc: Global, flat: &Flat, connection: u32) -> Made<Text>
     }
 }
 
-/// An end with its connection.
-pub(crate) fn end_text(
-    alloc: Global,
-    names: &MapNames<'_>,
-    connection: u32,
-    end: u32,
-) -> Made<List<u8>>
-    ensures { IfOk result (λ text. text ≡ end_text (named names.now) connection end) }
-{
-    let Some((_, end)) = end_of(names.flat, connection, end) else {
-        return Ok(List::new(alloc));
-    };
-    let leaf = leaf_text(alloc, names.flat, end.leaf)?;
-    let connection = connection_text(alloc, names.flat, connection)?;
-    let member = member_name(names, end.leaf, end.member);
-    join(
-        alloc,
-        &[leaf.as_bytes(), b".", member, b" ", connection.as_bytes()],
-    )
-}
+impl<'a> NamedDomain<'a> {
+    /// An end with its connection.
+    pub fn end_text(&self, connection: u32, end: u32) -> Made<List<u8>>
+        ensures { IfOk result (λ text. text ≡ end_text (named self.now.names) connection end) }
+    {
+        let names = &self.names;
+        let Some((_, end)) = end_of(names.flat, connection, end) else {
+            return Ok(List::new(self.alloc));
+        };
+        let leaf = leaf_text(self.alloc, names.flat, end.leaf)?;
+        let connection = connection_text(self.alloc, names.flat, connection)?;
+        let member = member_name(names, end.leaf, end.member);
+        let parts = [leaf.as_bytes(), b".", member, b" ", connection.as_bytes()];
+        join(self.alloc, &parts)
+    }
 
-/// A lock of a leaf.
-pub(crate) fn lock_text(
-    alloc: Global,
-    names: &MapNames<'_>,
-    leaf: u32,
-    member: u32,
-) -> Made<List<u8>>
-    ensures { IfOk result (λ text. text ≡ lock_text (named names.now) leaf member) }
-{
-    let path = leaf_text(alloc, names.flat, leaf)?;
-    join(
-        alloc,
-        &[path.as_bytes(), b".", member_name(names, leaf, member)],
-    )
-}
+    /// A lock of a leaf.
+    pub fn lock_text(&self, leaf: u32, member: u32) -> Made<List<u8>>
+        ensures { IfOk result (λ text. text ≡ lock_text (named self.now.names) leaf member) }
+    {
+        let path = leaf_text(self.alloc, self.names.flat, leaf)?;
+        let member = member_name(&self.names, leaf, member);
+        join(self.alloc, &[path.as_bytes(), b".", member])
+    }
 
-/// The leaf of a control thread, or the end at which a thread serves.
-pub(crate) fn thread_text(
-    alloc: Global,
-    names: &MapNames<'_>,
-    leaf: u32,
-    end: Option<EndAt>,
-) -> Made<List<u8>>
-    ensures { IfOk result (λ text. text ≡ thread_text (named names.now) leaf end) }
-{
-    match end {
-        None => List::from_slice(alloc, leaf_text(alloc, names.flat, leaf)?.as_bytes()),
-        Some(end) => end_text(alloc, names, end.connection, end.end),
+    /// The leaf of a control thread, or the end at which a thread serves.
+    pub fn thread_text(&self, leaf: u32, end: Option<EndAt>) -> Made<List<u8>>
+        ensures { IfOk result (λ text. text ≡ thread_text (named self.now.names) leaf end) }
+    {
+        let alloc = self.alloc;
+        match end {
+            None => List::from_slice(alloc, leaf_text(alloc, self.names.flat, leaf)?.as_bytes()),
+            Some(end) => self.end_text(end.connection, end.end),
+        }
     }
 }

@@ -1,0 +1,5 @@
+use Rattle.domain_table.proofs.Common.{flat_map, named, slot_line, take, ◌≡◌}
+use Rattle.domain_table.proofs.domain.NamedDomain.slots.Given as goal
+
+abbrev pub invariant-loop-line : goal.invariant-loop-line
+invariant-loop-line l = l.rows ≡ flat_map (slot_line (named l.self.names) l.self.number) (take l.line-index l.lines)

@@ -1,5 +1,0 @@
-use Rattle.domain_table.proofs.Common.{flat_map, named, slot_line, take, ◌≡◌}
-use Rattle.domain_table.proofs.table.slots.Given as goal
-
-abbrev pub invariant-loop-line : goal.invariant-loop-line
-invariant-loop-line l = l.rows ≡ flat_map (slot_line (named l.names) l.domain) (take l.line-index l.lines)
