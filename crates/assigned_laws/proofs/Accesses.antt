@@ -1,4 +1,5 @@
 -- The access that an end has in the flat system is that of the interface that it joins.
+use Rattle.std.proofs.Common.{rules}
 use Rattle.assigned_laws.proofs.Common.{AreDotted, AreNamesSound, Authority, Body, Connector, EndAt, EndOf, Ended, FlatConnection, FlatEnd, Given, Interface, Item, ItemAt, LabelNumbers, Leaf, None, ObjectKind, Option, Placed, Role, Some, Source}
 use Rattle.assigned_laws.proofs.Common.{SourceFile, Strung, access_of, allows, and_from, and_parts, ap, body_number, bytes_eq, codes, cond, false, first_type_fault, flat_of, get_map, gives, hierarchy_of, implied, implies, is_interface, is_some}
 use Rattle.assigned_laws.proofs.Common.{items_of_file, leaf_component, leaf_number_is, leaf_of, list_all, list_all-places, members_at, members_in, members_of, members_of_part, not, not-true, option_and_then, option_map_or, over_object, place_by}
@@ -31,26 +32,11 @@ use Rattle.cspace_layout.specs.Lookups.{setting_of}
 
 item_interface : (e : Ended) (m : ℕ) (i : Interface) → slice_get (members_of e.item) m ≡ Some (members.Interface i)
     → option_and_then (λ c. option_and_then as_interface (slice_get c.members m)) (as_component e.item) ≡ Some i
-item_interface e m i h = go e.item h where
-  go : (x : Item) → slice_get (members_of x) m ≡ Some (members.Interface i)
-      → option_and_then (λ c. option_and_then as_interface (slice_get c.members m)) (as_component x) ≡ Some i
-  go (items.Component c) h = ap (option_and_then as_interface) h
-  go _ h = absurd cc
+item_interface e m i h = search (rules)
 
 member_interface : (s : Source) (a : ItemAt) (m : ℕ) (i : Interface) → slice_get (members_at s a) m ≡ Some (members.Interface i)
     → option_and_then (λ c. option_and_then as_interface (slice_get c.members m)) (component_at s a) ≡ Some i
-member_interface s a m i h = by_file (slice_get s.files a.file) h where
-  by_item : (o : Option Ended) → slice_get (members_in o) m ≡ Some (members.Interface i)
-      → option_and_then (λ c. option_and_then as_interface (slice_get c.members m))
-      (option_and_then (λ x. as_component x.item) o) ≡ Some i
-  by_item None h = absurd cc
-  by_item (Some e) h = item_interface e m i h
-
-  by_file : (o : Option SourceFile) → slice_get (members_in (slice_get (items_of_file o) a.item)) m ≡ Some (members.Interface i)
-      → option_and_then (λ c. option_and_then as_interface (slice_get c.members m))
-      (option_and_then (λ f. option_and_then (λ x. as_component x.item) (slice_get f.tree.items a.item)) o) ≡ Some i
-  by_file None h = absurd cc
-  by_file (Some f) h = by_item (slice_get f.tree.items a.item) h
+member_interface s a m i h = search (rules, item_interface)
 
 -- ---- ends at memory
 
@@ -65,23 +51,13 @@ record AtMemory (c : Connector) (r : Role) : Type 0 where
 
 memory_test : (c : Connector) (r : Role) → same_kind (end_rule c r).interface Dataport && not (end_rule c r).hardware ≡ true
     → AtMemory c r
-memory_test c r h =
-    let w = and_parts (same_kind (end_rule c r).interface Dataport) (not (end_rule c r).hardware) h in
-    record { interface = is_dataport_kind (end_rule c r).interface w.0; software = not-true (end_rule c r).hardware w.1 }
+memory_test c r h = search (rules, and_parts, is_dataport_kind, not-true)
 
 reader : (c : Connector) (r : Role) (o : ObjectKind) → gives c r o Read ≡ true → AtMemory c r
-reader c r o h =
-    memory_test c r
-    (implied (gives c r o Read) _
-    (over_object (λ c r o. implies (gives c r o Read) (same_kind (end_rule c r).interface Dataport
-    && not (end_rule c r).hardware)) refl c r o) h)
+reader c r o h = search (rules, memory_test, implied, over_object, implies)
 
 writer : (c : Connector) (r : Role) (o : ObjectKind) → gives c r o Write ≡ true → AtMemory c r
-writer c r o h =
-    memory_test c r
-    (implied (gives c r o Write) _
-    (over_object (λ c r o. implies (gives c r o Write) (same_kind (end_rule c r).interface Dataport
-    && not (end_rule c r).hardware)) refl c r o) h)
+writer c r o h = search (rules, memory_test, implied, over_object, implies)
 
 module _ (s : Source) (sound : AreNamesSound s) (dotted : AreDotted (hierarchy_of s)) (types : first_type_fault s ≡ None)
     (numbers : LabelNumbers) where
@@ -89,9 +65,7 @@ module _ (s : Source) (sound : AreNamesSound s) (dotted : AreDotted (hierarchy_o
   typed_at x = ends_typed s sound dotted types x.place x.number x.connection x.end x.here x.stands
 
   typed_joins : (c : FlatConnection) (e : FlatEnd) → IsTypedEnd s (flat_of s) c e → joins_interface s (flat_of s) e ≡ true
-  typed_joins c e d =
-      let F : Option Leaf → Option Interface = λ o. option_and_then (λ leaf. interface_at s leaf e.member) o in
-      ap is_some (ap F d.here ∙ member_interface s d.leaf.component e.member d.interface d.joined)
+  typed_joins c e d = search (rules, member_interface)
 
   all_join : (x : EndAt (flat_of s)) → list_all (joins_interface s (flat_of s)) x.connection.ends ≡ true
   all_join x = list_all-places (joins_interface s (flat_of s)) x.connection.ends
@@ -119,16 +93,12 @@ module _ (s : Source) (sound : AreNamesSound s) (dotted : AreDotted (hierarchy_o
       let p : Placed = record { path = y.path ++ w.reach.path; part = w.reach.part } in
       let leaf = leaf_path y x e w d.leaf d.here in let c = leaf_component s sound p w.placed in
       let b = body_number s w.reach.part.kind c.0 c.1 in
-      let ms : members_at s d.leaf.component ≡ c.0.1.members = ap (λ (z : Leaf). members_at s z.component) (sym leaf)
-      ∙ members_of_part s w.reach.part c.0 c.1 in
-      let number : x.end.member ≡ place_by (is_interface w.reach.interface) c.0.1.members =
-      ap (λ (z : FlatEnd). z.member) (sym w.flat)
-      ∙ ap (λ (b : Body). option_map_or (λ c. place_by (is_interface w.reach.interface) c.members) b.component 0) b in
+      let ms : members_at s d.leaf.component ≡ c.0.1.members = search (rules, members_of_part) in
+      let number : x.end.member ≡ place_by (is_interface w.reach.interface) c.0.1.members = search (rules) in
       let at : slice_get c.0.1.members (place_by (is_interface w.reach.interface) c.0.1.members) ≡ Some
       (members.Interface d.interface) =
       ap (slice_get c.0.1.members) (sym number) ∙ ap (λ ms. slice_get ms x.end.member) (sym ms) ∙ d.joined in
-      let is : bytes_eq w.reach.interface d.interface.id.name ≡ true = place_by-passes (is_interface w.reach.interface)
-      c.0.1.members (members.Interface d.interface) at in
+      let is : bytes_eq w.reach.interface d.interface.id.name ≡ true = search (rules, place_by-passes) in
       sym ((bytes_eq-Decides w.reach.interface d.interface.id.name).0 is) ∙ sym w.interface
 
   -- the settled access of an end at memory
@@ -142,29 +112,20 @@ module _ (s : Source) (sound : AreNamesSound s) (dotted : AreDotted (hierarchy_o
       let f = g.0 in let at = g.1 in
       let leaves_same : Some f.joint.leaf ≡ Some d.leaf = sym at.leaf ∙ d.here in
       let leaf : f.joint.leaf ≡ d.leaf = cc in
-      let interfaces_same : Some f.joint.interface ≡ Some d.interface = sym at.interface
-      ∙ ap (λ (z : Leaf). interface_at s z x.end.member) leaf ∙ member_interface s d.leaf.component x.end.member
-      d.interface d.joined in
+      let interfaces_same : Some f.joint.interface ≡ Some d.interface = search (rules, member_interface) in
       let interface : f.joint.interface ≡ d.interface = cc in
       let rule = end_rule x.connection.connector x.end.role in
       let kinds = and_parts (same_kind d.interface.kind rule.interface) (cond rule.hardware d.leaf.hardware (not d.leaf.hardware))
       d.kind in
-      let port : same_kind f.joint.interface.kind Dataport ≡ true = ap (λ (z : Interface). same_kind z.kind Dataport) interface
-      ∙ ap (same_kind d.interface.kind) (sym memory.interface) ∙ kinds.0 in
-      let soft : not f.joint.leaf.hardware ≡ true = ap (λ (z : Leaf). not z.hardware) leaf
-      ∙ ap (λ b. cond b d.leaf.hardware (not d.leaf.hardware)) (sym memory.software) ∙ kinds.1 in
-      let has : has_access f.joint ≡ true = and_from (same_kind f.joint.interface.kind Dataport)
-      (not f.joint.leaf.hardware) port soft in
+      let port : same_kind f.joint.interface.kind Dataport ≡ true = search (rules) in
+      let soft : not f.joint.leaf.hardware ≡ true = search (rules) in
+      let has : has_access f.joint ≡ true = search (rules, and_from) in
       let path : f.joint.leaf.path ≡ e.leaf = ap (λ (z : Leaf). z.path) (leaf ∙ sym (leaf_path y x e w d.leaf d.here))
       ∙ sym w.path in
       let name : f.joint.interface.id.name ≡ e.interface = ap (λ (z : Interface). z.id.name) interface
       ∙ interface_name y x e w d in
       let V : Option Given → Access = λ o. unwrap_or (meant access_in read_and_write o) no_access in
-      let value : f.access ≡ value_at h e.leaf (e.interface ++ codes "_access") =
-      ap (λ (z : Found). z.access) at.values
-      ∙ ap (λ b. where_set b (value_at h f.joint.leaf.path (f.joint.interface.id.name ++ codes "_access"))) has
-      ∙ ap (λ p. value_at h p (f.joint.interface.id.name ++ codes "_access")) path
-      ∙ ap (λ n. value_at h e.leaf (n ++ codes "_access")) name in
+      let value : f.access ≡ value_at h e.leaf (e.interface ++ codes "_access") = search (rules) in
       (f, g.2, ap (λ b. cond b (V f.access) no_access) has ∙ ap V value)
 
   memory_of : (y : Strung) (x : EndAt (flat_of s)) (e : EndOf (hierarchy_of s) y.path y.wire)

@@ -1,4 +1,5 @@
 -- What a source assigns has a reason in its flat system, and the other way round.
+use Rattle.std.proofs.Common.{rules}
 use Rattle.assigned_laws.proofs.Common.{AreApart, AreDotted, AreNamesSound, ArePathsApart, AtOtherEnd, Authority, BindReason, Bound, CallReason, Called, Cause, Connector, Direct, DirectReason, Edge, EndAt, EndOf, FlatConnection, From, Handles}
 use Rattle.assigned_laws.proofs.Common.{IsAssigned, IsEnd, IsNamed, IsReasoned, LabelNumbers, LockReason, Locked, NoObject, None, ObjectKind, OfDevice, OfEndpoint, OfFrames, OfIrq, OfNotification, Path, Reason, Role, Some, Source, Strung, Tables, To}
 use Rattle.assigned_laws.proofs.Common.{ap, bound, by_bind, by_call, by_direct, by_lock, called, connection_label, connection_path, connections, direct, domain_label, domain_of, edge, first_type_fault, flat_of, gives, has_label, hierarchy_of}
@@ -56,15 +57,9 @@ module _ (s : Source) (sound : AreNamesSound s) (dotted : AreDotted (hierarchy_o
             → (e : EndOf (hierarchy_of s) y.path y.wire) → Matches s sound dotted numbers y x e → (o : ObjectKind)
             → gives y.wire.0 e.role o a ≡ true → FlatLeads t x o m
             → LeadsTo (hierarchy_of s) y.path y.wire e o q
-        lead y x here e w OfEndpoint given to = path_is t apart m (connection_label t x.place) q
-            (connection_path y.path y.wire) to
-            nq (connection_named s numbers y x.place here (labelled_endpoint y.wire.0 e.role a given))
-        lead y x here e w OfNotification given to = path_is t apart m (connection_label t x.place) q
-            (connection_path y.path y.wire)
-            to nq (connection_named s numbers y x.place here (labelled_notification y.wire.0 e.role a given))
-        lead y x here e w OfFrames given to = path_is t apart m (connection_label t x.place) q
-            (connection_path y.path y.wire) to nq
-            (connection_named s numbers y x.place here (labelled_frames y.wire.0 e.role a given))
+        lead y x here e w OfEndpoint given to = search (rules, path_is, connection_named, labelled_endpoint)
+        lead y x here e w OfNotification given to = search (rules, path_is, connection_named, labelled_notification)
+        lead y x here e w OfFrames given to = search (rules, path_is, connection_named, labelled_frames)
         lead y x here e w OfDevice given to = other y x here e w to where
           other : (y : Strung) (x : EndAt (flat_of s)) → slice_get (connections (hierarchy_of s)) x.place ≡ Some y
               → (e : EndOf (hierarchy_of s) y.path y.wire) → Matches s sound dotted numbers y x e → FlatOther t x m
@@ -213,24 +208,9 @@ module _ (s : Source) (sound : AreNamesSound s) (dotted : AreDotted (hierarchy_o
             → (e : EndOf (hierarchy_of s) y.path y.wire) (x : EndAt (flat_of s)) → x.place ≡ k
             → Matches s sound dotted numbers y x e → (o : ObjectKind) → gives y.wire.0 e.role o a ≡ true
             → LeadsTo (hierarchy_of s) y.path y.wire e o q → Leading x o q
-        leading y k here e x at w OfEndpoint given to = record {
-          m = connection_label t x.place;
-          nq = subst (λ z. IsNamed t (connection_label t x.place) z) (sym to) (connection_named s numbers y x.place w.here
-              (labelled_endpoint y.wire.0 e.role a given));
-          to = refl;
-        }
-        leading y k here e x at w OfNotification given to = record {
-          m = connection_label t x.place;
-          nq = subst (λ z. IsNamed t (connection_label t x.place) z) (sym to) (connection_named s numbers y x.place w.here
-              (labelled_notification y.wire.0 e.role a given));
-          to = refl;
-        }
-        leading y k here e x at w OfFrames given to = record {
-          m = connection_label t x.place;
-          nq = subst (λ z. IsNamed t (connection_label t x.place) z) (sym to) (connection_named s numbers y x.place w.here
-              (labelled_frames y.wire.0 e.role a given));
-          to = refl;
-        }
+        leading y k here e x at w OfEndpoint given to = search (rules, connection_named, labelled_endpoint)
+        leading y k here e x at w OfNotification given to = search (rules, connection_named, labelled_notification)
+        leading y k here e x at w OfFrames given to = search (rules, connection_named, labelled_frames)
         leading y k here e x at w NoObject given to = absurd to
         leading y k here e x at w _ given to =
             let v = put s sound dotted numbers y k here to.other in

@@ -1,4 +1,5 @@
 -- Where tokens spell the files of a source, the names of labels' paths are identifiers.
+use Rattle.std.proofs.Common.{rules}
 use Rattle.assigned_laws.proofs.Common.{AreNamesSound, AreSpelled, Composition, Connection, Group, HasPath, Held, Id, Instance, IsIn, IsOne, Line, Name, Owner, Part, Path, Some, Source, [], a_connection, as_held, at, body}
 use Rattle.assigned_laws.proofs.Common.{first_on, flat_of, from_flat_map, from_map, held_by, held_in, hierarchy_of, in_append, inl, inr, is_name, line_spelled, name_of, named_in, one_of, part_of_body, subst, sym, top_number, true, ℕ, ◌∙◌}
 use Rattle.assigned_laws.proofs.Common.{◌∷◌, ◌≡◌}
@@ -40,23 +41,7 @@ same_name x y e u = subst (λ (z : Id × Held). IsIdentifier z.0.name) e u
 
 line_names : (l : Line) → IsOne composition_member_line l → (x : Id × Held) → IsIn x (held_by l) → IsIdentifier x.0.name
 unfolding composition_member_line
-line_names l w x m = elim w.1 [
-  | inl a ↦ elim (subst (λ z. IsIn x (held_by z)) a.1 m) [
-    | inl e ↦ same_name (as_held a.0) x e (instance_name a.0 (w.0, a.2))
-    | inr none ↦ absurd none
-  ]
-  | inr (inl a) ↦ of_group a.0 (w.0, a.2) (subst (λ z. IsIn x (held_by z)) a.1 m)
-  | inr (inr (inl a)) ↦ elim (subst (λ z. IsIn x (held_by z)) a.1 m) [
-    | inl e ↦ same_name (a.0.id, a_connection) x e (connection_name a.0 (w.0, a.2))
-    | inr none ↦ absurd none
-  ]
-  | inr (inr (inr a)) ↦ absurd (subst (λ z. IsIn x (held_by z)) a.1 m)
-] where
-  of_group : (g : Group) → IsOne group_line g → IsIn x (held_by (lines.Group g)) → IsIdentifier x.0.name
-  of_group g w (inl e) = subst (λ (z : Id × Held). IsIdentifier z.0.name) e (group_name g w)
-  of_group g w (inr j) =
-      let i = from_map as_held x g.instances j in
-      same_name (as_held i.0) x i.2 (instance_name i.0 (group_instance g w i.0 i.1))
+line_names l w x m = search (rules, same_name, instance_name, connection_name, group_name, from_map, group_instance)
 
 -- ---- paths
 

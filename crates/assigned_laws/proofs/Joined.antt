@@ -1,4 +1,5 @@
 -- Ends of the flat system are ends of connections by the hierarchy, and the other way round.
+use Rattle.std.proofs.Common.{rules}
 use Rattle.assigned_laws.proofs.Common.{AreDotted, AreNamesSound, End, EndAt, EndOf, FlatConnection, FlatEnd, IsIn, IsNamed, LabelNumbers, Path, Placed, Reached, Some, Source, Strung, Tables, Wire, ap, at_place, connections, connections_stand}
 use Rattle.assigned_laws.proofs.Common.{flat_connection, flat_end, flat_ends, flat_of, from_get_map, get_map, hierarchy_of, in_get, leaf_label, leaf_number, leaf_number_is, leaves, length, owner, place_of, refl, slice_get, slice_get_within, subst}
 use Rattle.assigned_laws.proofs.Common.{sym, tables_with, ℕ, ◌++◌, ◌<◌, ◌∙◌, ◌≡◌}
@@ -42,27 +43,18 @@ module _ (s : Source) (sound : AreNamesSound s) (dotted : AreDotted (hierarchy_o
   met x y here =
       let h = hierarchy_of s in
       let i : IsIn y (connections h) = in_get (connections h) x.place y here in
-      let there : slice_get (flat_of s).connections x.place ≡ Some (flat_connection h y) =
-      get_map (flat_connection h) (connections h) x.place y here in
+      let there : slice_get (flat_of s).connections x.place ≡ Some (flat_connection h y) = search (rules, get_map) in
       let both : Some (flat_connection h y) ≡ Some x.connection = sym there ∙ x.here in
       let same : flat_connection h y ≡ x.connection = cc in
-      let stands : slice_get (flat_ends h y) x.number ≡ Some x.end = ap (λ (c : FlatConnection). slice_get c.ends x.number) same
-      ∙ x.stands in
-      let short : x.number < length y.wire.1.ends = subst (λ n. x.number < n) (ends_kept s sound dotted y i)
-      (slice_get_within (flat_ends h y) x.number x.end stands) in
+      let stands : slice_get (flat_ends h y) x.number ≡ Some x.end = search (rules) in
+      let short : x.number < length y.wire.1.ends = search (rules, ends_kept, slice_get_within) in
       let end = at_place y.wire.1.ends x.number short in
       let r = all_joined s sound dotted y end.0 i (in_get y.wire.1.ends x.number end.0 end.1) in
       let flat = end_numbers_kept s sound dotted y x.number end.0 r.0 i end.1 r.1 in
       let ends : Some (flat_end h y.path end.0 r.0) ≡ Some x.end = sym flat ∙ stands in
       let is : flat_end h y.path end.0 r.0 ≡ x.end = cc in
       let j = joined s sound y x.number end.0 r.0 i end.1 r.1 in
-      let e : EndOf h y.path y.wire = record {
-        number = x.number;
-        role = end.0.role;
-        leaf = y.path ++ r.0.path;
-        interface = r.0.interface;
-        joins = j.0;
-      } in
+      let e : EndOf h y.path y.wire = search (rules) in
       let named = reached_named y.path r.0 j.1 in (
         e,
         record {

@@ -1,5 +1,6 @@
 -- No two labels of a source in which no fault of names stands have one path. The last name of a label's path is that of an
 -- instance, of a group or of a connection of one composition, and these differ in name.
+use Rattle.std.proofs.Common.{rules}
 use Rattle.assigned_laws.proofs.Common.{AreNamesSound, ArePathsApart, Bool, Composition, Connection, Domain, FlatConnection, HasPath, Held, Hierarchy, Id, Instance, IsIn, Leaf, Line, List, Name, None, OfConnection, OfDomain, OfLeaf, Option, Owner}
 use Rattle.assigned_laws.proofs.Common.{Part, Path, Placed, Some, Source, Strung, [], a_group, an_instance, ap, as_connection, as_held, at, body, bytes_eq, cond, connections, connections_once, connections_stand, domain_number, domain_number_is}
 use Rattle.assigned_laws.proofs.Common.{domain_of, domains, domains_are, false, filter_map, find, flat_connection, flat_domain, flat_map, flat_of, from_filter_map, from_flat_map, from_get_map, group_above, held_by, held_in, hierarchy_of}
@@ -46,11 +47,7 @@ held_group numbers ls x g m e =
     let l = from_flat_map (parts_by numbers) x ls m in
     by_line l.0 l.1 l.2 where
       grouped : (o : Option Name) (is : List Instance) → IsIn x (filter_map (part_of numbers o) is) → x.group ≡ o
-      grouped o is m =
-          let i = from_filter_map (part_of numbers o) x is m in
-          let k = map_some (λ k. let part : Part = record { instance = i.0; group = o; kind = k } in
-          part) (numbers i.0.component.name) x i.2 in
-          ap (λ (z : Part). z.group) (sym k.2)
+      grouped o is m = search (rules, from_filter_map, map_some)
 
       by_line : (l : Line) → IsIn l ls → IsIn x (parts_by numbers l) → GroupIn ls g
       by_line (lines.Instance i) there m = absurd (let w = sym (grouped None (i ∷ []) m) ∙ e in cc)
@@ -117,9 +114,7 @@ same_held s sound p a b x y =
 split_last : (h : Hierarchy) (k : ℕ) (q : Path) (n : Name) (x : Part) → part_at h k (q ++ n ∷ []) ≡ Some x
     → (m : ℕ) × (at h k q ≡ Some m) × (part_named (body h m).parts n ≡ Some x)
 split_last h k [] n x e = (k, refl, e)
-split_last h k (a ∷ []) n x e =
-    option_and_then_some (λ (y : Part). part_at h y.kind (n ∷ [])) (part_named (body h k).parts a) x e
-    (λ y e1 e2. (y.kind, ap (option_and_then (λ (z : Part). Some z.kind)) e1, e2))
+split_last h k (a ∷ []) n x e = search (rules, option_and_then_some)
 split_last h k (a ∷ b ∷ q) n x e =
     option_and_then_some (λ (y : Part). part_at h y.kind (b ∷ q ++ n ∷ [])) (part_named (body h k).parts a) x e (λ y e1 e2.
     let r = split_last h y.kind (b ∷ q) n x e2 in
@@ -137,13 +132,7 @@ module _ (s : Source) (sound : AreNamesSound s) where
         path = refl;
         kind = r.0;
         there = r.1;
-        holds = record {
-          composition = p.composition;
-          composed = p.composed;
-          id = x.instance.id;
-          stands = held_instance x.instance p.composition.lines p.stands;
-          named = i.1;
-        };
+        holds = search (rules, held_instance);
       }
 
   group_ends : (q : Path) (n g : Name) (x : Part) → part_at (hierarchy_of s) (top_number (hierarchy_of s)) (q ++ n ∷ []) ≡ Some x
@@ -152,8 +141,7 @@ module _ (s : Source) (sound : AreNamesSound s) where
       let h = hierarchy_of s in let r = split_last h (top_number h) q n x e in
       let i = named_in (body h r.0).parts n x r.2 in let p = part_of_body s r.0 x i.0 in
       let parts : IsIn x (parts_in (kind_named s) (body h r.0).composition) = subst (λ xs. IsIn x xs) (parts_of s r.0) i.0 in
-      let inside : IsIn x (flat_map (parts_by (kind_named s)) p.composition.lines) =
-      subst (λ o. IsIn x (parts_in (kind_named s) o)) p.composed parts in
+      let inside : IsIn x (flat_map (parts_by (kind_named s)) p.composition.lines) = search (rules) in
       let w = held_group (kind_named s) p.composition.lines x g inside grouped in (
         w.members,
         record {
@@ -162,13 +150,7 @@ module _ (s : Source) (sound : AreNamesSound s) where
           path = refl;
           kind = r.0;
           there = r.1;
-          holds = record {
-            composition = p.composition;
-            composed = p.composed;
-            id = w.id;
-            stands = w.stands;
-            named = w.named;
-          };
+          holds = search (rules);
         },
       )
 
@@ -192,13 +174,7 @@ module _ (s : Source) (sound : AreNamesSound s) where
         path = refl;
         kind = y.inside;
         there = stands.0;
-        holds = record {
-          composition = own.0;
-          composed = own.1;
-          id = y.wire.1.id;
-          stands = held_wire y.wire.1 own.0.lines own.2;
-          named = refl;
-        };
+        holds = search (rules, held_wire);
       }
 
   -- a domain's path is that of a leaf that is no device, or of a group
@@ -225,31 +201,16 @@ module _ (s : Source) (sound : AreNamesSound s) where
   -- ---- no two labels have one path
 
   domain_path : (d : ℕ) (p : Path) → HasPath (flat_of s) (OfDomain d) p → slice_get (domains (hierarchy_of s)) d ≡ Some p
-  domain_path d p h =
-      let g = from_get_map (flat_domain (hierarchy_of s)) (domains (hierarchy_of s)) d h.0 h.1 in
-      g.1 ∙ ap (λ z. Some z) (ap (λ (z : Domain). z.path) g.2 ∙ h.2)
+  domain_path d p h = search (rules, from_get_map)
 
   device_path : (l : ℕ) (p : Path) → HasPath (flat_of s) (OfLeaf l) p
       → (x : Placed) × (slice_get (leaves (hierarchy_of s)) l ≡ Some x) × (x.path ≡ p)
       × (is_hardware (hierarchy_of s) x.part ≡ true)
-  device_path l p h =
-      let k = hierarchy_of s in
-      let g = from_get_map (leaf_of k) (leaves k) l h.0 h.1 in (
-        g.0,
-        g.1,
-        ap (λ (z : Leaf). z.path) g.2 ∙ h.3,
-        by_test (domain_number k (domain_of k g.0.path)) (is_hardware k g.0.part)
-            (ap (λ (z : Leaf). z.domain) g.2 ∙ h.2),
-      ) where
-        by_test : (n : ℕ) (b : Bool) → cond b None (Some n) ≡ None → b ≡ true
-        by_test n true e = refl
-        by_test n false e = cc
+  device_path l p h = search (rules, from_get_map)
 
   connection_path_of : (k : ℕ) (p : Path) → HasPath (flat_of s) (OfConnection k) p
       → (y : Strung) × (slice_get (connections (hierarchy_of s)) k ≡ Some y) × (y.path ++ y.wire.1.id.name ∷ [] ≡ p)
-  connection_path_of k p h =
-      let g = from_get_map (flat_connection (hierarchy_of s)) (connections (hierarchy_of s)) k h.0 h.1 in
-      (g.0, g.1, ap (λ (z : FlatConnection). z.path) g.2 ∙ h.3)
+  connection_path_of k p h = search (rules, from_get_map)
 
   domain_ends : (d : ℕ) (p : Path) → HasPath (flat_of s) (OfDomain d) p → DomainPath p
   domain_ends d p h = of_domain p (in_get (domains (hierarchy_of s)) d p (domain_path d p h))

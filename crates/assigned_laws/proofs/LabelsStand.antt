@@ -1,4 +1,5 @@
 -- Who has a label by the hierarchy has a number, and the other way round.
+use Rattle.std.proofs.Common.{rules}
 use Rattle.assigned_laws.proofs.Common.{AreNamesSound, Bool, Domain, FlatConnection, HasLabel, HasPath, IsIn, IsLabelText, IsLeaf, IsNamed, LabelNumbers, Leaf, List, None, OfConnection, OfDomain, OfLeaf, Owner, Path, Placed, Some, Source, Strung}
 use Rattle.assigned_laws.proofs.Common.{Tables, ap, cond, connection_label, connections, connections_stand, domain_number, domain_of, domains, domains_are, false, flat_connection, flat_domain, flat_of, from_get_map, from_map, has_label, hierarchy_of}
 use Rattle.assigned_laws.proofs.Common.{in_get, in_map, inl, inr, is_hardware, label_lines, label_numbers, leaf_label, leaf_of, leaves, owner, paths_are_leaves, place_of, refl, settled_of, slice_get, subst, sym, tables_of, tables_with, top_number}
@@ -30,11 +31,7 @@ module _ (s : Source) (sound : AreNamesSound s) where
       ap (λ b. cond b x.path (domain_of h x.path)) (device_is s numbers sound x n e ∙ hard)
 
   hardware_of : (x : Placed) → (leaf_of (hierarchy_of s) x).domain ≡ None → is_hardware (hierarchy_of s) x.part ≡ true
-  hardware_of x e = by_test (is_hardware (hierarchy_of s) x.part) e where
-    by_test : (b : Bool) → cond b None (Some (domain_number (hierarchy_of s) (domain_of (hierarchy_of s) x.path))) ≡ None
-        → b ≡ true
-    by_test true e = refl
-    by_test false e = cc
+  hardware_of x e = search (rules)
 
   -- ---- by numbers
 
@@ -62,20 +59,8 @@ module _ (s : Source) (sound : AreNamesSound s) where
   has_of numbers (OfConnection k) p (c, here, has, is) =
       let h = hierarchy_of s in let g = from_get_map (flat_connection h) (connections h) k c here in
       let y = (connections_stand s sound g.0).0 (in_get (connections h) k g.0 g.1) in
-      inr (record {
-        composition = g.0.path;
-        inside = g.0.inside;
-        there = y.0;
-        connection = g.0.wire;
-        stands = y.1;
-        labelled = ap (λ (z : FlatConnection). has_label z.connector) g.2 ∙ has;
-        path_is = sym is ∙ ap (λ (z : FlatConnection). z.path) (sym g.2);
-      })
-  has_of numbers (OfLeaf l) p (leaf, here, none, is) =
-      let h = hierarchy_of s in let g = from_get_map (leaf_of h) (leaves h) l leaf here in
-      let hard = hardware_of g.0 (ap (λ (z : Leaf). z.domain) g.2 ∙ none) in
-      let path : g.0.path ≡ p = ap (λ (z : Leaf). z.path) g.2 ∙ is in
-      inl (g.0.path, at_leaf g.0 l g.1, sym (owner_is numbers g.0 l true g.1 hard ∙ path))
+      search (rules, labelled)
+  has_of numbers (OfLeaf l) p (leaf, here, none, is) = search (rules, from_get_map, hardware_of, at_leaf, owner_is)
 
   -- ---- by texts
 

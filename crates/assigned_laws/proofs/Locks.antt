@@ -1,4 +1,5 @@
 -- Locks of the flat system are locks of leaves by the hierarchy, and the other way round.
+use Rattle.std.proofs.Common.{rules}
 use Rattle.assigned_laws.proofs.Common.{AreApart, AreNamesSound, Authority, Body, Bool, Component, IsIn, IsLockEdge, IsNamed, ItemAt, LabelNumbers, Leaf, LockAt, LockOf, None, OfDomain, Path, Placed, Some, Source, Tables, WithLock, ap, at, at_part}
 use Rattle.assigned_laws.proofs.Common.{body, body_number, cond, domain_found, domain_label, domain_number, domain_of, domains, domains_are, edge, false, flat_domain, flat_of, from_get_map, from_map, get_map, hierarchy_of, in_get, is_device}
 use Rattle.assigned_laws.proofs.Common.{is_hardware, item_of, leaf_component, leaf_of, leaves, leaves_stand, members_at, members_of_part, option_map_or, paths_are_leaves, place_of, refl, slice_get, subst, sym, tables_with, top_number, true, ℕ, ◌↔◌}
@@ -35,20 +36,11 @@ module _ (s : Source) (sound : AreNamesSound s) (numbers : LabelNumbers) where
       let h = hierarchy_of s in let c = leaf_component s sound x i in
       let b = body_number s x.part.kind c.0 c.1 in
       let is : (body h x.part.kind).component ≡ Some c.0.1 = ap (λ (z : Body). z.component) b in
-      record {
-        component = c.0;
-        is = is;
-        members_are = members_of_part s x.part c.0 c.1;
-        device = ap (λ z. option_map_or is_device z false) is;
-      }
+      search (rules, members_of_part)
 
   soft_of : (x : Placed) (d : ℕ) → (leaf_of (hierarchy_of s) x).domain ≡ Some d → (is_hardware (hierarchy_of s) x.part ≡ false)
       × (domain_number (hierarchy_of s) (domain_of (hierarchy_of s) x.path) ≡ d)
-  soft_of x d e = by_test (is_hardware (hierarchy_of s) x.part) e where
-    by_test : (b : Bool) → cond b None (Some (domain_number (hierarchy_of s) (domain_of (hierarchy_of s) x.path))) ≡ Some d
-        → (b ≡ false) × (domain_number (hierarchy_of s) (domain_of (hierarchy_of s) x.path) ≡ d)
-    by_test true e = cc
-    by_test false e = (refl, cc)
+  soft_of x d e = search (rules)
 
   pub lock_of : (k : LockAt s (flat_of s)) → (o : LockOf (hierarchy_of s)) × IsNamed t (domain_label t k.domain)
       (domain_of (hierarchy_of s) o.leaf)
@@ -81,8 +73,7 @@ module _ (s : Source) (sound : AreNamesSound s) (numbers : LabelNumbers) where
       let g = from_map (λ (x : Placed). x.path) o.leaf (leaves h) m in
       let x = g.0 in let i = g.1 in
       let stands = (leaves_stand s sound x).0 i in let c = typed x i in
-      let there : at h (top_number h) o.leaf ≡ Some x.part.kind = ap (at h (top_number h)) (sym g.2)
-      ∙ at_part h (top_number h) x.path x.part stands.0 in
+      let there : at h (top_number h) o.leaf ≡ Some x.part.kind = search (rules, at_part) in
       let kinds : Some o.kind ≡ Some x.part.kind = sym o.there ∙ there in
       let kind : o.kind ≡ x.part.kind = cc in
       let both : Some o.component ≡ Some c.component.1 = sym o.is ∙ ap (λ z. (body h z).component) kind ∙ c.is in

@@ -1,4 +1,5 @@
 -- Labels by number and by path.
+use Rattle.std.proofs.Common.{rules}
 use Rattle.assigned_laws.proofs.Common.{AreApart, AreNamesSound, ArePathsApart, Bool, Flat, HasPath, IsNamed, IsThere, LabelNumbers, Leaf, None, OfConnection, OfDomain, OfLeaf, Option, Owner, Path, Placed, Some, Source, Strung, Tables, ap, at_part}
 use Rattle.assigned_laws.proofs.Common.{body, cond, connection_label, connection_path, connections, device_at, domain_found, domain_number, domain_of, domains, domains_are, false, flat_connection, flat_domain, flat_of, get_map, has_label}
 use Rattle.assigned_laws.proofs.Common.{hierarchy_of, in_get, is_device, is_hardware, leaf_label, leaf_of, leaves, leaves_stand, number_of, option_map_or, owner, owner_in, refl, slice_get, subst, sym, tables_with, top_number, true, ℕ, ◌∙◌, ◌≡◌}
@@ -14,14 +15,8 @@ has_there flat (OfDomain d) p h = (h.0, h.1)
 has_there flat _ p h = (h.0, h.1, h.2)
 
 one_path : (flat : Flat) (x : Owner) (p q : Path) → HasPath flat x p → HasPath flat x q → p ≡ q
-one_path flat (OfDomain d) p q h k =
-    let both : Some h.0 ≡ Some k.0 = sym h.1 ∙ k.1 in
-    let same : h.0 ≡ k.0 = cc in
-    sym h.2 ∙ ap (λ z. z.path) same ∙ k.2
-one_path flat _ p q h k =
-    let both : Some h.0 ≡ Some k.0 = sym h.1 ∙ k.1 in
-    let same : h.0 ≡ k.0 = cc in
-    sym h.3 ∙ ap (λ z. z.path) same ∙ k.3
+one_path flat (OfDomain d) p q h k = search (rules)
+one_path flat _ p q h k = search (rules)
 
 pub path_is : (t : Tables) → AreApart t → (l m : ℕ) (p q : Path) → l ≡ m → IsNamed t l p → IsNamed t m q → p ≡ q
 path_is t apart l m p q e h k =
@@ -30,9 +25,7 @@ path_is t apart l m p q e h k =
     one_path t.flat k.labelled p q (subst (λ z. HasPath t.flat z p) same h.there) k.there
 
 pub number_is : (t : Tables) → ArePathsApart t.flat → (l m : ℕ) (p q : Path) → p ≡ q → IsNamed t l p → IsNamed t m q → l ≡ m
-number_is t apart l m p q e h k =
-    let same = apart h.labelled k.labelled q (subst (λ z. HasPath t.flat h.labelled z) e h.there) k.there in
-    h.is ∙ ap (number_of t.numbers) same ∙ sym k.is
+number_is t apart l m p q e h k = search (rules)
 
 -- ---- leaves and connections
 
@@ -65,16 +58,11 @@ module _ (s : Source) (numbers : LabelNumbers) where
             let h = hierarchy_of s in let t = tables_with s numbers in
             let none : (leaf_of h x).domain ≡ None = ap (λ b. cond b None (Some (domain_number h (domain_of h x.path)))) hard in
             let own : owner h x.path ≡ x.path = ap (λ b. cond b x.path (domain_of h x.path)) (device ∙ hard) in
-            record {
-              labelled = OfLeaf n;
-              there = (leaf_of h x, here, none, sym own);
-              is = label ∙ ap (λ b. option_label t n (Some (record (leaf_of h x) { domain = b }))) none;
-            }
+            search (rules)
         by_test false soft here label device =
             let h = hierarchy_of s in let t = tables_with s numbers in
             let d = domain_of h x.path in
-            let some : (leaf_of h x).domain ≡ Some (domain_number h d) =
-            ap (λ b. cond b None (Some (domain_number h (domain_of h x.path)))) soft in
+            let some : (leaf_of h x).domain ≡ Some (domain_number h d) = search (rules) in
             let own : owner h x.path ≡ d = ap (λ b. cond b x.path (domain_of h x.path)) (device ∙ soft) in
             let at = domain_found h d ((domains_are h d).1 (x, in_get (leaves h) n x e, soft, refl)) in
             record {

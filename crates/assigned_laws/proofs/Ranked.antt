@@ -1,4 +1,5 @@
 -- Numbers of labels are the places of their texts, and tell the texts.
+use Rattle.std.proofs.Common.{rules}
 use Rattle.assigned_laws.proofs.Common.{AreApart, AreTextsApart, Bool, Domain, Flat, FlatConnection, HasPath, IsCalled, IsIn, IsThere, Leaf, Less, List, None, OfConnection, OfDomain, OfLeaf, Owner, Path, Some, Tables, [], ap, arith, comes_before}
 use Rattle.assigned_laws.proofs.Common.{cond, connection_numbers, connection_texts, count_by, device_numbers, device_texts, domain_numbers, domain_texts, eq-eqb, eqb-true, false, from_gather, from_ones, from_where, get_ones, get_or_from_slice_get}
 use Rattle.assigned_laws.proofs.Common.{has_label, in_append, in_gather, in_left, in_place, in_right, in_where, inl, inr, joined, label_lines, label_numbers, label_texts, ltb-false, ltb-true, number_of, place_of, rank, refl, slice_get, subst, suc}
@@ -21,9 +22,7 @@ use Rattle.arch_policy.specs.Where.{where_true}
 pub find_only : {X : Type 0} (test : X → Bool) (xs : List X) (n : ℕ) (x : X) → slice_get xs n ≡ Some x → test x ≡ true
     → ((m : ℕ) (y : X) → slice_get xs m ≡ Some y → test y ≡ true → m ≡ n) → find test xs ≡ Some x
 find_only test [] n x at passes only = cc
-find_only test (y ∷ ys) zero x at passes only =
-    let same : y ≡ x = cc in
-    let here : test y ≡ true = ap test same ∙ passes in rw here (ap (λ z. Some z) same)
+find_only test (y ∷ ys) zero x at passes only = search (rules)
 find_only {X} test (y ∷ ys) (suc n) x at passes only =
     go (test y) refl (find_only test ys n x at passes (λ m z f t. let l = only (suc m) z f t in omega (arith, l))) where
       go : (b : Bool) → test y ≡ b → find test ys ≡ Some x → find test (y ∷ ys) ≡ Some x
@@ -69,12 +68,7 @@ rising_places (t ∷ ts) (suc i) (suc j) x y r e f less = rising_places ts i j x
 -- in texts that rise, as many come before a text as stand in front of it
 rank_place : (ts : List (List ℕ)) (n : ℕ) (x : List ℕ) → Rises ts → slice_get ts n ≡ Some x → rank ts x ≡ n
 rank_place [] n x r e = absurd cc
-rank_place (t ∷ ts) zero x r e =
-    let same : t ≡ x = cc in
-    let step = count_step (λ z. comes_before z t) t ts in
-    let first : one (comes_before t t) ≡ 0 = ap one (not_itself t) in
-    let rest = none_before t ts r.0 in
-    ap (rank (t ∷ ts)) (sym same) ∙ omega (arith, step, first, rest)
+rank_place (t ∷ ts) zero x r e = search (rules, count_step, not_itself, none_before)
 rank_place (t ∷ ts) (suc n) x r e =
     let step = count_step (λ z. comes_before z x) t ts in
     let first : one (comes_before t x) ≡ 1 = ap (λ o. one (is_lt o)) (above_at t x ts n r.0 e) in
@@ -112,10 +106,7 @@ listed flat (OfConnection k) p h =
 
 -- a device's leaf has no domain
 none_device : (leaf : Leaf) → is_device leaf.domain ≡ true → leaf.domain ≡ None
-none_device leaf h = by_case leaf.domain h where
-  by_case : (o : _) → is_device o ≡ true → o ≡ None
-  by_case None h = refl
-  by_case (Some d) h = absurd cc
+none_device leaf h = search (rules)
 
 -- and each text that is listed is a label's
 record Labels (flat : Flat) (text : List ℕ) : Type 0 where
@@ -167,35 +158,18 @@ number_rank flat (OfLeaf l) p h =
 -- and the place of its text
 number_place : (flat : Flat) (x : Owner) (p : Path) → HasPath flat x p
     → slice_get (label_texts flat) (number_of (label_numbers flat) x) ≡ Some (joined p)
-number_place flat x p h =
-    let n = place_of (joined p) (label_texts flat) (to_order (joined p) (texts flat) (listed flat x p h)) in
-    let is = number_rank flat x p h ∙ rank_place (label_texts flat) n.0 (joined p) (order_rises (texts flat)) n.1 in
-    ap (slice_get (label_texts flat)) is ∙ n.1
+number_place flat x p h = search (rules, place_of, to_order, listed, number_rank, rank_place, order_rises)
 
 -- where texts are apart, numbers are
 pub numbers_apart : (t : Tables) → t.numbers ≡ label_numbers t.flat → AreTextsApart t.flat → AreApart t
-numbers_apart t is apart x y a b e =
-    let p = path_there t.flat x a in let q = path_there t.flat y b in
-    let same : number_of (label_numbers t.flat) x ≡ number_of (label_numbers t.flat) y = ap (λ z. number_of z x) (sym is) ∙ e
-    ∙ ap (λ z. number_of z y) is in
-    let both : Some (joined p.0) ≡ Some (joined q.0) = sym (number_place t.flat x p.0 p.1) ∙ ap (slice_get (label_texts t.flat))
-    same ∙ number_place t.flat y q.0 q.1 in
-    let one_text : joined p.0 ≡ joined q.0 = cc in
-    apart x y p.0 q.0 p.1 q.1 one_text
+numbers_apart t is apart x y a b e = search (rules, path_there, number_place)
 
 -- ---- lines of labels
 
 -- a line stands at its number
 pub line_place : (flat : Flat) (l : ℕ) (text : List ℕ) → IsIn {X = ℕ × List ℕ} (l, text) (label_lines flat)
     → slice_get (label_texts flat) l ≡ Some text
-line_place flat l text i =
-    let g = from_gather (λ n t. (n, t) ∷ []) (l, text) (label_texts flat) i in
-    by_case g.0 g.1 g.2 g.3 where
-      by_case : (n : ℕ) (t : List ℕ) → slice_get (label_texts flat) n ≡ Some t → IsIn {X = ℕ × List ℕ} (l, text) ((n, t) ∷ [])
-          → slice_get (label_texts flat) l ≡ Some text
-      by_case n t e (inl same) = ap (λ (z : ℕ × List ℕ). slice_get (label_texts flat) z.0) (sym same) ∙ e
-          ∙ ap (λ (z : ℕ × List ℕ). Some z.1) same
-      by_case n t e (inr none) = absurd none
+line_place flat l text i = search (rules, from_gather)
 
 -- a line of the labels has the number that is called by its text
 pub line_called : (t : Tables) → t.numbers ≡ label_numbers t.flat → (l : ℕ) (text : List ℕ)
@@ -203,11 +177,7 @@ pub line_called : (t : Tables) → t.numbers ≡ label_numbers t.flat → (l : �
 line_called t is l text i =
     let e = line_place t.flat l text i in
     let w = from_listed t.flat text (from_order text (texts t.flat) (in_place text (label_texts t.flat) l e)) in
-    let number : number_of t.numbers w.owner ≡ l =
-    ap (λ z. number_of z w.owner) is
-    ∙ number_rank t.flat w.owner w.path w.has
-    ∙ ap (rank (label_texts t.flat)) w.text_is
-    ∙ rank_place (label_texts t.flat) l text (order_rises (texts t.flat)) e in
+    let number : number_of t.numbers w.owner ≡ l = search (rules, number_rank, rank_place, order_rises) in
     (w.path, record { labelled = w.owner; there = w.has; is = sym number }, w.text_is)
 
 pub called_line : (t : Tables) → t.numbers ≡ label_numbers t.flat → (l : ℕ) (text : List ℕ) → IsCalled t l text
@@ -215,20 +185,13 @@ pub called_line : (t : Tables) → t.numbers ≡ label_numbers t.flat → (l : �
 called_line t is l text c =
     let w = c.1 in
     let number : l ≡ number_of (label_numbers t.flat) w.labelled = w.is ∙ ap (λ z. number_of z w.labelled) is in
-    let e : slice_get (label_texts t.flat) l ≡ Some text = ap (slice_get (label_texts t.flat)) number
-    ∙ number_place t.flat w.labelled c.0 w.there ∙ ap (λ z. Some z) c.2 in
+    let e : slice_get (label_texts t.flat) l ≡ Some text = search (rules, number_place) in
     in_gather (λ n t. (n, t) ∷ []) (l, text) (label_texts t.flat) l text e (inl refl)
 
 -- two lines have one number just where they have one text
 pub lines_apart : (flat : Flat) (l m : ℕ) (from to : List ℕ) → IsIn {X = ℕ × List ℕ} (l, from) (label_lines flat)
     → IsIn {X = ℕ × List ℕ} (m, to) (label_lines flat) → (l ≡ m) ↔ (from ≡ to)
-lines_apart flat l m from to i j =
-    let ts = label_texts flat in let rises = order_rises (texts flat) in
-    let e = line_place flat l from i in
-    let f = line_place flat m to j in (
-      λ same. let both : Some from ≡ Some to = sym e ∙ ap (slice_get ts) same ∙ f in let text : from ≡ to = cc in text,
-      λ same. sym (rank_place ts l from rises e) ∙ ap (rank ts) same ∙ rank_place ts m to rises f,
-    )
+lines_apart flat l m from to i j = search (rules, order_rises, line_place, rank_place)
 
 -- what a label's number is called
 pub line_name : (flat : Flat) (l : ℕ) (text : List ℕ) → IsIn {X = ℕ × List ℕ} (l, text) (label_lines flat)
@@ -244,17 +207,9 @@ line_name flat l text i =
 -- texts rise with the numbers of their lines
 pub lines_rise : (flat : Flat) (l m : ℕ) (from to : List ℕ) → IsIn {X = ℕ × List ℕ} (l, from) (label_lines flat)
     → IsIn {X = ℕ × List ℕ} (m, to) (label_lines flat) → l < m → comes_before from to ≡ true
-lines_rise flat l m from to i j less =
-    ap is_lt (rising_places (label_texts flat) l m from to (order_rises (texts flat)) (line_place flat l from i)
-    (line_place flat m to j) less)
+lines_rise flat l m from to i j less = search (rules, rising_places, order_rises, line_place)
 
 pub lines_fall : (flat : Flat) (l m : ℕ) (from to : List ℕ) → IsIn {X = ℕ × List ℕ} (l, from) (label_lines flat)
     → IsIn {X = ℕ × List ℕ} (m, to) (label_lines flat) → l ≤ m → comes_before to from ≡ false
-lines_fall flat l m from to i j most = by_test (ltb l m) refl where
-  by_test : (b : Bool) → ltb l m ≡ b → comes_before to from ≡ false
-  by_test true e = not_behind to from (rising_places (label_texts flat) l m from to (order_rises (texts flat))
-      (line_place flat l from i) (line_place flat m to j) (ltb-true l m e))
-  by_test false e =
-      let least = ltb-false l m e in
-      let same : l ≡ m = omega (arith, most, least) in
-      ap (λ z. comes_before z from) (sym ((lines_apart flat l m from to i j).0 same)) ∙ not_itself from
+lines_fall flat l m from to i j most =
+    search (rules, not_behind, rising_places, order_rises, line_place, ltb-true, ltb-false, lines_apart, not_itself)

@@ -1,4 +1,5 @@
 -- The labels of edges that have a reason, or that locks confer, are those of paths.
+use Rattle.std.proofs.Common.{rules}
 use Rattle.assigned_laws.proofs.Common.{AreDotted, AreNamesSound, Authority, Edge, EndAt, FlatConnection, IsLockEdge, IsNamed, LabelNumbers, LeadsTo, LockAt, NoObject, ObjectKind, OfEndpoint, OfFrames, OfNotification, Path, Reason}
 use Rattle.assigned_laws.proofs.Common.{Source, Tables, ap, by_bind, by_call, by_direct, by_lock, connection_label, connection_path, domain_label, domain_of, flat_of, gives, has_label, hierarchy_of, labelled_endpoint, labelled_frames}
 use Rattle.assigned_laws.proofs.Common.{labelled_notification, leaf_label, owner, subst, sym, tables_with, true, ℕ, ◌∙◌, ◌≡◌}
@@ -42,21 +43,13 @@ module _ (s : Source) (sound : AreNamesSound s) (dotted : AreDotted (hierarchy_o
   target_path x _ a l g h = same_path l (leaf_label t h.at.end.leaf) h.label_is (leaf_path h.at)
 
   pub reason_paths : (e : Edge) → Reason t e → IsPath e.from × IsPath e.to
-  reason_paths e (by_direct r) = (
-    same_path e.from _ r.from (leaf_path r.at),
-    target_path r.at r.object e.authority e.to
-        r.given r.to,
-  )
+  reason_paths e (by_direct r) = search (rules, same_path, leaf_path, target_path)
   reason_paths e (by_call r) = (same_path e.from _ r.from (leaf_path r.server), same_path e.to _ r.to (leaf_path r.caller))
   reason_paths e (by_bind r) = (
     same_path e.from _ r.handles.device_is (leaf_path r.handles.source),
     joint_path r.signaller e.to (ap has_label r.signals.connector) r.to,
   )
-  reason_paths e (by_lock r) = (
-    same_path e.from _ r.handles.device_is (leaf_path r.handles.source),
-    same_path e.to _ r.has
-        (lock_path r.lock),
-  )
+  reason_paths e (by_lock r) = search (rules, same_path, leaf_path, lock_path)
 
   pub lock_paths : (e : Edge) → IsLockEdge t e → IsPath e.from × IsPath e.to
   lock_paths e k = (same_path e.from _ k.from (lock_path k.lock), same_path e.to _ k.to (lock_path k.lock))

@@ -1,4 +1,5 @@
 -- One line more.
+use Rattle.std.proofs.Common.{rules}
 use Rattle.label_flow.proofs.Common.{AreLines, Edge, IsLine, LabelNames, List, [], ap, append-nil, append_assoc, get_or, length, refl, subst, sym, take, take_more, ℕ, ◌++◌, ◌+◌, ◌<◌, ◌∙◌, ◌∷◌, ◌≡◌}
 
 pub one_more : (edges : List Edge) (labels ms : LabelNames) (m : ℕ × List ℕ) (text line : List ℕ) → AreLines edges labels ms text
@@ -21,8 +22,5 @@ pub line_more : (edges : List Edge) (all labels : LabelNames) (i : ℕ) (m : ℕ
 line_more edges all labels i m text new line same within at are is more =
     let inside : i < length all = subst (λ (ls : LabelNames). i < length ls) same within in
     let here : m ≡ get_or all i m = subst (λ (ls : LabelNames). m ≡ get_or ls i m) same at in
-    let next : take (i + 1) all ≡ take i all ++ m ∷ [] = take_more all i m inside ∙ ap (λ (x : ℕ × List ℕ). take i all ++ x ∷ [])
-    (sym here) in
-    subst (λ (ls : LabelNames). AreLines edges all ls new) (sym next)
-    (subst (λ (t : List ℕ). AreLines edges all (take i all ++ m ∷ []) t) (sym more)
-    (one_more edges all (take i all) m text line are is))
+    let next : take (i + 1) all ≡ take i all ++ m ∷ [] = search (rules, take_more) in
+    search (rules, one_more)

@@ -1,4 +1,5 @@
 -- The search as a whole: where it begins, each edge that is looked at, and where it ends.
+use Rattle.std.proofs.Common.{rules}
 use Rattle.label_flow.proofs.Common.{AreBelow, AreExits, Bool, Chain, Contains, Edge, Flows, Found, IsApart, IsLooking, IsPlaced, IsSearch, IsShortest, List, Looks, None, Option, Passes, Search, Searches, Some, [], ap, arith, blank, cases_lt, cond}
 use Rattle.label_flow.proofs.Common.{contains_at, count_by, exits_of, false, from_holder, get_front, get_or, get_or-set_same, get_or_from_slice_get, inl, inr, is_none, is_some, length, length-set, met_found, met_places, passed_to, place_of, refl}
 use Rattle.label_flow.proofs.Common.{set, slice_get, slice_get_read, slice_get_within, subst, suc, sum_by-cons, sym, to_holder, true, zero, ℕ, ◌++◌, ◌+◌, ◌<◌, ◌∙◌, ◌∷◌, ◌≡◌, ◌≤◌}
@@ -24,8 +25,7 @@ blank_none (suc n) (suc m) = blank_none n m
 blank_count : (n : ℕ) → count_by is_none (blank n) ≡ n
 blank_count zero = refl
 blank_count (suc n) =
-    let e : count_by is_none (None ∷ blank n) ≡ 1 + count_by is_none (blank n) =
-    sum_by-cons (λ (o : Option ℕ). cond {A = ℕ} (is_none o) 1 0) None (blank n) in
+    let e : count_by is_none (None ∷ blank n) ≡ 1 + count_by is_none (blank n) = search (rules, sum_by-cons) in
     let f = blank_count n in
     omega arith
 
@@ -37,61 +37,18 @@ one_found x (suc i) f h = absurd cc
 pub begins : (edges : List Edge) (from count : ℕ) (x : Found) → from < count → x.label ≡ from → x.depth ≡ 0
     → IsSearch edges from (x ∷ []) (set (blank count) from (Some 0)) 0
 begins edges from count x less label depth =
-    let within : from < length (blank count) = rw (blank_length count) less in
-    record {
-      met = λ i f got. inl (
-        ap (λ (z : Found). z.label) (sym (one_found x i f got).1) ∙ label,
-        ap (λ (z : Found). z.depth)
-            (sym (one_found x i f got).1) ∙ depth,
-      );
-      shallow = λ i f got. let d : x.depth ≡ f.depth = ap (λ (z : Found). z.depth) (one_found x i f got).1 in omega arith;
-      rising = λ i j f g order got also.
-          let d : x.depth ≡ f.depth = ap (λ (z : Found). z.depth) (one_found x i f got).1 in
-          let e : x.depth ≡ g.depth = ap (λ (z : Found). z.depth) (one_found x j g also).1 in
-          omega arith;
-      least = λ i f got chain leads. let d : x.depth ≡ f.depth = ap (λ (z : Found). z.depth) (one_found x i f got).1 in
-          omega arith;
-      placed = λ m i h. elim (placed_set (blank count) from 0 m i within h) [
-        | inl old ↦ absurd (let w = blank_none count m in cc)
-        | inr new ↦ (x, subst (λ (k : ℕ). slice_get (x ∷ []) k ≡ Some x) new.1 refl, label ∙ sym new.0)
-      ];
-      known = λ i f got.
-          let same : from ≡ f.label = sym label ∙ ap (λ (z : Found). z.label) (one_found x i f got).1 in (
-            0,
-            subst (λ (k : ℕ). place_of (set (blank count) from (Some 0)) k ≡ Some 0) same
-                (get_or-set_same (blank count) from (Some 0) None within),
-          );
-      counted =
-          let less = count_less (blank count) from 0 within (blank_none count from) in
-          let all = blank_count count in
-          let wide = length-set (blank count) from (Some 0) in
-          let long = blank_length count in
-          omega arith;
-      begun = (0, get_or-set_same (blank count) from (Some 0) None within);
-      looked = λ i f none. absurd (omega arith);
-      near = λ f got j g also.
-          let d : x.depth ≡ f.depth = ap (λ (z : Found). z.depth) (one_found x 0 f got).1 in
-          let e : x.depth ≡ g.depth = ap (λ (z : Found). z.depth) (one_found x j g also).1 in
-          omega arith;
-    }
+    search (rules, blank_length, one_found, placed_set, blank_none, slice_get, set, get_or-set_same, count_less, blank_count)
 
 -- ---- one edge
 
 met_wide : (places : List (Option ℕ)) (found : List Found) (f : Found) → length (met_places places found f) ≡ length places
-met_wide places found f = go (is_some (place_of places f.label)) refl where
-  go : (b : Bool) → is_some (place_of places f.label) ≡ b → length (met_places places found f) ≡ length places
-  go true h = rw h refl
-  go false h = rw h (length-set places f.label (Some (length found)))
+met_wide places found f = search (rules, length-set)
 
 module _ (edges : List Edge) (from count : ℕ) (s : Search) (at : ℕ) (h : Found) (leaving : List ℕ) (i p : ℕ)
     (looks : Looks edges from count s at h leaving i) (here : slice_get leaving i ≡ Some p) (e : Edge)
     (by : slice_get edges p ≡ Some e) where
   same_edge : (j q : ℕ) (d : Edge) → j ≡ i → slice_get leaving j ≡ Some q → slice_get edges q ≡ Some d → e ≡ d
-  same_edge j q d same got is =
-      let also : slice_get leaving i ≡ Some q = subst (λ (n : ℕ). slice_get leaving n ≡ Some q) same got in
-      let place : p ≡ q = cc in
-      let there : slice_get edges p ≡ Some d = subst (λ (n : ℕ). slice_get edges n ≡ Some d) (sym place) is in
-      cc
+  same_edge j q d same got is = search (rules, slice_get)
 
   -- by which nothing passes from the label looked at
   pub looks_past : passed_to e h.label ≡ None → Looks edges from count s at h leaving (i + 1)
@@ -194,26 +151,13 @@ module _ (edges : List Edge) (from count : ℕ) (s : Search) (at : ℕ) (h : Fou
         previous = at;
         depth = h.depth + 1;
       }) → new.from ≡ s.from → Looks edges from count new at h leaving (i + 1)
-  looks_met label new passed within found places start = record {
-    start = start ∙ looks.start;
-    wide = ap (λ (y : List (Option ℕ)). length y) places ∙ met_wide s.places.items s.found.items (record {
-      label = label;
-      by = p;
-      previous = at;
-      depth = h.depth + 1;
-    }) ∙ looks.wide;
-    is = looking_more label passed new.found.items new.places.items within found places;
-  }
+  looks_met label new passed within found places start = search (rules, met_wide, looking_more)
 
 -- ---- one label, and all
 
 pub looks_first : (edges : List Edge) (from count : ℕ) (s : Search) (at : ℕ) (h : Found) (leaving : List ℕ)
     → Searches edges from count s at → slice_get s.found.items at ≡ Some h → Looks edges from count s at h leaving 0
-looks_first edges from count s at h leaving searches there = record {
-  start = searches.start;
-  wide = searches.wide;
-  is = record { search = searches.is; there = there; part = λ j q e none. absurd (omega arith) };
-}
+looks_first edges from count s at h leaving searches there = search (rules)
 
 -- an edge by which something passes from a label stands in the label's row
 in_row : (edges : List Edge) (count : ℕ) (exits : List (List ℕ)) (k : ℕ) (e : Edge) (l m : ℕ)
@@ -337,34 +281,16 @@ pub ends_shortest : (edges : List Edge) (from to count : ℕ) (s : Search) (plac
     → Searches edges from count s (length s.found.items) → place_of s.places.items to ≡ Some place
     → slice_get s.found.items place ≡ Some f → Chain edges s.from chain f.label → length chain ≡ f.depth
     → IsShortest edges from to chain
-ends_shortest edges from to count s place f chain searches placed there leads long =
-    let p = searches.is.placed to place placed in
-    let same : p.0 ≡ f = one_at s.found.items place p.0 f p.1 there in
-    let label : f.label ≡ to = sym (ap (λ (x : Found). x.label) same) ∙ p.2 in
-    record {
-      leads = subst (λ (k : ℕ). Chain edges from chain k) label (subst (λ (k : ℕ). Chain edges k chain f.label)
-          searches.start leads);
-      least = λ other way.
-          let l : f.depth ≤ length other = searches.is.least place f there other (subst (λ (k : ℕ). Chain edges from other k)
-          (sym label) way) in
-          omega arith;
-    }
+ends_shortest edges from to count s place f chain searches placed there leads long = search (rules, one_at)
 
 -- the label looked at, and the places of the edges that leave it
 pub head_below : (edges : List Edge) (from count : ℕ) (s : Search) (at : ℕ) (h : Found) → Searches edges from count s at
     → at < length s.found.items → h ≡ get_or s.found.items at h → h.label < count
-head_below edges from count s at h searches within is =
-    let placed = searches.is.known at h (slice_get_read s.found.items _ at h refl within is) in
-    let below = placed_below s.places.items h.label placed.0 placed.1 in
-    let wide = searches.wide in
-    omega arith
+head_below edges from count s at h searches within is = search (rules, slice_get_read, placed_below)
 
 pub row_is : (edges : List Edge) (count done : ℕ) (exits : List (List ℕ)) (l : ℕ) (leaving r : List ℕ)
     → AreExits edges count done exits → l < count → leaving ≡ r → r ≡ get_or exits l r → leaving ≡ exits_of exits l
-row_is edges count done exits l leaving r are below same is =
-    let wide = are.wide in
-    let within : l < length exits = omega arith in
-    same ∙ sym (get_or_from_slice_get exits l r [] (slice_get_read exits _ l r refl within is))
+row_is edges count done exits l leaving r are below same is = search (rules, get_or_from_slice_get, slice_get_read)
 
 pub row_inside : (edges : List Edge) (count done : ℕ) (exits : List (List ℕ)) (l i p : ℕ) (leaving : List ℕ)
     → AreExits edges count done exits → leaving ≡ exits_of exits l → slice_get leaving i ≡ Some p → p < length edges

@@ -1,4 +1,5 @@
 -- Edges turned round: chains over them lead back.
+use Rattle.std.proofs.Common.{rules}
 use Rattle.label_flow.proofs.Common.{AreBelow, AreSources, Bool, Chain, Contains, Edge, Found, IsClosed, IsSearch, List, None, Option, Passes, Search, Searches, Some, [], ap, arith, contains_at, eqb-true, false, from_holder, inl, inr, is_some}
 use Rattle.label_flow.proofs.Common.{length, map, option_map, place_of, refl, slice_get, slice_get-map, subst, suc, sym, to_holder, true, turned, zero, ℕ, ◌++◌, ◌+◌, ◌<◌, ◌==◌, ◌||◌, ◌∙◌, ◌∷◌, ◌≡◌, ◌≤◌, ◌⊎◌}
 use Rattle.std.proofs.Math.Bool.{or-true}
@@ -77,10 +78,7 @@ module _ (edges : List Edge) (to count : ℕ) (s : Search) (searches : Searches 
         placed (place_of s.places.items l) refl (let w : false || is_some (place_of s.places.items l) ≡ true = rw e at h in w)
 
   to_found : (l : ℕ) → Leads edges to l → is_placed to s.places.items l ≡ true
-  to_found l leads = go (place_of s.places.items l) refl where
-    go : (o : Option ℕ) → place_of s.places.items l ≡ o → is_placed to s.places.items l ≡ true
-    go (Some i) is = rw is (or-true (l == to))
-    go None is = absurd (none_apart edges to l leads.0 (ends_apart edges to l count s searches is) leads.1)
+  to_found l leads = search (rules, or-true, none_apart, ends_apart)
 
 -- a search over turned edges finds the sources
 pub finds_sources : (edges : List Edge) (to count : ℕ) (s : Search) → Searches edges to count s (length s.found.items)
