@@ -71,7 +71,8 @@ impl<'t, 'a> Lookup<'t, 'a> {
         self.value_at(joint.leaf.path.names(), name.as_slice())
     }
 
-    /// The value of a setting of the interface that an end joins, where it has a meaning. Where no name has a value, none is made.
+    /// The value of a setting of the interface that an end joins, where it has a meaning. Where no name has a value, none is
+    /// made.
     #[inline(always)]
     #[tactic(auto, using(crate::proofs::Unvalued::unvalued))]
     fn value_where(

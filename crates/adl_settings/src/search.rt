@@ -24,8 +24,8 @@ pub struct Lookup<'t, 'a> {
     pub settings: SettingTables<'a>,
     /// The names that have a value in some body, if they were looked for.
     pub names: Option<IndexSet<&'a [u8]>>,
-    /// The values of attributes that settings refer to, as far as they were looked for before, by the path of the instance. It may
-    /// be that there is no value.
+    /// The values of attributes that settings refer to, as far as they were looked for before, by the path of the instance. It
+    /// may be that there is no value.
     pub referred: IndexMap<(&'a [Name], &'a [u8]), Option<Given<'a>>>,
 }
 

@@ -1,7 +1,7 @@
 -- What is made of tables is what is made of a source.
 use Rattle.arch_compile.proofs.Common.{Flat, Images, IsAssigned, IsBuildable, IsLaid, IsMade, IsMadeOf, IsMeant, IsPolicyOf, IsSorted, IsWindowed, Layout, List, Policy, Settled, Source, Spec, Tables, ap, arith, entry, flat_of, given, label_numbers}
 use Rattle.arch_compile.proofs.Common.{length, length-map, parts, policy_tables, slots_of, source_tables, spaces_of, spec_of, subst, sym, system_tables, tables_from, with_objects, ◌<◌, ◌^◌, ◌∙◌, ◌≡◌}
-use Rattle.arch_compile.specs.declared.making.Made.{Made}
+use Rattle.arch_compile.specs.declared.making.Products.{Products}
 use Rattle.arch_policy.specs.declared.numbers.LabelNumbers.{LabelNumbers}
 use Rattle.cspace_layout.specs.declared.plan.Slots.{Slots}
 use Rattle.vspace_layout.specs.declared.spaces.Spaces.{Spaces}
@@ -10,7 +10,7 @@ pub few_objects : (t : Tables) (spec : Spec) → IsBuildable t → spec ≡ spec
 few_objects t spec is e = let few = is.few.objects in
     subst (λ (z : Spec). length z.entries < 2 ^ 32) (sym e) (omega (arith, few, length-map (parts t) (entry t)))
 
-made_is : (s : Source) (images : Images) (p q : Policy) (m : Made) → IsAssigned s p → IsMadeOf (system_tables s images) m
+made_is : (s : Source) (images : Images) (p q : Policy) (m : Products) → IsAssigned s p → IsMadeOf (system_tables s images) m
     → q ≡ with_objects p m.system.spec m.system.labels → IsMade s images m.system.spec q m.cert m.map
 made_is s images p q m assigned is e =
     let t = system_tables s images in
@@ -102,7 +102,7 @@ module _ (s : Source) (flat : Flat) (settled : Settled) (images : Images) (l : L
       (sym (tables_are s flat settled images l.slots l.spaces numbers laid.slots laid.spaces numbered
       ∙ system_is s flat settled images meant)) assigned.edges
 
-  pub here_made : (p q : Policy) (m : Made) → IsMeant s flat settled → IsAssigned s p → IsMadeOf Here m
+  pub here_made : (p q : Policy) (m : Products) → IsMeant s flat settled → IsAssigned s p → IsMadeOf Here m
       → q ≡ with_objects p m.system.spec m.system.labels → IsMade s images m.system.spec q m.cert m.map
   here_made p q m meant assigned is e =
       made_is s images p q m assigned

@@ -9,7 +9,7 @@ use Rattle.arch_compile.specs.Compiled.{IsLayoutFault}
 use Rattle.arch_compile.specs.LayoutFaults.{first_imaged_fault, first_layout_fault, found_beside, images_beside, tables_beside}
 use Rattle.arch_compile.specs.declared.building.Build.{Build}
 use Rattle.arch_compile.specs.declared.laying.Layout.{Layout}
-use Rattle.arch_compile.specs.declared.making.Made.{Made}
+use Rattle.arch_compile.specs.declared.making.Products.{Products}
 use Rattle.arch_policy.specs.Policies.{IsCertificateOf, first_edge_fault}
 use Rattle.arch_policy.specs.Tables.{Tables as PolicyTables}
 use Rattle.cap_model.specs.Tables.{IsSorted}
@@ -70,7 +70,7 @@ with_objects policy spec labels =
 abbrev pub policy_tables : Tables → PolicyTables
 policy_tables t = record { source = t.source; flat = t.flat; settled = t.settled; numbers = t.numbers }
 
-pub record IsMadeOf (t : Tables) (m : Made) : Type 0 where
+pub record IsMadeOf (t : Tables) (m : Products) : Type 0 where
   pub spec : m.system.spec ≡ spec_of t
   pub labels : m.system.labels ≡ labels_of t
   pub cert : IsCertificateOf (policy_tables t) m.cert

@@ -15,7 +15,7 @@ ghost use Rattle.std.specs.Prelude.{◌≡◌, IfOk};
 use crate::imaging::root_of;
 use crate::labelled::with_objects;
 use crate::laying::{Layout, lay_out};
-use crate::making::{Made, made_of};
+use crate::making::{Products, made_of};
 use cam_base::{List, SourceError};
 use cam_io::Files;
 use cap_model::{EdgeTable, Policy, Spec};
@@ -129,7 +129,7 @@ fn with_made(
         spaces: &layout.spaces,
         numbers: &numbers,
     };
-    let Made { system, cert, map } = made_of(alloc, &tables, &policy.edges)?;
+    let Products { system, cert, map } = made_of(alloc, &tables, &policy.edges)?;
     drop(layout);
     let System { spec, labels } = system;
     let policy = with_objects(alloc, policy, &spec, &labels)?;

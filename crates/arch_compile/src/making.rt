@@ -8,21 +8,21 @@ ghost use Rattle.system_spec.specs.Buildable.{IsBuildable, IsWindowed};
 ghost use Rattle.system_spec.specs.Tables.{told};
 
 use arch_policy::{Tables as PolicyTables, certificate_of};
-use cam_base::{List, NoMemory};
+use cam_base::{List, Made};
 use cap_model::EdgeTable;
 use std::alloc::Global;
 use system_spec::{MapLine, System, Tables, build_with_map};
 
 /// The spec of a system with the labels of its objects, its certificate and its map.
 #[derive(Drop)]
-pub struct Made {
+pub struct Products {
     pub system: System,
     pub cert: EdgeTable,
     pub map: List<MapLine>,
 }
 
 /// The certificate of these tables, with the edges of a policy.
-fn certificate(alloc: Global, tables: &Tables<'_>, edges: &EdgeTable) -> Result<EdgeTable, NoMemory>
+fn certificate(alloc: Global, tables: &Tables<'_>, edges: &EdgeTable) -> Made<EdgeTable>
     requires { IsPolicyOf (policy_tables (told tables.now)) edges.now }
     ensures cert { IfOk result (IsCertificateOf (policy_tables (told tables.now))) }
     ensures sorted { IfOk result IsSorted }
@@ -37,7 +37,7 @@ fn certificate(alloc: Global, tables: &Tables<'_>, edges: &EdgeTable) -> Result<
 }
 
 /// What is made of these tables, with the edges of a policy.
-pub fn made_of(alloc: Global, tables: &Tables<'_>, edges: &EdgeTable) -> Result<Made, NoMemory>
+pub fn made_of(alloc: Global, tables: &Tables<'_>, edges: &EdgeTable) -> Made<Products>
     requires buildable { IsBuildable (told tables.now) }
     requires windowed { IsWindowed (told tables.now) }
     requires assigned { IsPolicyOf (policy_tables (told tables.now)) edges.now }
@@ -45,5 +45,5 @@ pub fn made_of(alloc: Global, tables: &Tables<'_>, edges: &EdgeTable) -> Result<
 {
     let cert = certificate(alloc, tables, edges)?;
     let (system, map) = build_with_map(alloc, tables)?;
-    Ok(Made { system, cert, map })
+    Ok(Products { system, cert, map })
 }

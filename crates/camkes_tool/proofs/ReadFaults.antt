@@ -19,8 +19,8 @@ module _ (contents : Contents) (before now : List ℕ → ℕ) (file : List ℕ)
 
   -- the turn of an input, of which nothing is told that is a failed read
   turn_rose : {A : Type 0} (name : List ℕ) → ((bytes : List ℕ) × IsInput contents before now name (Ok bytes) × ⊥)
-      ⊎ ((e : InputError) × IsInput contents before now name (Err e) × ◌≡◌ {A = Result A InputError} (Err (ReadFault file)) (Err e))
-      → FileRose
+      ⊎ ((e : InputError) × IsInput contents before now name (Err e)
+      × ◌≡◌ {A = Result A InputError} (Err (ReadFault file)) (Err e)) → FileRose
   turn_rose name h = then_rose h (input_rose name) (λ bytes none. absurd none)
 
   pub check_rose : (cdl policy cert : List ℕ) → IsChecked contents before now cdl policy cert (Err (ReadFault file)) → FileRose

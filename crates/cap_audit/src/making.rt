@@ -25,7 +25,7 @@ use crate::kinds::{Kinds, head_roots, members, stand_in};
 use crate::picks::{Pick, Wanted, picked, picks, places};
 use crate::rows::Rows;
 use crate::{Findings, Held, Pair, whole};
-use cam_base::NoMemory;
+use cam_base::{Made, NoMemory};
 use cap_machine::{Step, direct, with_cap, with_link};
 use cap_model::{Authority, Cap, Edge, EdgeSet, EdgeTable, Labels, Spec};
 use std::alloc::Global;
@@ -187,7 +187,7 @@ impl<'a> Making<'a> {
     }
 
     /// Those of a CNode's capabilities.
-    pub fn picks(&self, node: u32, wanted: Wanted) -> Result<Vec<Pick>, NoMemory>
+    pub fn picks(&self, node: u32, wanted: Wanted) -> Made<Vec<Pick>>
         ensures { IfOk result (λ picks. picks.items ≡ filter_map (pick_of self.now.spec self.now.found wanted)
             (held_by self.now.found node)) }
     {
@@ -195,7 +195,7 @@ impl<'a> Making<'a> {
     }
 
     /// The table of the edges of the boot state.
-    pub fn boot_edges(&self) -> Result<EdgeTable, NoMemory>
+    pub fn boot_edges(&self) -> Made<EdgeTable>
         requires { length self.now.labels ≡ length self.now.spec.entries }
         ensures { IfOk result (λ table. (l : ℕ) (a : Authority) (m : ℕ) → (Has table l a m)
             ↔ Auth self.now.spec self.now.labels (boot self.now.spec) l a m) }
@@ -218,7 +218,7 @@ impl<'a> Making<'a> {
     }
 
     /// A thread of each root that is a head.
-    pub fn roots(&self) -> Result<Vec<Option<u32>>, NoMemory>
+    pub fn roots(&self) -> Made<Vec<Option<u32>>>
         requires { IsKept self.now.spec }
         ensures { IfOk result (λ roots. AreHeadRoots self.now.spec self.now.heads roots.items) }
     {
@@ -226,7 +226,7 @@ impl<'a> Making<'a> {
     }
 
     /// Threads by their roots, objects by their heads, and heads by the endpoints that they may call.
-    pub fn company(&self) -> Result<Company, NoMemory>
+    pub fn company(&self) -> Made<Company>
         requires kept { IsKept self.now.spec }
         requires all { IsAll self.now.spec self.now.found }
         requires as_many { length self.now.heads ≡ length self.now.spec.entries }
@@ -247,14 +247,14 @@ impl<'a> Making<'a> {
     }
 
     /// Rows in which nobody has met.
-    pub fn nobody(&self) -> Result<Rows<u32>, NoMemory>
+    pub fn nobody(&self) -> Made<Rows<u32>>
         ensures { IfOk result (λ met. met ≡ replicate (length self.now.spec.entries) []) }
     {
         Rows::new(self.alloc, self.spec.entries.len())
     }
 
     /// Where these CNodes have the value.
-    pub fn places(&self, nodes: &[u32], value: usize) -> Result<Vec<Place>, NoMemory>
+    pub fn places(&self, nodes: &[u32], value: usize) -> Made<Vec<Place>>
         ensures { IfOk result (λ places. ArePlaces self.now.found nodes.now value places.items) }
     {
         let places = places(self.alloc, self.findings, nodes, value)?;
@@ -262,7 +262,7 @@ impl<'a> Making<'a> {
     }
 
     /// The edges as a table, and the steps.
-    pub fn ended(self) -> Result<(EdgeTable, Vec<Step>), NoMemory>
+    pub fn ended(self) -> Made<(EdgeTable, Vec<Step>)>
         ensures edges { IfOk result (λ ended. (e : Edge) → has ended.0 e ≡ has self.entry.edges e) }
         ensures steps { IfOk result (λ ended. ended.1.items ≡ self.entry.steps) }
     {
@@ -300,7 +300,7 @@ impl<'a> Making<'a> {
     }
 
     /// Puts an edge in, where it lies between different labels.
-    fn note(&mut self, edge: Edge) -> Result<(), NoMemory>
+    fn note(&mut self, edge: Edge) -> Made<()>
         ensures { OnOk result (Notes (Is edge) self.old self.new) }
     {
         if edge.from == edge.to {
@@ -311,7 +311,7 @@ impl<'a> Making<'a> {
     }
 
     /// Puts edges in, where they lie between different labels.
-    pub fn note_all(&mut self, edges: &[Edge]) -> Result<(), NoMemory>
+    pub fn note_all(&mut self, edges: &[Edge]) -> Made<()>
         ensures { OnOk result (Notes (λ e. has edges.now e ≡ true) self.old self.new) }
     {
         for edge in edges {
@@ -321,7 +321,7 @@ impl<'a> Making<'a> {
     }
 
     /// Puts the edges of a table in, where they lie between different labels.
-    pub fn note_table(&mut self, table: &EdgeTable) -> Result<(), NoMemory>
+    pub fn note_table(&mut self, table: &EdgeTable) -> Made<()>
         ensures { OnOk result (Notes (λ e. has table.now e ≡ true) self.old self.new) }
     {
         for edge in table.iter() {
@@ -330,7 +330,7 @@ impl<'a> Making<'a> {
         Ok(())
     }
 
-    fn push(&mut self, step: Step) -> Result<(), NoMemory>
+    fn push(&mut self, step: Step) -> Made<()>
         ensures { OnOk result (self.new ≡ record self.old { steps = self.old.steps ++ step ∷ [] }) }
     {
         self.steps.push(step)?;
@@ -344,7 +344,7 @@ impl<'a> Making<'a> {
     }
 
     /// What a capability confers, from a label.
-    fn cap_edges(&self, from: u32, cap: &Cap) -> Result<Vec<Edge>, NoMemory>
+    fn cap_edges(&self, from: u32, cap: &Cap) -> Made<Vec<Edge>>
         ensures { IfOk result (λ edges. (e : Edge) → (has edges.items e ≡ true)
             ↔ OfCap self.now.spec self.now.labels from cap.now e) }
     {
@@ -353,7 +353,7 @@ impl<'a> Making<'a> {
     }
 
     /// Leave to send, from a label to that of an object.
-    fn send_edges(&self, from: u32, object: u32) -> Result<Vec<Edge>, NoMemory>
+    fn send_edges(&self, from: u32, object: u32) -> Made<Vec<Edge>>
         ensures { IfOk result (λ edges. (e : Edge) → (has edges.items e ≡ true)
             ↔ (e ≡ edge from AsyncSend (label_of self.now.labels object))) }
     {
@@ -368,7 +368,7 @@ impl<'a> Making<'a> {
     }
 
     /// Shows what a held capability confers.
-    pub fn hold(&mut self, node: u32, pick: &Pick) -> Result<(), NoMemory>
+    pub fn hold(&mut self, node: u32, pick: &Pick) -> Made<()>
         requires so_far { IsSoFar self.old }
         requires held { HoldsAt self.old.found node pick.now.number pick.now.cap }
         ensures { OnOk result (Gains (OfCap self.old.spec self.old.labels (label_of self.old.labels node) pick.now.cap)
@@ -381,7 +381,7 @@ impl<'a> Making<'a> {
     }
 
     /// The edges that the step makes.
-    fn edges_of(&self, deed: Deed, from: &Pick, to: &Pick) -> Result<Vec<Edge>, NoMemory>
+    fn edges_of(&self, deed: Deed, from: &Pick, to: &Pick) -> Made<Vec<Edge>>
         ensures { IfOk result (λ edges. (e : Edge) → (has edges.items e ≡ true)
             ↔ OfDeed self.now.spec self.now.labels deed from.now.cap to.now.cap e) }
     {
@@ -393,7 +393,7 @@ impl<'a> Making<'a> {
     }
 
     /// Makes the thread take the step, where that shows an edge more.
-    pub fn act(&mut self, deed: Deed, t: u32, from: &Pick, to: &Pick) -> Result<(), NoMemory>
+    pub fn act(&mut self, deed: Deed, t: u32, from: &Pick, to: &Pick) -> Made<()>
         requires so_far { IsSoFar self.old }
         requires owns { OwnsBoth self.old.spec self.old.found t deed from.now to.now }
         ensures { OnOk result (Gains (OfDeed self.old.spec self.old.labels deed from.now.cap to.now.cap) self.old self.new) }
@@ -426,7 +426,7 @@ impl<'a> Making<'a> {
     }
 
     /// A call whose reply is saved, and given from there.
-    fn push_call(&mut self, caller: Party, listener: Party) -> Result<(), NoMemory>
+    fn push_call(&mut self, caller: Party, listener: Party) -> Made<()>
         ensures { OnOk result (self.new ≡ record self.old {
           steps = self.old.steps ++ call_steps self.old.nexts caller
               listener;
@@ -458,7 +458,7 @@ impl<'a> Making<'a> {
     }
 
     /// Makes the one call the other, where that shows an edge more.
-    pub fn call(&mut self, caller: Party, listener: Party) -> Result<(), NoMemory>
+    pub fn call(&mut self, caller: Party, listener: Party) -> Made<()>
         requires so_far { IsSoFar self.old }
         requires parties { AreParties self.old.spec self.old.found caller listener }
         ensures { OnOk result (Gains (OfParties self.old.labels caller listener) self.old self.new) }

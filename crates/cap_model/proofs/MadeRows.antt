@@ -2,7 +2,7 @@
 use Rattle.cap_model.proofs.Common.{Authority, Bool, Class, Edge, HasClass, HasNew, HasRow, IsClass, IsIn, IsMade, IsSorted, IsTable, List, None, Reply, Row, Some, [], ap, append-nil, arith, cases_lt, edges_of, false, flat_map-append}
 use Rattle.cap_model.proofs.Common.{flat_map_same, get_behind, get_front, get_or, inl, inr, is_eq, length, list_cmp, map, place_in, place_of, refl, reply_to, same_Some, single, slice_get, slice_get-get_or, slice_get_within, split_get, subst, sym}
 use Rattle.cap_model.proofs.Common.{rules, table_edges, take, take-append-le, take-append_seam, true, ℕ, ◌++◌, ◌<◌, ◌∙◌, ◌∷◌, ◌≡◌, ◌≤◌, ◌⊎◌}
-use Rattle.cap_model.specs.declared.making.Made.{Made}
+use Rattle.cap_model.specs.declared.making.Tabling.{Tabling}
 use Rattle.cap_model.proofs.PairLists.{is_eq-same, list_itself}
 use Rattle.cap_model.proofs.RowEdges.{in_take}
 
@@ -59,8 +59,8 @@ module _ (classes classes' : List Class) (rows : List Row) (r : Row) (c : Class)
 
 -- ---- one class more
 
-module _ (edges : List Edge) (old new : Made) (label : ℕ) (pairs : List (Authority × ℕ)) (before k : ℕ) (made : IsMade edges old)
-    (h : HasNew old label pairs before new k) where
+module _ (edges : List Edge) (old new : Tabling) (label : ℕ) (pairs : List (Authority × ℕ)) (before k : ℕ) (made : IsMade edges
+    old) (h : HasNew old label pairs before new k) where
   known_more : (j : ℕ) (d : Class) → slice_get new.classes.items j ≡ Some d → place_in new d.pairs.items ≡ Some j
   known_more j d p = search (rules, pushed, slice_get, list_itself, is_eq-same)
 
@@ -94,7 +94,7 @@ one_before c d p q same = elim (cases_lt d.before c.before) [
   | inr ge ↦ ge
 ]
 
-module _ (edges run : List Edge) (old mid new : Made) (r : Row) (pairs : List (Authority × ℕ)) (before : ℕ)
+module _ (edges run : List Edge) (old mid new : Tabling) (r : Row) (pairs : List (Authority × ℕ)) (before : ℕ)
     (made : IsMade edges old)
     (is_class : (c : Class) → c.pairs.items ≡ pairs → c.before ≡ before → IsClass c)
     (run_is : (c : Class) → c.pairs.items ≡ pairs → c.before ≡ before → edges_of (Some c) r ≡ run)

@@ -9,7 +9,7 @@ use Rattle.cap_model.specs.Tables.{IsSorted}
 use Rattle.authorities.specs.contracts.authority.AuthorityOrd.TheImpl.{ghosts as numbered}
 use Rattle.authorities.specs.declared.authority.Authority.{Authority}
 use Rattle.cap_model.specs.declared.edge.Edge.{Edge}
-use Rattle.cap_model.specs.declared.making.Made.{Made}
+use Rattle.cap_model.specs.declared.making.Tabling.{Tabling}
 use Rattle.cap_model.specs.declared.rows.Class.{Class}
 use Rattle.cap_model.specs.declared.rows.Row.{Row}
 
@@ -22,11 +22,11 @@ abbrev pub list_cmp : List (Authority × ℕ) → List (Authority × ℕ) → Or
 list_cmp p q = slice_cmp (λ x y. ordering_then (numbered.cmp x.0 y.0) (nat_cmp x.1 y.1)) p q
 
 -- the place of the class with this list
-abbrev pub place_in : Made → List (Authority × ℕ) → Option ℕ
+abbrev pub place_in : Tabling → List (Authority × ℕ) → Option ℕ
 place_in m pairs = get_by (λ k. list_cmp pairs k.items) m.places
 
 -- these are the rows and classes of the edges
-pub record IsMade (edges : List Edge) (m : Made) : Type 0 where
+pub record IsMade (edges : List Edge) (m : Tabling) : Type 0 where
   pub table : IsTable m.classes.items m.rows.items
   pub same : table_edges m.classes.items m.rows.items ≡ edges
   pub known : (k : ℕ) (c : Class) → slice_get m.classes.items k ≡ Some c → place_in m c.pairs.items ≡ Some k
@@ -34,14 +34,14 @@ pub record IsMade (edges : List Edge) (m : Made) : Type 0 where
       × (c.pairs.items ≡ q.pairs.items)
 
 -- a class with this list is among the classes, and its place is k
-pub record HasOld (old : Made) (pairs : List (Authority × ℕ)) (new : Made) (k : ℕ) : Type 0 where
+pub record HasOld (old : Tabling) (pairs : List (Authority × ℕ)) (new : Tabling) (k : ℕ) : Type 0 where
   pub there : place_in old pairs ≡ Some k
   pub classes : new.classes.items ≡ old.classes.items
   pub rows : new.rows.items ≡ old.rows.items
   pub places : (q : Class) → place_in new q.pairs.items ≡ place_in old q.pairs.items
 
 -- one has been put behind the others
-pub record HasNew (old : Made) (label : ℕ) (pairs : List (Authority × ℕ)) (before : ℕ) (new : Made) (k : ℕ) : Type 0 where
+pub record HasNew (old : Tabling) (label : ℕ) (pairs : List (Authority × ℕ)) (before : ℕ) (new : Tabling) (k : ℕ) : Type 0 where
   pub none : place_in old pairs ≡ None
   pub place : k ≡ length old.classes.items
   pub class : Class
@@ -53,7 +53,7 @@ pub record HasNew (old : Made) (label : ℕ) (pairs : List (Authority × ℕ)) (
   pub places : (q : Class) → place_in new q.pairs.items ≡ cond (is_eq (list_cmp pairs q.pairs.items)) (Some k)
       (place_in old q.pairs.items)
 
-abbrev pub HasClass : Made → ℕ → List (Authority × ℕ) → ℕ → Made → ℕ → Type 0
+abbrev pub HasClass : Tabling → ℕ → List (Authority × ℕ) → ℕ → Tabling → ℕ → Type 0
 HasClass old label pairs before new k = HasOld old pairs new k ⊎ HasNew old label pairs before new k
 
 -- the edges are in order, and go out of the label
@@ -62,13 +62,13 @@ pub record IsRun (label : ℕ) (run : List Edge) : Type 0 where
   pub from : (i : ℕ) (e : Edge) → slice_get run i ≡ Some e → e.from ≡ label
 
 -- the row of a run has been put behind those of the edges before it
-pub record HasRow (edges : List Edge) (old : Made) (label : ℕ) (run : List Edge) (new : Made) : Type 0 where
+pub record HasRow (edges : List Edge) (old : Tabling) (label : ℕ) (run : List Edge) (new : Tabling) : Type 0 where
   pub made : IsMade (edges ++ run) new
   pub row : Row
   pub rows : new.rows.items ≡ old.rows.items ++ row ∷ []
   pub label_is : row.label ≡ label
 
-abbrev pub IsPart : Made → ℕ → ℕ → List Edge → Made → Type 0
+abbrev pub IsPart : Tabling → ℕ → ℕ → List Edge → Tabling → Type 0
 IsPart old label first run new =
     (edges : List Edge) → IsMade edges old → first ≡ length edges → ((i : ℕ) (r : Row) → slice_get old.rows.items i ≡ Some r
     → r.label < label)

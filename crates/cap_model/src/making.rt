@@ -6,25 +6,25 @@ ghost use Rattle.std.specs.Prelude.{◌≡◌, ◌++◌, map, IfOk};
 
 use crate::rows::{Class, Row};
 use crate::{Authority, Edge};
-use cam_base::NoMemory;
+use cam_base::Made;
 use std::alloc::Global;
 use std::collections::BTreeMap;
 use std::collections::btree_map::Entry;
 
 /// The rows and classes of edges, and the place of each class by its list.
 #[derive(Drop)]
-pub struct Made {
+pub struct Tabling {
     pub rows: Vec<Row>,
     pub classes: Vec<Class>,
     pub places: BTreeMap<Vec<(Authority, u32)>, usize>,
 }
 
 /// The rows and classes of edges.
-pub fn made_of(alloc: Global, edges: &[Edge]) -> Result<Made, NoMemory>
+pub fn made_of(alloc: Global, edges: &[Edge]) -> Made<Tabling>
     requires { IsSorted edges.now }
     ensures { IfOk result (λ made. IsMade edges.now made) }
 {
-    let mut made = Made {
+    let mut made = Tabling {
         rows: Vec::new(alloc),
         classes: Vec::new(alloc),
         places: BTreeMap::new(alloc),
@@ -41,13 +41,7 @@ pub fn made_of(alloc: Global, edges: &[Edge]) -> Result<Made, NoMemory>
 }
 
 /// One row more, of the edges out of a label that is greater than those before it.
-fn with_row(
-    alloc: Global,
-    made: Made,
-    label: u32,
-    first: usize,
-    run: &[Edge],
-) -> Result<Made, NoMemory>
+fn with_row(alloc: Global, made: Tabling, label: u32, first: usize, run: &[Edge]) -> Made<Tabling>
     requires run { IsRun label run.now }
     ensures { IfOk result (λ new. IsPart made label first run.now new) }
 {
@@ -69,11 +63,11 @@ fn with_row(
 /// The classes with one of this list among them, and its place.
 fn with_class(
     alloc: Global,
-    made: Made,
+    made: Tabling,
     label: u32,
     pairs: Vec<(Authority, u32)>,
     before: usize,
-) -> Result<(Made, usize), NoMemory>
+) -> Made<(Tabling, usize)>
     ensures { IfOk result (λ new. HasClass made label pairs.items before new.0 new.1) }
 {
     let mut made = made;
@@ -93,18 +87,14 @@ fn with_class(
     Ok((made, place))
 }
 
-fn pairs_of(
-    alloc: Global,
-    before: &[Edge],
-    behind: &[Edge],
-) -> Result<Vec<(Authority, u32)>, NoMemory>
+fn pairs_of(alloc: Global, before: &[Edge], behind: &[Edge]) -> Made<Vec<(Authority, u32)>>
     ensures { IfOk result (λ pairs. pairs.items ≡ map pair_of before.now ++ map pair_of behind.now) }
 {
     let pairs = Vec::with_capacity(alloc, before.len() + behind.len())?;
     with_pairs(with_pairs(pairs, before)?, behind)
 }
 
-fn with_pairs(pairs: Vec<(Authority, u32)>, run: &[Edge]) -> Result<Vec<(Authority, u32)>, NoMemory>
+fn with_pairs(pairs: Vec<(Authority, u32)>, run: &[Edge]) -> Made<Vec<(Authority, u32)>>
     ensures { IfOk result (λ new. new.items ≡ pairs.items ++ map pair_of run.now) }
 {
     let mut pairs = pairs;
@@ -114,7 +104,7 @@ fn with_pairs(pairs: Vec<(Authority, u32)>, run: &[Edge]) -> Result<Vec<(Authori
     Ok(pairs)
 }
 
-fn replies_of(alloc: Global, run: &[Edge]) -> Result<Vec<u32>, NoMemory>
+fn replies_of(alloc: Global, run: &[Edge]) -> Made<Vec<u32>>
     ensures { IfOk result (λ replies. replies.items ≡ map (λ e. e.to) run.now) }
 {
     let mut replies = Vec::with_capacity(alloc, run.len())?;

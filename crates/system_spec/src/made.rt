@@ -16,7 +16,7 @@ use crate::listing::frame_part;
 use crate::map_listing::lines_of;
 use crate::object::object;
 use crate::{MapLine, Part, Tables};
-use cam_base::{List, NoMemory};
+use cam_base::{List, Made};
 use cap_model::{Entry, Labels, Object, Spec};
 use std::alloc::Global;
 
@@ -35,7 +35,7 @@ fn push_entry(
     object: Object,
     entries: &mut List<Entry>,
     labels: &mut List<u32>,
-) -> Result<(), NoMemory>
+) -> Made<()>
     ensures entries { OnOk result (entries.new ≡ entries.old ++ entry_with part object ∷ []) }
     ensures labels { OnOk result (labels.new ≡ labels.old ++ part_label (told tables.now) part ∷ []) }
 {
@@ -54,7 +54,7 @@ fn push_object(
     part: Part,
     entries: &mut List<Entry>,
     labels: &mut List<u32>,
-) -> Result<(), NoMemory>
+) -> Made<()>
     requires buildable { IsBuildable (told tables.now) }
     requires marks { AreLandmarks (told tables.now) marks.now }
     requires there { IsThere (told tables.now) part.what }
@@ -73,7 +73,7 @@ fn push_objects(
     parts: &[Part],
     entries: &mut List<Entry>,
     labels: &mut List<u32>,
-) -> Result<(), NoMemory>
+) -> Made<()>
     requires buildable { IsBuildable (told tables.now) }
     requires marks { AreLandmarks (told tables.now) marks.now }
     requires there { AreThere (told tables.now) parts.now }
@@ -94,7 +94,7 @@ fn push_tables(
     objects: List<Object>,
     entries: &mut List<Entry>,
     labels: &mut List<u32>,
-) -> Result<(), NoMemory>
+) -> Made<()>
     requires { objects ≡ map (λ p. object (told tables.now) p.what) parts.now }
     ensures entries { OnOk result (entries.new ≡ entries.old ++ map (entry (told tables.now)) parts.now) }
     ensures labels { OnOk result (labels.new ≡ labels.old ++ map (part_label (told tables.now)) parts.now) }
@@ -115,7 +115,7 @@ fn push_frames(
     marks: &Landmarks,
     entries: &mut List<Entry>,
     labels: &mut List<u32>,
-) -> Result<(), NoMemory>
+) -> Made<()>
     requires buildable { IsBuildable (told tables.now) }
     requires marks { AreLandmarks (told tables.now) marks.now }
     ensures entries { OnOk result (entries.new
@@ -131,7 +131,7 @@ fn push_frames(
 }
 
 /// The spec of a system with this plan, and the labels of its objects.
-fn system_of(alloc: Global, tables: &Tables<'_>, plan: Plan) -> Result<System, NoMemory>
+fn system_of(alloc: Global, tables: &Tables<'_>, plan: Plan) -> Made<System>
     requires buildable { IsBuildable (told tables.now) }
     requires plan { IsPlan (told tables.now) plan }
     ensures spec { IfOk result (λ system. system.spec ≡ spec_of (told tables.now)) }
@@ -171,7 +171,7 @@ fn system_of(alloc: Global, tables: &Tables<'_>, plan: Plan) -> Result<System, N
 /// # Errors
 ///
 /// Want of memory.
-pub fn build(alloc: Global, tables: &Tables<'_>) -> Result<System, NoMemory>
+pub fn build(alloc: Global, tables: &Tables<'_>) -> Made<System>
     requires { IsBuildable (told tables.now) }
     ensures spec { IfOk result (λ system. system.spec ≡ spec_of (told tables.now)) }
     ensures labels { IfOk result (λ system. system.labels ≡ labels_of (told tables.now)) }
@@ -185,7 +185,7 @@ pub fn build(alloc: Global, tables: &Tables<'_>) -> Result<System, NoMemory>
 /// # Errors
 ///
 /// Want of memory.
-pub fn map_lines(alloc: Global, tables: &Tables<'_>) -> Result<List<MapLine>, NoMemory>
+pub fn map_lines(alloc: Global, tables: &Tables<'_>) -> Made<List<MapLine>>
     requires buildable { IsBuildable (told tables.now) }
     requires windows { IsWindowed (told tables.now) }
     ensures { IfOk result (λ lines. lines ≡ map_lines (told tables.now)) }
@@ -199,10 +199,7 @@ pub fn map_lines(alloc: Global, tables: &Tables<'_>) -> Result<List<MapLine>, No
 /// # Errors
 ///
 /// Want of memory.
-pub fn build_with_map(
-    alloc: Global,
-    tables: &Tables<'_>,
-) -> Result<(System, List<MapLine>), NoMemory>
+pub fn build_with_map(alloc: Global, tables: &Tables<'_>) -> Made<(System, List<MapLine>)>
     requires buildable { IsBuildable (told tables.now) }
     requires windows { IsWindowed (told tables.now) }
     ensures spec { IfOk result (λ made. made.0.spec ≡ spec_of (told tables.now)) }

@@ -10,7 +10,8 @@ returns-in_err-item g c =
     c.more.at (many token_code cs r c.args.at.now) (sym c.more-test.ensures) c.in_err-item.ensures c.more.invariant)
 
 pub more-smaller : goal.more-smaller
-more-smaller g c = (g.met.L.Line c.lifetimes (search rules)).eats c.more.at (c.in_ok-item.item, c.read.new.at) c.in_ok-item.ensures
+more-smaller g c = (g.met.L.Line c.lifetimes (search rules)).eats c.more.at (c.in_ok-item.item, c.read.new.at)
+    c.in_ok-item.ensures
 
 pub more-preserved : goal.more-preserved
 more-preserved g c =

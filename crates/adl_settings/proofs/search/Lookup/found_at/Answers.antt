@@ -10,9 +10,13 @@ returns-clause-value c =
     let p = c.in_ok-paddr.ensures.same ∙ s in
     λ i. record {
       joint = j;
-      access = (c.in_ok-access.ensures.value ∙ (λ k. where_set (c.has_access.ensures k) (value_of c.args.self.now j (codes "_access")))) i;
-      badge = (c.in_ok-badge.ensures.value ∙ (λ k. where_set (c.has_badge.ensures k) (value_of (a k) j (codes "_attributes")))) i;
+      access = (c.in_ok-access.ensures.value ∙
+          (λ k. where_set (c.has_access.ensures k) (value_of c.args.self.now j (codes "_access")))) i;
+      badge = (c.in_ok-badge.ensures.value ∙
+          (λ k. where_set (c.has_badge.ensures k) (value_of (a k) j (codes "_attributes")))) i;
       size = (c.in_ok-size.ensures.value ∙ (λ k. size_of (b k) j)) i;
-      paddr = (c.in_ok-paddr.ensures.value ∙ (λ k. where_set (c.is_device_memory.ensures k) (value_of (s k) j (codes "_paddr")))) i;
-      irq = (c.in_ok-irq.ensures.value ∙ (λ k. where_set (c.is_device_event.ensures k) (value_of (p k) j (codes "_irq_number")))) i;
+      paddr = (c.in_ok-paddr.ensures.value ∙
+          (λ k. where_set (c.is_device_memory.ensures k) (value_of (s k) j (codes "_paddr")))) i;
+      irq = (c.in_ok-irq.ensures.value ∙
+          (λ k. where_set (c.is_device_event.ensures k) (value_of (p k) j (codes "_irq_number")))) i;
     }

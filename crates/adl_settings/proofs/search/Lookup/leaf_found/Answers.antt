@@ -11,5 +11,6 @@ returns-clause-found c =
           ∙ (λ j. where_set (not (sym c.if-leaf.false j)) (value_at h (c.names-path.ensures j) (codes "_priority")))) i;
       stack =
           (c.in_ok-stack.ensures.value
-          ∙ (λ j. where_set (not (sym c.if-leaf.false j)) (value_at (c.in_ok-priority.ensures.same j) (c.names-path.ensures j) (codes "_stack_size")))) i;
+          ∙ (λ j. where_set (not (sym c.if-leaf.false j)) (value_at (c.in_ok-priority.ensures.same j) (c.names-path.ensures j)
+          (codes "_stack_size")))) i;
     }

@@ -6,4 +6,5 @@ decreases-push_pages l = length l.steps.now
 
 abbrev pub invariant-loop-slot : goal.invariant-loop-slot
 invariant-loop-slot l =
-    l.rows ≡ l.fn.rows ++ flat_map (λ s. page_rows l.self.names.spec.now l.below (address l.at s.0 l.step) s.1) (take l.slot-index l.slot-items)
+    l.rows ≡ l.fn.rows ++ flat_map (λ s. page_rows l.self.names.spec.now l.below (address l.at s.0 l.step) s.1)
+    (take l.slot-index l.slot-items)
