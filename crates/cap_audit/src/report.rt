@@ -11,7 +11,6 @@ ghost use Rattle.std.specs.Prelude.{◌≡◌, ◌≤◌, ◌*◌, IfErr, IfOk, 
 
 use crate::count::Counts;
 use crate::kinds::Kinds;
-use crate::loops::{act_at_all, hold_all, listen_all};
 use crate::making::{Deed, Making, Trail};
 use crate::{Classed, first_thread, spread};
 use cam_base::{List, Made, NoMemory};
@@ -97,7 +96,7 @@ fn show(making: &mut Making<'_>) -> Made<()>
     ensures { OnOk result (Gains (λ e. Audited making.old.spec making.old.labels e.from e.authority e.to) making.old making.new) }
 {
     show_boot(making)?;
-    hold_all(making)?;
+    making.hold_all()?;
     show_deeds(making)?;
     show_calls(making)?;
     Ok(())
@@ -120,8 +119,8 @@ fn show_deeds(making: &mut Making<'_>) -> Made<()>
         making.old making.new) }
 {
     let roots = making.roots()?;
-    act_at_all(making, Deed::Map, roots.as_slice())?;
-    act_at_all(making, Deed::Bind, roots.as_slice())?;
+    making.act_at_all(Deed::Map, roots.as_slice())?;
+    making.act_at_all(Deed::Bind, roots.as_slice())?;
     Ok(())
 }
 
@@ -132,6 +131,6 @@ fn show_calls(making: &mut Making<'_>) -> Made<()>
 {
     let company = making.company()?;
     let mut met = making.nobody()?;
-    listen_all(making, &company, &mut met)?;
+    making.listen_all(&company, &mut met)?;
     Ok(())
 }

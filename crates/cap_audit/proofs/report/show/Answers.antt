@@ -15,6 +15,6 @@ show_calls-requires c =
 
 pub returns : goal.returns
 returns c =
-    all_shown c.args.making.now c.show_boot.new.making c.hold_all.new.making c.show_deeds.new.making c.show_calls.new.making
+    all_shown c.args.making.now c.show_boot.new.making c.hold_all.new.self c.show_deeds.new.making c.show_calls.new.making
     c.requires c.in_ok-show_boot.ensures c.in_ok-hold_all.ensures c.in_ok-show_deeds.ensures
     c.in_ok-show_calls.ensures

@@ -39,4 +39,4 @@ returns c =
     gains_by (OfSome (OfListening m.spec m.labels m.found m.heads company.rosters company.members company.gates)
     m.found.queue) (OfAllCalls m.spec m.labels)
     (of_listeners m.spec m.labels m.found m.heads company.rosters company.members company.gates ready) m
-    c.listen_all.new.making c.in_ok-listen_all.ensures.gains
+    c.listen_all.new.self c.in_ok-listen_all.ensures.gains

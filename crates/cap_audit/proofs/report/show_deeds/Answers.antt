@@ -24,15 +24,15 @@ returns c =
     let roots : List (Option ℕ) = c.in_ok-roots.roots.items in
     let P : Edge → Type 0 = OfRoots m.spec m.labels m.found deeds.Map roots in
     let Q : Edge → Type 0 = OfRoots m.spec m.labels m.found deeds.Bind roots in
-    let g : Gains P m c.act_at_all.new.making =
-    subst (λ (xs : List (Option ℕ)). Gains (OfRoots m.spec m.labels m.found deeds.Map xs) m c.act_at_all.new.making)
+    let g : Gains P m c.act_at_all.new.self =
+    subst (λ (xs : List (Option ℕ)). Gains (OfRoots m.spec m.labels m.found deeds.Map xs) m c.act_at_all.new.self)
     c.as_slice.ensures.value c.in_ok-act_at_all.ensures in
-    let h : Gains Q c.act_at_all.new.making c.act_at_all-2.new.making =
-    subst (λ (x : Made). Gains (OfRoots x.spec x.labels x.found deeds.Bind roots) c.act_at_all.new.making
-    c.act_at_all-2.new.making) g.same
-    (subst (λ (xs : List (Option ℕ)). Gains (OfRoots c.act_at_all.new.making.spec c.act_at_all.new.making.labels
-    c.act_at_all.new.making.found deeds.Bind xs) c.act_at_all.new.making c.act_at_all-2.new.making)
+    let h : Gains Q c.act_at_all.new.self c.act_at_all-2.new.self =
+    subst (λ (x : Made). Gains (OfRoots x.spec x.labels x.found deeds.Bind roots) c.act_at_all.new.self
+    c.act_at_all-2.new.self) g.same
+    (subst (λ (xs : List (Option ℕ)). Gains (OfRoots c.act_at_all.new.self.spec c.act_at_all.new.self.labels
+    c.act_at_all.new.self.found deeds.Bind xs) c.act_at_all.new.self c.act_at_all-2.new.self)
     c.as_slice-2.ensures.value c.in_ok-act_at_all-2.ensures) in
     gains_by _ (OfAllDeeds m.spec m.labels m.found m.heads) (deeds_parts m.spec m.labels m.found m.heads roots c.requires.all
-    c.requires.kept c.in_ok-roots.ensures) m c.act_at_all-2.new.making
-    (gains_then P Q m c.act_at_all.new.making c.act_at_all-2.new.making g h)
+    c.requires.kept c.in_ok-roots.ensures) m c.act_at_all-2.new.self
+    (gains_then P Q m c.act_at_all.new.self c.act_at_all-2.new.self g h)

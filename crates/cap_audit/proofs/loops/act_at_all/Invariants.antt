@@ -1,7 +1,0 @@
-use Rattle.cap_audit.proofs.Common.{Below, Gains, None, OfRoot, get_or, ℕ}
-use Rattle.cap_audit.proofs.loops.act_at_all.Given as goal
-
-abbrev pub invariant-loop-c : goal.invariant-loop-c
-invariant-loop-c l =
-    Gains (Below (λ (c : ℕ). OfRoot l.initial.making.spec l.initial.making.labels l.initial.making.found l.deed
-    (get_or l.roots c None) c) l.c) l.initial.making l.making

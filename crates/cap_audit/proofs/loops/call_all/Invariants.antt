@@ -1,9 +1,0 @@
-use Rattle.cap_audit.proofs.Common.{Below, Between, Gains, OfSome, Place}
-use Rattle.cap_audit.proofs.Gaining.{AtPlace}
-use Rattle.cap_audit.proofs.loops.call_all.Given as goal
-
-abbrev pub invariant-loop-peer : goal.invariant-loop-peer
-invariant-loop-peer l =
-    Gains
-    (Below (AtPlace (λ (peer : Place). OfSome (λ (at : Place). Between l.initial.making.labels l.rosters at.node peer.node)
-    l.callers) l.peers) l.peer-index) l.initial.making l.making
