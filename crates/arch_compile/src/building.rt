@@ -35,6 +35,9 @@ pub struct Build {
     pub map: List<MapLine>,
 }
 
+/// What is compiled, or the first fault of all phases.
+type Compiled = Result<Build, SourceError>;
+
 /// The source of the root, with all that is made of it and of the section tables beside it.
 ///
 /// What is made has the slots, images, labels and map of its source (`specs/OfSource.antt`). Its spec keeps what every spec
@@ -57,11 +60,7 @@ pub fn compile<F: Files>(alloc: Global, files: &mut F, root: &str) -> Result<Bui
     }
 }
 
-fn with_images<F: Files>(
-    alloc: Global,
-    files: &mut F,
-    meaning: Meaning,
-) -> Result<Build, SourceError>
+fn with_images<F: Files>(alloc: Global, files: &mut F, meaning: Meaning) -> Compiled
     requires { HasMeaning meaning.source meaning.flat meaning.settled }
     ensures kept { KeepsFiles F.told F.faults files.old files.new }
     ensures learned { LearnsOnly F.told (AlikeInTables (tables_beside meaning.source)) files.old files.new }
@@ -74,7 +73,7 @@ fn with_images<F: Files>(
     }
 }
 
-fn with_layout(alloc: Global, meaning: Meaning, images: &Images) -> Result<Build, SourceError>
+fn with_layout(alloc: Global, meaning: Meaning, images: &Images) -> Compiled
     requires sound { HasMeaning meaning.source meaning.flat meaning.settled }
     requires imaged { IsImaged meaning.flat images.now }
     ensures { Lays meaning images.now result }
@@ -85,12 +84,7 @@ fn with_layout(alloc: Global, meaning: Meaning, images: &Images) -> Result<Build
     }
 }
 
-fn with_front(
-    alloc: Global,
-    meaning: Meaning,
-    images: &Images,
-    layout: Layout,
-) -> Result<Build, SourceError>
+fn with_front(alloc: Global, meaning: Meaning, images: &Images, layout: Layout) -> Compiled
     requires sound { HasMeaning meaning.source meaning.flat meaning.settled }
     requires laid { IsLaid meaning.source meaning.flat meaning.settled images.now layout }
     ensures { Completes meaning images.now result }
@@ -101,12 +95,7 @@ fn with_front(
     }
 }
 
-fn with_made(
-    alloc: Global,
-    front: FrontEnd,
-    images: &Images,
-    layout: Layout,
-) -> Result<Build, SourceError>
+fn with_made(alloc: Global, front: FrontEnd, images: &Images, layout: Layout) -> Compiled
     requires sound { HasMeaning front.source front.flat front.settled }
     requires assigned { IsAssigned front.source front.policy }
     requires numbered { front.numbers ≡ label_numbers front.flat }

@@ -12,7 +12,7 @@ mod table;
 mod words;
 
 pub use domain::{domain_called, domain_labels};
-pub use row::push_row;
+pub use row::{Rows, push_row};
 pub use system_spec::member_name;
 pub use table::{DomainTables, heading, tables_in, tables_of};
 pub use words::leaf_text;

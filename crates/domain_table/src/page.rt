@@ -7,9 +7,9 @@ ghost use Rattle.std.specs.Option.{option_map};
 ghost use Rattle.std.specs.Prelude.{◌≡◌, ◌++◌, ◌∷◌, [], IfOk, OnOk};
 
 use crate::domain::NamedDomain;
-use crate::row::push_row;
+use crate::row::{Rows, push_row};
 use crate::table::root_name;
-use cam_base::{Boxed, List, Made, Text, hexadecimal};
+use cam_base::{Boxed, List, Made, hexadecimal};
 use cap_model::{Arch, Cap, Fill, Object, Rights, Spec};
 use itoa::Buffer;
 use std::alloc::Global;
@@ -96,7 +96,7 @@ fn object_called<'a>(spec: &'a Spec, name: &[u8]) -> Option<&'a Object>
 }
 
 impl<'a> NamedDomain<'a> {
-    fn push_page(&self, rows: &mut List<List<Text>>, at: u64, cap: &Cap) -> Made<()>
+    fn push_page(&self, rows: &mut Rows, at: u64, cap: &Cap) -> Made<()>
         ensures { OnOk result (rows.new ≡ rows.old ++ page_row self.now.names.spec.now at cap.now ∷ []) }
     {
         let spec = self.names.spec;
@@ -109,7 +109,7 @@ impl<'a> NamedDomain<'a> {
     }
 
     /// Puts the pages that a capability at an address leads to behind the others, over the levels below it.
-    fn push_pages(&self, rows: &mut List<List<Text>>, steps: &[u64], at: u64, cap: &Cap) -> Made<()>
+    fn push_pages(&self, rows: &mut Rows, steps: &[u64], at: u64, cap: &Cap) -> Made<()>
         ensures { OnOk result (rows.new ≡ rows.old ++ page_rows self.now.names.spec.now steps.now at cap.now) }
     {
         match steps {
@@ -124,12 +124,7 @@ impl<'a> NamedDomain<'a> {
         }
     }
 
-    fn push_space(
-        &self,
-        rows: &mut List<List<Text>>,
-        steps: &[u64],
-        slots: &[(u64, Cap)],
-    ) -> Made<()>
+    fn push_space(&self, rows: &mut Rows, steps: &[u64], slots: &[(u64, Cap)]) -> Made<()>
         ensures { OnOk result (rows.new ≡ rows.old ++ space_rows self.now.names.spec.now steps.now slots.now) }
     {
         let [step, below @ ..] = steps else {
@@ -142,7 +137,7 @@ impl<'a> NamedDomain<'a> {
     }
 
     /// The rows of the pages of its space.
-    pub fn pages(&self) -> Made<List<List<Text>>>
+    pub fn pages(&self) -> Made<Rows>
         ensures { IfOk result (λ rows. rows
             ≡ rows_of_space self.now.names.spec.now (root_name self.now.names.spec.now self.now.number)) }
     {

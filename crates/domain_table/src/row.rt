@@ -6,6 +6,9 @@ use cam_base::{List, Made, Text};
 use std::alloc::Global;
 use view_text::add;
 
+/// Rows of a table, each a list of its cells.
+pub type Rows = List<List<Text>>;
+
 fn row_of(alloc: Global, cells: &[&[u8]]) -> Made<List<Text>>
     ensures { IfOk result (λ row. row ≡ map (λ c. c.now) cells.now) }
 {
@@ -17,7 +20,7 @@ fn row_of(alloc: Global, cells: &[&[u8]]) -> Made<List<Text>>
 }
 
 /// Puts a row of a table behind the others.
-pub fn push_row(alloc: Global, rows: &mut List<List<Text>>, cells: &[&[u8]]) -> Made<()>
+pub fn push_row(alloc: Global, rows: &mut Rows, cells: &[&[u8]]) -> Made<()>
     ensures { OnOk result (rows.new ≡ rows.old ++ (map (λ c. c.now) cells.now) ∷ []) }
 {
     rows.push(row_of(alloc, cells)?)

@@ -7,8 +7,8 @@ ghost use Rattle.std.specs.Prelude.{◌≡◌, ◌∷◌, ◌++◌, [], IfOk, On
 ghost use Rattle.system_spec.specs.MapText.{named};
 
 use crate::domain::NamedDomain;
-use crate::row::push_row;
-use cam_base::{List, Made, Text, hexadecimal};
+use crate::row::{Rows, push_row};
+use cam_base::{List, Made, hexadecimal};
 use cap_model::{Cap, Object, Spec};
 use itoa::Buffer;
 use system_spec::MapLine;
@@ -42,7 +42,7 @@ fn badge_of(slot: Option<&(u64, Cap)>) -> u64
 }
 
 impl<'a> NamedDomain<'a> {
-    fn push_slot(&self, rows: &mut List<List<Text>>, slot: u64, object: u32, of: &[u8]) -> Made<()>
+    fn push_slot(&self, rows: &mut Rows, slot: u64, object: u32, of: &[u8]) -> Made<()>
         ensures { OnOk result (rows.new
             ≡ rows.old ++ slot_row self.now.names.spec.now self.now.number slot object of.now ∷ []) }
     {
@@ -57,7 +57,7 @@ impl<'a> NamedDomain<'a> {
         push_row(self.alloc, rows, &[slot, name, rights, badge, of])
     }
 
-    fn push_thread(&self, rows: &mut List<List<Text>>, tcb: u32, what: &[u8]) -> Made<()>
+    fn push_thread(&self, rows: &mut Rows, tcb: u32, what: &[u8]) -> Made<()>
         ensures { OnOk result (rows.new ≡ rows.old ++ thread_row (named self.now.names) tcb what.now) }
     {
         let spec = self.names.spec;
@@ -79,7 +79,7 @@ impl<'a> NamedDomain<'a> {
     }
 
     /// Puts the row of a line behind the others, where the line tells of a slot of the domain.
-    fn push_slot_line(&self, rows: &mut List<List<Text>>, line: MapLine) -> Made<()>
+    fn push_slot_line(&self, rows: &mut Rows, line: MapLine) -> Made<()>
         ensures { OnOk result (rows.new ≡ rows.old ++ slot_line (named self.now.names) self.now.number line) }
     {
         match line {
@@ -106,7 +106,7 @@ impl<'a> NamedDomain<'a> {
     }
 
     /// Puts the row of a line behind the others, where the line tells of a thread of the domain.
-    fn push_thread_line(&self, rows: &mut List<List<Text>>, line: MapLine) -> Made<()>
+    fn push_thread_line(&self, rows: &mut Rows, line: MapLine) -> Made<()>
         ensures { OnOk result (rows.new ≡ rows.old ++ thread_line (named self.now.names) self.now.number line) }
     {
         match line {
@@ -119,7 +119,7 @@ impl<'a> NamedDomain<'a> {
     }
 
     /// Puts the row of a line behind the others, where the line tells of a window of the domain.
-    fn push_window_line(&self, rows: &mut List<List<Text>>, line: MapLine) -> Made<()>
+    fn push_window_line(&self, rows: &mut Rows, line: MapLine) -> Made<()>
         ensures { OnOk result (rows.new ≡ rows.old ++ window_line (named self.now.names) self.now.number line) }
     {
         match line {
@@ -141,7 +141,7 @@ impl<'a> NamedDomain<'a> {
     }
 
     /// The rows of its slots.
-    pub fn slots(&self, lines: &[MapLine]) -> Made<List<List<Text>>>
+    pub fn slots(&self, lines: &[MapLine]) -> Made<Rows>
         ensures { IfOk result (λ rows. rows ≡ flat_map (slot_line (named self.now.names) self.now.number) lines.now) }
     {
         let mut rows = List::new(self.alloc);
@@ -152,7 +152,7 @@ impl<'a> NamedDomain<'a> {
     }
 
     /// The rows of its threads.
-    pub fn threads(&self, lines: &[MapLine]) -> Made<List<List<Text>>>
+    pub fn threads(&self, lines: &[MapLine]) -> Made<Rows>
         ensures { IfOk result (λ rows. rows ≡ flat_map (thread_line (named self.now.names) self.now.number) lines.now) }
     {
         let mut rows = List::new(self.alloc);
@@ -163,7 +163,7 @@ impl<'a> NamedDomain<'a> {
     }
 
     /// The rows of its windows.
-    pub fn windows(&self, lines: &[MapLine]) -> Made<List<List<Text>>>
+    pub fn windows(&self, lines: &[MapLine]) -> Made<Rows>
         ensures { IfOk result (λ rows. rows ≡ flat_map (window_line (named self.now.names) self.now.number) lines.now) }
     {
         let mut rows = List::new(self.alloc);

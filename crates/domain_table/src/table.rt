@@ -5,7 +5,7 @@ ghost use Rattle.std.specs.Prelude.{◌≡◌, ◌++◌, IfOk, OnOk};
 ghost use Rattle.system_spec.specs.MapText.{named};
 
 use crate::domain::NamedDomain;
-use crate::row::add_rows;
+use crate::row::{Rows, add_rows};
 use cam_base::{List, Made, Name, Text};
 use cap_model::Spec;
 use std::alloc::Global;
@@ -42,10 +42,10 @@ pub fn heading(alloc: Global, names: &MapNames<'_>, domain: u32, label: &[u8]) -
 /// What is inside a domain: the rows of its slots, threads, windows and pages.
 #[derive(Drop)]
 pub struct DomainTables {
-    pub slots: List<List<Text>>,
-    pub threads: List<List<Text>>,
-    pub windows: List<List<Text>>,
-    pub pages: List<List<Text>>,
+    pub slots: Rows,
+    pub threads: Rows,
+    pub windows: Rows,
+    pub pages: Rows,
 }
 
 /// What is inside the domain with this number, by the lines of the map.

@@ -94,70 +94,6 @@ fn write_path<O: Outputs>(names: &[Name], to: &mut Writer<O>)
     }
 }
 
-/// Writes the leaf, the interface and the connection of an end.
-fn write_end<O: Outputs>(names: &MapNames<'_>, connection: u32, end: u32, to: &mut Writer<O>)
-    ensures { Says to.old (end_text (named names.now) connection end) to.new }
-{
-    if let Some((_, end)) = end_of(names.flat, connection, end) {
-        let name = member_name(names, end.leaf, end.member);
-        write_path(leaf_path(names.flat, end.leaf), to);
-        to.texts(&[b" ", name, b" "]);
-        write_path(connection_path(names.flat, connection), to);
-    }
-}
-
-fn write_domain<O: Outputs>(names: &MapNames<'_>, domain: u32, to: &mut Writer<O>)
-    ensures { Says to.old (domain_line (named names.now) domain) to.new }
-{
-    let mut number = Buffer::new();
-    let number = number.format(domain).as_bytes();
-    let cnode = Series::CNode.prefix();
-    let root = Series::of_root(names.spec.arch).prefix();
-    to.text(b"domain ");
-    write_path(domain_path(names.flat, domain), to);
-    to.texts(&[b" ", cnode, number, b" ", root, number, b"\n"]);
-}
-
-fn write_thread<O: Outputs>(
-    names: &MapNames<'_>,
-    tcb: u32,
-    leaf: u32,
-    end: Option<EndAt>,
-    to: &mut Writer<O>,
-)
-    ensures { Says to.old (thread_line (named names.now) tcb leaf end) to.new }
-{
-    let tcb = names.spec.name(tcb);
-    to.text(b"thread ");
-    match end {
-        None => {
-            write_path(leaf_path(names.flat, leaf), to);
-            to.texts(&[b" control ", tcb, b"\n"]);
-        }
-        Some(end) => {
-            write_end(names, end.connection, end.end, to);
-            to.texts(&[b" ", tcb, b"\n"]);
-        }
-    }
-}
-
-fn write_slot<O: Outputs>(
-    names: &MapNames<'_>,
-    at: EndAt,
-    slot: u64,
-    object: u32,
-    to: &mut Writer<O>,
-)
-    ensures { Says to.old (slot_line (named names.now) at.connection at.end slot object) to.new }
-{
-    let mut digits = [0; 18];
-    let slot = hexadecimal(slot, &mut digits);
-    let object = names.spec.name(object);
-    to.text(b"slot ");
-    write_end(names, at.connection, at.end, to);
-    to.texts(&[b" ", slot, b" ", object, b"\n"]);
-}
-
 fn write_own<O: Outputs>(path: &[Name], name: &[u8], slot: u64, object: &[u8], to: &mut Writer<O>)
     ensures { Says to.old (own_line path.now name.now slot object.now) to.new }
 {
@@ -168,52 +104,100 @@ fn write_own<O: Outputs>(path: &[Name], name: &[u8], slot: u64, object: &[u8], t
     to.texts(&[b" ", name, b" ", slot, b" ", object, b"\n"]);
 }
 
-fn write_window<O: Outputs>(
-    names: &MapNames<'_>,
-    at: EndAt,
-    vaddr: u64,
-    bytes: u64,
-    to: &mut Writer<O>,
-)
-    ensures { Says to.old (window_line (named names.now) at.connection at.end vaddr bytes) to.new }
-{
-    let mut digits = [0; 18];
-    let mut number = Buffer::new();
-    let vaddr = hexadecimal(vaddr, &mut digits);
-    let bytes = number.format(bytes).as_bytes();
-    to.text(b"window ");
-    write_end(names, at.connection, at.end, to);
-    to.texts(&[b" ", vaddr, b" ", bytes, b"\n"]);
-}
-
-fn write_line<O: Outputs>(names: &MapNames<'_>, line: MapLine, to: &mut Writer<O>)
-    ensures { Says to.old (line_text (named names.now) line) to.new }
-{
-    match line {
-        MapLine::DomainLine(domain) => write_domain(names, domain, to),
-        MapLine::ThreadLine { tcb, leaf, end } => write_thread(names, tcb, leaf, end, to),
-        MapLine::SlotLine {
-            connection,
-            end,
-            slot,
-            object,
-        } => write_slot(names, EndAt { connection, end }, slot, object, to),
-        MapLine::OwnLine {
-            leaf,
-            member,
-            slot,
-            object,
-        } => {
-            let name = member_name(names, leaf, member);
-            let object = names.spec.name(object);
-            write_own(leaf_path(names.flat, leaf), name, slot, object, to)
+impl MapNames<'_> {
+    /// Writes the leaf, the interface and the connection of an end.
+    fn write_end<O: Outputs>(&self, connection: u32, end: u32, to: &mut Writer<O>)
+        ensures { Says to.old (end_text (named self.now) connection end) to.new }
+    {
+        if let Some((_, end)) = end_of(self.flat, connection, end) {
+            let name = member_name(self, end.leaf, end.member);
+            write_path(leaf_path(self.flat, end.leaf), to);
+            to.texts(&[b" ", name, b" "]);
+            write_path(connection_path(self.flat, connection), to);
         }
-        MapLine::WindowLine {
-            connection,
-            end,
-            vaddr,
-            bytes,
-        } => write_window(names, EndAt { connection, end }, vaddr, bytes, to),
+    }
+
+    fn write_domain<O: Outputs>(&self, domain: u32, to: &mut Writer<O>)
+        ensures { Says to.old (domain_line (named self.now) domain) to.new }
+    {
+        let mut number = Buffer::new();
+        let number = number.format(domain).as_bytes();
+        let cnode = Series::CNode.prefix();
+        let root = Series::of_root(self.spec.arch).prefix();
+        to.text(b"domain ");
+        write_path(domain_path(self.flat, domain), to);
+        to.texts(&[b" ", cnode, number, b" ", root, number, b"\n"]);
+    }
+
+    fn write_thread<O: Outputs>(&self, tcb: u32, leaf: u32, at: Option<EndAt>, to: &mut Writer<O>)
+        ensures { Says to.old (thread_line (named self.now) tcb leaf at) to.new }
+    {
+        let tcb = self.spec.name(tcb);
+        to.text(b"thread ");
+        match at {
+            None => {
+                write_path(leaf_path(self.flat, leaf), to);
+                to.texts(&[b" control ", tcb, b"\n"]);
+            }
+            Some(at) => {
+                self.write_end(at.connection, at.end, to);
+                to.texts(&[b" ", tcb, b"\n"]);
+            }
+        }
+    }
+
+    fn write_slot<O: Outputs>(&self, at: EndAt, slot: u64, object: u32, to: &mut Writer<O>)
+        ensures { Says to.old (slot_line (named self.now) at.connection at.end slot object) to.new }
+    {
+        let mut digits = [0; 18];
+        let slot = hexadecimal(slot, &mut digits);
+        let object = self.spec.name(object);
+        to.text(b"slot ");
+        self.write_end(at.connection, at.end, to);
+        to.texts(&[b" ", slot, b" ", object, b"\n"]);
+    }
+
+    fn write_window<O: Outputs>(&self, at: EndAt, vaddr: u64, bytes: u64, to: &mut Writer<O>)
+        ensures { Says to.old (window_line (named self.now) at.connection at.end vaddr bytes) to.new }
+    {
+        let mut digits = [0; 18];
+        let mut number = Buffer::new();
+        let vaddr = hexadecimal(vaddr, &mut digits);
+        let bytes = number.format(bytes).as_bytes();
+        to.text(b"window ");
+        self.write_end(at.connection, at.end, to);
+        to.texts(&[b" ", vaddr, b" ", bytes, b"\n"]);
+    }
+
+    fn write_line<O: Outputs>(&self, line: MapLine, to: &mut Writer<O>)
+        ensures { Says to.old (line_text (named self.now) line) to.new }
+    {
+        match line {
+            MapLine::DomainLine(domain) => self.write_domain(domain, to),
+            MapLine::ThreadLine { tcb, leaf, end } => self.write_thread(tcb, leaf, end, to),
+            MapLine::SlotLine {
+                connection,
+                end,
+                slot,
+                object,
+            } => self.write_slot(EndAt { connection, end }, slot, object, to),
+            MapLine::OwnLine {
+                leaf,
+                member,
+                slot,
+                object,
+            } => {
+                let name = member_name(self, leaf, member);
+                let object = self.spec.name(object);
+                write_own(leaf_path(self.flat, leaf), name, slot, object, to)
+            }
+            MapLine::WindowLine {
+                connection,
+                end,
+                vaddr,
+                bytes,
+            } => self.write_window(EndAt { connection, end }, vaddr, bytes, to),
+        }
     }
 }
 
@@ -222,6 +206,6 @@ pub fn write_map<O: Outputs>(names: &MapNames<'_>, lines: &[MapLine], to: &mut W
     ensures { Says to.old (map_text (named names.now) lines.now) to.new }
 {
     for line in lines {
-        write_line(names, *line, to);
+        names.write_line(*line, to);
     }
 }

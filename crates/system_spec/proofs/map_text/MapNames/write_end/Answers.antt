@@ -1,5 +1,5 @@
 use Rattle.system_spec.proofs.Common.{says_then, sym, ◌∙◌}
-use Rattle.system_spec.proofs.map_text.write_end.Goals as goal
+use Rattle.system_spec.proofs.map_text.MapNames.write_end.Goals as goal
 
 pub returns-in-Some : goal.returns-in-Some
 returns-in-Some g c =

@@ -1,6 +1,6 @@
 -- write_slot
 use Rattle.system_spec.proofs.Common.{says_then}
-use Rattle.system_spec.proofs.map_text.write_slot.Goals as goal
+use Rattle.system_spec.proofs.map_text.MapNames.write_slot.Goals as goal
 
 pub returns : goal.returns
 returns g c =

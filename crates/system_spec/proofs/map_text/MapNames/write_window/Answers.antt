@@ -1,6 +1,6 @@
 -- write_window
 use Rattle.system_spec.proofs.Common.{says_then}
-use Rattle.system_spec.proofs.map_text.write_window.Goals as goal
+use Rattle.system_spec.proofs.map_text.MapNames.write_window.Goals as goal
 
 pub returns : goal.returns
 returns g c =

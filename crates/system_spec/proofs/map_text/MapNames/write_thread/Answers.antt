@@ -1,6 +1,6 @@
 -- write_thread
 use Rattle.system_spec.proofs.Common.{says_then}
-use Rattle.system_spec.proofs.map_text.write_thread.Goals as goal
+use Rattle.system_spec.proofs.map_text.MapNames.write_thread.Goals as goal
 
 pub returns-in-None : goal.returns-in-None
 returns-in-None g c =
