@@ -1,14 +1,12 @@
 -- What is written of a build: its four texts, each on a channel of its own, and then the summary on standard output.
 use Rattle.std.specs.Prelude.{◌≡◌, ◌≤◌, ℕ, Bool, false, List, [], ◌∷◌, ◌++◌, codes, string_bytes}
-use Rattle.cap_model.specs.declared.policy.Policy.{Policy}
-use Rattle.cap_model.specs.declared.edge.Edge.{Edge}
+use Rattle.arch_compile.specs.Below.{Edge, Policy, Spec}
 use Rattle.arch_compile.specs.Maps.{build_map}
 use Rattle.arch_compile.specs.declared.building.Build.{Build}
 use Rattle.arch_compile.specs.Summary.{summary_line, summary_of}
 use Rattle.cam_io.specs.Scripts.{Act, Begin, Write}
 use Rattle.cam_io.specs.Sinks.{Sink}
 use Rattle.cap_model.specs.Canonical.{canonical}
-use Rattle.cap_model.specs.declared.spec.Spec.{Spec}
 use Rattle.policy_text.specs.PolicyLines.{cert_text, policy_text}
 use Rattle.arch_compile.specs.declared.names.TextNames.{TextNames}
 

@@ -1,27 +1,11 @@
 -- What is made of a source without faults, and of its images.
 use Rattle.std.specs.Prelude.{◌≡◌, ℕ, List, [], ◌∷◌, None}
-use Rattle.adl_ast.specs.declared.source.Source.{Source}
-use Rattle.adl_meaning.specs.Flat.{flat_of}
-use Rattle.adl_settings.specs.Settled.{settled_of}
+use Rattle.arch_compile.specs.Below.{Contents, Edge, Entry, Images, IsCertificateOf, IsPolicyOf, IsSorted, Policy, Source, Spec, Tables, flat_of, gather, labels_of, map_lines, settled_of, source_tables, spec_of, tables_from}
 use Rattle.arch_compile.specs.LayoutFaults.{first_fault, found_beside, images_beside}
 use Rattle.arch_compile.specs.declared.building.Build.{Build}
 use Rattle.arch_policy.specs.Labels.{label_lines}
-use Rattle.arch_policy.specs.Policies.{IsCertificateOf, IsPolicyOf}
 use Rattle.cap_model.specs.ObjectLabels.{label_of}
-use Rattle.cap_model.specs.Tables.{IsSorted}
-use Rattle.cap_model.specs.declared.edge.Edge.{Edge}
-use Rattle.cap_model.specs.declared.policy.Policy.{Policy}
-use Rattle.cam_io.specs.Contents.{Contents}
-use Rattle.cap_model.specs.declared.spec.Entry.{Entry}
-use Rattle.cap_model.specs.declared.spec.Spec.{Spec}
-use Rattle.front_end.specs.First.{source_tables}
 use Rattle.front_end.specs.Fronts.{IsMeaningOf}
-use Rattle.cam_base.specs.Gather.{gather}
-use Rattle.source_images.specs.declared.images.Images.{Images}
-use Rattle.system_spec.specs.Made.{labels_of, spec_of}
-use Rattle.system_spec.specs.MapLines.{map_lines}
-use Rattle.system_spec.specs.Tables.{Tables}
-use Rattle.system_spec.specs.TablesFrom.{tables_from}
 use Rattle.system_spec.specs.declared.map_line.MapLine.{MapLine}
 
 -- what objects are made from

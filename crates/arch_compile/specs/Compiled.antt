@@ -1,20 +1,13 @@
 -- What compiling answers. In given contents there is one answer, aside from failed reads and want of memory (`answers_are_one`
 -- in src/laws.rt), so each comes exactly where it says.
 use Rattle.std.specs.Prelude.{◌≡◌, ◌⊎◌, ℕ, List, Some, None, Result, Ok, Err}
-use Rattle.adl_ast.specs.declared.source.Source.{Source}
+use Rattle.arch_compile.specs.Below.{AlikeInTables, Contents, Fault, IsIn, Rose, Source, SourceError, first_front_fault}
 use Rattle.adl_import.specs.Loaded.{AlikeInSource, IsLoaded}
 use Rattle.arch_compile.specs.Built.{IsBuildOf}
 use Rattle.arch_compile.specs.LayoutFaults.{file_of, first_layout_fault, found_beside, tables_beside}
 use Rattle.arch_compile.specs.declared.building.Build.{Build}
-use Rattle.cam_base.specs.declared.place.Fault.{Fault}
-use Rattle.cam_io.specs.Causes.{Rose}
-use Rattle.cam_io.specs.Contents.{Contents}
-use Rattle.front_end.specs.First.{first_front_fault}
 use Rattle.front_end.specs.Refusals.{IsFaulted}
-use Rattle.cam_base.specs.Unread.{SourceError}
 use Rattle.cam_base.specs.declared.error.Unread.TheVariants as error
-use Rattle.cam_base.specs.Gather.{IsIn}
-use Rattle.source_images.specs.Found.{AlikeInTables}
 
 -- with what the contents have under the names of the section tables of the source, this fault is the first behind the settings,
 -- in the file of this name

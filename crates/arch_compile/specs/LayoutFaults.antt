@@ -6,22 +6,9 @@
 --
 -- Section tables stand beside the root, under the name by which it is known.
 use Rattle.std.specs.Prelude.{List, ℕ, Option, is_some, if◌then◌else◌}
-use Rattle.std.specs.Option.{option_or}
-use Rattle.adl_ast.specs.declared.source.Source.{Source}
-use Rattle.adl_meaning.specs.Flat.{flat_of}
-use Rattle.adl_settings.specs.Settled.{settled_of}
-use Rattle.arch_policy.specs.Policies.{first_edge_fault}
-use Rattle.cam_base.specs.declared.place.Fault.{Fault}
-use Rattle.cam_io.specs.Contents.{Contents}
-use Rattle.cspace_layout.specs.SlotFaults.{first_slot_fault}
-use Rattle.front_end.specs.First.{first_front_fault, name_of_file, source_tables}
-use Rattle.source_images.specs.SpaceFaults.{first_space_fault}
-use Rattle.source_images.specs.declared.images.Images.{Images}
-use Rattle.source_images.specs.Found.{Found, found_in, table_names}
+use Rattle.arch_compile.specs.Below.{Contents, Fault, Found, Given, Images, Source, first_edge_fault, first_front_fault, first_page_limit, first_slot_fault, first_space_fault, flat_of, found_in, given, images_of, name_of_file, option_or, settled_of}
+use Rattle.arch_compile.specs.Below.{source_tables, table_names}
 use Rattle.source_images.specs.TableFaults.{first_table_fault, name_of_file as name_with_tables}
-use Rattle.source_images.specs.ImagesRead.{images_of}
-use Rattle.vspace_layout.specs.Given.{Given, given}
-use Rattle.vspace_layout.specs.PageLimits.{first_page_limit}
 
 -- the name of the root
 abbrev pub root_of : Source → List ℕ

@@ -1,3 +1,4 @@
+pub mod Below
 pub mod Built
 pub mod Compiled
 pub mod LayoutFaults

@@ -2,8 +2,8 @@
 -- the section tables of its components. The labels are those that its policy gives to objects, as in all that is said of its
 -- edges, and have the dotted paths of their owners as texts.
 use Rattle.std.specs.Prelude.{◌≡◌, ℕ, List, Some, slice_get}
+use Rattle.arch_compile.specs.Below.{AreImagesOf, Contents, IsIn, Tables, component_name, flat_of, folder_of, table_name}
 use Rattle.std.specs.FinMap.{get}
-use Rattle.adl_meaning.specs.Flat.{flat_of}
 use Rattle.adl_meaning.specs.Paths.{Path}
 use Rattle.adl_meaning.specs.declared.flat.Leaf.{Leaf}
 use Rattle.arch_compile.specs.Built.{system_tables}
@@ -12,19 +12,14 @@ use Rattle.arch_compile.specs.Sound.{object_labels}
 use Rattle.arch_compile.specs.declared.building.Build.{Build}
 use Rattle.arch_policy.specs.declared.owner.Owner.{Owner}
 use Rattle.assigned_laws.specs.Named.{HasPath}
-use Rattle.cam_base.specs.Gather.{IsIn}
 use Rattle.cam_base.specs.Paths.{joined}
-use Rattle.cam_io.specs.Contents.{Contents}
 use Rattle.cap_model.specs.Lookup.{name_at}
 use Rattle.sect_table.specs.Tables.{image_of}
 use Rattle.sect_table.specs.declared.image.Image.{Image}
-use Rattle.source_images.specs.Found.{folder_of, table_name}
-use Rattle.source_images.specs.ImagesRead.{AreImagesOf}
 use Rattle.spec_laws.specs.Imaged.{AreImages}
 use Rattle.spec_laws.specs.Labelled.{IsOf}
 use Rattle.spec_laws.specs.Slotted.{AreSlots}
 use Rattle.spec_laws.specs.Spaced.{Runs, root_of}
-use Rattle.system_spec.specs.Tables.{Tables, component_name}
 
 -- what its objects are made from
 abbrev pub made_from : Contents → Build → Tables

@@ -1,21 +1,18 @@
 -- What holds of whatever is compiled: what its policy and its certificate have, and what its threads may do at boot and over
 -- every interleaving of steps, by what the source assigns over its hierarchy of instances.
 use Rattle.std.specs.Prelude.{◌≡◌, ◌≢◌, ◌↔◌, ◌⊎◌, ℕ, List, length, map}
+use Rattle.arch_compile.specs.Below.{Edge, Has, IsIn, Labels}
 use Rattle.arch_compile.specs.Built.{labelled}
 use Rattle.arch_compile.specs.declared.building.Build.{Build}
 use Rattle.assigned_laws.specs.Texts.{IsAssignedText, IsDirectText, IsLabelText, IsLockText, OfTexts}
 use Rattle.assigned_laws.specs.Triples.{AreAll, Triple}
-use Rattle.cap_model.specs.Tables.{Has}
 use Rattle.authorities.specs.declared.authority.Authority.{Authority}
-use Rattle.cap_model.specs.declared.edge.Edge.{Edge}
-use Rattle.cap_model.specs.declared.object_labels.Labels.{Labels}
 use Rattle.arch_compile.specs.Summary.{summary_of}
 use Rattle.cap_machine.specs.Runs.{Reaches}
 use Rattle.cap_model.specs.Auth.{Auth}
 use Rattle.cap_model.specs.Kept.{IsKept}
 use Rattle.cap_model.specs.State.{boot}
 use Rattle.cert_check.specs.Valid.{Valid}
-use Rattle.cam_base.specs.Gather.{IsIn}
 
 -- ---- labels
 

@@ -1,8 +1,7 @@
 -- What the parts of a compilation answer, of a source that is loaded.
 use Rattle.std.specs.Prelude.{◌≡◌, ℕ, List, Option, None, Result, Ok, Err}
-use Rattle.std.specs.Option.{option_or}
-use Rattle.adl_ast.specs.declared.source.Source.{Source}
-use Rattle.adl_meaning.specs.declared.flat.Flat.{Flat}
+use Rattle.arch_compile.specs.Below.{Contents, Fault, Flat, Given, Images, IsCertificateOf, IsIn, IsSorted, Labels, Policy, Rose, Source, SourceError, Spec, Tables, first_edge_fault, first_page_limit, first_slot_fault, first_space_fault, given}
+use Rattle.arch_compile.specs.Below.{labels_of, map_lines, option_or, source_tables, spec_of, tables_from}
 use Rattle.adl_meaning.specs.declared.settled.Settled.{Settled}
 use Rattle.arch_compile.specs.Built.{IsMade, labelled}
 use Rattle.arch_compile.specs.Compiled.{IsLayoutFault}
@@ -10,35 +9,15 @@ use Rattle.arch_compile.specs.LayoutFaults.{first_imaged_fault, first_layout_fau
 use Rattle.arch_compile.specs.declared.building.Build.{Build}
 use Rattle.arch_compile.specs.declared.laying.Layout.{Layout}
 use Rattle.arch_compile.specs.declared.making.Products.{Products}
-use Rattle.arch_policy.specs.Policies.{IsCertificateOf, first_edge_fault}
 use Rattle.arch_policy.specs.Tables.{Tables as PolicyTables}
-use Rattle.cap_model.specs.Tables.{IsSorted}
-use Rattle.cap_model.specs.declared.object_labels.Labels.{Labels}
-use Rattle.cap_model.specs.declared.policy.Policy.{Policy}
-use Rattle.cam_base.specs.declared.place.Fault.{Fault}
-use Rattle.cam_io.specs.Causes.{Rose}
-use Rattle.cam_io.specs.Contents.{Contents}
-use Rattle.cap_model.specs.declared.spec.Spec.{Spec}
-use Rattle.cspace_layout.specs.SlotFaults.{first_slot_fault}
 use Rattle.cspace_layout.specs.Uses.{slots_of}
-use Rattle.front_end.specs.First.{source_tables}
 use Rattle.front_end.specs.Steps.{Tells}
-use Rattle.cam_base.specs.Unread.{SourceError}
 use Rattle.cam_base.specs.declared.error.Unread.TheVariants as error
 use Rattle.front_end.specs.declared.phases.FrontEnd.{FrontEnd}
 use Rattle.front_end.specs.declared.phases.Meaning.{Meaning}
-use Rattle.cam_base.specs.Gather.{IsIn}
 use Rattle.source_images.specs.Numbered.{AreNumbered, AreSound}
-use Rattle.source_images.specs.SpaceFaults.{first_space_fault}
-use Rattle.source_images.specs.declared.images.Images.{Images}
 use Rattle.system_spec.specs.Buildable.{IsBuildable, IsWindowed}
-use Rattle.system_spec.specs.Made.{labels_of, spec_of}
-use Rattle.system_spec.specs.MapLines.{map_lines}
-use Rattle.system_spec.specs.Tables.{Tables}
-use Rattle.system_spec.specs.TablesFrom.{tables_from}
-use Rattle.vspace_layout.specs.Given.{Given, given}
 use Rattle.vspace_layout.specs.Laid.{spaces_of}
-use Rattle.vspace_layout.specs.PageLimits.{first_page_limit}
 
 -- ---- images
 

@@ -5,17 +5,13 @@
 -- Capabilities are those in CNodes and page tables, those of threads (the root, the space and the IPC buffer), and those of
 -- interrupts to their notifications. They are counted up to the greatest number of 64 bits.
 use Rattle.std.specs.Prelude.{ℕ, ◌+◌, ◌-◌, ◌^◌, Bool, true, false, List, [], ◌∷◌, length, min, Option, codes, decimal}
+use Rattle.arch_compile.specs.Below.{Edge, Entry, Flat, Spec, option_map_or}
 use Rattle.std.specs.List.{count_by, sum_by}
-use Rattle.std.specs.Option.{option_map_or}
-use Rattle.adl_meaning.specs.declared.flat.Flat.{Flat}
-use Rattle.cap_model.specs.declared.edge.Edge.{Edge}
 use Rattle.arch_compile.specs.declared.summary.Summary.{Summary}
 use Rattle.cam_base.specs.Texts.{together}
 use Rattle.cap_model.specs.declared.object.Object.{Object}
 use Rattle.cap_model.specs.declared.object.Object.TheVariants.{Endpoint, Notification, CNode, Thread, Frame, Pages, Irq}
 use Rattle.cap_model.specs.declared.object.Tcb.{Tcb}
-use Rattle.cap_model.specs.declared.spec.Entry.{Entry}
-use Rattle.cap_model.specs.declared.spec.Spec.{Spec}
 
 abbrev pub is_thread : Object → Bool
 is_thread (Thread tcb) = true

@@ -1,35 +1,15 @@
 -- When each answer comes, and what it does to the outputs.
 use Rattle.std.specs.Prelude.{◌≡◌, ◌≤◌, ◌⊎◌, ℕ, Bool, true, false, if◌then◌else◌, List, [], ◌∷◌, map, Option, None, Some, Result, Ok, Err, String, string_bytes}
-use Rattle.cam_base.specs.declared.place.Fault.{Fault}
-use Rattle.cam_io.specs.Causes.{Rose}
-use Rattle.cam_io.specs.Contents.{Contents}
-use Rattle.cam_io.specs.Sinks.{Sink}
-use Rattle.cam_io.specs.Scripts.{Act, Write, after, CutShort}
-use Rattle.arch_compile.specs.Built.{IsBuildOf}
-use Rattle.arch_compile.specs.Compiled.{IsFirstFault, IsUnread}
-use Rattle.arch_compile.specs.declared.building.Build.{Build}
-use Rattle.arch_compile.specs.declared.summary.Summary.{Summary}
-use Rattle.arch_compile.specs.BuildTexts.{AreNamedBy, texts_script}
+use Rattle.camkes_tool.specs.Below.{Act, AreNamedBy, Audit, Audited, Build, Certify, Check, Command, Compile, Contents, CutShort, Explain, Fault, Generate, InputError, InputFault, IsAudited, IsBuildOf, IsCertified, IsChecked, IsExplained}
+use Rattle.camkes_tool.specs.Below.{IsFirstFault, IsListed, IsPlanned, IsRun, IsTabled, IsUnread, Listing, Outcome, Plan, Planned, Replay, Rose, Sections, Sink, SourceError, Summary, Write, after, answer_text, but_choice, is_assigned, is_well}
+use Rattle.camkes_tool.specs.Below.{listing_text, text_of, texts_script}
 use Rattle.command_words.specs.Lines.{usage_line}
 use Rattle.command_words.specs.Words.{read_words}
-use Rattle.command_words.specs.declared.command.Command.{Command}
-use Rattle.command_words.specs.declared.command.Command.TheVariants.{Compile, Check, List as ListOf, Explain, Replay, Generate, Audit, Certify, Sections, Plan}
-use Rattle.cam_base.specs.Unread.{SourceError}
+use Rattle.command_words.specs.declared.command.Command.TheVariants.{List as ListOf}
 use Rattle.cam_base.specs.declared.error.Unread.TheVariants as unread
 use Rattle.camkes_tool.specs.Generated.{IsGenerated, generated_text}
-use Rattle.explain.specs.Answers.{answer_text, is_assigned}
-use Rattle.source_commands.specs.Explained.{IsExplained}
 use Rattle.explain.specs.declared.answer.Answer.{Answer as Reply}
-use Rattle.source_commands.specs.Listed.{IsListed, listing_text}
-use Rattle.source_commands.specs.declared.listing.Listing.{Listing}
-use Rattle.text_commands.specs.Commands.{IsAudited, IsCertified, IsChecked, IsPlanned, IsRun, IsTabled}
 use Rattle.text_commands.specs.Lines as texts
-use Rattle.text_commands.specs.OneAnswer.{but_choice}
-use Rattle.text_commands.specs.Outcomes.{is_well, text_of}
-use Rattle.text_commands.specs.InputErrors.{InputError}
-use Rattle.text_commands.specs.declared.fault.InputFault.{InputFault}
-use Rattle.text_commands.specs.declared.outcome.Outcome.{Outcome}
-use Rattle.text_commands.specs.declared.outcome.Outcome.TheVariants.{Audited, Planned}
 use Rattle.camkes_tool.specs.Lines.{fault_line, read_fault_line, no_memory_line}
 use Rattle.camkes_tool.specs.declared.answer.Answer.{Answer}
 use Rattle.camkes_tool.specs.declared.answer.Answer.TheVariants.{Compiled, Listed, Explained, Told, Generated, Faulted, Refused, Usage, ReadFault, NoMemory}

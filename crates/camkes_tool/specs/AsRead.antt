@@ -1,22 +1,8 @@
 -- What holds of whatever is read of the three texts that are written of a build, whoever reads them.
 use Rattle.std.specs.Prelude.{◌≡◌, ◌≢◌, ◌↔◌, ℕ, List, Ok}
-use Rattle.arch_compile.specs.declared.building.Build.{Build}
+use Rattle.camkes_tool.specs.Below.{Authority, Build, Edge, IsCertText, IsLabelling, IsPolicyText, Judged, Labels, Policy, Spec, Text, Verdict, Yes, canonical, cert_text, object_labels, policy_text}
 use Rattle.assigned_laws.specs.Texts.{IsAssignedText, OfTexts}
-use Rattle.authorities.specs.declared.authority.Authority.{Authority}
-use Rattle.cap_model.specs.declared.edge.Edge.{Edge}
-use Rattle.cap_model.specs.declared.object_labels.Labels.{Labels}
-use Rattle.cap_model.specs.declared.policy.Policy.{Policy}
-use Rattle.arch_compile.specs.Sound.{object_labels}
 use Rattle.cap_machine.specs.Runs.{Reaches}
-use Rattle.cap_model.specs.Canonical.{canonical}
-use Rattle.cap_model.specs.declared.spec.Spec.{Spec}
-use Rattle.capdl_text.specs.Texts.{Text}
-use Rattle.cert_check.specs.Verdicts.{Judged}
-use Rattle.cert_check.specs.declared.verdict.Verdict.{Verdict}
-use Rattle.cert_check.specs.declared.verdict.Verdict.TheVariants.{Yes}
-use Rattle.policy_text.specs.Labelled.{IsLabelling}
-use Rattle.policy_text.specs.PolicyLines.{cert_text, policy_text}
-use Rattle.policy_text.specs.PolicyTexts.{IsCertText, IsPolicyText}
 
 -- the capDL text says this spec, the policy text this policy, and the policy gives the spec's objects these labels
 pub record IsReadAs (b : Build) (spec : Spec) (policy : Policy) (labels : Labels) : Type 0 where

@@ -1,6 +1,6 @@
 -- What a command leaves as it was.
 use Rattle.std.specs.Prelude.{◌≡◌, ℕ, List, Option, Some, None}
-use Rattle.cam_io.specs.Sinks.{Sink}
+use Rattle.camkes_tool.specs.Below.{Sink}
 
 abbrev pub at : Option (ℕ → List ℕ) → ℕ → Option (List ℕ)
 at None channel = None

@@ -1,9 +1,7 @@
 -- The answer that a command over texts gives, and that of a refusal.
 use Rattle.std.specs.Prelude.{Result, Ok, Err}
-use Rattle.cam_base.specs.Unread.{SourceError}
+use Rattle.camkes_tool.specs.Below.{InputError, Outcome, SourceError}
 use Rattle.cam_base.specs.declared.error.Unread.TheVariants as unread
-use Rattle.text_commands.specs.InputErrors.{InputError}
-use Rattle.text_commands.specs.declared.outcome.Outcome.{Outcome}
 use Rattle.camkes_tool.specs.declared.answer.Answer.{Answer}
 use Rattle.camkes_tool.specs.declared.answer.Answer.TheVariants.{Told, Faulted, Refused, ReadFault, NoMemory}
 

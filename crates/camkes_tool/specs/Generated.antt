@@ -1,19 +1,11 @@
 -- What generating answers: the generated files are compiled as any root's are, what is compiled keeps the rules of the checker,
 -- and the answer is its summary. There is no failed read of them.
 use Rattle.std.specs.Prelude.{◌≡◌, ℕ, List, Result, Ok, Err, codes}
-use Rattle.arch_compile.specs.Built.{IsBuildOf}
-use Rattle.arch_compile.specs.Compiled.{IsFirstFault}
-use Rattle.arch_compile.specs.declared.building.Build.{Build}
-use Rattle.cap_model.specs.declared.object_labels.Labels.{Labels}
+use Rattle.camkes_tool.specs.Below.{Build, IsBuildOf, IsFirstFault, IsLabelling, Judged, Labels, SourceError, Summary, Yes}
 use Rattle.cam_base.specs.Texts.{◌⊹◌}
 use Rattle.arch_compile.specs.Summary.{summary_line, summary_of}
-use Rattle.arch_compile.specs.declared.summary.Summary.{Summary}
-use Rattle.cert_check.specs.Verdicts.{Judged}
-use Rattle.cert_check.specs.declared.verdict.Verdict.TheVariants.{Yes}
-use Rattle.cam_base.specs.Unread.{SourceError}
 use Rattle.cam_base.specs.declared.error.Unread.TheVariants as error
 use Rattle.camkes_tool.specs.GeneratedFiles.{generated, root_name}
-use Rattle.policy_text.specs.Labelled.{IsLabelling}
 
 -- the checker's answer for a build's spec, policy and certificate is a yes, and this is the build's summary
 pub record IsAccepted (b : Build) (summary : Summary) : Type 0 where

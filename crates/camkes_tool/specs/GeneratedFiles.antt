@@ -2,9 +2,7 @@
 -- the section tables of both. It has one client a line, and one end a client in each of its two connections.
 use Rattle.std.specs.Prelude.{ℕ, List, [], ◌∷◌, ◌++◌, codes, decimal}
 use Rattle.std.specs.FinMap as files
-use Rattle.std.specs.List.{flat_map, range_with_len}
-use Rattle.cam_base.specs.Texts.{together}
-use Rattle.cam_io.specs.Contents.{Contents}
+use Rattle.camkes_tool.specs.Below.{Contents, flat_map, range_with_len, together}
 
 -- what stands in front of the clients
 abbrev pub header : List ℕ

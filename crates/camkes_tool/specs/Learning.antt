@@ -1,11 +1,7 @@
 -- What a call may learn of the files: no more than those that its command names or meets, up to their limits and a byte more.
 use Rattle.std.specs.Prelude.{[], ◌∷◌, Option, Some, None}
-use Rattle.adl_import.specs.Loaded.{AlikeInSource}
-use Rattle.arch_compile.specs.Compiled.{AlikeInBuild}
-use Rattle.cam_io.specs.Contents.{Contents}
-use Rattle.command_words.specs.declared.command.Command.{Command}
-use Rattle.command_words.specs.declared.command.Command.TheVariants.{Compile, Check, List as ListOf, Explain, Replay, Generate, Audit, Certify, Sections, Plan}
-use Rattle.text_commands.specs.Inputs.{AlikeAsRead, AlikeInInputs}
+use Rattle.camkes_tool.specs.Below.{AlikeAsRead, AlikeInBuild, AlikeInInputs, AlikeInSource, Audit, Certify, Check, Command, Compile, Contents, Explain, Generate, Plan, Replay, Sections}
+use Rattle.command_words.specs.declared.command.Command.TheVariants.{List as ListOf}
 
 -- both contents have the same, as far as it is read, in the files that a command looks at; generating, and words that are no
 -- command, look at none

@@ -1,3 +1,4 @@
+pub mod Below
 pub mod Answers
 pub mod Channels
 pub mod Deciding

@@ -1,9 +1,8 @@
 -- The lines that are printed on standard error.
 use Rattle.std.specs.Prelude.{ℕ, List, [], ◌∷◌, codes, decimal}
+use Rattle.camkes_tool.specs.Below.{Fault, code_text, place_text, together}
 use Rattle.cam_base.specs.Codes.{number_of, title_of}
-use Rattle.cam_base.specs.Texts.{◌⊹◌, together}
-use Rattle.cam_base.specs.declared.place.Fault.{Fault}
-use Rattle.text_commands.specs.Lines.{code_text, place_text}
+use Rattle.cam_base.specs.Texts.{◌⊹◌}
 
 -- `r.camkes:155-160: E10 Unknown Sever`
 abbrev pub fault_line : List ℕ → Fault → List ℕ

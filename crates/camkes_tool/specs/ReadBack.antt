@@ -1,16 +1,9 @@
 -- What is read back of the texts that are written of a build: each passes no limit of its reader, and is a text of what was
 -- written and of nothing else.
 use Rattle.std.specs.Prelude.{◌≡◌, List}
-use Rattle.arch_compile.specs.declared.building.Build.{Build}
+use Rattle.camkes_tool.specs.Below.{Build, Edge, IsCertText, IsPolicyText, Policy, Spec, Text, canonical, cert_text, policy_text}
 use Rattle.cap_model.specs.Policies.{IsPolicy}
-use Rattle.cap_model.specs.declared.edge.Edge.{Edge}
-use Rattle.cap_model.specs.declared.policy.Policy.{Policy}
-use Rattle.cap_model.specs.Canonical.{canonical}
-use Rattle.cap_model.specs.declared.spec.Spec.{Spec}
 use Rattle.capdl_write.specs.Writable.{IsWritable}
-use Rattle.capdl_text.specs.Texts.{Text}
-use Rattle.policy_text.specs.PolicyLines.{cert_text, policy_text}
-use Rattle.policy_text.specs.PolicyTexts.{IsCertText, IsPolicyText}
 use Rattle.policy_text.specs.Writable.{IsWritable as IsWritablePolicy, IsWritableCert}
 
 -- its spec can be written, and what is written of it is a text of it and of no other

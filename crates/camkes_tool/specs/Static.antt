@@ -1,10 +1,9 @@
 -- A state whose memory is that of boot: no frame was added to a space, each thread has its root and its space, and no CNode has
 -- a capability that it hadn't. What it had may be gone.
 use Rattle.std.specs.Prelude.{◌≡◌, ℕ, []}
-use Rattle.std.specs.List.{Contains}
+use Rattle.camkes_tool.specs.Below.{Contains, Spec}
 use Rattle.cap_model.specs.State.{State, boot, node_at, thread_at}
 use Rattle.cap_model.specs.declared.cap.Cap.{Cap}
-use Rattle.cap_model.specs.declared.spec.Spec.{Spec}
 use Rattle.cap_model.specs.declared.state.Content.TheVariants.{Capability}
 
 pub record IsStatic (spec : Spec) (s : State) : Type 0 where

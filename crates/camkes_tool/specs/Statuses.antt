@@ -12,26 +12,13 @@
 -- In place of each may come 6, want of memory. No two of the reasons stand together (`statuses_are_exact` in src/laws.rt), so
 -- each status but 6 comes exactly where its reason stands.
 use Rattle.std.specs.Prelude.{◌≡◌, ◌⊎◌, ℕ, Bool, true, List, Option, Some, None, Result, Ok, Err, if◌then◌else◌}
-use Rattle.cam_base.specs.declared.place.Fault.{Fault}
-use Rattle.cam_io.specs.Causes.{Rose}
-use Rattle.cam_io.specs.Contents.{Contents}
+use Rattle.camkes_tool.specs.Below.{Audit, Certify, Check, Command, Compile, Contents, Explain, Fault, Generate, InputError, InputFault, IsAudited, IsCertified, IsChecked, IsExplained, IsFirstFault, IsListed, IsLoaded, IsPlanned, IsRun, IsTabled}
+use Rattle.camkes_tool.specs.Below.{Outcome, Plan, Replay, Rose, Sections, SourceError, is_assigned, is_well}
 use Rattle.adl_ast.specs.declared.source.Source.{Source}
-use Rattle.adl_import.specs.Loaded.{IsLoaded}
-use Rattle.arch_compile.specs.Compiled.{IsFirstFault}
 use Rattle.arch_compile.specs.LayoutFaults.{first_fault, found_beside}
-use Rattle.command_words.specs.declared.command.Command.{Command}
-use Rattle.command_words.specs.declared.command.Command.TheVariants.{Compile, Check, List as ListOf, Explain, Replay, Generate, Audit, Certify, Sections, Plan}
-use Rattle.cam_base.specs.Unread.{SourceError}
+use Rattle.command_words.specs.declared.command.Command.TheVariants.{List as ListOf}
 use Rattle.cam_base.specs.declared.error.Unread.TheVariants as unread
 use Rattle.camkes_tool.specs.Generated.{IsGenerated}
-use Rattle.explain.specs.Answers.{is_assigned}
-use Rattle.source_commands.specs.Explained.{IsExplained}
-use Rattle.source_commands.specs.Listed.{IsListed}
-use Rattle.text_commands.specs.Commands.{IsAudited, IsCertified, IsChecked, IsPlanned, IsRun, IsTabled}
-use Rattle.text_commands.specs.Outcomes.{is_well}
-use Rattle.text_commands.specs.InputErrors.{InputError}
-use Rattle.text_commands.specs.declared.fault.InputFault.{InputFault}
-use Rattle.text_commands.specs.declared.outcome.Outcome.{Outcome}
 
 -- no read failed, of any file
 abbrev pub NoneRose : (List ℕ → ℕ) → (List ℕ → ℕ) → Type 0

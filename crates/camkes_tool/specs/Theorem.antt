@@ -19,60 +19,32 @@
 -- yes where it does to any; `tabled`, a table, which is read back as the file's image; `audited`, just the edges that runs reach,
 -- and steps for which `replay` shows them. Of what is written of a build `certify` prints the certificate that is written, and
 -- `audit` the edges that `list` prints.
+use Rattle.camkes_tool.specs.Below.{AreNamedBy, Authority, Build, Checked, Contents, Edge, Fault, Holds, InputError, IsAnswer, IsBuildOf, IsCertText, IsChecked, IsLabelling, IsListing, IsPolicyText, IsRun, IsSound, Labels, Listing, Outcome, Policy}
+use Rattle.camkes_tool.specs.Below.{Ran, Sink, Spec, Stays, Text, Yes, after, answer_text, appended, canonical, cert_text, is_assigned, listing_text, policy_text, report_text, texts_script}
 use Rattle.std.specs.FinMap.{get}
 use Rattle.std.specs.Prelude.{◌≡◌, ◌≤◌, ◌⊎◌, ◌↔◌, ◌++◌, ℕ, if◌then◌else◌, List, codes, length, Some, Result, Ok, Err}
-use Rattle.arch_compile.specs.Built.{IsBuildOf}
-use Rattle.arch_compile.specs.declared.building.Build.{Build}
 use Rattle.cap_model.specs.Tables.{Has}
-use Rattle.authorities.specs.declared.authority.Authority.{Authority}
-use Rattle.cap_model.specs.declared.edge.Edge.{Edge}
-use Rattle.cap_model.specs.declared.object_labels.Labels.{Labels}
-use Rattle.cap_model.specs.declared.policy.Policy.{Policy}
 use Rattle.camkes_tool.specs.AsRead.{HoldsAsRead}
 use Rattle.camkes_tool.specs.ReadBack.{AreReadBack}
 use Rattle.arch_compile.specs.OfSource.{IsOfSource}
-use Rattle.arch_compile.specs.Sound.{IsSound}
-use Rattle.arch_compile.specs.BuildTexts.{AreNamedBy, texts_script}
 use Rattle.arch_compile.specs.declared.names.TextNames.{TextNames}
 use Rattle.cam_base.specs.declared.error.Refused.{Refused}
 use Rattle.cam_base.specs.declared.error.Refused.TheVariants as refused
-use Rattle.cam_base.specs.declared.place.Fault.{Fault}
-use Rattle.cam_io.specs.Contents.{Contents}
 use Rattle.cam_io.specs.Reading.{InAll}
-use Rattle.cam_io.specs.Scripts.{after}
-use Rattle.cam_io.specs.Sinks.{Sink, appended}
 use Rattle.cap_audit.specs.Reports.{IsReport}
 use Rattle.cap_audit.specs.declared.report.AuditReport.{AuditReport}
 use Rattle.cap_machine.specs.declared.step.Step.{Step}
-use Rattle.cap_model.specs.Canonical.{canonical}
-use Rattle.cap_model.specs.declared.spec.Spec.{Spec}
-use Rattle.capdl_text.specs.Texts.{Text}
-use Rattle.cert_check.specs.Valid.{Stays}
-use Rattle.cert_check.specs.declared.verdict.Verdict.TheVariants.{Yes}
 use Rattle.policy_text.specs.EdgeLines.{LabelNames, apart_lines}
 use Rattle.sect_table.specs.TablesBack.{AreBytes}
 use Rattle.sect_table.specs.Elf.{Elf}
 use Rattle.sect_table.specs.Texts.{table_text}
 use Rattle.least_cert.specs.LeastCertificate.{IsLeast}
-use Rattle.policy_text.specs.Labelled.{IsLabelling}
-use Rattle.policy_text.specs.PolicyLines.{cert_text, policy_text}
-use Rattle.policy_text.specs.PolicyTexts.{IsCertText, IsPolicyText}
-use Rattle.explain.specs.Answers.{answer_text, is_assigned}
 use Rattle.explain.specs.declared.answer.Answer.{Answer}
 use Rattle.sect_table.specs.Tables as tables
 use Rattle.sect_table.specs.declared.image.Image.{Image}
 use Rattle.source_commands.specs.Assigned.{AnswersWhether, ListsAssigned}
-use Rattle.source_commands.specs.Listed.{IsListing, listing_text}
-use Rattle.source_commands.specs.declared.listing.Listing.{Listing}
 use Rattle.step_text.specs.StepLines.{steps_text}
 use Rattle.step_text.specs.StepTexts.{steps_limit}
-use Rattle.text_commands.specs.Commands.{IsChecked, IsRun}
-use Rattle.text_commands.specs.Inputs.{Holds}
-use Rattle.text_commands.specs.Lines.{report_text}
-use Rattle.text_commands.specs.OneAnswer.{IsAnswer}
-use Rattle.text_commands.specs.InputErrors.{InputError}
-use Rattle.text_commands.specs.declared.outcome.Outcome.{Outcome}
-use Rattle.text_commands.specs.declared.outcome.Outcome.TheVariants.{Checked, Ran}
 use Rattle.text_commands.specs.declared.replay.Replayed.TheVariants.{Done}
 
 -- `whole` says which bytes are written; `read_back` and `as_read` speak of these bytes. By the labels that the policy gives to

@@ -1,13 +1,6 @@
 -- What a build's spec, policy and certificate are to each other, as `check` looks at them.
 use Rattle.std.specs.Prelude.{◌≡◌, Ok}
-use Rattle.arch_compile.specs.declared.building.Build.{Build}
-use Rattle.cap_model.specs.declared.object_labels.Labels.{Labels}
-use Rattle.arch_compile.specs.Sound.{object_labels}
-use Rattle.cert_check.specs.Valid.{Valid}
-use Rattle.cert_check.specs.Verdicts.{Judged}
-use Rattle.cert_check.specs.declared.verdict.Verdict.{Verdict}
-use Rattle.cert_check.specs.declared.verdict.Verdict.TheVariants.{Yes}
-use Rattle.policy_text.specs.Labelled.{IsLabelling}
+use Rattle.camkes_tool.specs.Below.{Build, IsLabelling, Judged, Labels, Valid, Verdict, Yes, object_labels}
 
 -- The policy gives each object of the spec the label of its line. By whatever labels it gives, the certificate keeps all rules,
 -- so that whatever judges them says yes.
