@@ -85,9 +85,4 @@ one_build m root old new later last (Ok f) (Err (error.Fault g b)) p q x y = abs
 one_build m root old new later last (Err (error.Fault f a)) (Ok g) p q x y = absurd (build_first m root g f a y x)
 one_build m root old new later last (Err (error.Fault f a)) (Err (error.Fault g b)) p q x y =
     faults_same f g a b (one_first m root f g a b x y)
-one_build m root old new later last (Err (error.ReadFault a)) b p q x y = cc
-one_build m root old new later last (Err error.NoMemory) b p q x y = cc
-one_build m root old new later last (Ok f) (Err (error.ReadFault b)) p q x y = cc
-one_build m root old new later last (Ok f) (Err error.NoMemory) p q x y = cc
-one_build m root old new later last (Err (error.Fault f a)) (Err (error.ReadFault b)) p q x y = cc
-one_build m root old new later last (Err (error.Fault f a)) (Err error.NoMemory) p q x y = cc
+one_build m root old new later last _ _ p q x y = cc

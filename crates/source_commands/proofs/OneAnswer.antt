@@ -53,16 +53,7 @@ module _ (t : Tables) (e : Edge) where
       ∙ ap (λ z. tell ByBind (numbers y.handles.handler) None (Some z)) second
   reasons_one (by_call x) (by_bind y) h k = let reply = x.authority in let send = y.authority in absurd cc
   reasons_one (by_bind x) (by_call y) h k = let send = x.authority in let reply = y.authority in absurd cc
-  reasons_one (by_direct x) (by_call y) h k = let l = k.by_stage in absurd (omega (arith, l))
-  reasons_one (by_direct x) (by_bind y) h k = let l = k.by_stage in absurd (omega (arith, l))
-  reasons_one (by_direct x) (by_lock y) h k = let l = k.by_stage in absurd (omega (arith, l))
-  reasons_one (by_call x) (by_lock y) h k = let l = k.by_stage in absurd (omega (arith, l))
-  reasons_one (by_bind x) (by_lock y) h k = let l = k.by_stage in absurd (omega (arith, l))
-  reasons_one (by_call x) (by_direct y) h k = let l = h.by_stage in absurd (omega (arith, l))
-  reasons_one (by_bind x) (by_direct y) h k = let l = h.by_stage in absurd (omega (arith, l))
-  reasons_one (by_lock x) (by_direct y) h k = let l = h.by_stage in absurd (omega (arith, l))
-  reasons_one (by_lock x) (by_call y) h k = let l = h.by_stage in absurd (omega (arith, l))
-  reasons_one (by_lock x) (by_bind y) h k = let l = h.by_stage in absurd (omega (arith, l))
+  reasons_one _ _ h k = let less = h.by_stage in let more = k.by_stage in absurd (omega (arith, less, more))
 
 -- ---- explanations
 
@@ -121,12 +112,7 @@ module _ (m : Contents) (root : List ℕ) where
       absurd (none_faulted first_list_fault m root y.source f a y.loaded y.none x)
   one_listing old new later last (Err (error.Fault f a)) (Err (error.Fault g b)) p q x y =
       faults_same f g a b (one_fault first_list_fault m root f g a b x y)
-  one_listing old new later last (Err (error.ReadFault a)) b p q x y = cc
-  one_listing old new later last (Err error.NoMemory) b p q x y = cc
-  one_listing old new later last (Ok f) (Err (error.ReadFault b)) p q x y = cc
-  one_listing old new later last (Ok f) (Err error.NoMemory) p q x y = cc
-  one_listing old new later last (Err (error.Fault f a)) (Err (error.ReadFault b)) p q x y = cc
-  one_listing old new later last (Err (error.Fault f a)) (Err error.NoMemory) p q x y = cc
+  one_listing old new later last _ _ p q x y = cc
 
   module _ (from authority to : List ℕ) where
     explained_same : (a b : Answer) → IsAnswered from authority to root m a → IsAnswered from authority to root m b → a ≡ b
@@ -144,9 +130,4 @@ module _ (m : Contents) (root : List ℕ) where
         absurd (none_faulted first_list_fault m root y.source f a y.loaded y.none x)
     one_explained old new later last (Err (error.Fault f a)) (Err (error.Fault g b)) p q x y =
         faults_same f g a b (one_fault first_list_fault m root f g a b x y)
-    one_explained old new later last (Err (error.ReadFault a)) b p q x y = cc
-    one_explained old new later last (Err error.NoMemory) b p q x y = cc
-    one_explained old new later last (Ok f) (Err (error.ReadFault b)) p q x y = cc
-    one_explained old new later last (Ok f) (Err error.NoMemory) p q x y = cc
-    one_explained old new later last (Err (error.Fault f a)) (Err (error.ReadFault b)) p q x y = cc
-    one_explained old new later last (Err (error.Fault f a)) (Err error.NoMemory) p q x y = cc
+    one_explained old new later last _ _ p q x y = cc
