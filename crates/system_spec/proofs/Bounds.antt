@@ -1,4 +1,5 @@
 -- Sections are no longer than the whole
+use Rattle.std.proofs.Common.{rules}
 use Rattle.system_spec.proofs.Common.{AreFew, FrameInfo, FrameOf, List, Owned, PageTable, Part, Series, Some, Tables, [], all_tables, ap, arith, cnodes, endpoints, first_of, flat_map, frame_owner, frame_parts, gather_ones, irqs, length}
 use Rattle.system_spec.proofs.Common.{length_append, locks, notifications, numbered, owned, part, refl, sections, slice_get, suc, table_part, table_parts, take, tcbs, zero, ℕ, ◌++◌, ◌+◌, ◌<◌, ◌^◌, ◌∷◌, ◌≡◌, ◌≤◌}
 use Rattle.system_spec.specs.declared.series.Series.TheVariants as series
@@ -6,9 +7,7 @@ use Rattle.system_spec.specs.declared.series.Series.TheVariants as series
 section_end : {X : Type 0} (ss : List (List X)) (n : ℕ) (s : List X) → slice_get ss n ≡ Some s
     → length (flat_map (λ x. x) (take n ss)) + length s ≤ length (flat_map (λ x. x) ss)
 section_end [] n s e = cc
-section_end {X} (r ∷ ss) zero s e =
-    let same : s ≡ r = cc in
-    omega (arith, ap (λ (z : List X). length z) same, length_append r (flat_map (λ x. x) ss))
+section_end {X} (r ∷ ss) zero s e = search (rules, length_append)
 section_end (r ∷ ss) (suc n) s e =
     omega (arith, section_end ss n s e, length_append r (flat_map (λ x. x) ss), length_append r (flat_map (λ x. x) (take n ss)))
 
@@ -18,18 +17,7 @@ section_few t few n s e = let all = few.objects in omega (arith, all, section_en
 
 pub length-eight : {X : Type 0} (a b c d e f g h : List X) → length (a ++ (b ++ (c ++ (d ++ (e ++ (f ++ (g ++ (h ++ []))))))))
     ≡ length a + (length b + (length c + (length d + (length e + (length f + (length g + (length h + 0)))))))
-length-eight a b c d e f g h =
-    omega (
-      arith,
-      length_append a (b ++ (c ++ (d ++ (e ++ (f ++ (g ++ (h ++ []))))))),
-      length_append b (c ++ (d ++ (e ++ (f ++ (g ++ (h ++ [])))))),
-      length_append c (d ++ (e ++ (f ++ (g ++ (h ++ []))))),
-      length_append d (e ++ (f ++ (g ++ (h ++ [])))),
-      length_append e (f ++ (g ++ (h ++ []))),
-      length_append f (g ++ (h ++ [])),
-      length_append g (h ++ []),
-      length_append h [],
-    )
+length-eight a b c d e f g h = search (rules, length_append)
 
 pub length-numbered : (s : Series) (xs : List Owned) → length (numbered s xs) ≡ length xs
 length-numbered s xs = gather_ones (λ n (x : Owned). part s n x.owner x.what) xs

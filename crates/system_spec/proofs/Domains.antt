@@ -1,4 +1,5 @@
 -- What stands where in each domain, counted domain by domain
+use Rattle.std.proofs.Common.{rules}
 use Rattle.system_spec.proofs.Common.{AreFew, Bool, Domain, FrameOf, List, LockOf, Object, Page, SlotUse, Some, TableOf, Tables, [], add-one, ap, arch, arith, as_many, at_place, counts_of_addresses, domain_locks, domain_tables, false, first_of}
 use Rattle.system_spec.proofs.Common.{flat_map, gather, gather_more, gather_ones, get_or, holds_lock, layers, length, length-gather, length_append, level_of, lock, map, map-append, one, page_mapping, page_table, pages_at, place, refl, shapes}
 use Rattle.system_spec.proofs.Common.{slice_get, space_tables, sym, table_count, tables_at, take, take_all, taken_le, true, uses_at, ℕ, ◌++◌, ◌+◌, ◌<◌, ◌^◌, ◌∙◌, ◌∷◌, ◌≡◌, ◌≤◌}
@@ -30,13 +31,7 @@ one_at_most true = omega arith
 one_at_most false = omega arith
 
 pub few_locks : (uses : List SlotUse) (i : ℕ) → length (gather (lock 0) (take i uses)) ≤ length uses
-few_locks uses i =
-    omega (
-      arith,
-      taken_le (lock 0) uses i,
-      length-gather (lock 0) uses
-          (λ k u. omega (arith, length-lock 0 k u, one_at_most (holds_lock u))),
-    )
+few_locks uses i = search (rules, taken_le, length-gather, length-lock, one_at_most)
 
 pub count_turn : (uses : List SlotUse) (i n more : ℕ) (u : SlotUse) → i < length uses → u ≡ get_or uses i u
     → more ≡ one (holds_lock u) → n ≡ length (gather (lock 0) (take i uses))
@@ -106,8 +101,7 @@ tables_counted t first frames d = length-tables_at t first frames d ∙ counted 
 
 length-domain_tables : (t : Tables) (frames d : ℕ) (x : Domain) → length (domain_tables t d x) ≡ table_count t frames d
 length-domain_tables t frames d x =
-    let ones : length (domain_tables t d x) ≡ length (tables_at t 0 0 d) =
-    gather_ones (λ j (o : Object). page_table d j (level_of o)) (tables_at t 0 0 d) in
+    let ones : length (domain_tables t d x) ≡ length (tables_at t 0 0 d) = search (rules, gather_ones) in
     ones ∙ length-tables_at t 0 0 d ∙ counted t 0 d ∙ sym (counted t frames d)
 
 pub table_place : (t : Tables) (d next : ℕ) → next ≡ first_of t 6 + length (gather (domain_tables t) (take d t.flat.domains))
@@ -149,13 +143,7 @@ section_turn {X} xs i n more x l is m e = omega (arith, m, e, grown_length (λ k
 
 first_within : {X : Type 0} (xs : List (List X)) (i number : ℕ)
     → length (gather (λ k (z : List X). z) (take i (take number xs))) ≤ length (flat_map (λ z. z) xs)
-first_within {X} xs i number = omega (
-  arith,
-  taken_le (λ k (z : List X). z) (take number xs) i,
-  taken_le (λ k (z : List X). z) xs
-      number,
-  ap (λ (z : List X). length z) (together_gather xs),
-)
+first_within {X} xs i number = search (rules, taken_le, together_gather)
 
 -- one more section, which ends within the whole
 pub record Turned {X : Type 0} (xs : List (List X)) (i n more number : ℕ) : Type 0 where
@@ -171,9 +159,7 @@ turned {X} xs i n more number x l is m e =
 
 pub first_whole : {X : Type 0} (xs : List (List X)) (i n number : ℕ) → length (take number xs) ≤ i
     → n ≡ length (gather (λ k (z : List X). z) (take i (take number xs))) → n ≡ length (flat_map (λ z. z) (take number xs))
-first_whole {X} xs i n number l e =
-    e ∙ ap (λ z. length (gather (λ k (y : List X). y) z)) (take_all i (take number xs) l)
-    ∙ sym (ap (λ (z : List X). length z) (together_gather (take number xs)))
+first_whole {X} xs i n number l e = search (rules, take_all, together_gather)
 
 mapped_gather : {X Y : Type 0} (f : X → Y) (xs : List (List X))
     → map f (flat_map (λ x. x) xs) ≡ gather (λ k (x : List X). map f x) xs

@@ -1,4 +1,5 @@
 -- A page is found by its address, where addresses rise
+use Rattle.std.proofs.Common.{rules}
 use Rattle.system_spec.proofs.Common.{Bool, IsIn, IsNonDecreasingBy, IsPartitionPoint, List, None, Page, Rises, Some, [], ap, arith, cond, false, find, frame_at, get_or, get_or_from_slice_get, inl, inr, length, ltb, ltb-false, ltb-true, map, ne_eqb}
 use Rattle.system_spec.proofs.Common.{option_map, refl, slice_get, slice_get_within, subst, suc, true, zero, ℕ, ◌<◌, ◌==◌, ◌∙◌, ◌∷◌, ◌≡◌, ◌≤◌}
 use Rattle.std.specs.Prelude.{Option}
@@ -43,12 +44,7 @@ in_found test (q ∷ ps) p e = by_test (test q) e (in_found test ps p)
 
 -- the frame of the page there
 pub frame_found : (at : ℕ) (ps : List Page) (f : ℕ) → frame_at ps at ≡ Some f → (p : Page) × IsIn p ps × (p.frame ≡ f)
-frame_found at ps f e = by_page (find (at_page at) ps) refl e
-  where
-    by_page : (o : Option Page) → find (at_page at) ps ≡ o → option_map (λ (p : Page). p.frame) o ≡ Some f
-        → (p : Page) × IsIn p ps × (p.frame ≡ f)
-    by_page None h g = absurd cc
-    by_page (Some p) h g = (p, in_found (at_page at) ps p h, cc)
+frame_found at ps f e = search (rules, in_found)
 
 -- ---- order
 
@@ -70,12 +66,7 @@ rises_in_order ps r = from_rises ps r
 pub halves_find : (at i : ℕ) (ps : List Page) → Rises (map (λ p. p.vaddr) ps)
     → IsPartitionPoint (λ (p : Page). ltb p.vaddr at ≡ true) (λ p. ltb p.vaddr at ≡ false) ps i
     → find (at_page at) ps ≡ there_at at (slice_get ps i)
-halves_find at i ps r point =
-    found_at at i ps r
-    (λ k p e l. let same = get_or_from_slice_get ps k p p e in
-    ltb-true p.vaddr at (subst (λ (z : Page). ltb z.vaddr at ≡ true) same (point.0 k p (omega arith) l)))
-    (λ k p e l. let same = get_or_from_slice_get ps k p p e in
-    ltb-false p.vaddr at (subst (λ (z : Page). ltb z.vaddr at ≡ false) same (point.1 k p l (slice_get_within ps k p e))))
+halves_find at i ps r point = search (rules, found_at, get_or_from_slice_get, ltb-true, ltb, ltb-false, slice_get_within)
 
 pub frame_read : (at i : ℕ) (ps : List Page) → Rises (map (λ p. p.vaddr) ps)
     → IsPartitionPoint (λ (p : Page). ltb p.vaddr at ≡ true) (λ p. ltb p.vaddr at ≡ false) ps i → (r : Option Page)
@@ -84,9 +75,7 @@ frame_read at i ps rise point r e = ap (λ z. option_map (λ (p : Page). p.frame
     ∙ ap (there_at at) e)
 
 pub frame_here : (at : ℕ) (p : Page) → p.vaddr ≡ at → option_map (λ (q : Page). q.frame) (there_at at (Some p)) ≡ Some p.frame
-frame_here at p e =
-    let same : (p.vaddr == at) ≡ true = grind (arith, e) in
-    ap (λ z. option_map (λ (q : Page). q.frame) (cond z (Some p) None)) same
+frame_here at p e = search (rules)
 
 pub frame_elsewhere : (at : ℕ) (p : Page) → (p.vaddr ≡ at → ⊥) → option_map (λ (q : Page). q.frame) (there_at at (Some p)) ≡ None
 frame_elsewhere at p h = ap (λ z. option_map (λ (q : Page). q.frame) (cond z (Some p) None)) (ne_eqb p.vaddr at h)

@@ -1,4 +1,5 @@
 -- Places of the threads and the locks that lines of the map name
+use Rattle.std.proofs.Common.{rules}
 use Rattle.system_spec.proofs.Common.{AreFew, List, LockOf, OfDomain, Part, SlotUse, Tables, ThreadOf, ThreadPlace, ap, arith, before, domain_locks, domain_tcbs, domain_threads, first_of, gather, gather_ones, length, lock, locks, owned}
 use Rattle.system_spec.proofs.Common.{place, refl, subst, sym, take, take_all, taken_le, tcbs, thread_lines_from, threads_at, together, uses_at, ℕ, ◌+◌, ◌<◌, ◌^◌, ◌∙◌, ◌≡◌, ◌≤◌}
 use Rattle.system_spec.specs.declared.series.Series.TheVariants as series
@@ -27,9 +28,7 @@ threads_within t few first d next f e = omega (arith, f, e, taken_le (domain_tcb
 pub domain_threads_are : (t : Tables) (first d next : ℕ) (threads : List ThreadPlace) → first ≡ first_of t 1
     → next ≡ first + before (domain_tcbs t) t.flat.domains d → threads ≡ threads_at t d
     → thread_lines_from next threads ≡ domain_threads t d
-domain_threads_are t first d next threads f e same =
-    ap (thread_lines_from next) same ∙ ap (λ z. thread_lines_from z (threads_at t d))
-    (e ∙ ap (λ z. z + before (domain_tcbs t) t.flat.domains d) f)
+domain_threads_are t first d next threads f e same = search (rules)
 
 -- ---- locks
 
@@ -52,10 +51,7 @@ locks_within t few first d after f e = omega (arith, f, e, taken_le (domain_lock
 -- behind the locks of a domain
 pub lock_end : (t : Tables) (d : ℕ) (uses : List SlotUse) (n first at : ℕ) → uses ≡ uses_at t d → length uses ≤ n
     → first ≡ place t (LockOf d 0) → at ≡ place t (LockOf d n) → at ≡ first + length (gather (lock d) uses)
-lock_end t d uses n first at same le f p =
-    let here = ap (λ z. length (gather (lock d) (take n z))) same in
-    let all = ap (λ (z : List SlotUse). length (gather (lock d) z)) (take_all n uses le) in
-    omega (arith, f, p, here, all)
+lock_end t d uses n first at same le f p = search (rules, take_all)
 
 -- ---- sections
 

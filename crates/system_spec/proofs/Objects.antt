@@ -1,4 +1,5 @@
 -- What stands at the place of a part, and which parts there are
+use Rattle.std.proofs.Common.{rules}
 use Rattle.system_spec.proofs.Common.{CNodeOf, Connector, Domain, EndpointOf, FlatConnection, IsIn, List, OfConnection, OfDomain, Owned, Part, Rpc, Some, Tables, [], ap, cnodes, endpoint, endpoint_by, entry, entry_name, entry_object, flat_map}
 use Rattle.system_spec.proofs.Common.{gather, get_map, get_ones, in_gather, in_left, in_right, inl, notification, notification_by, numbered, owned, part, parts, place, refl, sections, slice_get, subst, suc, sym, zero, ℕ, ◌∷◌, ◌≡◌}
 use Rattle.system_spec.specs.declared.series.Series.TheVariants as series
@@ -6,19 +7,14 @@ use Rattle.system_spec.specs.SpecLaws.{ObjectsStand, PartsAreThere}
 use Rattle.system_spec.proofs.Standing.{stands}
 
 pub objects_stand : (t : Tables) → ObjectsStand t
-objects_stand t = record {
-  object = λ p i. ap entry_object (get_map (entry t) (parts t) (place t p.what) p (stands t p i));
-  name = λ p i. ap entry_name (get_map (entry t) (parts t) (place t p.what) p (stands t p i));
-}
+objects_stand t = search (rules, get_map, stands)
 
 -- ---- which parts there are
 
 pub in_together : {X : Type 0} (ss : List (List X)) (n : ℕ) (s : List X) (x : X) → slice_get ss n ≡ Some s → IsIn x s
     → IsIn x (flat_map (λ z. z) ss)
 in_together [] n s x e i = cc
-in_together {X} (r ∷ ss) zero s x e i =
-    let same : s ≡ r = cc in
-    let P : List X → Type 0 = λ z. IsIn x z in in_left x r (flat_map (λ z. z) ss) (subst P same i)
+in_together {X} (r ∷ ss) zero s x e i = search (rules, in_left)
 in_together (r ∷ ss) (suc n) s x e i = in_right x r (flat_map (λ z. z) ss) (in_together ss n s x e i)
 
 pub has_cnode : (t : Tables) (d : ℕ) (x : Domain) → slice_get t.flat.domains d ≡ Some x

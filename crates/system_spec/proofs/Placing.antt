@@ -1,4 +1,5 @@
 -- Places as they are counted
+use Rattle.std.proofs.Common.{rules}
 use Rattle.system_spec.proofs.Common.{Bool, Connector, EndpointOf, FlatConnection, Interrupt, IrqOf, List, LockOf, Notification, NotificationOf, OwnLock, Owner, Rpc, SlotUse, Some, Tables, [], add-one, ap, arith, at_place, before, cond, endpoint}
 use Rattle.system_spec.proofs.Common.{endpoint_by, false, first_of, gather, gather_more, gather_same, gather_turn, get_ones, get_or, get_or_from_slice_get, has_endpoint, has_irq, has_notification, holds_lock, irq, irq_by, irq_owner, joint, joint_by}
 use Rattle.system_spec.proofs.Common.{length, length_append, lock, mark, notification, notification_by, one, option_map_or, place, places_from, refl, slice_get, slice_get-get_or, slice_get_read, slice_index, stands, subst, suc, sym, take, taken_le}
@@ -30,11 +31,7 @@ as_long F G (x ∷ xs) h =
     )
 
 length-mark : (standing : Standing) (k : ℕ) (c : FlatConnection) → length (mark standing k c) ≡ one (stands standing c.connector)
-length-mark standing k c = by_test (stands standing c.connector)
-  where
-    by_test : (b : Bool) → length (cond b (true ∷ []) []) ≡ one b
-    by_test true = refl
-    by_test false = refl
+length-mark standing k c = search (rules)
 
 length-endpoint : (k : ℕ) (c : Connector) → length (endpoint_by k c) ≡ one (has_endpoint c)
 length-endpoint k Rpc = refl
@@ -117,12 +114,7 @@ place_found {X} F cs places k e l =
 
 pub joint_read : (t : Tables) (read : List FlatConnection) (k : ℕ) (d : FlatConnection) → read ≡ t.flat.connections
     → k < length t.flat.connections → joint t k ≡ joint_by k (get_or read k d).connector
-joint_read t read k d same l =
-    let c = get_or read k d in
-    let below : k < length read = omega (arith, l, ap (λ (z : List FlatConnection). length z) same) in
-    let at : slice_get t.flat.connections k ≡ Some c = subst (λ (z : List FlatConnection). slice_get z k ≡ Some c) same
-    (slice_get-get_or read k d below) in
-    ap (λ z. option_map_or (λ (x : FlatConnection). joint_by k x.connector) z (NotificationOf k)) at
+joint_read t read k d same l = search (rules, slice_get-get_or)
 
 pub not_called : (k : ℕ) (c : Connector) → (c ≡ Rpc → ⊥) → joint_by k c ≡ NotificationOf k
 not_called k Rpc h = absurd (h refl)
@@ -145,6 +137,4 @@ lock_turn t d uses n at more u same l is m p =
 -- no lock of a domain stands behind as many as there are
 pub lock_within : (t : Tables) (d : ℕ) (uses : List SlotUse) (n first at : ℕ) → uses ≡ uses_at t d → first ≡ place t (LockOf d 0)
     → at ≡ place t (LockOf d n) → at ≤ first + length (gather (lock d) uses)
-lock_within t d uses n first at same f p =
-    let here = ap (λ z. length (gather (lock d) (take n z))) same in
-    omega (arith, f, p, here, taken_le (lock d) uses n)
+lock_within t d uses n first at same f p = search (rules, taken_le)

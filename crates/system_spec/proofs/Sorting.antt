@@ -1,4 +1,5 @@
 -- A stable sort by number puts lines in their order.
+use Rattle.std.proofs.Common.{rules}
 use Rattle.system_spec.proofs.Common.{Bool, IsNonDecreasingBy, IsStableByKey, List, [], ap, arith, by_number, cases_Bool, cond, cond-false, cond-true, false, filter, get_or, inl, inr, is_lt, leb, leb-false, leb-true, length, nat_cmp, put_line, refl}
 use Rattle.system_spec.proofs.Common.{suc, suc-le-suc, sym, ties, true, zero, zero-le, ℕ, ◌<◌, ◌∙◌, ◌∷◌, ◌≡◌, ◌≤◌}
 use Rattle.std.proofs.lemmas.Bool.Decides.{nat_tests}
@@ -138,14 +139,7 @@ same_lines (y ∷ ys) (z ∷ zs) left right same =
     let heads = sym at_y ∙ same y ∙ filter-kept (ties_with y) z zs (ties_from y z (omega arith)) in
     let head : y ≡ z = cc in
     let tails : (x : Line) → filter (ties_with x) ys ≡ filter (ties_with x) zs =
-    λ x. elim (cases_Bool (ties_with x y)) [
-      | inl with ↦
-          let both = sym (filter-kept (ties_with x) y ys with) ∙ same x ∙ filter-kept (ties_with x) z zs
-          (ap (ties_with x) (sym head) ∙ with) in cc
-      | inr without ↦
-          sym (filter-dropped (ties_with x) y ys without) ∙ same x ∙ filter-dropped (ties_with x) z zs
-          (ap (ties_with x) (sym head) ∙ without)
-    ] in
+    search (rules, cases_Bool, filter-kept, filter-dropped) in
     ap (λ (w : Line). w ∷ ys) head ∙ ap (λ (l : List Line). z ∷ l) (same_lines ys zs left.1 right.1 tails)
 
 pub by_number_from_sort : (xs ys : List Line) → IsNonDecreasingBy (λ (x : Line). x.0) ys

@@ -1,4 +1,5 @@
 -- The page tables of all domains are the objects of their parts
+use Rattle.std.proofs.Common.{rules}
 use Rattle.system_spec.proofs.Common.{Domain, Endpoint, List, None, Object, Option, PageTable, Part, Some, TableOf, Tables, YieldsList-from_vec, [], all_spaces, all_tables, ap, domain_tables, gather, gather_map, gather_same, get_map, get_or}
 use Rattle.system_spec.proofs.Common.{into_iter_items, into_iter_len, into_iter_steps, length, level_of, map, map-append, object, page_table, refl, slice_get, space_tables, suc, sym, table_part, table_parts, tables_at, ℕ, ◌++◌, ◌∙◌, ◌∷◌, ◌≡◌}
 use Rattle.system_spec.proofs.Domains.{tables_counted}
@@ -43,9 +44,7 @@ tables_whole t = sym (
 pub object_is : (t : Tables) (os : List Object) (ps : List Part) (n d : ℕ) (o : Object) (x : Part)
     → os ≡ map (λ (p : Part). object t p.what) ps → d ≡ n → slice_get os n ≡ Some o → slice_get ps d ≡ Some x
     → o ≡ object t x.what
-object_is t os ps n d o x e s h at =
-    let f : Part → Object = λ p. object t p.what in
-    same (f x) o (sym (get_map f ps d x at) ∙ ap (λ (k : ℕ). slice_get (map f ps) k) s ∙ ap (λ z. slice_get z n) (sym e) ∙ h)
+object_is t os ps n d o x e s h at = search (rules, same, get_map)
 
 -- where nothing more is taken, all was
 pub taken_all : {A Z : Type 0} (s t u : _) (all : List A) → into_iter_items s ≡ all → into_iter_len s ≡ length all → (xs : List A)

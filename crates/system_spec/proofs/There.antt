@@ -1,4 +1,5 @@
 -- The parts of a system are of what there is: domains, threads, connections, locks, page tables and frames, each by its number.
+use Rattle.std.proofs.Common.{rules}
 use Rattle.system_spec.proofs.Common.{Bool, CNodeOf, Connector, Domain, EndpointOf, FlatConnection, FrameInfo, FrameOf, Interrupt, IrqOf, IsIn, List, LockOf, Notification, NotificationOf, Object, OfConnection, OfDomain, OwnLock, Owned, Owner}
 use Rattle.system_spec.proofs.Common.{PageTable, Part, Rpc, Series, SlotUse, Some, TableOf, Tables, ThreadOf, ThreadPlace, [], all_tables, ap, cnodes, domain_locks, domain_tables, domain_tcbs, endpoint, endpoint_by, endpoints, false, frame_owner}
 use Rattle.system_spec.proofs.Common.{frame_parts, from_gather, from_ones, in_append, in_gather, in_place, inl, inr, irq, irq_by, irq_owner, irqs, level_of, lock, locks, notification, notification_by, notifications, numbered, object, object_at}
@@ -152,43 +153,16 @@ single x y (inl e) = e
 single x y (inr i) = absurd i
 
 of_cnode : (t : Tables) (o : Owned) → IsIn o (cnodes t.flat.domains) → IsAlone t o.what
-of_cnode t o i =
-    let f : ℕ → Domain → List Owned = λ n z. owned (OfDomain n) (CNodeOf n) ∷ [] in
-    let g = from_gather f o t.flat.domains i in
-    subst (λ (z : Owned). IsAlone t z.what) (single (owned (OfDomain g.0) (CNodeOf g.0)) o g.3) ((g.1, g.2), refl)
+of_cnode t o i = search (rules, from_gather, single)
 
 of_thread : (t : Tables) (o : Owned) → IsIn o (tcbs t) → IsAlone t o.what
-of_thread t o i =
-    let g = from_gather (domain_tcbs t) o t.flat.domains i in
-    let f : ℕ → ThreadPlace → List Owned = λ n z. owned (OfDomain g.0) (ThreadOf g.0 n) ∷ [] in
-    let h = from_gather f o (threads_at t g.0) g.3 in
-    subst (λ (z : Owned). IsAlone t z.what) (single (owned (OfDomain g.0) (ThreadOf g.0 h.0)) o h.3)
-    (((g.1, g.2), (h.1, h.2)), refl)
+of_thread t o i = search (rules, from_gather, single)
 
 of_endpoint : (t : Tables) (p : Part) → IsIn p (endpoints t) → IsAlone t p.what
-of_endpoint t p i =
-    let g = from_gather endpoint p t.flat.connections i in
-    by_kind g.1.connector g.0 g.3 (λ r. ((g.1, g.2, r), refl))
-  where
-    by_kind : (c : Connector) (k : ℕ) → IsIn p (endpoint_by k c) → (c ≡ Rpc → IsAlone t (EndpointOf k)) → IsAlone t p.what
-    by_kind Rpc k i h = subst (λ (z : Part). IsAlone t z.what) (single (part series.Ep k (OfConnection k) (EndpointOf k))
-        p i) (h refl)
-    by_kind _ k i h = absurd i
+of_endpoint t p i = search (rules, from_gather, single)
 
 of_notification : (t : Tables) (p : Part) → IsIn p (notifications t) → IsAlone t p.what
-of_notification t p i =
-    let g = from_gather notification p t.flat.connections i in
-    by_kind g.1.connector g.0 g.3 (λ r. ((g.1, g.2, r), refl))
-  where
-    by_kind : (c : Connector) (k : ℕ) → IsIn p (notification_by k c) → (Notifies c → IsAlone t (NotificationOf k))
-        → IsAlone t p.what
-    by_kind Notification k i h =
-        subst (λ (z : Part). IsAlone t z.what) (single (part series.Ntfn k (OfConnection k) (NotificationOf k)) p i)
-        (h (inl refl))
-    by_kind Interrupt k i h =
-        subst (λ (z : Part). IsAlone t z.what) (single (part series.Ntfn k (OfConnection k) (NotificationOf k)) p i)
-        (h (inr refl))
-    by_kind _ k i h = absurd i
+of_notification t p i = search (rules, from_gather, single)
 
 of_lock : (t : Tables) (o : Owned) → IsIn o (locks t) → IsAlone t o.what
 of_lock t o i =
@@ -202,14 +176,7 @@ of_lock t o i =
     by_use _ d n i x h = absurd i
 
 of_irq : (t : Tables) (o : Owned) → IsIn o (irqs t) → IsAlone t o.what
-of_irq t o i =
-    let g = from_gather irq o t.flat.connections i in
-    by_kind g.1.connector g.0 (irq_owner g.0 g.1) g.3 (λ r. ((g.1, g.2, r), refl))
-  where
-    by_kind : (c : Connector) (k : ℕ) (w : Owner) → IsIn o (irq_by k w c) → (c ≡ Interrupt → IsAlone t (IrqOf k))
-        → IsAlone t o.what
-    by_kind Interrupt k w i h = subst (λ (z : Owned). IsAlone t z.what) (single (owned w (IrqOf k)) o i) (h refl)
-    by_kind _ k w i h = absurd i
+of_irq t o i = search (rules, from_gather, single)
 
 of_table : (t : Tables) (p : Part) → IsIn p (table_parts (all_tables t)) → IsThere t p.what
 of_table t p i =
@@ -219,16 +186,12 @@ of_table t p i =
     let h : ℕ → Object → List PageTable = λ n z. page_table d.0 n (level_of z) ∷ [] in
     let o = from_gather h g.1 (tables_at t 0 0 d.0) d.3 in
     let there : IsThere t (TableOf d.0 o.0) = ((d.1, d.2), (o.1, o.2)) in
-    let here : IsThere t (TableOf g.1.domain g.1.place) = subst (λ (z : PageTable). IsThere t (TableOf z.domain z.place))
-    {x = page_table d.0 o.0 (level_of o.1)} (single (page_table d.0 o.0 (level_of o.1)) g.1 o.3) there in
+    let here : IsThere t (TableOf g.1.domain g.1.place) = search (rules, single) in
     subst (λ (z : Part). IsThere t z.what) {x = table_part (all_tables t) g.0 g.1}
     (single (table_part (all_tables t) g.0 g.1) p g.3) here
 
 of_frame : (t : Tables) (o : Owned) → IsIn o (frame_parts t.spaces.frames) → IsAlone t o.what
-of_frame t o i =
-    let f : ℕ → FrameInfo → List Owned = λ n z. owned (frame_owner z.owner) (FrameOf n) ∷ [] in
-    let g = from_gather f o t.spaces.frames i in
-    subst (λ (z : Owned). IsAlone t z.what) (single (owned (frame_owner g.1.owner) (FrameOf g.0)) o g.3) ((g.1, g.2), refl)
+of_frame t o i = search (rules, from_gather, single)
 
 -- whatever holds of the parts of each section holds of each part
 abbrev HoldsIn : (Part → Type 0) → List (List Part) → Type 0

@@ -1,4 +1,5 @@
 -- A thread of the parts that it is made of
+use Rattle.std.proofs.Common.{rules}
 use Rattle.system_spec.proofs.Common.{CNodeOf, FrameOf, List, None, Option, RW, Some, TableOf, Tables, ThreadPlace, ap, arith, buffer_cap, cap, leaf_entry, leaf_name, option_map, place, priority, refl, tcb, ℕ, ◌+◌, ◌∙◌, ◌≡◌}
 use Rattle.cap_model.specs.declared.object.Tcb.{Tcb}
 use Rattle.cap_model.specs.declared.cap.Cap.{Cap}
@@ -26,11 +27,4 @@ tcb_of x ip prio elf cspace vspace buffer = record {
 pub tcb_is : (t : Tables) (d : ℕ) (x : ThreadPlace) (ip prio root : ℕ) (elf : List ℕ) (buffer : Option Cap)
     → ip ≡ leaf_entry t x.leaf → prio ≡ priority t x.leaf → elf ≡ leaf_name t x.leaf → root ≡ place t (TableOf d 0)
     → buffer ≡ buffer_cap t d x.buffer → tcb_of x ip prio elf d root buffer ≡ tcb t d x
-tcb_is t d x ip prio root elf buffer a b c r f =
-    let P = place t (CNodeOf d) in
-    ap (λ z. tcb_of x z prio elf d root buffer) a
-    ∙ ap (λ z. tcb_of x (leaf_entry t x.leaf) z elf d root buffer) b
-    ∙ ap (λ z. tcb_of x (leaf_entry t x.leaf) (priority t x.leaf) z d root buffer) c
-    ∙ ap (λ z. tcb_of x (leaf_entry t x.leaf) (priority t x.leaf) (leaf_name t x.leaf) z root buffer) (cnode_place t d)
-    ∙ ap (λ z. tcb_of x (leaf_entry t x.leaf) (priority t x.leaf) (leaf_name t x.leaf) P z buffer) r
-    ∙ ap (λ z. tcb_of x (leaf_entry t x.leaf) (priority t x.leaf) (leaf_name t x.leaf) P (place t (TableOf d 0)) z) f
+tcb_is t d x ip prio root elf buffer a b c r f = search (rules, cnode_place)
