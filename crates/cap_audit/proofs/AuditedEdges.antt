@@ -1,4 +1,5 @@
 -- A state that lies in the Spread has no edges but those of an audit.
+use Rattle.std.proofs.Common.{rules}
 use Rattle.cap_audit.proofs.Common.{AddedBy, Audited, Auth, Authority, Cap, Capability, Holds, HoldsNoThread, IsWithin, List, Owed, Reaches, Rights, Saved, SavedReply, Spec, State, Structural, ap, at_boot, confers, inl, inr}
 use Rattle.cap_audit.proofs.Common.{kind_confers, kind_is, label_of, lessened_confers, lessened_kind, of_bind, of_buffer, of_call, of_irq, of_map, of_mapped, of_reply, of_root, of_save, of_saved, of_space, of_spread, of_table, subst, sym, true, ℕ}
 use Rattle.cap_audit.proofs.Common.{◌∙◌, ◌≡◌}
@@ -10,14 +11,7 @@ module _ (spec : Spec) (labels : List ℕ) (s : State) (w : IsWithin spec s) whe
   held_audited : (l : ℕ) (a : Authority) (m : ℕ) → Held spec labels s l a m → Audited spec labels l a m
   held_audited l a m (c, i, cap, there, conf, from, to) =
       let h : Holds spec c cap = w.contents c i (Capability cap) there in
-      of_spread (
-        c,
-        h.whole,
-        h.spread,
-        lessened_confers spec h.whole h.rights a (subst (λ (x : Cap). confers spec x a ≡ true) h.is conf),
-        from,
-        to ∙ ap (λ (x : Cap). label_of labels x.object) h.is,
-      )
+      search (rules, lessened_confers)
 
   structural_audited : (l : ℕ) (a : Authority) (m : ℕ) → Structural spec labels s l a m → Audited spec labels l a m
   structural_audited l a m (of_buffer e) = at_boot (of_buffer e)
@@ -33,16 +27,7 @@ module _ (spec : Spec) (labels : List ℕ) (s : State) (w : IsWithin spec s) whe
       of_save (reply.caller, saved.thread, c, saved.owed.to, saved.owed.from, saved.owed.calls, saved.root, is, from, to)
   structural_audited l a m (of_mapped (added, there, conf, from, to)) =
       let by : AddedBy spec added = w.mapped added there in
-      of_map (
-        by.frame,
-        by.space,
-        by.maps,
-        (let whole : kind_confers kinds.Frame by.frame.rights a ≡ true = lessened_kind kinds.Frame by.frame.rights by.rights a
-            (subst (λ (r : Rights). kind_confers kinds.Frame r a ≡ true) by.with_rights conf) in
-            rw (kind_is spec kinds.Frame by.frame.object by.maps.is_frame) whole),
-        from ∙ ap (λ (n : ℕ). label_of labels n) by.to,
-        to ∙ ap (λ (n : ℕ). label_of labels n) by.of,
-      )
+      search (rules, lessened_kind, kind_is)
   structural_audited l a m (of_irq (d, n, there, is, from, to)) = elim (w.irqs d n there) [
     | inl old ↦ at_boot (of_irq (d, n, old, is, from, to))
     | inr binds ↦ of_bind (d, n, binds, is, from, to)

@@ -1,4 +1,5 @@
 -- How a search begins.
+use Rattle.std.proofs.Common.{rules}
 use Rattle.cap_audit.proofs.Common.{AreRoots, Bool, Cap, Contains, Doors, Entry, Found, Gathering, HasRoot, HasSlots, HasValue, Held, HoldsAt, InClass, IsCounted, IsFound, IsHub, IsKept, IsSearch, List, Marks, Member, None, Object, Option, Pair}
 use Rattle.cap_audit.proofs.Common.{Passage, Path, Queued, Run, Side, Some, Spec, Starts, Step, Way, Web, [], ap, arith, at_contains, at_end, at_object, blank_row, blank_rows, boot, boot_node, cases_lt, contains_at, entry_at, false, get_or}
 use Rattle.cap_audit.proofs.Common.{get_or-before_last, get_or-last, get_or-set_same, held_by, hub_of, inl, inr, is_at, is_at_below, is_known, kind_is, kind_of_object, length, length-append, length-map, length-set, map, marks_of, members_at}
@@ -16,25 +17,14 @@ use Rattle.cap_audit.proofs.Bringing.{none_within, at_pushed, pushed_cases, mark
 use Rattle.cap_audit.proofs.Quiet.{slot_at_boot, boot_quiet, quiet_cnode}
 
 pub slots_inside : (spec : Spec) (c k : ℕ) (x : ℕ × Cap) → slice_get (slots_at spec c) k ≡ Some x → c < length spec.entries
-slots_inside spec c k x h = go (slice_get spec.entries c) refl where
-  go : (e : Option Entry) → slice_get spec.entries c ≡ e → c < length spec.entries
-  go (Some entry) there = slice_get_within spec.entries c entry there
-  go None there = absurd (let none : slots_at spec c ≡ [] = rw there refl in
-      let y : slice_get [] k ≡ Some x = subst (λ (slots : List (ℕ × Cap)). slice_get slots k ≡ Some x) none h in cc)
+slots_inside spec c k x h = search (rules, slice_get, slice_get_within)
 
 slots_kind : (object : Object) (x : ℕ × Cap) → Contains (slots_of (Some object)) x → kind_of_object object ≡ kinds.CNode
 slots_kind (objects.CNode bits slots) x there = refl
 slots_kind _ x there = absurd (let w = there.1 in omega arith)
 
 slots_cnode : (spec : Spec) (c : ℕ) → (x : ℕ × Cap) × Contains (slots_at spec c) x → is_at spec kinds.CNode c ≡ true
-slots_cnode spec c (x, there) = go (object_at spec c) refl where
-  go : (o : Option Object) → object_at spec c ≡ o → is_at spec kinds.CNode c ≡ true
-  go None h = absurd (let y : Contains (slots_of None) x = subst (λ (o : Option Object). Contains (slots_of o) x) h there in
-      let w = y.1 in omega arith)
-  go (Some object) h =
-      let kind : kind_of_object object ≡ kinds.CNode =
-      slots_kind object x (subst (λ (o : Option Object). Contains (slots_of o) x) h there) in
-      rw (h, kind) refl
+slots_cnode spec c (x, there) = search (rules, slots_kind)
 
 value_there : (values : List Cap) (v : ℕ) → v < length values → (cap : Cap) × (slice_get values v ≡ Some cap)
 value_there values v less = go (slice_get values v) refl where
@@ -80,13 +70,7 @@ blank_starts spec = record {
 -- one slot more
 
 value_queued : (f : Found) (x : Cap) (c : ℕ) (cap : Cap) → Queued f c cap → Queued (with_value f x) c cap
-value_queued f x c cap q = record {
-  place = q.place;
-  pair = q.pair;
-  there = q.there;
-  node = q.node;
-  is = at_pushed f.values x cap q.pair.held.value q.is;
-}
+value_queued f x c cap q = search (rules, at_pushed)
 
 value_starts : (spec : Spec) (f : Found) (n m : ℕ) (x : Cap) → Starts spec f n m → Starts spec (with_value f x) n m
 value_starts spec f n m x s = record {
@@ -121,23 +105,12 @@ module _ (spec : Spec) (f : Found) (n m : ℕ) (s : Starts spec f n m) (slot : �
   after = owned f n held
 
   queued_on : (c : ℕ) (cap : Cap) → Queued f c cap → Queued after c cap
-  queued_on c cap q = record {
-    place = q.place;
-    pair = q.pair;
-    there = at_pushed f.queue (record { node = n; held = held }) q.pair
-        q.place q.there;
-    node = q.node;
-    is = q.is;
-  }
+  queued_on c cap q = search (rules, at_pushed)
 
   own_after : (c i : ℕ) (cap : Cap) → HoldsAt after c i cap → Contains (slots_at spec c) (i, cap)
   own_after c i cap at = elim (more_cases f.held n held c (record { value = at.value; number = i }) at.held) [
     | inl old ↦ s.own c i cap (record { value = at.value; held = old; is = at.is })
-    | inr new ↦ (
-        let number : slot.0 ≡ i = ap (λ (h : Held). h.number) new.1 in
-        let both : Some slot.1 ≡ Some cap = sym value ∙ ap (slice_get f.values) (ap (λ (h : Held). h.value) new.1) ∙ at.is in
-        let same : slot.1 ≡ cap = cc in
-        rw (new.0, ← number, ← same) (at_contains (slots_at spec n) slot m here))
+    | inr new ↦ search (rules, slice_get, at_contains)
   ]
 
   pub owned_starts : Starts spec after n (m + 1)
@@ -166,9 +139,7 @@ module _ (spec : Spec) (f : Found) (n m : ℕ) (s : Starts spec f n m) (slot : �
       | inl below ↦ queued_on c x.1 (s.slots c k x h (inr (same, below)))
       | inr ge ↦ (
           let at : k ≡ m = omega arith in
-          let slot_is : slot ≡ x =
-          (let a : slice_get (slots_at spec n) m ≡ Some x = subst (λ (i : ℕ). slice_get (slots_at spec n) i ≡ Some x) at
-          (subst (λ (i : ℕ). slice_get (slots_at spec i) k ≡ Some x) same h) in cc) in
+          let slot_is : slot ≡ x = search (rules, slice_get) in
           subst (λ (y : ℕ × Cap). Queued after c y.1) slot_is
           (record {
             place = length f.queue;
@@ -181,27 +152,7 @@ module _ (spec : Spec) (f : Found) (n m : ℕ) (s : Starts spec f n m) (slot : �
 
 -- all slots of an object
 pub next_object : (spec : Spec) (f : Found) (n m : ℕ) → Starts spec f n m → length (slots_at spec n) ≤ m → Starts spec f (n + 1) 0
-next_object spec f n m s all = record {
-  steps = s.steps;
-  nexts = s.nexts;
-  row_nexts = s.row_nexts;
-  row_held = s.row_held;
-  own = s.own;
-  queued = s.queued;
-  valued = s.valued;
-  slots = λ c k x h before. s.slots c k x h (now c k x h before);
-} where
-  now : (c k : ℕ) (x : ℕ × Cap) → slice_get (slots_at spec c) k ≡ Some x → (c < n + 1) ⊎ ((c ≡ n + 1) × (k < 0))
-      → (c < n) ⊎ ((c ≡ n) × (k < m))
-  now c k x h (inr e) = absurd (let less = e.1 in omega arith)
-  now c k x h (inl less) = elim (cases_lt c n) [
-    | inl below ↦ inl below
-    | inr ge ↦ (
-        let same : c ≡ n = omega arith in
-        let within : k < length (slots_at spec c) = slice_get_within (slots_at spec c) k x h in
-        let fewer : k < length (slots_at spec n) = subst (λ (i : ℕ). k < length (slots_at spec i)) same within in
-        inr (same, omega arith))
-  ]
+next_object spec f n m s all = search (rules, slice_get, cases_lt, slice_get_within)
 
 -- rows, and marks in them
 
@@ -274,10 +225,7 @@ module _ (spec : Spec) (f : Found) (done : ℕ) (m : Marks spec f done) (pair : 
     };
     row_each = length-set f.known pair.node (set (marks_of f pair.node) pair.held.value true) ∙ m.row_each;
     rows = λ c is. mark_lengths f.known pair.node pair.held.value c ∙ m.rows c is;
-    known = λ c v h. elim (mark_cases f.known pair.node pair.held.value c v h) [
-      | inl old ↦ m.known c v old
-      | inr new ↦ (done, pair, here, sym new.0, sym new.1)
-    ];
+    known = search (rules, mark_cases);
     marked = λ k p less h. elim (cases_lt k done) [
       | inl below ↦ mark_kept f.known pair.node pair.held.value p.node p.held.value (m.marked k p below h)
       | inr ge ↦ (
@@ -331,14 +279,7 @@ blank_at_parts spec values shelves known queue steps nexts a b c d e f = rw (a, 
 -- counted numbers
 
 pub counted_more : (numbers new : List ℕ) (n : ℕ) → IsCounted numbers n → new ≡ numbers ++ n ∷ [] → IsCounted new (n + 1)
-counted_more numbers new n c made = record {
-  as_many = (let e = c.as_many in let l : length (numbers ++ n ∷ []) ≡ length numbers + 1 = length-append numbers (n ∷ []) in
-      let m = ap (λ (xs : List ℕ). length xs) made in omega arith);
-  each = λ k less. rw made (elim (cases_lt k n) [
-    | inl below ↦ get_or-before_last numbers n k (let e = c.as_many in omega arith) ∙ c.each k below
-    | inr ge ↦ (let same : k ≡ n = omega arith in get_or-last numbers n k (let e = c.as_many in omega arith) ∙ sym same)
-  ]);
-}
+counted_more numbers new n c made = search (rules, length-append, cases_lt, get_or-before_last, get_or-last)
 
 -- roots
 
@@ -354,67 +295,22 @@ pub record RootsBelow (spec : Spec) (roots : List (Option ℕ)) (n : ℕ) : Type
 
 pub no_roots_below : (spec : Spec) (roots : List (Option ℕ)) → roots ≡ replicate (length spec.entries) None
     → RootsBelow spec roots 0
-no_roots_below spec roots is = record {
-  as_many = ap (λ (xs : List (Option ℕ)). length xs) is ∙ length-replicate (length spec.entries) None;
-  true_ones = λ c t h. absurd (let none : get_or roots c None ≡ None = rw is (blank_at None (length spec.entries) c) in
-      let e : ◌≡◌ {A = Option ℕ} None (Some t) = sym none ∙ h in cc);
-  all_ones = λ c t less root none. absurd (omega arith);
-}
+no_roots_below spec roots is = search (rules, length-replicate, blank_at)
 
 pub root_inside : (spec : Spec) (t c : ℕ) → IsKept spec → HasRoot spec t c → c < length spec.entries
 root_inside spec t c kept root = is_at_below spec kinds.CNode c (quiet_cnode spec (boot spec) (boot_quiet spec kept) t c root)
 
 pub roots_more : (spec : Spec) (roots new : List (Option ℕ)) (n : ℕ) (root : Option ℕ) → IsKept spec → RootsBelow spec roots n
     → root_of (object_at spec n) ≡ root → new ≡ rooted roots root n → RootsBelow spec new (n + 1)
-roots_more spec roots new n None kept r is made = rw made (record {
-  as_many = r.as_many;
-  true_ones = r.true_ones;
-  all_ones = λ c t less root none. elim (cases_lt t n) [
-    | inl below ↦ r.all_ones c t below root none
-    | inr ge ↦ (
-        let same : t ≡ n = omega arith in
-        let at : root_of (object_at spec n) ≡ Some c = subst (λ (k : ℕ). HasRoot spec k c) same root in
-        let e : ◌≡◌ {A = Option ℕ} None (Some c) = sym is ∙ at in
-        cc)
-  ];
-})
-roots_more spec roots new n (Some d) kept r is made = rw made (record {
-  as_many = length-set roots d (Some n) ∙ r.as_many;
-  true_ones = λ c t h. elim (read_written roots d c (Some n) None) [
-    | inl e ↦ r.true_ones c t (sym e ∙ h)
-    | inr e ↦ (
-        let same : n ≡ t = (let x : ◌≡◌ {A = Option ℕ} (Some n) (Some t) = sym e.1 ∙ h in cc) in
-        subst (λ (k : ℕ). HasRoot spec k c) same (subst (λ (k : ℕ). HasRoot spec n k) (sym e.0) is))
-  ];
-  all_ones = λ c t less root none. elim (read_written roots d c (Some n) None) [
-    | inr e ↦ (let x : ◌≡◌ {A = Option ℕ} (Some n) None = sym e.1 ∙ none in cc)
-    | inl e ↦ elim (cases_lt t n) [
-      | inl below ↦ r.all_ones c t below root (sym e ∙ none)
-      | inr ge ↦ (
-          let same : t ≡ n = omega arith in
-          let at : HasRoot spec n c = subst (λ (k : ℕ). HasRoot spec k c) same root in
-          let d_is : d ≡ c = (let x : ◌≡◌ {A = Option ℕ} (Some d) (Some c) = sym is ∙ at in cc) in
-          let inside : d < length roots = (let a = root_inside spec n d kept is in let b = r.as_many in omega arith) in
-          let missing : get_or (set roots d (Some n)) d None ≡ None =
-          subst (λ (k : ℕ). get_or (set roots d (Some n)) k None ≡ None) (sym d_is) none in
-          let x : ◌≡◌ {A = Option ℕ} (Some n) None = sym (get_or-set_same roots d (Some n) None inside) ∙ missing in
-          cc)
-    ]
-  ];
-})
+roots_more spec roots new n None kept r is made = search (rules, cases_lt)
+roots_more spec roots new n (Some d) kept r is made =
+    search (rules, length-set, read_written, cases_lt, root_inside, set, get_or-set_same)
 
 pub thread_inside : (spec : Spec) (t c : ℕ) → HasRoot spec t c → t < length spec.entries
-thread_inside spec t c root = go (slice_get spec.entries t) refl where
-  go : (e : Option Entry) → slice_get spec.entries t ≡ e → t < length spec.entries
-  go (Some entry) there = slice_get_within spec.entries t entry there
-  go None there = absurd (let none : root_of (object_at spec t) ≡ None = rw there refl in
-      let x : ◌≡◌ {A = Option ℕ} None (Some c) = sym none ∙ root in cc)
+thread_inside spec t c root = search (rules, slice_get, slice_get_within)
 
 pub roots_all : (spec : Spec) (roots : List (Option ℕ)) → RootsBelow spec roots (length spec.entries) → AreRoots spec roots
-roots_all spec roots r = record {
-  true_ones = r.true_ones;
-  all_ones = λ c t root none. r.all_ones c t (thread_inside spec t c root) root none;
-}
+roots_all spec roots r = search (rules, thread_inside)
 
 -- nets and hubs with nothing in them
 
@@ -441,9 +337,7 @@ blank_search spec web doors F out counted grants replies = record {
   covered = λ k pair cap less h v. absurd (omega arith);
 } where
   same_class : (c d : ℕ) → InClass web.net c d → c ≡ d
-  same_class c d i =
-      let many = counted.as_many in
-      sym (counted.each c (let l = i.one in omega arith)) ∙ (i.same ∙ counted.each d (let l = i.other in omega arith))
+  same_class c d i = search (rules)
 
   all_blank : (by : Passage) → hub_of doors by ≡ no_hub (length spec.entries)
   all_blank passages.Grant = grants

@@ -1,4 +1,5 @@
 -- What a search has found stays true when a value is brought along a way.
+use Rattle.std.proofs.Common.{rules}
 use Rattle.cap_audit.proofs.Common.{Bool, Brings, Cap, Capability, Contains, Course, Found, Held, HoldsAt, IsFound, IsWay, Leads, List, Node, None, Option, Pair, Some, Spec, Way, [], ap, arith, boot, cases_eq, content_in, false, get_or}
 use Rattle.cap_audit.proofs.Common.{get_or-set_other, get_or-set_same, grown, grown_at, held_by, inl, inr, is_at, is_at_below, is_known, landed, length, length-append, length-set, marks_of, misses, no_node, node_at, pushed_last, read_written, refl}
 use Rattle.cap_audit.proofs.Common.{set, slice_get, steps_of, subst, suc, sym, true, unknowns, zero, ℕ, ◌++◌, ◌+◌, ◌<◌, ◌∙◌, ◌∷◌, ◌≡◌, ◌⊎◌}
@@ -34,40 +35,17 @@ module _ (rows : List (List Bool)) (d v : ℕ) where
   marked_rows = set rows d (set (get_or rows d []) v true)
 
   pub mark_kept : (c w : ℕ) → get_or (get_or rows c []) w false ≡ true → get_or (get_or marked_rows c []) w false ≡ true
-  mark_kept c w h = elim (read_written rows d c (set (get_or rows d []) v true) []) [
-    | inl e ↦ subst (λ (row : List Bool). get_or row w false ≡ true) (sym e) h
-    | inr e ↦ subst (λ (row : List Bool). get_or row w false ≡ true) (sym e.1)
-        (elim (read_written (get_or rows d []) v w true false) [
-          | inl same ↦ same ∙ subst (λ (n : ℕ). get_or (get_or rows n []) w false ≡ true) e.0 h
-          | inr here ↦ here.1
-        ])
-  ]
+  mark_kept c w h = search (rules, read_written, set)
 
   pub mark_cases : (c w : ℕ) → get_or (get_or marked_rows c []) w false ≡ true → (get_or (get_or rows c []) w false ≡ true)
       ⊎ ((c ≡ d) × (w ≡ v))
-  mark_cases c w h = elim (read_written rows d c (set (get_or rows d []) v true) []) [
-    | inl e ↦ inl (subst (λ (row : List Bool). get_or row w false ≡ true) e h)
-    | inr e ↦ (
-        let here : get_or (set (get_or rows d []) v true) w false ≡ true =
-        subst (λ (row : List Bool). get_or row w false ≡ true) e.1 h in
-        elim (read_written (get_or rows d []) v w true false) [
-          | inl same ↦ inl (subst (λ (n : ℕ). get_or (get_or rows n []) w false ≡ true) (sym e.0) (sym same ∙ here))
-          | inr at_v ↦ inr (e.0, at_v.0)
-        ])
-  ]
+  mark_cases c w h = search (rules, read_written, set)
 
   pub mark_there : d < length rows → v < length (get_or rows d []) → get_or (get_or marked_rows d []) v false ≡ true
-  mark_there less in_row =
-      subst (λ (row : List Bool). get_or row v false ≡ true)
-      (sym (get_or-set_same rows d (set (get_or rows d []) v true) [] less)) (get_or-set_same (get_or rows d []) v true
-      false in_row)
+  mark_there less in_row = search (rules, get_or-set_same, set)
 
   pub mark_lengths : (c : ℕ) → length (get_or marked_rows c []) ≡ length (get_or rows c [])
-  mark_lengths c = elim (read_written rows d c (set (get_or rows d []) v true) []) [
-    | inl e ↦ ap (λ (row : List Bool). length row) e
-    | inr e ↦ ap (λ (row : List Bool). length row) e.1
-        ∙ (length-set (get_or rows d []) v true ∙ ap (λ (n : ℕ). length (get_or rows n [])) (sym e.0))
-  ]
+  mark_lengths c = search (rules, read_written, set, length-set)
 
 row_misses : (row : List Bool) (v : ℕ) → v < length row → get_or row v false ≡ false → suc (misses (set row v true)) ≡ misses row
 row_misses [] v less h = absurd (omega arith)
@@ -135,20 +113,7 @@ module _ (spec : Spec) (f : Found) (F : IsFound spec f) where
     lands = goes_along c way.to held.number way.course value_is.0 leads brought_there
 
     nexts_after : (k : ℕ) → (node_at lands.new k).next ≡ get_or (set f.nexts way.to (next + 1)) k 0
-    nexts_after k =
-        let nodes : (node_at lands.new k).next ≡ (get_or (grown_at F.state.nodes way.to (Capability value_is.0)) k no_node).next =
-        ap (λ (ns : List Node). (get_or ns k no_node).next) lands.nodes in
-        nodes ∙ elim (cases_eq k way.to) [
-          | inl same ↦ rw same (
-              ap (λ (n : Node). n.next) (get_or-set_same F.state.nodes way.to (grown (get_or F.state.nodes way.to no_node)
-              (Capability value_is.0)) no_node (let e : length F.state.nodes ≡ length
-              spec.entries = F.quiet.fits.as_many_nodes in let l = less in omega arith))
-              ∙ (ap (λ (n : ℕ). n + 1) (F.nexts way.to) ∙ sym (get_or-set_same f.nexts way.to (next + 1) 0 (let e = F.row_nexts in
-              let l = less in omega arith))))
-          | inr other ↦
-              ap (λ (n : Node). n.next) (get_or-set_other F.state.nodes way.to k (grown (get_or F.state.nodes way.to no_node)
-              (Capability value_is.0)) no_node other) ∙ (F.nexts k ∙ sym (get_or-set_other f.nexts way.to k (next + 1) 0 other))
-        ]
+    nexts_after k = grind (arith, lands, value_is, cases_eq, get_or-set_same, less, get_or-set_other)
 
     there_after : (k i : ℕ) (cap : Cap) → HoldsAt (landed f way held) k i cap → content_in lands.new k i ≡ Some (Capability cap)
     there_after k i cap at = elim (more_cases f.held way.to here k (record { value = at.value; number = i }) at.held) [
@@ -158,8 +123,7 @@ module _ (spec : Spec) (f : Found) (F : IsFound spec f) where
       | inr new ↦ (
           let number : (node_at F.state way.to).next ≡ i = F.nexts way.to ∙ ap (λ (h : Held). h.number) new.1 in
           let value : held.value ≡ at.value = ap (λ (h : Held). h.value) new.1 in
-          let same : value_is.0 ≡ cap = (let a = value_is.1 in let b : slice_get f.values held.value ≡ Some cap = rw value
-          at.is in cc) in
+          let same : value_is.0 ≡ cap = search (rules, value_is, slice_get) in
           let e = landed_there spec F.state F.quiet way.to value_is.0 (steps_of way.course held.number)
           (end_cnode c way.to way.course leads) lands in
           rw (new.0, ← number, ← same) e)
@@ -195,10 +159,7 @@ module _ (spec : Spec) (f : Found) (F : IsFound spec f) where
 
     marked_after : (k : ℕ) (pair : Pair) → slice_get (landed f way held).queue k ≡ Some pair
         → is_known (landed f way held) pair.node pair.held.value ≡ true
-    marked_after k pair h = elim (pushed_cases f.queue (record { node = way.to; held = here }) pair k h) [
-      | inl old ↦ mark_kept f.known way.to held.value pair.node pair.held.value (F.marked k pair old)
-      | inr new ↦ subst (λ (p : Pair). is_known (landed f way held) p.node p.held.value ≡ true) new.1 known_there
-    ]
+    marked_after k pair h = search (rules, pushed_cases, mark_kept, known_there)
 
     valued_after : (k : ℕ) (y : Held) → Contains (held_by (landed f way held) k) y → y.value < length f.values
     valued_after k y h = elim (more_cases f.held way.to here k y h) [
@@ -223,25 +184,10 @@ module _ (spec : Spec) (f : Found) (F : IsFound spec f) where
         row_held = length-set f.held way.to (held_by f way.to ++ here ∷ []) ∙ F.row_held;
         row_nexts = length-set f.nexts way.to (next + 1) ∙ F.row_nexts;
       };
-      grows = record {
-        values = refl;
-        held = more_kept f.held way.to here;
-        known = mark_kept f.known way.to held.value;
-        queue = λ k pair h. at_pushed f.queue (record { node = way.to; held = here }) pair k h;
-      };
+      grows = search (rules, more_kept, mark_kept, at_pushed);
       there = known_there;
-      fewer =
-          let a = all_misses f.known way.to (set (marks_of f way.to) held.value true) (let e = F.row_each in let l = less in
-          omega arith) (row_misses (marks_of f way.to) held.value in_row new_one) in
-          let b : length (landed f way held).queue ≡ suc (length f.queue) =
-          (length-append f.queue (record { node = way.to; held = here } ∷ []) ∙ omega arith) in
-          omega arith;
+      fewer = search (rules, all_misses, set, less, row_misses, in_row, length-append);
     }
 
   pub known_brings : (way : Way) (held : Held) → is_known f way.to held.value ≡ true → Brings spec f way held f
-  known_brings way held h = record {
-    found = F;
-    grows = record { values = refl; held = λ c y there. there; known = λ c v there. there; queue = λ k pair there. there };
-    there = h;
-    fewer = refl;
-  }
+  known_brings way held h = search (rules)

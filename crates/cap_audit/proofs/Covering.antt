@@ -1,4 +1,5 @@
 -- Hubs and covered capabilities as more is found.
+use Rattle.std.proofs.Common.{rules}
 use Rattle.cap_audit.proofs.Common.{Allows, AreHubs, Attends, Cap, Contains, Covered, Covers, Doors, Fills, Gathering, Lanes, List, Member, Opens, Passage, Side, Some, Spec, StandsAt, Web, Widened, Widens, hub_of, is_at, kind_at, kind_is}
 use Rattle.cap_audit.proofs.Common.{members_at, row_at, true, ℕ, ◌≡◌}
 use Rattle.cap_model.specs.declared.kind.Kind.TheVariants as kinds
@@ -9,11 +10,7 @@ use Rattle.cap_audit.proofs.Paths.{path_on}
 
 pub stands_on : (side : Side) (net wide : Lanes) (members more : List Member) (c : ℕ) → Widens net wide
     → ((m : Member) → Contains members m → Contains more m) → StandsAt side net members c → StandsAt side wide more c
-stands_on side net wide members more c widens fills at = record {
-  member = at.member;
-  there = fills at.member at.there;
-  path = passes_on side net wide widens c at.member.node at.path;
-}
+stands_on side net wide members more c widens fills at = search (rules, passes_on)
 
 pub covered_on : (spec : Spec) (web new : Web) (doors full : Doors) (c : ℕ) (cap : Cap) → Opens spec web doors new full
     → Covered spec web.net doors c cap → Covered spec new.net full c cap
@@ -75,17 +72,7 @@ module _ (spec : Spec) (member : Member) (is : is_at spec kinds.Endpoint member.
   all_stand passages.Reply sides.Taking allows = d.stands allows
 
   no_cnode : is_at spec kinds.CNode member.cap.object ≡ true → ⊥
-  no_cnode cnode =
-      let x : kind_at spec member.cap.object ≡ Some kinds.Endpoint = kind_is spec kinds.Endpoint member.cap.object is in
-      let y : kind_at spec member.cap.object ≡ Some kinds.CNode = kind_is spec kinds.CNode member.cap.object cnode in
-      cc
+  no_cnode cnode = search (rules, kind_is)
 
   pub attended : Covers spec w0 doors member.node member.cap w4 full
-  attended = record {
-    opens = opens_all;
-    covered = record {
-      there = λ t root cnode. absurd (no_cnode cnode);
-      back = λ t root cnode. absurd (no_cnode cnode);
-      stands = λ t by side root e allows. all_stand by side allows;
-    };
-  }
+  attended = search (rules, opens_all, no_cnode, all_stand)

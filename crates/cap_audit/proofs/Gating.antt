@@ -1,4 +1,5 @@
 -- Threads by their roots, and callers by their endpoints.
+use Rattle.std.proofs.Common.{rules}
 use Rattle.cap_audit.proofs.Common.{AreGates, AreRosters, Bool, Found, IsKept, List, None, Option, Pair, Pick, Some, Spec, [], and_parts, ap, arith, caller_of, cases_lt, enrolled, eq-eqb, false, gated, inl, inr, is_at, is_at_below, length}
 use Rattle.cap_audit.proofs.Common.{length-set, object_at, pick_of, refl, replicate, root_of, row_at, same_Some, slice_get, stand_in, subst, sym, true, with_more, ℕ, ◌&&◌, ◌++◌, ◌+◌, ◌<◌, ◌==◌, ◌||◌, ◌∙◌, ◌∷◌, ◌≡◌, ◌⊎◌}
 use Rattle.cap_model.specs.declared.kind.Kind.TheVariants as kinds
@@ -21,18 +22,7 @@ rosters_none spec rosters is = rw is (record {
 module _ (spec : Spec) (rosters : List (List ℕ)) (n : ℕ) (before : AreRosters spec rosters n) where
   -- an object that has no root
   pub rosters_past : root_of (object_at spec n) ≡ None → AreRosters spec rosters (n + 1)
-  rosters_past is = record {
-    as_many = before.as_many;
-    rooted = before.rooted;
-    every = λ c t less root. elim (cases_lt t n) [
-      | inl below ↦ before.every c t below root
-      | inr ge ↦ absurd (
-          let at : t ≡ n = omega arith in
-          let here : root_of (object_at spec n) ≡ Some c = subst (λ (k : ℕ). root_of (object_at spec k) ≡ Some c) at root in
-          let e : ◌≡◌ {A = Option ℕ} None (Some c) = sym is ∙ here in
-          cc)
-    ];
-  }
+  rosters_past is = search (rules, cases_lt)
 
   pub rosters_more : (d : ℕ) (new : List (List ℕ)) → IsKept spec → root_of (object_at spec n) ≡ Some d
       → new ≡ with_more rosters d n
@@ -73,12 +63,7 @@ gates_none spec f heads gates is = rw is (record {
 -- the pick of one that may call
 caller_picked : (spec : Spec) (f : Found) (heads : List ℕ) (pair : Pair) (pick : Pick) → caller_of spec f heads pair ≡ Some pick
     → pick_of spec f wants.Caller pair.held ≡ Some pick
-caller_picked spec f heads pair pick is = go (stand_in heads pair.node == pair.node) refl where
-  go : (b : Bool) → (stand_in heads pair.node == pair.node) ≡ b → pick_of spec f wants.Caller pair.held ≡ Some pick
-  go true holds = sym (let same : caller_of spec f heads pair ≡ pick_of spec f wants.Caller pair.held = rw holds refl in same)
-      ∙ is
-  go false fails = absurd (let none : caller_of spec f heads pair ≡ None = rw fails refl in
-      let x : ◌≡◌ {A = Option Pick} None (Some pick) = sym none ∙ is in cc)
+caller_picked spec f heads pair pick is = search (rules)
 
 caller_itself : (spec : Spec) (f : Found) (heads : List ℕ) (pair : Pair) → stand_in heads pair.node ≡ pair.node
     → caller_of spec f heads pair ≡ pick_of spec f wants.Caller pair.held
@@ -88,26 +73,10 @@ module _ (spec : Spec) (f : Found) (heads : List ℕ) (gates : List (List Pair))
     (at : slice_get f.queue n ≡ Some pair) (before : AreGates spec f heads gates n) where
   -- the pair at a place below n + 1
   places : (k : ℕ) (other : Pair) → k < n + 1 → slice_get f.queue k ≡ Some other → (k < n) ⊎ (pair ≡ other)
-  places k other less there = elim (cases_lt k n) [
-    | inl below ↦ inl below
-    | inr ge ↦ inr (
-        let here : k ≡ n = omega arith in
-        same_Some pair other (sym at ∙ subst (λ (j : ℕ). slice_get f.queue j ≡ Some other) here there))
-  ]
+  places k other less there = search (rules, cases_lt, same_Some, slice_get)
 
   pub gates_past : caller_of spec f heads pair ≡ None → AreGates spec f heads gates (n + 1)
-  gates_past none = record {
-    as_many = before.as_many;
-    may = before.may;
-    every = λ k other cap less there of wanted itself. elim (places k other less there) [
-      | inl below ↦ before.every k other cap below there of wanted itself
-      | inr one ↦ absurd (
-          let e : ◌≡◌ {A = Option Pick} None (caller_of spec f heads other) =
-          subst (λ (p : Pair). ◌≡◌ {A = Option Pick} None (caller_of spec f heads p)) one (sym none) in
-          let g = e ∙ (caller_itself spec f heads other itself ∙ picked spec f wants.Caller other.held cap of wanted) in
-          cc)
-    ];
-  }
+  gates_past none = search (rules, places, caller_itself, picked)
 
   pub gates_more : (pick : Pick) (new : List (List Pair)) → caller_of spec f heads pair ≡ Some pick
       → new ≡ with_more gates pick.cap.object pair → AreGates spec f heads new (n + 1)
@@ -128,8 +97,7 @@ module _ (spec : Spec) (f : Found) (heads : List ℕ) (gates : List (List Pair))
           | inl small ↦ (let r = before.every k other cap small there of wanted itself in
               (r.0, more_kept gates pick.cap.object pair cap.object r.0 r.1, r.2))
           | inr one ↦ (
-              let of_pair : slice_get f.values pair.held.value ≡ Some cap =
-              subst (λ (p : Pair). slice_get f.values p.held.value ≡ Some cap) (sym one) of in
+              let of_pair : slice_get f.values pair.held.value ≡ Some cap = search (rules, slice_get) in
               let cap_is : pick.cap ≡ cap = same_Some pick.cap cap (sym from.0 ∙ of_pair) in
               (pair, rw (← cap_is) (more_there gates pick.cap.object pair within), ap (λ (p : Pair). p.node) one))
         ];

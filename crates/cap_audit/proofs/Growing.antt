@@ -1,4 +1,5 @@
 -- Steps that show edges, one sequence after the other, and that a report with all edges of an audit is exact.
+use Rattle.std.proofs.Common.{rules}
 use Rattle.cap_audit.proofs.Common.{Audited, Auth, Authority, Cap, Capability, Content, Edge, Found, Has, HasRoot, HaveRoots, HoldsAt, HoldsNoThread, IsMade, IsReport, List, MayCall, Meet, Node, None, Reaches, Run, SavedReply, Shows, Spec, State}
 use Rattle.cap_audit.proofs.Common.{Step, [], ap, append-nil, append_assoc, arith, boot, cases_eq, confers, get_or, get_or-set_other, get_or-set_same, grown, grown_at, inl, inr, is_at, is_space_root, label_of, length, length-set, no_node, node_at}
 use Rattle.cap_audit.proofs.Common.{refl, set, subst, sym, true, whole, without, without_at, ℕ, ◌++◌, ◌+◌, ◌<◌, ◌∙◌, ◌∷◌, ◌≡◌, ◌≢◌, ◌⊎◌}
@@ -12,15 +13,7 @@ use Rattle.cap_audit.proofs.Sequences.{map_on, bind_on, save_on}
 -- a longer list of steps shows what the shorter one does
 pub shows_more : (spec : Spec) (labels : List ℕ) (s : State) (steps more : List Step) (l : ℕ) (a : Authority) (m : ℕ)
     → Shows spec labels s steps l a m → Shows spec labels s (steps ++ more) l a m
-shows_more spec labels s steps more l a m h =
-    record {
-      front = h.front;
-      back = h.back ++ more;
-      parts = ap (λ (xs : List Step). xs ++ more) h.parts ∙ append_assoc h.front h.back more;
-      state = h.state;
-      run = h.run;
-      auth = h.auth;
-    }
+shows_more spec labels s steps more l a m h = search (rules, append_assoc)
 
 -- steps behind a run
 pub shows_behind : (spec : Spec) (labels : List ℕ) (s mid : State) (before steps : List Step) (l : ℕ) (a : Authority) (m : ℕ)
@@ -55,14 +48,7 @@ module _ (spec : Spec) (labels : List ℕ) (f : Found) where
     -- more edges that the steps show
     pub made_more : (new : List Edge) → ((l : ℕ) (a : Authority) (m : ℕ) → Has new l a m
         → Has edges l a m ⊎ Shows spec labels (boot spec) steps l a m) → IsMade spec labels f new steps nexts
-    made_more new shown = record {
-      state = made.state;
-      run = made.run;
-      quiet = made.quiet;
-      numbers = made.numbers;
-      there = made.there;
-      shown = λ l a m h. elim (shown l a m h) [ inl old ↦ made.shown l a m old | inr now ↦ now ];
-    }
+    made_more new shown = search (rules)
 
     -- what is found confers edges
     pub made_held : (c i : ℕ) (cap : Cap) (a : Authority) → HoldsAt f c i cap → confers spec cap a ≡ true
@@ -130,24 +116,9 @@ module _ (spec : Spec) (labels : List ℕ) (f : Found) where
       numbers_after : (new : State) (x : Content) → new.nodes ≡ without_at (grown_at made.state.nodes d x) d
           (node_at made.state d).next → (k : ℕ) → (node_at new k).next ≡ get_or (set nexts d (get_or nexts d 0 + 1)) k 0
       numbers_after new x nodes k =
-          let less : d < length made.state.nodes = quiet_node spec made.state made.quiet d (quiet_cnode spec made.state made.quiet
-          u d roots.peer_root) in
-          let grew : length (grown_at made.state.nodes d x) ≡ length made.state.nodes =
-          length-set made.state.nodes d (grown (get_or made.state.nodes d no_node) x) in
-          ap (λ (ns : List Node). (get_or ns k no_node).next) nodes ∙ elim (cases_eq k d) [
-            | inl same ↦ rw same (
-                ap (λ (n : Node). n.next) (get_or-set_same (grown_at made.state.nodes d x) d
-                (without (get_or (grown_at made.state.nodes d x) d no_node) (node_at made.state d).next) no_node
-                (omega arith))
-                ∙ (ap (λ (n : Node). n.next) (get_or-set_same made.state.nodes d (grown (get_or made.state.nodes d no_node) x)
-                no_node less)
-                ∙ (ap (λ (n : ℕ). n + 1) (made.numbers d) ∙ sym (get_or-set_same nexts d (get_or nexts d 0 + 1) 0 inside))))
-            | inr other ↦
-                ap (λ (n : Node). n.next) (get_or-set_other (grown_at made.state.nodes d x) d k
-                (without (get_or (grown_at made.state.nodes d x) d no_node) (node_at made.state d).next) no_node other)
-                ∙ (ap (λ (n : Node). n.next) (get_or-set_other made.state.nodes d k (grown (get_or made.state.nodes d no_node) x)
-                no_node other) ∙ (made.numbers k ∙ sym (get_or-set_other nexts d k (get_or nexts d 0 + 1) 0 other)))
-          ]
+          let less : d < length made.state.nodes = search (rules, quiet_node, quiet_cnode) in
+          let grew : length (grown_at made.state.nodes d x) ≡ length made.state.nodes = search (rules, length-set) in
+          search (rules, cases_eq, get_or-set_same, get_or-set_other)
 
       pub made_call : IsMade spec labels f edges (steps ++ call_steps) (set nexts d (get_or nexts d 0 + 1))
           × Shows spec labels (boot spec) (steps ++ call_steps) (label_of labels u) authorities.Reply (label_of labels t)
@@ -157,8 +128,7 @@ module _ (spec : Spec) (labels : List ℕ) (f : Found) where
           (made.there d j from listens) labels in
           let number : moves.ReplyTo u (node_at made.state d).next None ≡ moves.ReplyTo u (get_or nexts d 0) None =
           ap (λ (n : ℕ). moves.ReplyTo u n None) (made.numbers d) in
-          let steps_are : on.1.steps ≡ call_steps =
-          on.2 ∙ ap (λ (step : Step). moves.Call t i u j ∷ (moves.Save u ∷ (step ∷ []))) number in
+          let steps_are : on.1.steps ≡ call_steps = search (rules) in
           let same : ◌≡◌ {A = List Step} (steps ++ on.1.steps) (steps ++ call_steps) =
           ap (λ (xs : List Step). steps ++ xs) steps_are in (
             subst (λ (xs : List Step). IsMade spec labels f edges xs (set nexts d (get_or nexts d 0 + 1))) same

@@ -1,4 +1,5 @@
 -- Rows of items by objects, and facts on the items of lists.
+use Rattle.std.proofs.Common.{rules}
 use Rattle.cap_audit.proofs.Common.{Contains, Contains-append_left, Contains-push, Contains-push_cases, List, Some, [], arith, cases_lt, contains_at, get_or, get_or-set_same, get_or_from_slice_get, get_or_past, inl, inr, length, read_written}
 use Rattle.cap_audit.proofs.Common.{replicate, row_at, slice_get, slice_get_within, subst, sym, with_more, ℕ, ◌++◌, ◌+◌, ◌<◌, ◌∷◌, ◌≡◌, ◌≤◌, ◌⊎◌}
 use Rattle.std.proofs.lemmas.List.{get_or-replicate, length-replicate}
@@ -28,10 +29,7 @@ module _ {A : Type 0} (rows : List (List A)) (o : ℕ) (x : A) where
 
 -- each place of like items, and behind them
 pub blank_at : {A : Type 0} (x : A) (n c : ℕ) → get_or (replicate n x) c x ≡ x
-blank_at x n c = elim (cases_lt c n) [
-  | inl less ↦ get_or-replicate n c x x less
-  | inr ge ↦ get_or_past (replicate n x) c x (let e = length-replicate n x in omega arith)
-]
+blank_at x n c = search (rules, cases_lt, get_or-replicate, get_or_past, replicate, length-replicate)
 
 pub none_in_blank : {A : Type 0} (n c : ℕ) (y : A) → Contains (row_at (replicate n []) c) y → ⊥
 none_in_blank {A} n c y h = let w = (subst (λ (row : List A). Contains row y) (blank_at [] n c) h).1 in omega arith
@@ -39,12 +37,7 @@ none_in_blank {A} n c y h = let w = (subst (λ (row : List A). Contains row y) (
 -- a fact on each item at a place below i + 1
 pub each_more : {A : Type 0} (P : A → Type 0) (xs : List A) (i : ℕ) (d : A) → ((k : ℕ) (x : A) → k < i → slice_get xs k ≡ Some x
     → P x) → P (get_or xs i d) → (k : ℕ) (x : A) → k < i + 1 → slice_get xs k ≡ Some x → P x
-each_more {A} P xs i d old here k x less h = elim (cases_lt k i) [
-  | inl below ↦ old k x below h
-  | inr ge ↦ (
-      let same : k ≡ i = omega arith in
-      subst (λ (y : A). P y) (get_or_from_slice_get xs k x d h) (subst (λ (n : ℕ). P (get_or xs n d)) (sym same) here))
-]
+each_more {A} P xs i d old here k x less h = search (rules, cases_lt, get_or_from_slice_get)
 
 -- a fact on each item
 pub each_of_all : {A : Type 0} (P : A → Type 0) (xs : List A) (i : ℕ) → length xs ≤ i

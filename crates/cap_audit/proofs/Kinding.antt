@@ -1,4 +1,5 @@
 -- Who stands for whom.
+use Rattle.std.proofs.Common.{rules}
 use Rattle.cap_audit.proofs.Common.{AreAlike, AreFirsts, AreHeadRoots, AreHeads, AreKinds, AreLeft, AreMembers, AreRootMarks, AreRoots, AreRows, AreStandIns, Bool, Found, HasRoot, IsFound, IsKept, IsLike, IsQueued, List, None, Option, Some, Spec}
 use Rattle.cap_audit.proofs.Common.{StandsFor, [], ap, arith, bare, cases_eq, cases_lt, eqb-false, eqb-true, false, get_or, get_or-append_seam, get_or-set_other, get_or-set_same, get_or_append_left, get_or_past, if◌then◌else◌, inl, inr, is_known}
 use Rattle.cap_audit.proofs.Common.{label_of, length, length-append, length-set, map, refl, replicate, root_mark, row_at, set, stand_in, subst, sym, true, with_more, ℕ, ◌++◌, ◌+◌, ◌<◌, ◌==◌, ◌∙◌, ◌∷◌, ◌≡◌, ◌≤◌}
@@ -10,10 +11,7 @@ use Rattle.std.proofs.lemmas.List.{length-replicate}
 -- the first of each kind, one object after the other
 
 pub firsts_none : (classes marks firsts : List ℕ) → firsts ≡ [] → AreFirsts classes marks firsts 0
-firsts_none classes marks firsts is = record {
-  as_many = ap (λ (xs : List ℕ). length xs) is;
-  each = λ c less. absurd (omega arith);
-}
+firsts_none classes marks firsts is = search (rules)
 
 pub rows_none : (classes firsts : List ℕ) (rows : List (List ℕ)) (n : ℕ) → rows ≡ replicate n [] → AreRows classes firsts rows
 rows_none classes firsts rows n is = rw is (record {
@@ -36,12 +34,7 @@ module _ (classes marks firsts : List ℕ) (c first : ℕ) (are : AreFirsts clas
   new_length = let e = are.as_many in omega (arith, length-append firsts (first ∷ []))
 
   stays : (r k : ℕ) → StandsFor classes marks firsts r k → StandsFor classes marks longer r k
-  stays r k s = record {
-    inside = (let l = s.inside in let e = are.as_many in let n = new_length in omega arith);
-    of_class = s.of_class;
-    marked = s.marked;
-    itself = stand_old r (let l = s.inside in let e = are.as_many in omega arith) ∙ s.itself;
-  }
+  stays r k s = search (rules, new_length, stand_old)
 
   module _ (rows : List (List ℕ)) (of : AreRows classes firsts rows) where
     rows_stay : AreRows classes longer rows
@@ -83,12 +76,7 @@ module _ (classes marks firsts : List ℕ) (c first : ℕ) (are : AreFirsts clas
     module _ (like : IsLike (row_at rows (get_or classes c 0)) marks c first) where
       first_stands : StandsFor classes marks longer first c
       first_stands = elim like [
-        | inl same ↦ record {
-          inside = (let n = new_length in omega arith);
-          of_class = ap (λ (n : ℕ). get_or classes n 0) same;
-          marked = ap (λ (n : ℕ). get_or marks n 0) same;
-          itself = subst (λ (n : ℕ). stand_in longer n ≡ first) (sym same) stand_new;
-        }
+        | inl same ↦ search (rules, new_length, stand_new)
         | inr x ↦ record {
           inside = rows_stay.inside (get_or classes c 0) first x.0;
           of_class = of.of_class (get_or classes c 0) first x.0;
@@ -98,26 +86,14 @@ module _ (classes marks firsts : List ℕ) (c first : ℕ) (are : AreFirsts clas
       ]
 
       pub firsts_more : AreFirsts classes marks longer (c + 1)
-      firsts_more = record {
-        as_many = new_length;
-        each = λ k less. elim (cases_lt k c) [
-          | inl below ↦ subst (λ (r : ℕ). StandsFor classes marks longer r k) (sym (stand_old k below))
-              (stays (stand_in firsts k) k (are.each k below))
-          | inr ge ↦ (
-              let at : c ≡ k = omega arith in
-              subst (λ (n : ℕ). StandsFor classes marks longer (stand_in longer n) n) at
-              (subst (λ (r : ℕ). StandsFor classes marks longer r c) (sym stand_new) first_stands))
-        ];
-      }
+      firsts_more = search (rules, new_length, cases_lt, stand_old, stays, stand_new, first_stands)
 
 -- those of one class hold the same
 
 module _ (spec : Spec) (f : Found) (found : IsFound spec f) (classes marks firsts : List ℕ) (alike : AreAlike spec f classes)
     (are : AreFirsts classes marks firsts (length classes)) where
   queued_known : (c v : ℕ) → IsQueued (bare f) c v → is_known f c v ≡ true
-  queued_known c v q =
-      subst (λ (n : ℕ). is_known f n v ≡ true) q.at (subst (λ (w : ℕ). is_known f q.pair.node w ≡ true) q.of
-      (found.marked q.place q.pair q.there))
+  queued_known c v q = search (rules)
 
   known_queued : (c v : ℕ) → is_known f c v ≡ true → IsQueued (bare f) c v
   known_queued c v known = let k = found.known c v known in record { place = k.0; pair = k.1; there = k.2; at = k.3; of = k.4 }
@@ -126,27 +102,7 @@ module _ (spec : Spec) (f : Found) (found : IsFound spec f) (classes marks first
   past_itself c ge = get_or_past firsts c c (let e = are.as_many in omega arith)
 
   pub stand_ins : AreStandIns (bare f) firsts
-  stand_ins = record {
-    itself = λ c. elim (cases_lt c (length classes)) [
-      | inl less ↦ (are.each c less).itself
-      | inr ge ↦ ap (λ (n : ℕ). stand_in firsts n) (past_itself c ge)
-    ];
-    inside = λ c less. (are.each c (let e = are.as_many in omega arith)).inside;
-    held_there = λ c v q. elim (cases_lt c (length classes)) [
-      | inl less ↦ (
-          let s = are.each c less in
-          known_queued (stand_in firsts c) v (alike.known c (stand_in firsts c) v less (let i = s.inside in let e = are.as_many in
-          omega arith) (sym s.of_class) (queued_known c v q)))
-      | inr ge ↦ subst (λ (n : ℕ). IsQueued (bare f) n v) (sym (past_itself c ge)) q
-    ];
-    held_here = λ c v q. elim (cases_lt c (length classes)) [
-      | inl less ↦ (
-          let s = are.each c less in
-          known_queued c v (alike.known (stand_in firsts c) c v (let i = s.inside in let e = are.as_many in omega arith) less
-          s.of_class (queued_known (stand_in firsts c) v q)))
-      | inr ge ↦ subst (λ (n : ℕ). IsQueued (bare f) n v) (past_itself c ge) q
-    ];
-  }
+  stand_ins = search (rules, cases_lt, past_itself, known_queued, queued_known)
 
 pub kinds_of : (spec : Spec) (f : Found) (labels classes faces heads : List ℕ) → IsKept spec → IsFound spec f
     → AreAlike spec f classes
@@ -159,10 +115,7 @@ kinds_of spec f labels classes faces heads kept found alike are_faces are_heads 
     | inl less ↦ (are_faces.each c less).marked
     | inr ge ↦ ap (λ (n : ℕ). label_of labels n) (past_itself spec f found classes labels faces alike are_faces c ge)
   ];
-  rooted = λ c t root. (
-      let inside : c < length spec.entries = root_inside spec t c kept root in
-      let less : c < length classes = (let e = alike.as_many in omega arith) in
-      are_heads.are.root (stand_in heads c) ((are_heads.firsts.each c less).marked ∙ are_heads.are.one c t root));
+  rooted = search (rules, root_inside);
 }
 
 -- marks of roots
@@ -205,8 +158,7 @@ members_more heads members new n head before head_is made = rw (made, head_is) (
     | inl below ↦ more_kept members (stand_in heads n) n (stand_in heads c) c (before.every c below inside)
     | inr ge ↦ (
         let at : c ≡ n = omega arith in
-        let here : stand_in heads n < length members =
-        (let e = before.as_many in let l = subst (λ (k : ℕ). stand_in heads k < length heads) at inside in omega arith) in
+        let here : stand_in heads n < length members = search (rules) in
         rw at (more_there members (stand_in heads n) n here))
   ];
 })
@@ -218,22 +170,7 @@ left_none heads all = record { same = λ c itself. refl; some = λ c t h. h }
 
 module _ (heads : List ℕ) (all roots : List (Option ℕ)) (n : ℕ) (left : AreLeft heads all roots) where
   left_out : (stand_in heads n ≡ n → ⊥) → AreLeft heads all (set roots n None)
-  left_out other = record {
-    same = λ c itself. get_or-set_other roots n c None None
-        (λ same. absurd (other (subst (λ (x : ℕ). stand_in heads x ≡ x) same itself))) ∙ left.same c itself;
-    some = λ c t h. elim (cases_eq c n) [
-      | inl same ↦ absurd (
-          let x : ◌≡◌ {A = Option ℕ} None (Some t) = sym (none_there n)
-          ∙ subst (λ (x : ℕ). get_or (set roots n None) x None ≡ Some t) same h in
-          cc)
-      | inr apart ↦ left.some c t (sym (get_or-set_other roots n c None None apart) ∙ h)
-    ];
-  } where
-    none_there : (k : ℕ) → get_or (set roots k None) k None ≡ None
-    none_there k = elim (cases_lt k (length roots)) [
-      | inl less ↦ get_or-set_same roots k None None less
-      | inr ge ↦ get_or_past (set roots k None) k None (let e = length-set roots k None in omega arith)
-    ]
+  left_out other = search (rules, get_or-set_other, cases_eq, set, cases_lt, get_or-set_same, get_or_past, length-set)
 
   left_by : (b : Bool) → (stand_in heads n == n) ≡ b → AreLeft heads all (if b then roots else set roots n None)
   left_by true holds = left
@@ -245,7 +182,4 @@ module _ (heads : List ℕ) (all roots : List (Option ℕ)) (n : ℕ) (left : Ar
 
 pub head_roots_of : (spec : Spec) (heads : List ℕ) (all roots : List (Option ℕ)) → AreRoots spec all → AreLeft heads all roots
     → AreHeadRoots spec heads roots
-head_roots_of spec heads all roots are left = record {
-  true_ones = λ c t h. are.true_ones c t (left.some c t h);
-  all_ones = λ c t itself root none. are.all_ones c t root (sym (left.same c itself) ∙ none);
-}
+head_roots_of spec heads all roots are left = search (rules)

@@ -1,4 +1,5 @@
 -- What looking at a pair leaves, and that nothing is left to find when all are looked at.
+use Rattle.std.proofs.Common.{rules}
 use Rattle.cap_audit.proofs.Common.{Allows, AreAlike, AreCovered, AreHubs, Cap, Connects, Contains, Covered, Covers, CoversPair, Doors, Found, GoesAlong, GoesOn, Grows, HasRoot, HasSlots, InClass, IsClosed, IsFound, IsFoundAt, IsSearch}
 use Rattle.cap_audit.proofs.Common.{IsWeb, Later, Links, List, Merges, None, Opens, Option, Pair, Passage, Path, Side, Some, Spec, StandsAt, Way, Web, Widened, Widens, arith, cases_lt, held_by, hub_of, inl, inr, is_at, is_at_below, is_known}
 use Rattle.cap_audit.proofs.Common.{kind_at, kind_is, length, members_at, refl, row_at, slice_get, slice_get_within, subst, sym, true, ways_from, ℕ, ◌+◌, ◌<◌, ◌≡◌}
@@ -17,22 +18,12 @@ pub linked : (spec : Spec) (web one two new : Web) (c d : ℕ) → Connects spec
     → c < length two.net.classes → d < length two.net.classes → Links spec web c d new
 linked spec web one two new c d a b same out m c_less d_less =
     let there = path_on one.net two.net b.widened.widens c d a.path in
-    let on : Widens two.net new.net =
-    record { ways = λ k way h. subst (λ (o : List (List Way)). Contains (row_at o k) way) (sym out) h } in
-    record {
-      widened = relabelled_widens spec web two new (widened_then spec web one two a.widened b.widened) same out
-          (merged_ways spec two.findings two.net b.widened.ways c d new.net.classes m there b.path c_less d_less);
-      there = path_on two.net new.net on c d there;
-      back = path_on two.net new.net on d c b.path;
-    }
+    let on : Widens two.net new.net = search (rules) in
+    search (rules, relabelled_widens, widened_then, merged_ways, path_on)
 
 -- already one class
 pub joined_links : (spec : Spec) (web : Web) (c d : ℕ) → IsWeb spec web → InClass web.net c d → Links spec web c d web
-joined_links spec web c d is i = record {
-  widened = widened_same spec web is;
-  there = is.ways.joined c d i;
-  back = is.ways.joined d c (record { one = i.other; other = i.one; same = sym i.same });
-}
+joined_links spec web c d is i = search (rules, widened_same)
 
 -- what a link covers
 pub link_covers : (spec : Spec) (web : Web) (doors : Doors) (c : ℕ) (cap : Cap) (new : Web) → AreHubs spec web doors
@@ -42,10 +33,7 @@ link_covers spec web doors c cap new H is links = record {
   covered = record {
     there = λ t root e. links.there;
     back = λ t root e. links.back;
-    stands = λ t passage side root e allows. absurd (
-        let x : kind_at spec cap.object ≡ Some kinds.CNode = kind_is spec kinds.CNode cap.object is in
-        let y : kind_at spec cap.object ≡ Some kinds.Endpoint = kind_is spec kinds.Endpoint cap.object e in
-        cc);
+    stands = search (rules, kind_is);
   };
 }
 
@@ -57,18 +45,7 @@ module _ (spec : Spec) (web : Web) (doors : Doors) (place : ℕ) (s : IsSearch s
     (same_net : mid.net ≡ web.net) where
   gone : HaveGone mid.findings mid.net (place + 1)
   unfolding HaveGone
-  gone = rw same_net (λ k p way less h there. (
-      let old : slice_get web.findings.queue k ≡ Some p = queue_same web.findings mid.findings k p goes.later.grows (omega arith)
-      h in
-      elim (cases_lt k place) [
-        | inl below ↦ goes.later.grows.known way.to p.held.value (s.gone k p way below old there)
-        | inr ge ↦ (
-            let at : k ≡ place = omega arith in
-            let same : pair ≡ p = (let a : slice_get web.findings.queue place ≡ Some p =
-            subst (λ (n : ℕ). slice_get web.findings.queue n ≡ Some p) at old in cc) in
-            subst (λ (q : Pair). is_known mid.findings way.to q.held.value ≡ true) same
-            (goes.there way (subst (λ (q : Pair). Contains (ways_from web.net q.node) way) (sym same) there)))
-      ]))
+  gone = search (rules, slice_get, queue_same, cases_lt)
 
   -- ways alone, without those that go further
   pub mid_widened : Widened spec web mid
@@ -92,42 +69,20 @@ module _ (spec : Spec) (web : Web) (doors : Doors) (place : ℕ) (s : IsSearch s
     later = later_then spec web.findings mid.findings new.findings goes.later covers.opens.widened.later
 
     all_opens : Opens spec web doors new full
-    all_opens = record {
-      widened = widened_then spec web mid new mid_widened covers.opens.widened;
-      hubs = covers.opens.hubs;
-      fills = covers.opens.fills;
-    }
+    all_opens = search (rules, widened_then, mid_widened)
 
     all_covered : AreCovered spec new full (place + 1)
     all_covered k p cap less h v =
-        let old : slice_get web.findings.queue k ≡ Some p =
-        queue_same web.findings new.findings k p later.grows (omega arith) h in
-        let mid_value : slice_get mid.findings.values p.held.value ≡ Some cap =
-        subst (λ (values : List Cap). slice_get values p.held.value ≡ Some cap) covers.opens.widened.later.grows.values v in
-        let value : slice_get web.findings.values p.held.value ≡ Some cap =
-        subst (λ (values : List Cap). slice_get values p.held.value ≡ Some cap) later.grows.values v in
+        let old : slice_get web.findings.queue k ≡ Some p = search (rules, queue_same, later) in
+        let mid_value : slice_get mid.findings.values p.held.value ≡ Some cap = search (rules, slice_get) in
+        let value : slice_get web.findings.values p.held.value ≡ Some cap = search (rules, slice_get, later) in
         elim (cases_lt k place) [
           | inl below ↦ covered_on spec web new doors full p.node cap all_opens (s.covered k p cap below old value)
-          | inr ge ↦ (
-              let at : k ≡ place = omega arith in
-              let same : pair ≡ p = (let a : slice_get web.findings.queue place ≡ Some p =
-              subst (λ (n : ℕ). slice_get web.findings.queue n ≡ Some p) at old in cc) in
-              subst (λ (q : Pair). Covered spec new.net full q.node cap) same
-              (covers.covered cap (subst (λ (q : Pair). slice_get mid.findings.values q.held.value ≡ Some cap) (sym same)
-              mid_value)))
+          | inr ge ↦ search (rules, slice_get)
         ]
 
     pub looked : GoesOn spec web (place + 1) new full
-    looked = record {
-      search = record {
-        is = record { found = covers.opens.widened.later.found; ways = covers.opens.widened.ways };
-        hubs = covers.opens.hubs;
-        gone = covers.opens.widened.gone (place + 1)
-            (queue_longer web.findings mid.findings (place + 1) goes.later.grows (omega arith)) gone;
-        covered = all_covered;
-      };
-      later = later;
-    }
+    looked = search (rules, gone, queue_longer, all_covered, later)
 
 pub slots_on : (spec : Spec) (f g : Found) → Grows f g → HasSlots spec f → HasSlots spec g
 slots_on spec f g grows h = record {
@@ -141,25 +96,13 @@ module _ (spec : Spec) (web : Web) (doors : Doors) (s : IsSearch spec web doors 
   goes_on : (v c : ℕ) (way : Way) → is_known web.findings c v ≡ true → Contains (ways_from web.net c) way
       → is_known web.findings way.to v ≡ true
   unfolding HaveGone
-  goes_on v c way known there =
-      let k = s.is.found.known c v known in
-      subst (λ (n : ℕ). is_known web.findings way.to n ≡ true) k.4
-      (s.gone k.0 k.1 way (slice_get_within web.findings.queue k.0 k.1 k.2) k.2
-      (subst (λ (n : ℕ). Contains (ways_from web.net n) way) (sym k.3) there))
+  goes_on v c way known there = search (rules, slice_get_within)
 
   by_path : (c d : ℕ) (cap : Cap) → Path web.net c d → IsFoundAt web.findings c cap → IsFoundAt web.findings d cap
-  by_path c d cap path at = record {
-    value = at.value;
-    is = at.is;
-    known = known_along web.findings web.net at.value (goes_on at.value) c d path at.known;
-  }
+  by_path c d cap path at = search (rules, known_along, goes_on)
 
   is_covered : (c : ℕ) (cap : Cap) → IsFoundAt web.findings c cap → Covered spec web.net doors c cap
-  is_covered c cap at =
-      let k = s.is.found.known c at.value at.known in
-      subst (λ (n : ℕ). Covered spec web.net doors n cap) k.3
-      (s.covered k.0 k.1 cap (slice_get_within web.findings.queue k.0 k.1 k.2) k.2
-      (subst (λ (n : ℕ). slice_get web.findings.values n ≡ Some cap) (sym k.4) at.is))
+  is_covered c cap at = search (rules, slice_get_within, slice_get)
 
   -- from one that gives at an endpoint to one that takes there
   through : (by : Passage) (e c d : ℕ) → StandsAt sides.Giving web.net (members_at (hub_of doors by) sides.Giving e) c
@@ -172,9 +115,7 @@ module _ (spec : Spec) (web : Web) (doors : Doors) (s : IsSearch spec web doors 
   stands : (by : Passage) (side : Side) (t c e : ℕ) (cap : Cap) → HasRoot spec t c → IsFoundAt web.findings c cap
       → is_at spec kinds.Endpoint e ≡ true → cap.object ≡ e → Allows by side cap
       → StandsAt side web.net (members_at (hub_of doors by) side e) c
-  stands by side t c e cap root of is same allows =
-      subst (λ (n : ℕ). StandsAt side web.net (members_at (hub_of doors by) side n) c)
-      same ((is_covered c cap of).stands t by side root (rw same is) allows)
+  stands by side t c e cap root of is same allows = search (rules, is_covered)
 
   pub all_found : IsClosed spec (IsFoundAt web.findings)
   all_found = record {

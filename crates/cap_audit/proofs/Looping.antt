@@ -1,4 +1,5 @@
 -- The turns of the loops of an audit.
+use Rattle.std.proofs.Common.{rules}
 use Rattle.cap_audit.proofs.Common.{Cap, Edge, Gains, IsSoFar, List, Made, None, OfCap, OfFace, OfKinds, OfListening, OfPair, OfSome, Option, Pair, Pick, Some, eqb-false, false, has, label_of, pick_of, row_at, same_Some, slice_get, stand_in, subst}
 use Rattle.cap_audit.proofs.Common.{sym, true, ℕ, ◌==◌, ◌∙◌, ◌≡◌, ◌≢◌}
 use Rattle.cap_audit.specs.declared.picks.Wanted.TheVariants as wants
@@ -7,10 +8,7 @@ use Rattle.cap_audit.proofs.Picking.{picked, picked_from}
 
 pub pair_gains : (m new : Made) (pair : Pair) (cap : Cap) → slice_get m.found.values pair.held.value ≡ Some cap
     → Gains (OfCap m.spec m.labels (label_of m.labels pair.node) cap) m new → Gains (OfPair m.spec m.labels m.found pair) m new
-pair_gains m new pair cap is g =
-    gains_by (OfCap m.spec m.labels (label_of m.labels pair.node) cap) (OfPair m.spec m.labels m.found pair)
-    (λ e x. subst (λ (y : Cap). OfCap m.spec m.labels (label_of m.labels pair.node) y e) (same_Some x.cap cap (sym x.is ∙ is))
-    x.of_cap) m new g
+pair_gains m new pair cap is g = search (rules, gains_by, same_Some)
 
 pub pair_none : (m : Made) (pair : Pair) → slice_get m.found.values pair.held.value ≡ None → IsSoFar m
     → Gains (OfPair m.spec m.labels m.found pair) m m
@@ -33,16 +31,12 @@ module _ (m : Made) (rosters members : List (List ℕ)) (gates : List (List Pair
   pub listen_by : (pick : Pick) → pick_of m.spec m.found wants.Listener pair.held ≡ Some pick → (e : Edge)
       → OfListening m.spec m.labels m.found m.heads rosters members gates pair e
       → OfSome (λ (door : Pair). OfKinds m.labels rosters members door.node pair.node) (row_at gates pick.cap.object) e
-  listen_by pick is e x =
-      subst (λ (y : Cap). OfSome (λ (door : Pair). OfKinds m.labels rosters members door.node pair.node) (row_at gates y.object)
-      e) (same_Some x.cap pick.cap (sym x.is ∙ (picked_from m.spec m.found wants.Listener pair.held pick is).0)) x.by
+  listen_by pick is e x = search (rules, same_Some, picked_from)
 
   -- and one whose doesn't
   pub listen_none : pick_of m.spec m.found wants.Listener pair.held ≡ None → (e : Edge)
       → OfListening m.spec m.labels m.found m.heads rosters members gates pair e → e.from ≢ e.to → has m.edges e ≡ true
-  listen_none is e x differ = absurd (
-      let h = sym is ∙ picked m.spec m.found wants.Listener pair.held x.cap x.is x.wanted in
-      cc)
+  listen_none is e x differ = search (rules, picked)
 
   pub no_head : (stand_in m.heads pair.node == pair.node) ≡ false → (e : Edge)
       → OfListening m.spec m.labels m.found m.heads rosters members gates pair e → e.from ≢ e.to → has m.edges e ≡ true

@@ -1,4 +1,5 @@
 -- Those for whom one stands call those for whom another stands.
+use Rattle.std.proofs.Common.{rules}
 use Rattle.cap_audit.proofs.Common.{AreMet, ArePlaces, AreReady, Below, Between, Bool, Contains, Edge, Found, Gains, Greets, Held, IsQueued, IsSoFar, List, Made, MeetBy, Meets, OfKinds, OfSome, Pair, Place, Some, Spec, [], add-one, ap, at_contains}
 use Rattle.cap_audit.proofs.Common.{contains_at, drop, drop-cons, eqb-false, eqb-true, false, filter_map, from_filter_map, get_or, has, held_by, inl, inr, length, place_in, place_of, refl, replicate, row_at, slice_get, subst, suc, sym}
 use Rattle.cap_audit.proofs.Common.{to_filter_map, true, with_more, zero, ℕ, ◌+◌, ◌<◌, ◌==◌, ◌∙◌, ◌∷◌, ◌≡◌, ◌≢◌, ◌≤◌}
@@ -89,21 +90,13 @@ module _ (spec : Spec) (f : Found) (heads : List ℕ) (rosters members : List (L
     kinds_by_places labels e x =
         let b = member_place d w others peers p peer_is are_peers x.item x.there in
         let a = member_place c v nodes callers q is are x.by.item x.by.there in
-        let here : Between labels rosters a.0.node b.0.node e = subst (λ (n : ℕ). Between labels rosters n b.0.node e) (sym a.2)
-        (subst (λ (n : ℕ). Between labels rosters x.by.item n e) (sym b.2) x.by.by) in
+        let here : Between labels rosters a.0.node b.0.node e = search (rules) in
         record { item = b.0; there = b.1; by = record { item = a.0; there = a.1; by = here } }
 
 pub places_meet : (spec : Spec) (f : Found) (v w : ℕ) (nodes others : List ℕ) (callers peers : List Place)
     → ArePlaces f nodes v callers → ArePlaces f others w peers → MeetBy spec f v w
     → (peer at : Place) → Contains peers peer → Contains callers at → Meets spec f at peer
-places_meet spec f v w nodes others callers peers are are_peers m peer at there here = record {
-  to = m.to;
-  from = m.from;
-  own = record { value = v; held = are.stand at here; is = m.is };
-  listens = record { value = w; held = are_peers.stand peer there; is = m.peer_is };
-  meet = m.meet;
-  may = m.may;
-}
+places_meet spec f v w nodes others callers peers are are_peers m peer at there here = search (rules)
 
 -- who has met
 
@@ -130,9 +123,7 @@ module _ (rosters members : List (List ℕ)) (m : Made) (met : List (List ℕ))
     are = subst (λ (xs : List (List ℕ)). AreMet m.labels rosters members xs new.edges) (sym is) (record {
       shown = λ x y e there of differ. elim (more_cases met c d x y there) [
         | inl old ↦ g.kept e (are.shown x y e old of differ)
-        | inr now ↦
-            g.added e (subst (λ (n : ℕ). OfKinds m.labels rosters members c n e) (sym now.1)
-            (subst (λ (n : ℕ). OfKinds m.labels rosters members n y e) now.0 of)) differ
+        | inr now ↦ search (rules)
       ];
     });
   }
@@ -144,10 +135,7 @@ module _ (rosters members : List (List ℕ)) {A : Type 0} (P : A → Edge → Ty
   pub greets_more : (n : ℕ) (item : A) (a b c : Made) (met more : List (List ℕ)) → slice_get items n ≡ Some item
       → Greets rosters members (Below (AtPlace P items) n) a b met
       → Greets rosters members (P item) b c more → Greets rosters members (Below (AtPlace P items) (n + 1)) a c more
-  greets_more n item a b c met more here before now = record {
-    gains = some_more P items n item a b c here before.gains now.gains;
-    are = subst (λ (x : Made). AreMet x.labels rosters members more c.edges) before.gains.same now.are;
-  }
+  greets_more n item a b c met more here before now = search (rules, some_more)
 
   pub greets_all : (n : ℕ) (a b : Made) (met : List (List ℕ)) → length items ≤ n
       → Greets rosters members (Below (AtPlace P items) n) a b met → Greets rosters members (OfSome P items) a b met
@@ -161,17 +149,10 @@ greets_by rosters members P Q from m new met g = record { gains = gains_by P Q f
 
 pub place_past : (node value : ℕ) (helds : List Held) (i : ℕ) (d : Held) → i < length helds
     → ((get_or helds i d).value == value) ≡ false → place_in node value (drop i helds) ≡ place_in node value (drop (i + 1) helds)
-place_past node value helds i d less fails =
-    let past : place_in node value (get_or helds i d ∷ drop (suc i) helds) ≡ place_in node value (drop (suc i) helds) =
-    rw fails refl in
-    ap (λ (xs : List Held). place_in node value xs) (drop-cons helds i d less)
-    ∙ (past ∙ ap (λ (n : ℕ). place_in node value (drop n helds)) (sym (add-one i)))
+place_past node value helds i d less fails = search (rules, drop-cons, add-one)
 
 pub place_here : (node value : ℕ) (helds : List Held) (i : ℕ) (d : Held) → i < length helds
     → ((get_or helds i d).value == value) ≡ true
     → (let made : Place = record { node = node; number = (get_or helds i d).number } in
     place_in node value (drop i helds) ≡ Some made)
-place_here node value helds i d less holds =
-    let made : Place = record { node = node; number = (get_or helds i d).number } in
-    let here : place_in node value (get_or helds i d ∷ drop (suc i) helds) ≡ Some made = rw holds refl in
-    ap (λ (xs : List Held). place_in node value xs) (drop-cons helds i d less) ∙ here
+place_here node value helds i d less holds = search (rules, drop-cons)

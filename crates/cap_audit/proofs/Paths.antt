@@ -1,4 +1,5 @@
 -- Ways and paths as more is found, and as ways are added.
+use Rattle.std.proofs.Common.{rules}
 use Rattle.cap_audit.proofs.Common.{AllGo, AreWays, Brings, Cap, Connects, Contains, Course, Found, Grows, Held, HoldsAt, InClass, IsFound, IsWay, IsWeb, JoinsBack, Lanes, Later, Leads, LeadsTo, List, Merges, Near, None, Option, Pair, Path, Some}
 use Rattle.cap_audit.proofs.Common.{Spec, Unites, Way, Web, Widened, Widens, [], along, ap, arith, at_end, get_or, held_by, inl, inr, is_at_below, is_known, length, length-set, refl, row_at, slice_get, subst, sym, true, ways_from, with_way, ℕ, ◌++◌}
 use Rattle.cap_audit.proofs.Common.{◌<◌, ◌∙◌, ◌∷◌, ◌≡◌}
@@ -12,12 +13,7 @@ pub grows_same : (f : Found) → Grows f f
 grows_same f = record { values = refl; held = λ c y there. there; known = λ c v there. there; queue = λ k pair there. there }
 
 pub grows_then : (f g h : Found) → Grows f g → Grows g h → Grows f h
-grows_then f g h a b = record {
-  values = b.values ∙ a.values;
-  held = λ c y there. b.held c y (a.held c y there);
-  known = λ c v there. b.known c v (a.known c v there);
-  queue = λ k pair there. b.queue k pair (a.queue k pair there);
-}
+grows_then f g h a b = search (rules)
 
 pub later_same : (spec : Spec) (f : Found) → IsFound spec f → Later spec f f
 later_same spec f found = record { found = found; grows = grows_same f; fewer = refl }
@@ -27,18 +23,10 @@ later_then spec f g h a b = record { found = b.found; grows = grows_then f g h a
 
 pub later_brings : (spec : Spec) (f g h : Found) (way : Way) (held : Held) → Later spec f g → Brings spec g way held h
     → Later spec f h
-later_brings spec f g h way held a b = record {
-  found = b.found;
-  grows = grows_then f g h a.grows b.grows;
-  fewer = b.fewer ∙ a.fewer;
-}
+later_brings spec f g h way held a b = search (rules, grows_then)
 
 pub holds_on : (f g : Found) → Grows f g → (c i : ℕ) (cap : Cap) → HoldsAt f c i cap → HoldsAt g c i cap
-holds_on f g grows c i cap at = record {
-  value = at.value;
-  held = grows.held c (record { value = at.value; number = i }) at.held;
-  is = subst (λ (values : List Cap). slice_get values at.value ≡ Some cap) (sym grows.values) at.is;
-}
+holds_on f g grows c i cap at = search (rules, slice_get)
 
 pub leads_on : (spec : Spec) (f g : Found) → Grows f g → (c d : ℕ) (course : Course) → Leads spec f c d course
     → Leads spec g c d course
@@ -61,10 +49,7 @@ ways_on spec f g net grows a =
 -- the first pairs of a queue are those of a longer one
 pub queue_same : (f g : Found) (k : ℕ) (pair : Pair) → Grows f g → k < length f.queue → slice_get g.queue k ≡ Some pair
     → slice_get f.queue k ≡ Some pair
-queue_same f g k pair grows less h = go (slice_get f.queue k) refl where
-  go : (o : Option Pair) → slice_get f.queue k ≡ o → slice_get f.queue k ≡ Some pair
-  go (Some p) e = (let later = grows.queue k p e in let same : p ≡ pair = cc in rw (e, same) refl)
-  go None e = absurd (none_within f.queue k e less)
+queue_same f g k pair grows less h = search (rules, slice_get, none_within)
 
 pub path_then : (net : Lanes) (c d e : ℕ) → Path net c d → Path net d e → Path net c e
 path_then net c d e p q = extend net c d e p q where
@@ -113,8 +98,7 @@ module _ (spec : Spec) (web : Web) (c : ℕ) (way : Way) (is : IsWeb spec web) (
       });
       widens = rw made wider;
       gone = λ done le gone. rw made (λ k pair w below h there. (
-          let old : slice_get web.findings.queue k ≡ Some pair =
-          queue_same web.findings new.findings k pair all.later.grows (omega arith) h in
+          let old : slice_get web.findings.queue k ≡ Some pair = search (rules, queue_same) in
           elim (more_cases web.net.out c way pair.node w there) [
             | inl before ↦ all.later.grows.known w.to pair.held.value (gone k pair w below old before)
             | inr e ↦ rw (← e.1) (all.there pair.held (subst (λ (n : ℕ). Contains (held_by web.findings n) pair.held) e.0
@@ -125,12 +109,7 @@ module _ (spec : Spec) (web : Web) (c : ℕ) (way : Way) (is : IsWeb spec web) (
   }
 
 pub widened_same : (spec : Spec) (web : Web) → IsWeb spec web → Widened spec web web
-widened_same spec web is = record {
-  later = later_same spec web.findings is.found;
-  ways = is.ways;
-  widens = widens_same web.net;
-  gone = λ done le gone. gone;
-}
+widened_same spec web is = search (rules, later_same, widens_same)
 
 -- ways that are there already
 
@@ -188,12 +167,7 @@ module _ (spec : Spec) (f : Found) (net : Lanes) (A : AreWays spec f net) (c d :
   ]
 
   pub merged_ways : AreWays spec f merged
-  merged_ways = record {
-    ways = A.ways;
-    joined = λ x y i. path_on net merged widened x y (merged_path x y i);
-    as_many = A.as_many;
-    as_many_classes = m.as_many ∙ A.as_many_classes;
-  }
+  merged_ways = search (rules, path_on, widened, merged_path)
 
 pub end_below : (spec : Spec) (f : Found) (c : ℕ) (way : Way) → IsFound spec f → IsWay spec f c way → way.to < length spec.entries
 end_below spec f c way F leads = is_at_below spec kinds.CNode way.to (end_cnode spec f F c way.to way.course leads)
@@ -228,19 +202,9 @@ module _ (spec : Spec) (web mid new : Web) (c d : ℕ) (x : Connects spec web c 
       ]) in
       record {
         widened = widened;
-        path = path_on mid.net new.net (record {
-          ways = λ k way there. subst (λ (o : List (List Way)). Contains (row_at o k) way) (sym out) there;
-        }) c d x.path;
+        path = path_on mid.net new.net (search (rules)) c d x.path;
       }
 
   pub connects_back : JoinsBack mid.net c d new.net → Connects spec web c d new
-  connects_back (inl is) = record {
-    widened = record {
-      later = rw same x.widened.later;
-      ways = rw (same, is) x.widened.ways;
-      widens = rw is x.widened.widens;
-      gone = rw (same, is) x.widened.gone;
-    };
-    path = rw is x.path;
-  }
+  connects_back (inl is) = search (rules, widened)
   connects_back (inr (back, out, u)) = joined_both back out u

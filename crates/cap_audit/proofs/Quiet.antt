@@ -1,4 +1,5 @@
 -- States in which nobody waits and nothing is pending, and what one such state has beyond another.
+use Rattle.std.proofs.Common.{rules}
 use Rattle.cap_audit.proofs.Common.{Acts, Bool, Cap, Capability, Contains, Contains-from_lookup, Contains-push_cases, Content, HasRoot, IsKept, List, Node, None, Object, Option, Quiet, Run, Some, Spec, State, Step, StepTo, ThreadState, [], added}
 use Rattle.cap_audit.proofs.Common.{and_parts, ap, append-nil, arith, behind, boot, boot_fits, boot_node, boot_slot, content_at, content_in, false, filter, filter-append, first, first_or_behind, fits, get_or, get_or-set_same, grown, grown_at, inl}
 use Rattle.cap_audit.proofs.Common.{inr, is_at, is_at_below, keeps, keeps_slots, leb, length, list_all, map, nat_lt, no_node, node_at, not, object_at, object_kept, read_written, refl, rest_rises, rise, set, slots_at, slots_of, step_fits, subst, sym}
@@ -56,9 +57,7 @@ next_free node fresh = go (content_at node node.next) refl where
       omega arith)
 
 pub grown_there : (node : Node) (content : Content) → IsFresh node → content_at (grown node content) node.next ≡ Some content
-grown_there node content fresh =
-    lookup_back node.slots ((node.next, content) ∷ []) node.next (next_free node fresh)
-    ∙ (let same : (node.next == node.next) ≡ true = grind arith in rw same refl)
+grown_there node content fresh = search (rules, lookup_back, next_free)
 
 pub grown_keeps : (node : Node) (content : Content) (i : ℕ) (old : Content) → content_at node i ≡ Some old
     → content_at (grown node content) i ≡ Some old
@@ -88,9 +87,7 @@ slot_found : (slots : List (ℕ × Cap)) (i : ℕ) (cap : Cap) → rise slots �
     → lookup (λ n. n == i) (map boot_slot slots) ≡ Some (Capability cap)
 slot_found [] i cap rises there = absurd (let w = there.1 in omega arith)
 slot_found (x ∷ slots) i cap rises there = elim (first_or_behind x slots (i, cap) there) [
-  | inl same ↦ (
-      let number : (x.0 == i) ≡ true = (let n : x.0 ≡ i = ap (λ (p : ℕ × Cap). p.0) same in grind arith) in
-      rw number (ap (λ (p : ℕ × Cap). Some (Capability p.1)) same))
+  | inl same ↦ search (rules)
   | inr more ↦ (
       let other : (x.0 == i) ≡ false = (let less : x.0 < i = above x slots i cap rises more in grind arith) in
       rw other (slot_found slots i cap (rest_rises x slots rises) more))
@@ -103,10 +100,7 @@ all_below spec bound (x ∷ slots) i cap all there =
     let both = and_parts (nat_lt x.0 bound && fits spec x.1)
     (list_all (λ (slot : ℕ × Cap). nat_lt slot.0 bound && fits spec slot.1) slots) all in
     elim (first_or_behind x slots (i, cap) there) [
-      | inl same ↦ (
-          let less : nat_lt x.0 bound ≡ true = (and_parts (nat_lt x.0 bound) (fits spec x.1) both.0).0 in
-          let n : x.0 ≡ i = ap (λ (p : ℕ × Cap). p.0) same in
-          grind arith)
+      | inl same ↦ search (rules, nat_lt, and_parts)
       | inr more ↦ all_below spec bound slots i cap both.1 more
     ]
 
@@ -162,20 +156,13 @@ kept_same a d i content h = h
 -- a write of a node that is fresh and keeps what was there
 written_fresh : (nodes : List Node) (d : ℕ) (node : Node) → AreFresh nodes → IsFresh node → AreFresh (set nodes d node)
 unfolding AreFresh
-written_fresh nodes d node fresh here c = elim (read_written nodes d c node no_node) [
-  | inl e ↦ subst (λ (n : Node). IsFresh n) (sym e) (fresh c)
-  | inr e ↦ subst (λ (n : Node). IsFresh n) (sym e.1) here
-]
+written_fresh nodes d node fresh here c = search (rules, read_written)
 
 written_kept : (nodes : List Node) (d : ℕ) (node : Node)
     → ((i : ℕ) (content : Content) → content_at (get_or nodes d no_node) i ≡ Some content → content_at node i ≡ Some content)
     → AreKept nodes (set nodes d node)
 unfolding AreKept
-written_kept nodes d node here c i content h = elim (read_written nodes d c node no_node) [
-  | inl e ↦ subst (λ (n : Node). content_at n i ≡ Some content) (sym e) h
-  | inr e ↦ subst (λ (n : Node). content_at n i ≡ Some content) (sym e.1)
-      (here i content (subst (λ (k : ℕ). content_at (get_or nodes k no_node) i ≡ Some content) e.0 h))
-]
+written_kept nodes d node here c i content h = search (rules, read_written)
 
 pub grown_all_fresh : (nodes : List Node) (d : ℕ) (content : Content) → AreFresh nodes → AreFresh (grown_at nodes d content)
 unfolding AreFresh
@@ -189,11 +176,7 @@ grown_all_kept nodes d content = written_kept nodes d (grown (get_or nodes d no_
 pub grown_at_next : (nodes : List Node) (d : ℕ) (content : Content) → AreFresh nodes → d < length nodes
     → content_at (get_or (grown_at nodes d content) d no_node) (get_or nodes d no_node).next ≡ Some content
 unfolding AreFresh
-grown_at_next nodes d content fresh less =
-    let e : get_or (grown_at nodes d content) d no_node ≡ grown (get_or nodes d no_node) content =
-    get_or-set_same nodes d (grown (get_or nodes d no_node) content) no_node less in
-    subst (λ (n : Node). content_at n (get_or nodes d no_node).next ≡ Some content) (sym e)
-    (grown_there (get_or nodes d no_node) content (fresh d))
+grown_at_next nodes d content fresh less = search (rules, get_or-set_same, grown_there)
 
 -- a content that is taken out again leaves the CNode as it was, but for its next number
 
@@ -207,14 +190,7 @@ all_others (e ∷ es) k less =
 
 out_again : (node : Node) (content : Content) → IsFresh node → (without (grown node content) node.next).slots ≡ node.slots
 unfolding IsFresh
-out_again node content fresh =
-    let same : (node.next == node.next) ≡ true = grind arith in
-    let last : filter (λ (slot : ℕ × Content). not (slot.0 == node.next)) ((node.next, content) ∷ []) ≡ [] = rw same refl in
-    rw (
-      filter-append (λ (slot : ℕ × Content). not (slot.0 == node.next)) node.slots ((node.next, content) ∷ []),
-      all_others node.slots node.next fresh,
-      last,
-    ) (append-nil node.slots)
+out_again node content fresh = search (rules, filter-append, all_others, append-nil)
 
 out_fresh : (node : Node) (content : Content) → IsFresh node → IsFresh (without (grown node content) node.next)
 unfolding IsFresh
@@ -233,39 +209,18 @@ out_keeps node content i old fresh h = subst (λ (es : List (ℕ × Content)). l
 pub out_all_fresh : (nodes : List Node) (d : ℕ) (content : Content) → AreFresh nodes → d < length nodes
     → AreFresh (without_at (grown_at nodes d content) d (get_or nodes d no_node).next)
 unfolding AreFresh
-out_all_fresh nodes d content fresh less =
-    let e : get_or (grown_at nodes d content) d no_node ≡ grown (get_or nodes d no_node) content =
-    get_or-set_same nodes d (grown (get_or nodes d no_node) content) no_node less in
-    written_fresh (grown_at nodes d content) d (without (get_or (grown_at nodes d content) d no_node)
-    (get_or nodes d no_node).next) (grown_all_fresh nodes d content fresh)
-    (subst (λ (n : Node). IsFresh (without n (get_or nodes d no_node).next)) (sym e)
-    (out_fresh (get_or nodes d no_node) content (fresh d)))
+out_all_fresh nodes d content fresh less = search (rules, get_or-set_same, written_fresh, grown_all_fresh, out_fresh)
 
 pub out_all_kept : (nodes : List Node) (d : ℕ) (content : Content) → AreFresh nodes → d < length nodes
     → AreKept nodes (without_at (grown_at nodes d content) d (get_or nodes d no_node).next)
 unfolding AreFresh AreKept
-out_all_kept nodes d content fresh less c i old h =
-    let e : get_or (grown_at nodes d content) d no_node ≡ grown (get_or nodes d no_node) content =
-    get_or-set_same nodes d (grown (get_or nodes d no_node) content) no_node less in
-    elim (read_written (grown_at nodes d content) d c (without (get_or (grown_at nodes d content) d no_node)
-    (get_or nodes d no_node).next) no_node) [
-      | inl same ↦ subst (λ (n : Node). content_at n i ≡ Some old) (sym same) (grown_all_kept nodes d content c i old h)
-      | inr at_d ↦ subst (λ (n : Node). content_at n i ≡ Some old) (sym at_d.1)
-          (subst (λ (n : Node). content_at (without n (get_or nodes d no_node).next) i ≡ Some old) (sym e)
-          (out_keeps (get_or nodes d no_node) content i old (fresh d)
-          (subst (λ (k : ℕ). content_at (get_or nodes k no_node) i ≡ Some old) at_d.0 h)))
-    ]
+out_all_kept nodes d content fresh less c i old h = search (rules, get_or-set_same, read_written, grown_all_kept, out_keeps)
 
 -- quiet states
 
 pub boot_quiet : (spec : Spec) → IsKept spec → Quiet spec (boot spec)
 unfolding AreFresh
-boot_quiet spec kept = record {
-  fits = boot_fits spec kept;
-  threads = λ t. refl;
-  fresh = λ c. boot_fresh spec c kept;
-  begun = kept_same (boot spec).nodes;
-}
+boot_quiet spec kept = search (rules, boot_fits, boot_fresh, kept_same)
 
 -- from s these steps lead to a quiet state that has what s has
 pub record Onward (spec : Spec) (s : State) (new : State) : Type 0 where
@@ -285,19 +240,11 @@ pub onward_same : (spec : Spec) (s : State) → Quiet spec s → Onward spec s s
 onward_same spec s q = record { steps = []; run = refl; quiet = q; kept = kept_same s.nodes }
 
 pub onward_then : (spec : Spec) (s mid new : State) → Onward spec s mid → Onward spec mid new → Onward spec s new
-onward_then spec s mid new a b = record {
-  steps = a.steps ++ b.steps;
-  run = run_append spec a.steps b.steps s mid new a.run b.run;
-  quiet = b.quiet;
-  kept = kept_on s.nodes mid.nodes new.nodes a.kept b.kept;
-}
+onward_then spec s mid new a b = search (rules, run_append, kept_on)
 
 module _ (spec : Spec) (s : State) (q : Quiet spec s) where
   pub quiet_acts : (t c : ℕ) → HasRoot spec t c → Acts s t c
-  quiet_acts t c root = record {
-    runs = ap (λ (x : ThreadState). x.waits) (q.threads t) ∙ nobody_waits spec t;
-    root = ap (λ (x : ThreadState). x.root) (q.threads t) ∙ root_boot spec t c root;
-  }
+  quiet_acts t c root = search (rules, nobody_waits, root_boot)
 
   pub quiet_cnode : (t c : ℕ) → HasRoot spec t c → is_at spec kinds.CNode c ≡ true
   quiet_cnode t c root = (q.fits.threads t).root c (quiet_acts t c root).root
@@ -308,32 +255,12 @@ module _ (spec : Spec) (s : State) (q : Quiet spec s) where
 
   -- one step that copies a capability
   pub copied : (d : ℕ) (cap : Cap) (step : Step) → StepTo spec s step (added s d cap) → Lands spec s d cap (step ∷ [])
-  copied d cap step leads = record {
-    new = added s d cap;
-    run = (added s d cap, leads, refl);
-    quiet = record {
-      fits = step_fits spec s (added s d cap) step q.fits leads;
-      threads = q.threads;
-      fresh = grown_all_fresh s.nodes d (Capability cap) q.fresh;
-      begun = kept_on (boot spec).nodes s.nodes (grown_at s.nodes d (Capability cap)) q.begun
-          (grown_all_kept s.nodes d (Capability cap));
-    };
-    nodes = refl;
-  }
+  copied d cap step leads = search (rules, step_fits, grown_all_fresh, kept_on, grown_all_kept)
 
   -- where the copy is
   pub landed_there : (d : ℕ) (cap : Cap) (steps : List Step) → is_at spec kinds.CNode d ≡ true → (l : Lands spec s d cap steps)
       → content_in l.new d (node_at s d).next ≡ Some (Capability cap)
-  landed_there d cap steps is l =
-      subst (λ (nodes : List Node). content_at (get_or nodes d no_node) (node_at s d).next ≡ Some (Capability cap)) (sym l.nodes)
-      (grown_at_next s.nodes d (Capability cap) q.fresh (quiet_node d is))
+  landed_there d cap steps is l = search (rules, grown_at_next, quiet_node)
 
   pub lands_onward : (d : ℕ) (cap : Cap) (steps : List Step) → (l : Lands spec s d cap steps) → Onward spec s l.new
-  lands_onward d cap steps l =
-      record {
-        steps = steps;
-        run = l.run;
-        quiet = l.quiet;
-        kept = subst (λ (nodes : List Node). AreKept s.nodes nodes)
-            (sym l.nodes) (grown_all_kept s.nodes d (Capability cap));
-      }
+  lands_onward d cap steps l = search (rules, grown_all_kept)

@@ -1,4 +1,5 @@
 -- What the Spread has, runs reach; and so every edge of an audit.
+use Rattle.std.proofs.Common.{rules}
 use Rattle.cap_audit.proofs.Common.{Audited, Auth, Authority, Calls, Cap, Capability, IsKept, List, Quiet, Reaches, Shows, Some, Spec, Spread, State, Step, [], at_boot, boot, content_in, inl, inr, is_at, label_of, node_at, of_bind, of_call, of_map}
 use Rattle.cap_audit.proofs.Common.{of_save, of_spread, refl, subst, true, ℕ, ◌++◌, ◌≡◌}
 use Rattle.authorities.specs.declared.authority.Authority.TheVariants as authorities
@@ -20,12 +21,7 @@ stays : (spec : Spec) (s new : State) (c i : ℕ) (cap : Cap) → Onward spec s 
 stays spec s new c i cap on h = kept_at s.nodes new.nodes c i (Capability cap) on.kept h
 
 later : (spec : Spec) (s mid : State) (c : ℕ) (cap : Cap) → Onward spec s mid → Gets spec mid c cap → Gets spec s c cap
-later spec s mid c cap on g = record {
-  new = g.new;
-  onward = onward_then spec s mid g.new on g.onward;
-  number = g.number;
-  there = g.there;
-}
+later spec s mid c cap on g = search (rules, onward_then)
 
 module _ (spec : Spec) (kept : IsKept spec) where
   gets_landed : (s : State) (q : Quiet spec s) (d : ℕ) (cap : Cap) (steps : List Step) → is_at spec kinds.CNode d ≡ true
@@ -51,9 +47,7 @@ module _ (spec : Spec) (kept : IsKept spec) where
       let b : Gets spec a.new to.object cap = spread_gets to.object cap has a.new a.onward.quiet in
       let on = take_on spec b.new b.onward.quiet t c a.number b.number to cap root (stays spec a.new b.new c a.number to b.onward
       a.there) is b.there in
-      later spec s a.new c cap a.onward
-      (later spec a.new b.new c cap b.onward (gets_landed b.new b.onward.quiet c cap _
-      (quiet_cnode spec b.new b.onward.quiet t c root) on))
+      search (rules, later, gets_landed, quiet_cnode)
   spread_gets d cap (spread.put t c to root of is same has) s q =
       let a : Gets spec s c to = spread_gets c to of s q in
       let b : Gets spec a.new c cap = spread_gets c cap has a.new a.onward.quiet in
@@ -68,10 +62,7 @@ module _ (spec : Spec) (kept : IsKept spec) where
       let own = stays spec b.new e.new c a.number to e.onward (stays spec a.new b.new c a.number to b.onward a.there) in
       let on = grant_on spec e.new e.onward.quiet t u c d a.number b.number e.number to from cap roots meet may own
       (stays spec b.new e.new d b.number from e.onward b.there) e.there in
-      later spec s a.new d cap a.onward
-      (later spec a.new b.new d cap b.onward
-      (later spec b.new e.new d cap e.onward (gets_landed e.new e.onward.quiet d cap _ (quiet_cnode spec e.new e.onward.quiet u d
-      roots.peer_root) on)))
+      search (rules, later, gets_landed, quiet_cnode)
   spread_gets c cap (spread.reply t u d to from roots of peer meet may back has) s q =
       let a : Gets spec s c to = spread_gets c to of s q in
       let b : Gets spec a.new d from = spread_gets d from peer a.new a.onward.quiet in
@@ -79,10 +70,7 @@ module _ (spec : Spec) (kept : IsKept spec) where
       let own = stays spec b.new e.new c a.number to e.onward (stays spec a.new b.new c a.number to b.onward a.there) in
       let on = reply_on spec e.new e.onward.quiet t u c d a.number b.number to from roots meet may own
       (stays spec b.new e.new d b.number from e.onward b.there) e.number cap back e.there in
-      later spec s a.new c cap a.onward
-      (later spec a.new b.new c cap b.onward
-      (later spec b.new e.new c cap e.onward (gets_landed e.new e.onward.quiet c cap _ (quiet_cnode spec e.new e.onward.quiet t c
-      roots.root) on)))
+      search (rules, later, gets_landed, quiet_cnode)
 
   reaches : (labels : List ℕ) (new : State) (l : ℕ) (a : Authority) (m : ℕ) → Onward spec (boot spec) new
       → Auth spec labels new l a m → Reaches spec labels l a m
@@ -126,27 +114,16 @@ module _ (spec : Spec) (kept : IsKept spec) where
   audited_reached labels l a m (at_boot e) = ([], boot spec, refl, inr e)
   audited_reached labels l a m (of_spread (c, cap, has, conf, from, to)) =
       let g : Gets spec (boot spec) c cap = spread_gets c cap has (boot spec) (boot_quiet spec kept) in
-      reaches labels g.new l a m g.onward (inl (
-        c,
-        g.number,
-        cap,
-        there_by_lookup (node_at g.new c) g.number (Capability cap)
-            g.there,
-        conf,
-        from,
-        to,
-      ))
+      search (rules, reaches, there_by_lookup)
   audited_reached labels l a m (of_map (frame, space, maps, conf, from, to)) =
-      let x : Gets spec (boot spec) maps.root frame = spread_gets maps.root frame maps.has_frame (boot spec)
-      (boot_quiet spec kept) in
+      let x : Gets spec (boot spec) maps.root frame = search (rules, spread_gets, boot_quiet) in
       let y : Gets spec x.new maps.root space = spread_gets maps.root space maps.has x.new x.onward.quiet in
       let on = map_on spec y.new y.onward.quiet labels maps.thread maps.root x.number y.number frame space maps.rooted
       (stays spec x.new y.new maps.root x.number frame y.onward x.there) maps.is_frame y.there maps.is in
       rw (from, to) (reaches labels on.0 (label_of labels space.object) a (label_of labels frame.object)
       (onward_then spec (boot spec) y.new on.0 (onward_then spec (boot spec) x.new y.new x.onward y.onward) on.1) (on.4 a conf))
   audited_reached labels l a m (of_bind (d, n, binds, is, from, to)) =
-      let x : Gets spec (boot spec) binds.root binds.irq = spread_gets binds.root binds.irq binds.has_irq (boot spec)
-      (boot_quiet spec kept) in
+      let x : Gets spec (boot spec) binds.root binds.irq = search (rules, spread_gets, boot_quiet) in
       let y : Gets spec x.new binds.root binds.bound = spread_gets binds.root binds.bound binds.has x.new x.onward.quiet in
       let on = bind_on spec y.new y.onward.quiet labels binds.thread binds.root x.number y.number binds.irq binds.bound
       binds.rooted (stays spec x.new y.new binds.root x.number binds.irq y.onward x.there) binds.is_irq y.there binds.is

@@ -1,4 +1,5 @@
 -- The first capability to a thread.
+use Rattle.std.proofs.Common.{rules}
 use Rattle.cap_audit.proofs.Common.{Cap, Contains, Entry, HasNoThread, HoldsNoThread, IsFirstThread, IsKept, IsThreadSlot, List, None, Object, Option, Some, Spec, [], and_parts, ap, arith, at_contains, cases_lt, contains_at, fits, get_or, inl, inr}
 use Rattle.cap_audit.proofs.Common.{is_at, keeps, keeps_slots, leb, length, list_all, nat_lt, object_at, object_kept, refl, rest_rises, rise, slice_get, slice_get-get_or, slots_at, slots_of, subst, suc, sym, true, zero, ℕ, ◌&&◌, ◌+◌, ◌<◌, ◌^◌, ◌∷◌}
 use Rattle.cap_audit.proofs.Common.{◌≡◌, ◌≤◌}
@@ -8,9 +9,7 @@ use Rattle.cap_audit.proofs.Beginning.{slots_inside}
 use Rattle.cap_audit.proofs.Quiet.{above}
 
 object_rises : (spec : Spec) (object : Object) → keeps spec object ≡ true → rise (slots_of (Some object)) ≡ true
-object_rises spec (objects.CNode bits slots) kept =
-    let all = and_parts (nat_lt 0 bits && leb bits 16) (keeps_slots (fits spec) (2 ^ bits) slots) kept in
-    (and_parts (rise slots) (list_all (λ (slot : ℕ × Cap). nat_lt slot.0 (2 ^ bits) && fits spec slot.1) slots) all.1).0
+object_rises spec (objects.CNode bits slots) kept = search (rules, and_parts, nat_lt, leb)
 object_rises spec _ kept = refl
 
 slots_rise : (spec : Spec) (c : ℕ) → IsKept spec → rise (slots_at spec c) ≡ true
@@ -80,18 +79,7 @@ first_found spec c i kept before s = record {
       → is_at spec kinds.Thread other.object ≡ true → i ≤ n
   number_below k n other here is = elim (cases_lt k s.place) [
     | inl below ↦ absurd (s.before k (n, other) below here is)
-    | inr ge ↦ elim (cases_lt s.place k) [
-      | inl after ↦ (let less = later_number (slots_at spec c) s.place k s.slot (n, other) (slots_rise spec c kept) after s.there
-          here in let number = s.number in omega arith)
-      | inr le ↦ (
-          let at : k ≡ s.place = omega arith in
-          let same : s.slot ≡ (n, other) =
-          (let a : slice_get (slots_at spec c) s.place ≡ Some (n, other) = subst
-          (λ (m : ℕ). slice_get (slots_at spec c) m ≡ Some (n, other)) at here in let b = s.there in cc) in
-          let number = s.number in
-          let first : s.slot.0 ≡ n = ap (λ (p : ℕ × Cap). p.0) same in
-          omega arith)
-    ]
+    | inr ge ↦ search (rules, cases_lt, later_number, slots_rise, slice_get)
   ]
 
 pub slots_item : (spec : Spec) (t : ℕ) (d : Entry) → t < length spec.entries

@@ -1,4 +1,5 @@
 -- Every step keeps what lies in the Spread there, and so every run from the boot state lies in it.
+use Rattle.std.proofs.Common.{rules}
 use Rattle.cap_audit.proofs.Common.{Acts, AddedBy, Authority, Binds, Bool, Cap, Capability, Contains, Contains-from_lookup, Contains-push_cases, Content, ContentWithin, HasRoot, HaveRoots, Holds, HoldsNoThread, IsWithin, List, Mapped}
 use Rattle.cap_audit.proofs.Common.{Meet, Node, None, Option, Owed, Own, Peer, Pending, Rights, Run, Saved, SavedReply, Some, Spec, Spread, State, Step, StepTo, ThreadState, [], added, and_parts, ap, arith, boot, both_rights, called}
 use Rattle.cap_audit.proofs.Common.{content_in, dropped, false, from_filter, get_or, grown, grown_at, inl, inr, is_at, is_space_root, kind_confers, lessened, lessened_kind, no_node, no_thread, node_at, nothing_pending, read_write, read_written, refl}
@@ -14,26 +15,14 @@ and_assoc true b c = refl
 and_assoc false b c = refl
 
 pub lessened_twice : (cap : Cap) (r q : Rights) → lessened (lessened cap r) q ≡ lessened cap (both_rights r q)
-lessened_twice cap r q =
-    rw (
-      and_assoc cap.rights.read r.read q.read,
-      and_assoc cap.rights.write r.write q.write,
-      and_assoc cap.rights.grant r.grant
-          q.grant,
-      and_assoc cap.rights.reply r.reply q.reply,
-    ) refl
+lessened_twice cap r q = search (rules, and_assoc)
 
 and_itself : (a : Bool) → a && a ≡ a
 and_itself true = refl
 and_itself false = refl
 
 pub lessened_itself : (cap : Cap) → lessened cap cap.rights ≡ cap
-lessened_itself cap = rw (
-  and_itself cap.rights.read,
-  and_itself cap.rights.write,
-  and_itself cap.rights.grant,
-  and_itself cap.rights.reply,
-) refl
+lessened_itself cap = search (rules, and_itself)
 
 module _ (spec : Spec) where
   -- no capability of the Spread is to a thread
@@ -64,17 +53,13 @@ module _ (spec : Spec) where
   -- what a held capability to an endpoint confers, the whole one confers
   whole_confers : (c : ℕ) (cap : Cap) (a : Authority) (h : Holds spec c cap) → kind_confers kinds.Endpoint cap.rights a ≡ true
       → kind_confers kinds.Endpoint h.whole.rights a ≡ true
-  whole_confers c cap a h conf =
-      lessened_kind kinds.Endpoint h.whole.rights h.rights a
-      (subst (λ (x : Cap). kind_confers kinds.Endpoint x.rights a ≡ true) h.is conf)
+  whole_confers c cap a h conf = search (rules, lessened_kind)
 
   whole_kind : (kind : ℕ → Bool) (c : ℕ) (cap : Cap) (h : Holds spec c cap) → kind cap.object ≡ true → kind h.whole.object ≡ true
   whole_kind kind c cap h is = subst (λ (n : ℕ). kind n ≡ true) (object_is c cap h) is
 
   whole_writes : (c : ℕ) (cap : Cap) (h : Holds spec c cap) → cap.rights.write ≡ true → h.whole.rights.write ≡ true
-  whole_writes c cap h writes =
-      lessened_kind kinds.Endpoint h.whole.rights h.rights authorities.SyncSend
-      (subst (λ (x : Cap). x.rights.write ≡ true) h.is writes)
+  whole_writes c cap h writes = search (rules, lessened_kind)
 
   module _ (s : State) (w : IsWithin spec s) where
     content_at : (c i : ℕ) (content : Content) → content_in s c i ≡ Some content → ContentWithin spec c content
@@ -120,28 +105,7 @@ module _ (spec : Spec) where
     thread_within : (t : ℕ) (thread : ThreadState) → thread.root ≡ (thread_at s t).root → thread.space ≡ (thread_at s t).space
         → ((reply : Pending) → thread.pending ≡ Some reply → Owed spec t reply)
         → IsWithin spec (record s { threads = set s.threads t thread })
-    thread_within t thread root space owes = record {
-      contents = w.contents;
-      roots = λ k. elim (read_written s.threads t k thread no_thread) [
-        | inl e ↦ ap (λ (x : ThreadState). x.root) e ∙ w.roots k
-        | inr e ↦
-            rw e.0 (ap (λ (x : ThreadState). x.root) (subst (λ (n : ℕ). get_or (set s.threads t thread) n no_thread ≡ thread) e.0
-            e.1) ∙ (root ∙ w.roots t))
-      ];
-      spaces = λ k. elim (read_written s.threads t k thread no_thread) [
-        | inl e ↦ ap (λ (x : ThreadState). x.space) e ∙ w.spaces k
-        | inr e ↦
-            rw e.0 (ap (λ (x : ThreadState). x.space) (subst (λ (n : ℕ). get_or (set s.threads t thread) n no_thread ≡ thread) e.0
-            e.1) ∙ (space ∙ w.spaces t))
-      ];
-      pending = λ k reply is. elim (read_written s.threads t k thread no_thread) [
-        | inl e ↦ w.pending k reply (subst (λ (x : ThreadState). x.pending ≡ Some reply) e is)
-        | inr e ↦ subst (λ (n : ℕ). Owed spec n reply) (sym e.0)
-            (owes reply (subst (λ (x : ThreadState). x.pending ≡ Some reply) e.1 is))
-      ];
-      irqs = w.irqs;
-      mapped = w.mapped;
-    }
+    thread_within t thread root space owes = search (rules, read_written, set)
 
     waits_within : (t : ℕ) (b : Bool) → IsWithin spec (record s { threads = waiting s.threads t b })
     waits_within t b = thread_within t (record (thread_at s t) { waits = b }) refl refl (w.pending t)
@@ -164,14 +128,7 @@ module _ (spec : Spec) where
   meets : (s : State) (t c u j d : ℕ) (to from : Cap) (w : IsWithin spec s) → Acts s t c
       → is_at spec kinds.Endpoint to.object ≡ true → (h : Holds spec c to)
       → (peer : Peer spec s t u j to.object d from) → (q : Holds spec d from) → HaveRoots spec t u c d × Meet spec h.whole q.whole
-  meets s t c u j d to from w acts is h peer q = (
-    record { other = peer.other; root = rooted s w t c acts.root; peer_root = rooted s w u d peer.acts.root },
-    record {
-      is = whole_kind (is_at spec kinds.Endpoint) c to h is;
-      same = sym (object_is d from q) ∙ (peer.same ∙ object_is c to h);
-      reads = whole_confers d from authorities.Receive q peer.reads;
-    },
-  )
+  meets s t c u j d to from w acts is h peer q = search (rules, rooted, whole_kind, object_is, whole_confers)
 
   -- the steps
 
@@ -180,8 +137,7 @@ module _ (spec : Spec) where
       → IsWithin spec (added s c (lessened cap r))
   take_within s t c i j to cap r w acts own there =
       let h : Holds spec c to = holds_at s w c i to own.there in
-      let has : Holds spec h.whole.object cap = subst (λ (n : ℕ). Holds spec n cap) (object_is c to h)
-      (holds_at s w to.object j cap there) in
+      let has : Holds spec h.whole.object cap = search (rules, object_is, holds_at) in
       grows s w c (Capability (lessened cap r))
       (lessen c cap r (moves h.whole.object c cap (λ whole of. spread.take t h.whole (rooted s w t c acts.root) h.spread
       (whole_kind (is_at spec kinds.CNode) c to h own.is) of) has))
@@ -220,18 +176,8 @@ module _ (spec : Spec) where
       let owed : Owed spec u (record { caller = t; grants = from.rights.grant }) = record {
         to = h.whole;
         from = q.whole;
-        calls = record {
-          root = c;
-          peer_root = d;
-          roots = m.0;
-          has = h.spread;
-          peer_has = q.spread;
-          meet = m.1;
-          may = whole_confers c to authorities.Call h may;
-        };
-        grants =
-            λ grants. (and_parts q.whole.rights.read q.whole.rights.grant (whole_confers d from authorities.GrantBack q
-            (rw (peer.reads, grants) refl))).1;
+        calls = search (rules, whole_confers);
+        grants = search (rules, and_parts, whole_confers);
       } in
       waits_within (record s { threads = with_pending s.threads u (Some (record { caller = t; grants = from.rights.grant })) })
       (owes s w u (record { caller = t; grants = from.rights.grant }) owed) t true
@@ -265,10 +211,7 @@ module _ (spec : Spec) where
       → (thread_at s reply.caller).root ≡ Some d → IsWithin spec (released (added s d (lessened cap r)) c i reply.caller)
   saved_within s c i k d reply cap r w there grants has root =
       let saved : Saved spec c reply = content_at s w c i (SavedReply reply) there in
-      released_within (added s d (lessened cap r)) c i reply.caller
-      (grows s w d (Capability (lessened cap r))
-      (lessen d cap r (back saved.thread c d reply cap saved.root (rooted s w reply.caller d root) saved.owed grants
-      (holds_at s w c k cap has))))
+      search (rules, released_within, grows, lessen, back, rooted, holds_at)
 
   map_within : (s : State) (t c i j : ℕ) (frame cap : Cap) (r : Rights) → IsWithin spec s → Acts s t c
       → Own (is_at spec kinds.Frame) s c i frame → Own (is_space_root spec) s c j cap → IsWithin spec (record s {
@@ -301,9 +244,7 @@ module _ (spec : Spec) where
         };
         to = object_is c cap q;
         of = object_is c frame h;
-        with_rights =
-            ap (λ (x : Cap). both_rights x.rights (read_write r)) h.is ∙ ap (λ (x : Cap). x.rights)
-            (lessened_twice h.whole h.rights (read_write r));
+        with_rights = search (rules, lessened_twice);
       } in
       record {
         contents = w.contents;
@@ -338,19 +279,7 @@ module _ (spec : Spec) where
         of_irq = sym (object_is c irq h);
         of_bound = sym (object_is c cap q);
       } in
-      record {
-        contents = w.contents;
-        roots = w.roots;
-        spaces = w.spaces;
-        pending = w.pending;
-        irqs = λ d n is. elim (read_written s.irqs irq.object d (Some cap.object) None) [
-          | inl e ↦ w.irqs d n (sym e ∙ is)
-          | inr e ↦ inr (
-              let same : cap.object ≡ n = (let x : ◌≡◌ {A = Option ℕ} (Some cap.object) (Some n) = sym e.1 ∙ is in cc) in
-              subst (λ (x : ℕ). Binds spec x n) (sym e.0) (subst (λ (x : ℕ). Binds spec irq.object x) same binds))
-        ];
-        mapped = w.mapped;
-      }
+      search (rules, read_written)
 
   no_own_thread : HoldsNoThread spec → (s : State) (c i : ℕ) (to : Cap) → IsWithin spec s
       → Own (is_at spec kinds.Thread) s c i to → ⊥

@@ -1,4 +1,5 @@
 -- The steps that an audit makes, from one quiet state to the next.
+use Rattle.std.proofs.Common.{rules}
 use Rattle.cap_audit.proofs.Common.{Acts, Auth, Authority, Bool, Cap, Capability, Contains-push, HasRoot, HaveRoots, List, Mapped, MayCall, MayGrant, Meet, None, Option, Peer, Pending, Quiet, Rights, SavedReply, Shows, Some, Spec, State, StepTo}
 use Rattle.cap_audit.proofs.Common.{ThreadState, [], added, ap, arith, boot, both_rights, called, called_threads, cases_eq, confers, content_in, false, get_or, get_or-set_other, get_or-set_same, grown_at, inl, inr, is_at, is_at_below, is_space_root}
 use Rattle.cap_audit.proofs.Common.{kind_at, kind_confers, kind_is, label_of, length, length-set, lessened, no_thread, node_at, nothing_pending, of_irq, of_mapped, of_reply, of_saved, read_write, refl, released, replied, replied_threads, saved, set}
@@ -16,12 +17,7 @@ and_true true = refl
 and_true false = refl
 
 pub lessened_all : (cap : Cap) → lessened cap all_rights ≡ cap
-lessened_all cap = rw (
-  and_true cap.rights.read,
-  and_true cap.rights.write,
-  and_true cap.rights.grant,
-  and_true cap.rights.reply,
-) refl
+lessened_all cap = search (rules, and_true)
 
 -- a frame's rights are kept by a map with all rights, as far as they confer anything
 frame_whole : (r : Rights) (a : Authority) → kind_confers kinds.Frame r a ≡ true
@@ -43,9 +39,7 @@ module _ (threads : List ThreadState) (t u : ℕ) (g : Bool) (other : t ≢ u) (
 
   owing_t : get_or owing t no_thread ≡ get_or threads t no_thread
   unfolding owing
-  owing_t =
-      get_or-set_other threads u t (record (get_or threads u no_thread) { pending = Some (record { caller = t; grants = g }) })
-      no_thread other
+  owing_t = search (rules, get_or-set_other)
 
   called_length : length (called_threads threads t u g) ≡ length threads
   unfolding owing
@@ -54,22 +48,15 @@ module _ (threads : List ThreadState) (t u : ℕ) (g : Bool) (other : t ≢ u) (
   pub called_u : get_or (called_threads threads t u g) u no_thread ≡ record (get_or threads u no_thread)
       { pending = Some (record { caller = t; grants = g }) }
   unfolding owing
-  called_u =
-      get_or-set_other owing t u (record (get_or owing t no_thread) { waits = true }) no_thread (λ e. other (sym e))
-      ∙ get_or-set_same threads u (record (get_or threads u no_thread) { pending = Some (record { caller = t; grants = g }) })
-      no_thread u_less
+  called_u = search (rules, get_or-set_other, owing, get_or-set_same)
 
   pub called_t : get_or (called_threads threads t u g) t no_thread ≡ record (get_or threads t no_thread) { waits = true }
   unfolding owing
-  called_t =
-      get_or-set_same owing t (record (get_or owing t no_thread) { waits = true }) no_thread
-      (subst (λ (n : ℕ). t < n) (sym owing_length) t_less) ∙ ap (λ (x : ThreadState). record x { waits = true }) owing_t
+  called_t = search (rules, get_or-set_same, owing, owing_length, owing_t)
 
   called_k : (k : ℕ) → k ≢ t → k ≢ u → get_or (called_threads threads t u g) k no_thread ≡ get_or threads k no_thread
   unfolding owing
-  called_k k not_t not_u =
-      get_or-set_other owing t k (record (get_or owing t no_thread) { waits = true }) no_thread not_t ∙ get_or-set_other threads u
-      k (record (get_or threads u no_thread) { pending = Some (record { caller = t; grants = g }) }) no_thread not_u
+  called_k k not_t not_u = search (rules, get_or-set_other, owing)
 
   module _ (none : (get_or threads u no_thread).pending ≡ None) (runs : (get_or threads t no_thread).waits ≡ false) where
     answered : List ThreadState
@@ -81,11 +68,7 @@ module _ (threads : List ThreadState) (t u : ℕ) (g : Bool) (other : t ≢ u) (
         { pending = None }) ∙ called_length
 
     pub answered_u : get_or (with_pending (called_threads threads t u g) u None) u no_thread ≡ get_or threads u no_thread
-    answered_u =
-        get_or-set_same (called_threads threads t u g) u (record (get_or (called_threads threads t u g) u no_thread)
-        { pending = None }) no_thread (subst (λ (n : ℕ). u < n) (sym called_length) u_less)
-        ∙ (ap (λ (x : ThreadState). record x { pending = None }) called_u
-        ∙ ap (λ (p : Option Pending). record (get_or threads u no_thread) { pending = p }) (sym none))
+    answered_u = search (rules, get_or-set_same, called_length, called_u)
 
     answered_t : get_or answered t no_thread ≡ record (get_or threads t no_thread) { waits = true }
     unfolding answered
@@ -96,18 +79,12 @@ module _ (threads : List ThreadState) (t u : ℕ) (g : Bool) (other : t ≢ u) (
     pub replied_k : (k : ℕ) → get_or (replied_threads (called_threads threads t u g) u t) k no_thread ≡ get_or threads k no_thread
     unfolding answered
     replied_k k = elim (cases_eq k t) [
-      | inl is_t ↦ rw is_t
-          (get_or-set_same answered t (record (get_or answered t no_thread) { waits = false }) no_thread
-          (subst (λ (n : ℕ). t < n) (sym answered_length) t_less)
-          ∙ (ap (λ (x : ThreadState). record x { waits = false }) answered_t
-          ∙ ap (λ (b : Bool). record (get_or threads t no_thread) { waits = b }) (sym runs)))
+      | inl is_t ↦ search (rules, get_or-set_same, answered, answered_length, answered_t)
       | inr not_t ↦
           get_or-set_other answered t k (record (get_or answered t no_thread) { waits = false }) no_thread not_t
           ∙ elim (cases_eq k u) [
             | inl is_u ↦ rw is_u answered_u
-            | inr not_u ↦ get_or-set_other (called_threads threads t u g) u k
-                (record (get_or (called_threads threads t u g) u no_thread) { pending = None }) no_thread not_u
-                ∙ called_k k not_t not_u
+            | inr not_u ↦ search (rules, get_or-set_other, called_k)
           ]
     ]
 
@@ -115,10 +92,7 @@ module _ (spec : Spec) (s : State) (q : Quiet spec s) where
   pub quiet_thread : (t c : ℕ) → HasRoot spec t c → t < length s.threads
   quiet_thread t c root =
       let is : is_at spec kinds.Thread t ≡ true = (elim (q.fits.threads t).kind [
-        | inl none ↦ absurd (
-            let a : (thread_at s t).root ≡ Some c = (quiet_acts spec s q t c root).root in
-            let e : ◌≡◌ {A = Option ℕ} None (Some c) = sym (ap (λ (x : ThreadState). x.root) none) ∙ a in
-            cc)
+        | inl none ↦ search (rules, quiet_acts)
         | inr is ↦ is
       ]) in
       let less = is_at_below spec kinds.Thread t is in
@@ -157,13 +131,7 @@ module _ (spec : Spec) (s : State) (q : Quiet spec s) where
 
   peer : (t u c d j : ℕ) (to from : Cap) → HaveRoots spec t u c d → Meet spec to from → content_in s d j ≡ Some (Capability from)
       → Peer spec s t u j to.object d from
-  peer t u c d j to from roots meet there = record {
-    other = roots.other;
-    acts = quiet_acts spec s q u d roots.peer_root;
-    own = record { there = there; is = subst (λ (n : ℕ). is_at spec kinds.Endpoint n ≡ true) (sym meet.same) meet.is };
-    reads = meet.reads;
-    same = meet.same;
-  }
+  peer t u c d j to from roots meet there = search (rules, quiet_acts)
 
   pub grant_on : (t u c d i j k : ℕ) (to from cap : Cap) → HaveRoots spec t u c d → Meet spec to from → MayGrant to
       → content_in s c i ≡ Some (Capability to) → content_in s d j ≡ Some (Capability from)
@@ -191,17 +159,7 @@ module _ (spec : Spec) (s : State) (q : Quiet spec s) where
     owed_reply = record { caller = t; grants = from.rights.grant }
 
     pub call_step : StepTo spec s (steps.Call t i u j) (called s t u from.rights.grant)
-    call_step = (
-      c,
-      to,
-      d,
-      from,
-      quiet_acts spec s q t c roots.root,
-      record { there = own; is = meet.is },
-      may,
-      peer t u c d j to from roots meet listens,
-      refl,
-    )
+    call_step = search (rules, quiet_acts, peer)
 
     at_u : thread_at (called s t u from.rights.grant) u ≡ record (thread_at s u) { pending = Some owed_reply }
     at_u = called_u s.threads t u from.rights.grant roots.other (quiet_thread t c roots.root) (quiet_thread u d roots.peer_root)
@@ -210,9 +168,7 @@ module _ (spec : Spec) (s : State) (q : Quiet spec s) where
     at_t = called_t s.threads t u from.rights.grant roots.other (quiet_thread t c roots.root) (quiet_thread u d roots.peer_root)
 
     u_acts : Acts (called s t u from.rights.grant) u d
-    u_acts =
-        let a : Acts s u d = quiet_acts spec s q u d roots.peer_root in
-        record { runs = ap (λ (x : ThreadState). x.waits) at_u ∙ a.runs; root = ap (λ (x : ThreadState). x.root) at_u ∙ a.root }
+    u_acts = search (rules, quiet_acts, at_u)
 
     u_owes : (thread_at (called s t u from.rights.grant) u).pending ≡ Some owed_reply
     u_owes = ap (λ (x : ThreadState). x.pending) at_u
@@ -237,18 +193,8 @@ module _ (spec : Spec) (s : State) (q : Quiet spec s) where
         → Lands spec s c cap (steps.Call t i u j ∷ (steps.Reply u (Some (k, all_rights)) ∷ []))
     reply_on k cap grants there =
         let new = added (replied (called s t u from.rights.grant) u t) c cap in
-        let answer : StepTo spec (called s t u from.rights.grant) (steps.Reply u (Some (k, all_rights))) new = (
-          d,
-          owed_reply,
-          cap,
-          c,
-          u_acts,
-          u_owes,
-          grants,
-          there,
-          t_rooted,
-          ap (λ (x : Cap). added (replied (called s t u from.rights.grant) u t) c x) (sym (lessened_all cap)),
-        ) in
+        let answer : StepTo spec (called s t u from.rights.grant) (steps.Reply u (Some (k, all_rights))) new =
+        search (rules, u_acts, u_owes, t_rooted, lessened_all) in
         record {
           new = new;
           run = (called s t u from.rights.grant, call_step, (new, answer, refl));
@@ -275,16 +221,10 @@ module _ (spec : Spec) (s : State) (q : Quiet spec s) where
         let new = released (saved (called s t u from.rights.grant) u d owed_reply) d (node_at s d).next t in
         let less : d < length s.nodes = quiet_node spec s q d (quiet_cnode spec s q u d roots.peer_root) in
         let save_step : StepTo spec mid (steps.Save u) kept = (d, owed_reply, u_acts, u_owes, refl) in
-        let there : content_in kept d n ≡ Some (SavedReply owed_reply) = grown_at_next s.nodes d (SavedReply owed_reply)
-        q.fresh less in
-        let u_after : thread_at kept u ≡ thread_at s u =
-        answered_u s.threads t u from.rights.grant roots.other (quiet_thread t c roots.root) (quiet_thread u d roots.peer_root)
-        u_owed_none t_runs in
+        let there : content_in kept d n ≡ Some (SavedReply owed_reply) = search (rules, grown_at_next) in
+        let u_after : thread_at kept u ≡ thread_at s u = search (rules, answered_u, quiet_thread, u_owed_none, t_runs) in
         let a : Acts s u d = quiet_acts spec s q u d roots.peer_root in
-        let acts : Acts kept u d = record {
-          runs = ap (λ (x : ThreadState). x.waits) u_after ∙ a.runs;
-          root = ap (λ (x : ThreadState). x.root) u_after ∙ a.root;
-        } in
+        let acts : Acts kept u d = search (rules) in
         let release_step : StepTo spec kept (steps.ReplyTo u (node_at s d).next None) new =
         (d, owed_reply, acts, there, refl) in (
           new,
@@ -316,15 +256,7 @@ module _ (spec : Spec) (s : State) (q : Quiet spec s) where
             parts = refl;
             state = kept;
             run = (mid, call_step, (kept, save_step, refl));
-            auth = inr (of_saved (
-              d,
-              n,
-              owed_reply,
-              there_by_lookup (node_at kept d) n (SavedReply owed_reply) there,
-              refl,
-              refl,
-              refl,
-            ));
+            auth = search (rules, there_by_lookup);
           },
           refl,
         )
@@ -384,16 +316,7 @@ module _ (spec : Spec) (s : State) (q : Quiet spec s) where
       × Auth spec labels new (label_of labels irq.object) authorities.AsyncSend (label_of labels bound.object)
   bind_on labels t c i j irq bound root own is of is_bound writes =
       let new : State = record s { irqs = set s.irqs irq.object (Some bound.object) } in
-      let leads : StepTo spec s (steps.Bind t i j) new = (
-        c,
-        irq,
-        bound,
-        quiet_acts spec s q t c root,
-        record { there = own; is = is },
-        record { there = of; is = is_bound },
-        writes,
-        refl,
-      ) in
+      let leads : StepTo spec s (steps.Bind t i j) new = search (rules, quiet_acts) in
       let less : irq.object < length s.irqs = (
       let a : irq.object < length spec.entries = is_at_below spec kinds.Irq irq.object is in
       let b : length s.irqs ≡ length spec.entries = q.fits.as_many_irqs in

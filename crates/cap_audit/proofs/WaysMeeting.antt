@@ -1,4 +1,5 @@
 -- Members of hubs, and what coming to a hub leaves.
+use Rattle.std.proofs.Common.{rules}
 use Rattle.cap_audit.proofs.Common.{Attends, Connects, Contains, Fills, Found, Gathering, Grows, HasRoot, InClass, IsFound, IsHub, IsMember, IsWeb, Joins, Lanes, Leads, List, Member, None, Option, Pair, Passage, Passes, Path, Side, Some, Spec}
 use Rattle.cap_audit.proofs.Common.{StandsAt, Web, Widened, Widens, [], arith, at_end, cases_lt, course_of, false, inl, inr, is_at, is_at_below, length, length-set, members_at, opposite, refl, row_at, side_of, slice_get, slice_get_within, subst, sym}
 use Rattle.cap_audit.proofs.Common.{true, with_member, ℕ, ◌++◌, ◌<◌, ◌∙◌, ◌∷◌, ◌≡◌, ◌≢◌, ◌≤◌, ◌⊎◌}
@@ -21,13 +22,7 @@ no_member = record {
 
 pub member_on : (spec : Spec) (f g : Found) → Grows f g → (e : ℕ) (by : Passage) (side : Side) (member : Member)
     → IsMember spec f e by side member → IsMember spec g e by side member
-member_on spec f g grows e by side member m = record {
-  root = m.root;
-  at = holds_on f g grows member.node member.number member.cap m.at;
-  is = m.is;
-  of = m.of;
-  allows = m.allows;
-}
+member_on spec f g grows e by side member m = search (rules, holds_on)
 
 -- roots that differ are of threads that differ
 roots_differ : (spec : Spec) (t u c d : ℕ) → HasRoot spec t c → HasRoot spec u d → c ≢ d → t ≢ u
@@ -38,33 +33,8 @@ roots_differ spec t u c d a b differ same = differ (let x : HasRoot spec t d = s
 pub meeting_leads : (spec : Spec) (f : Found) (e : ℕ) (passage : Passage) (giver taker : Member)
     → IsMember spec f e passage sides.Giving giver → IsMember spec f e passage sides.Taking taker → giver.node ≢ taker.node
     → Leads spec f giver.node taker.node (course_of passage giver taker)
-meeting_leads spec f e passages.Grant giver taker g k differ = (
-  giver.cap,
-  taker.cap,
-  record {
-    other = roots_differ spec giver.thread taker.thread giver.node taker.node g.root k.root differ;
-    root = g.root;
-    peer_root = k.root;
-  },
-  g.at,
-  k.at,
-  record { is = g.is; same = k.of ∙ sym g.of; reads = k.allows },
-  g.allows,
-)
-meeting_leads spec f e passages.Reply giver taker g k differ = (
-  taker.cap,
-  giver.cap,
-  record {
-    other = roots_differ spec taker.thread giver.thread taker.node giver.node k.root g.root (λ same. differ (sym same));
-    root = k.root;
-    peer_root = g.root;
-  },
-  k.at,
-  g.at,
-  record { is = k.is; same = g.of ∙ sym k.of; reads = g.allows.0 },
-  k.allows,
-  g.allows.1,
-)
+meeting_leads spec f e passages.Grant giver taker g k differ = search (rules, roots_differ)
+meeting_leads spec f e passages.Reply giver taker g k differ = search (rules, roots_differ)
 
 pub member_below : (spec : Spec) (f : Found) (e : ℕ) (by : Passage) (side : Side) (member : Member) → IsFound spec f
     → IsMember spec f e by side member → member.node < length spec.entries
@@ -88,12 +58,7 @@ queue_longer f g n grows le = elim (cases_lt (length g.queue) n) [
       let within = slice_get_within g.queue (length g.queue) pair there in omega arith
 
 pub widened_then : (spec : Spec) (a b c : Web) → Widened spec a b → Widened spec b c → Widened spec a c
-widened_then spec a b c x y = record {
-  later = later_then spec a.findings b.findings c.findings x.later y.later;
-  ways = y.ways;
-  widens = widens_then a.net b.net c.net x.widens y.widens;
-  gone = λ done le gone. y.gone done (queue_longer a.findings b.findings done x.later.grows le) (x.gone done le gone);
-}
+widened_then spec a b c x y = search (rules, later_then, widens_then, queue_longer)
 
 -- one CNode is connected with itself
 pub same_connects : (spec : Spec) (web : Web) (c d : ℕ) → IsWeb spec web → c ≡ d → Connects spec web c d web
@@ -128,10 +93,7 @@ passes_same sides.Taking net c = at_end
 -- one that is joined with a member stands there by it
 pub fellow_stands : (spec : Spec) (web : Web) → IsWeb spec web → (side : Side) (members : List Member) (c : ℕ)
     → (member : Member) × Contains members member × InClass web.net c member.node → StandsAt side web.net members c
-fellow_stands spec web is side members c (member, there, same) = record { member = member; there = there; path = go side } where
-  go : (side : Side) → Passes side web.net c member.node
-  go sides.Giving = is.ways.joined c member.node same
-  go sides.Taking = is.ways.joined member.node c (record { one = same.other; other = same.one; same = sym same.same })
+fellow_stands spec web is side members c (member, there, same) = search (rules)
 
 -- a member more
 
@@ -186,9 +148,7 @@ module _ (spec : Spec) (web : Web) (by : Passage) (hub : Gathering) (h : IsHub s
   -- the ways between the new one and one of the other side
   joined : (at : Side) (e : ℕ) (x o : Member) → at ≡ side → e ≡ member.cap.object → member ≡ x
       → Contains (members_at hub (opposite at) e) o → Passes at new.net x.node o.node
-  joined at e x o s is same there = rw (s, ← same)
-      (j.paths o (subst (λ (n : ℕ). Contains (members_at hub (opposite side) n) o) is
-      (subst (λ (y : Side). Contains (members_at hub (opposite y) e) o) s there)))
+  joined at e x o s is same there = search (rules)
 
   opposite_twice : (at : Side) → opposite (opposite at) ≡ at
   opposite_twice sides.Giving = refl
@@ -202,10 +162,7 @@ module _ (spec : Spec) (web : Web) (by : Passage) (hub : Gathering) (h : IsHub s
       | inr now ↦ passes_back at new.net o.node x.node (joined (opposite at) e o x now.0 now.1 now.2
           (subst (λ (s : Side). Contains (members_at hub s e) x) (sym (opposite_twice at)) old))
     ]
-    | inr now ↦ elim (put_cases hub side member (opposite at) e o b) [
-      | inl other ↦ joined at e x o now.0 now.1 now.2 other
-      | inr both ↦ absurd (not_opposite at (both.0 ∙ sym now.0))
-    ]
+    | inr now ↦ search (rules, put_cases, joined, not_opposite)
   ]
 
   pub member_attends : Attends spec web hub by side member new full
