@@ -1,8 +1,8 @@
 -- What was found makes all edges of an audit.
 use Rattle.std.proofs.Common.{rules}
-use Rattle.cap_audit.proofs.Common.{AreGates, AreHeadRoots, AreKinds, AreReady, AreStandIns, AsyncSend, Audited, Cap, Contains, Deed, Edge, Found, Gains, HasRoot, HoldsNoThread, IsAll, IsBegun, IsClosed, IsFound, IsFoundAt, IsHeld, IsKept, IsMade}
-use Rattle.cap_audit.proofs.Common.{IsQueued, IsReport, List, Made, MeetBy, None, OfAllCalls, OfAllDeeds, OfBoot, OfCap, OfDeeds, OfFace, OfKinds, OfListening, OfPair, OfRoot, OfRoots, OfSome, Option, Pair, Reply, Some, Spec, Spread, Step, []}
-use Rattle.cap_audit.proofs.Common.{and_parts, ap, arith, at_boot, at_contains, bare, by_bind, by_map, confers, contains_at, edge, edges_same, get_or, has, held_by, inl, inr, is_at, is_wanted, label_of, length, of_bind, of_call, of_map, of_save}
+use Rattle.cap_audit.proofs.Common.{AreGates, AreHeadRoots, AreKinds, AreReady, AreStandIns, Audited, Cap, Contains, Deed, Edge, Found, Gains, HasRoot, HoldsNoThread, IsAll, IsBegun, IsClosed, IsFound, IsFoundAt, IsHeld, IsKept, IsMade}
+use Rattle.cap_audit.proofs.Common.{IsQueued, IsReport, List, Made, MeetBy, None, OfAllCalls, OfAllDeeds, OfBoot, OfCap, OfDeeds, OfFace, OfKinds, OfListening, OfPair, OfRoot, OfRoots, OfSome, Option, Pair, Some, Spec, Spread, Step, []}
+use Rattle.cap_audit.proofs.Common.{and_parts, arith, at_boot, at_contains, bare, by_bind, by_map, confers, contains_at, edge, edges_same, get_or, has, inl, inr, is_at, is_wanted, label_of, length, of_bind, of_call, of_map, of_save}
 use Rattle.cap_audit.proofs.Common.{of_spread, refl, row_at, slice_get, slice_get_within, stand_in, subst, sym, true, ℕ, ◌&&◌, ◌<◌, ◌||◌, ◌∙◌, ◌≡◌, ◌⊎◌}
 use Rattle.cap_model.specs.declared.kind.Kind.TheVariants as kinds
 use Rattle.cap_audit.proofs.SpreadLeast.{spread_least}

@@ -1,7 +1,7 @@
 -- A state that lies in the Spread has no edges but those of an audit.
 use Rattle.std.proofs.Common.{rules}
-use Rattle.cap_audit.proofs.Common.{AddedBy, Audited, Auth, Authority, Cap, Capability, Holds, HoldsNoThread, IsWithin, List, Owed, Reaches, Rights, Saved, SavedReply, Spec, State, Structural, ap, at_boot, confers, inl, inr}
-use Rattle.cap_audit.proofs.Common.{kind_confers, kind_is, label_of, lessened_confers, lessened_kind, of_bind, of_buffer, of_call, of_irq, of_map, of_mapped, of_reply, of_root, of_save, of_saved, of_space, of_spread, of_table, subst, sym, true, ℕ}
+use Rattle.cap_audit.proofs.Common.{AddedBy, Audited, Auth, Authority, Capability, Holds, HoldsNoThread, IsWithin, List, Owed, Reaches, Saved, SavedReply, Spec, State, Structural, at_boot, inl, inr}
+use Rattle.cap_audit.proofs.Common.{kind_is, lessened_confers, lessened_kind, of_bind, of_buffer, of_call, of_irq, of_mapped, of_reply, of_root, of_save, of_saved, of_space, of_table, sym, true, ℕ}
 use Rattle.cap_audit.proofs.Common.{◌∙◌, ◌≡◌}
 use Rattle.cap_model.specs.Auth.{Held}
 use Rattle.cap_model.specs.declared.kind.Kind.TheVariants as kinds

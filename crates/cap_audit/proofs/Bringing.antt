@@ -1,7 +1,7 @@
 -- What a search has found stays true when a value is brought along a way.
 use Rattle.std.proofs.Common.{rules}
-use Rattle.cap_audit.proofs.Common.{Bool, Brings, Cap, Capability, Contains, Course, Found, Held, HoldsAt, IsFound, IsWay, Leads, List, Node, None, Option, Pair, Some, Spec, Way, [], ap, arith, boot, cases_eq, content_in, false, get_or}
-use Rattle.cap_audit.proofs.Common.{get_or-set_other, get_or-set_same, grown, grown_at, held_by, inl, inr, is_at, is_at_below, is_known, landed, length, length-append, length-set, marks_of, misses, no_node, node_at, pushed_last, read_written, refl}
+use Rattle.cap_audit.proofs.Common.{Bool, Brings, Cap, Capability, Contains, Course, Found, Held, HoldsAt, IsFound, IsWay, Leads, List, None, Option, Pair, Some, Spec, Way, [], ap, arith, boot, cases_eq, content_in, false, get_or}
+use Rattle.cap_audit.proofs.Common.{get_or-set_other, get_or-set_same, held_by, inl, inr, is_at, is_at_below, is_known, landed, length, length-append, length-set, marks_of, misses, node_at, pushed_last, read_written, refl}
 use Rattle.cap_audit.proofs.Common.{set, slice_get, steps_of, subst, suc, sym, true, unknowns, zero, ℕ, ◌++◌, ◌+◌, ◌<◌, ◌∙◌, ◌∷◌, ◌≡◌, ◌⊎◌}
 use Rattle.cap_model.specs.declared.kind.Kind.TheVariants as kinds
 use Rattle.cap_audit.specs.declared.found.Course.TheVariants as courses

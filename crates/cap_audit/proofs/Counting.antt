@@ -1,6 +1,6 @@
 -- Counts of a kept spec are small: fewer than 2^32 objects, and at most 65,536 slots in each.
 use Rattle.std.proofs.Common.{rules}
-use Rattle.cap_audit.proofs.Common.{Bool, Cap, Entry, IsKept, List, Object, Spec, [], all_at, and_parts, ap, arith, cap_count, cnode_count, fits, get_or, keeps, keeps_slots, leb, length, list_all, nat_lt, rise, slice_get-get_or, sum_by, take}
+use Rattle.cap_audit.proofs.Common.{Bool, Cap, Entry, IsKept, List, Object, Spec, [], all_at, and_parts, ap, arith, cap_count, cnode_count, get_or, keeps, keeps_slots, leb, length, list_all, nat_lt, rise, slice_get-get_or, sum_by, take}
 use Rattle.cap_audit.proofs.Common.{take_all, true, ℕ, ◌&&◌, ◌*◌, ◌+◌, ◌<◌, ◌^◌, ◌∙◌, ◌∷◌, ◌≡◌, ◌≤◌}
 use Rattle.std.proofs.Math.Pow.{pow_mono}
 use Rattle.std.proofs.lemmas.List.Sums.{sum_by_more}

@@ -1,6 +1,6 @@
 -- Hubs and covered capabilities as more is found.
 use Rattle.std.proofs.Common.{rules}
-use Rattle.cap_audit.proofs.Common.{Allows, AreHubs, Attends, Cap, Contains, Covered, Covers, Doors, Fills, Gathering, Lanes, List, Member, Opens, Passage, Side, Some, Spec, StandsAt, Web, Widened, Widens, hub_of, is_at, kind_at, kind_is}
+use Rattle.cap_audit.proofs.Common.{Allows, AreHubs, Attends, Cap, Contains, Covered, Covers, Doors, Fills, Gathering, Lanes, List, Member, Opens, Passage, Side, Some, Spec, StandsAt, Web, Widened, Widens, hub_of, is_at, kind_is}
 use Rattle.cap_audit.proofs.Common.{members_at, row_at, true, ℕ, ◌≡◌}
 use Rattle.cap_model.specs.declared.kind.Kind.TheVariants as kinds
 use Rattle.cap_audit.specs.declared.hubs.Passage.TheVariants as passages

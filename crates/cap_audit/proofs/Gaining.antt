@@ -1,7 +1,7 @@
 -- How reports in the making grow, step by step.
 use Rattle.std.proofs.Common.{rules}
 use Rattle.cap_audit.proofs.Common.{Adds, Authority, Below, Edge, Gains, Is, IsMade, IsSoFar, List, Made, Notes, OfLink, OfSome, Shows, Some, Step, [], ap, arith, at_has, boot, cases_lt, contains_at, edge, edges_same, has, has_at, inl, inr}
-use Rattle.cap_audit.proofs.Common.{label_of, length, refl, same_Some, slice_get, slice_get_within, subst, sym, true, ℕ, ◌+◌, ◌<◌, ◌↔◌, ◌∙◌, ◌≡◌, ◌≢◌, ◌≤◌, ◌⊎◌}
+use Rattle.cap_audit.proofs.Common.{label_of, length, refl, same_Some, slice_get, slice_get_within, sym, true, ℕ, ◌+◌, ◌<◌, ◌↔◌, ◌∙◌, ◌≡◌, ◌≢◌, ◌≤◌, ◌⊎◌}
 use Rattle.cap_audit.proofs.Growing.{made_more}
 
 pub gains_none : (P : Edge → Type 0) (m : Made) → IsSoFar m → ((e : Edge) → P e → e.from ≢ e.to → has m.edges e ≡ true)

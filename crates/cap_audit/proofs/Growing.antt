@@ -1,8 +1,8 @@
 -- Steps that show edges, one sequence after the other, and that a report with all edges of an audit is exact.
 use Rattle.std.proofs.Common.{rules}
 use Rattle.cap_audit.proofs.Common.{Audited, Auth, Authority, Cap, Capability, Content, Edge, Found, Has, HasRoot, HaveRoots, HoldsAt, HoldsNoThread, IsMade, IsReport, List, MayCall, Meet, Node, None, Reaches, Run, SavedReply, Shows, Spec, State}
-use Rattle.cap_audit.proofs.Common.{Step, [], ap, append-nil, append_assoc, arith, boot, cases_eq, confers, get_or, get_or-set_other, get_or-set_same, grown, grown_at, inl, inr, is_at, is_space_root, label_of, length, length-set, no_node, node_at}
-use Rattle.cap_audit.proofs.Common.{refl, set, subst, sym, true, whole, without, without_at, ℕ, ◌++◌, ◌+◌, ◌<◌, ◌∙◌, ◌∷◌, ◌≡◌, ◌≢◌, ◌⊎◌}
+use Rattle.cap_audit.proofs.Common.{Step, [], ap, append-nil, append_assoc, arith, boot, cases_eq, confers, get_or, get_or-set_other, get_or-set_same, grown_at, inl, inr, is_at, is_space_root, label_of, length, length-set, no_node, node_at}
+use Rattle.cap_audit.proofs.Common.{refl, set, subst, sym, true, whole, without_at, ℕ, ◌++◌, ◌+◌, ◌<◌, ◌∙◌, ◌∷◌, ◌≡◌, ◌≢◌, ◌⊎◌}
 use Rattle.authorities.specs.declared.authority.Authority.TheVariants as authorities
 use Rattle.cap_model.specs.declared.kind.Kind.TheVariants as kinds
 use Rattle.cap_machine.specs.declared.step.Step.TheVariants as moves

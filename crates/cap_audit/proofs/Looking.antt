@@ -2,7 +2,7 @@
 use Rattle.std.proofs.Common.{rules}
 use Rattle.cap_audit.proofs.Common.{Allows, AreAlike, AreCovered, AreHubs, Cap, Connects, Contains, Covered, Covers, CoversPair, Doors, Found, GoesAlong, GoesOn, Grows, HasRoot, HasSlots, InClass, IsClosed, IsFound, IsFoundAt, IsSearch}
 use Rattle.cap_audit.proofs.Common.{IsWeb, Later, Links, List, Merges, None, Opens, Option, Pair, Passage, Path, Side, Some, Spec, StandsAt, Way, Web, Widened, Widens, arith, cases_lt, held_by, hub_of, inl, inr, is_at, is_at_below, is_known}
-use Rattle.cap_audit.proofs.Common.{kind_at, kind_is, length, members_at, refl, row_at, slice_get, slice_get_within, subst, sym, true, ways_from, ℕ, ◌+◌, ◌<◌, ◌≡◌}
+use Rattle.cap_audit.proofs.Common.{kind_is, length, members_at, refl, slice_get, slice_get_within, subst, sym, true, ways_from, ℕ, ◌+◌, ◌<◌, ◌≡◌}
 use Rattle.cap_model.specs.declared.kind.Kind.TheVariants as kinds
 use Rattle.cap_audit.specs.Ways.{HaveGone}
 use Rattle.cap_audit.specs.declared.hubs.Passage.TheVariants as passages

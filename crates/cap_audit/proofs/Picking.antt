@@ -1,7 +1,7 @@
 -- What the picks of a CNode are, and what steps with them make.
 use Rattle.std.proofs.Common.{rules}
-use Rattle.cap_audit.proofs.Common.{Bool, Cap, Contains, Deed, Edge, Found, HasRoot, Held, HoldsAt, IsHeld, List, None, OfDeed, OfDeeds, OfSome, Option, OwnsAll, Pick, Some, Spec, Wanted, ap, at_contains, contains_at, false, filter_map}
-use Rattle.cap_audit.proofs.Common.{from_filter_map, held_by, is_wanted, pick_of, refl, slice_get, subst, sym, to_filter_map, true, wanted_from, wanted_to, ℕ, ◌∙◌, ◌≡◌}
+use Rattle.cap_audit.proofs.Common.{Bool, Cap, Contains, Deed, Edge, Found, HasRoot, Held, HoldsAt, IsHeld, List, None, OfDeed, OfDeeds, OfSome, Option, OwnsAll, Pick, Some, Spec, Wanted, at_contains, contains_at, false, filter_map}
+use Rattle.cap_audit.proofs.Common.{from_filter_map, held_by, is_wanted, pick_of, refl, slice_get, subst, to_filter_map, true, wanted_from, wanted_to, ℕ, ◌∙◌, ◌≡◌}
 
 module _ (spec : Spec) (f : Found) (wanted : Wanted) where
   -- a pick is what it was picked from

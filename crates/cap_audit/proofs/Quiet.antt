@@ -1,6 +1,6 @@
 -- States in which nobody waits and nothing is pending, and what one such state has beyond another.
 use Rattle.std.proofs.Common.{rules}
-use Rattle.cap_audit.proofs.Common.{Acts, Bool, Cap, Capability, Contains, Contains-from_lookup, Contains-push_cases, Content, HasRoot, IsKept, List, Node, None, Object, Option, Quiet, Run, Some, Spec, State, Step, StepTo, ThreadState, [], added}
+use Rattle.cap_audit.proofs.Common.{Acts, Bool, Cap, Capability, Contains, Contains-from_lookup, Contains-push_cases, Content, HasRoot, IsKept, List, Node, None, Object, Option, Quiet, Run, Some, Spec, State, Step, StepTo, [], added}
 use Rattle.cap_audit.proofs.Common.{and_parts, ap, append-nil, arith, behind, boot, boot_fits, boot_node, boot_slot, content_at, content_in, false, filter, filter-append, first, first_or_behind, fits, get_or, get_or-set_same, grown, grown_at, inl}
 use Rattle.cap_audit.proofs.Common.{inr, is_at, is_at_below, keeps, keeps_slots, leb, length, list_all, map, nat_lt, no_node, node_at, not, object_at, object_kept, read_written, refl, rest_rises, rise, set, slots_at, slots_of, step_fits, subst, sym}
 use Rattle.cap_audit.proofs.Common.{true, without, without_at, ℕ, ◌&&◌, ◌++◌, ◌<◌, ◌==◌, ◌^◌, ◌∙◌, ◌∷◌, ◌≡◌}

@@ -1,6 +1,6 @@
 -- What the Spread has, runs reach; and so every edge of an audit.
 use Rattle.std.proofs.Common.{rules}
-use Rattle.cap_audit.proofs.Common.{Audited, Auth, Authority, Calls, Cap, Capability, IsKept, List, Quiet, Reaches, Shows, Some, Spec, Spread, State, Step, [], at_boot, boot, content_in, inl, inr, is_at, label_of, node_at, of_bind, of_call, of_map}
+use Rattle.cap_audit.proofs.Common.{Audited, Auth, Authority, Calls, Cap, Capability, IsKept, List, Quiet, Reaches, Shows, Some, Spec, Spread, State, Step, [], at_boot, boot, content_in, inr, is_at, label_of, node_at, of_bind, of_call, of_map}
 use Rattle.cap_audit.proofs.Common.{of_save, of_spread, refl, subst, true, ℕ, ◌++◌, ◌≡◌}
 use Rattle.authorities.specs.declared.authority.Authority.TheVariants as authorities
 use Rattle.cap_model.specs.declared.kind.Kind.TheVariants as kinds

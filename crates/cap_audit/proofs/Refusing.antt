@@ -1,7 +1,7 @@
 -- The first capability to a thread.
 use Rattle.std.proofs.Common.{rules}
-use Rattle.cap_audit.proofs.Common.{Cap, Contains, Entry, HasNoThread, HoldsNoThread, IsFirstThread, IsKept, IsThreadSlot, List, None, Object, Option, Some, Spec, [], and_parts, ap, arith, at_contains, cases_lt, contains_at, fits, get_or, inl, inr}
-use Rattle.cap_audit.proofs.Common.{is_at, keeps, keeps_slots, leb, length, list_all, nat_lt, object_at, object_kept, refl, rest_rises, rise, slice_get, slice_get-get_or, slots_at, slots_of, subst, suc, sym, true, zero, ℕ, ◌&&◌, ◌+◌, ◌<◌, ◌^◌, ◌∷◌}
+use Rattle.cap_audit.proofs.Common.{Cap, Contains, Entry, HasNoThread, HoldsNoThread, IsFirstThread, IsKept, IsThreadSlot, List, None, Object, Option, Some, Spec, [], and_parts, arith, at_contains, cases_lt, contains_at, get_or, inl, inr}
+use Rattle.cap_audit.proofs.Common.{is_at, keeps, leb, length, nat_lt, object_at, object_kept, refl, rest_rises, rise, slice_get, slice_get-get_or, slots_at, slots_of, subst, suc, sym, true, zero, ℕ, ◌&&◌, ◌+◌, ◌<◌, ◌^◌, ◌∷◌}
 use Rattle.cap_audit.proofs.Common.{◌≡◌, ◌≤◌}
 use Rattle.cap_model.specs.declared.kind.Kind.TheVariants as kinds
 use Rattle.cap_model.specs.declared.object.Object.TheVariants as objects

@@ -2,7 +2,7 @@
 use Rattle.std.proofs.Common.{rules}
 use Rattle.cap_audit.proofs.Common.{Acts, AddedBy, Authority, Binds, Bool, Cap, Capability, Contains, Contains-from_lookup, Contains-push_cases, Content, ContentWithin, HasRoot, HaveRoots, Holds, HoldsNoThread, IsWithin, List, Mapped}
 use Rattle.cap_audit.proofs.Common.{Meet, Node, None, Option, Owed, Own, Peer, Pending, Rights, Run, Saved, SavedReply, Some, Spec, Spread, State, Step, StepTo, ThreadState, [], added, and_parts, ap, arith, boot, both_rights, called}
-use Rattle.cap_audit.proofs.Common.{content_in, dropped, false, from_filter, get_or, grown, grown_at, inl, inr, is_at, is_space_root, kind_confers, lessened, lessened_kind, no_node, no_thread, node_at, nothing_pending, read_write, read_written, refl}
+use Rattle.cap_audit.proofs.Common.{content_in, dropped, false, from_filter, grown, grown_at, inl, inr, is_at, is_space_root, kind_confers, lessened, lessened_kind, no_node, node_at, nothing_pending, read_write, read_written, refl}
 use Rattle.cap_audit.proofs.Common.{released, replied, saved, set, subst, sym, thread_at, true, waiting, with_pending, without, without_at, ℕ, ◌&&◌, ◌++◌, ◌==◌, ◌||◌, ◌∙◌, ◌∷◌, ◌≡◌}
 use Rattle.authorities.specs.declared.authority.Authority.TheVariants as authorities
 use Rattle.cap_model.specs.declared.kind.Kind.TheVariants as kinds

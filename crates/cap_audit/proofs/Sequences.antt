@@ -2,8 +2,8 @@
 use Rattle.std.proofs.Common.{rules}
 use Rattle.cap_audit.proofs.Common.{Acts, Auth, Authority, Bool, Cap, Capability, Contains-push, HasRoot, HaveRoots, List, Mapped, MayCall, MayGrant, Meet, None, Option, Peer, Pending, Quiet, Rights, SavedReply, Shows, Some, Spec, State, StepTo}
 use Rattle.cap_audit.proofs.Common.{ThreadState, [], added, ap, arith, boot, both_rights, called, called_threads, cases_eq, confers, content_in, false, get_or, get_or-set_other, get_or-set_same, grown_at, inl, inr, is_at, is_at_below, is_space_root}
-use Rattle.cap_audit.proofs.Common.{kind_at, kind_confers, kind_is, label_of, length, length-set, lessened, no_thread, node_at, nothing_pending, of_irq, of_mapped, of_reply, of_saved, read_write, refl, released, replied, replied_threads, saved, set}
-use Rattle.cap_audit.proofs.Common.{step_fits, subst, sym, thread_at, true, with_pending, without_at, ℕ, ◌&&◌, ◌++◌, ◌<◌, ◌∙◌, ◌∷◌, ◌≡◌, ◌≢◌}
+use Rattle.cap_audit.proofs.Common.{kind_at, kind_confers, kind_is, label_of, length, length-set, lessened, no_thread, node_at, nothing_pending, of_irq, of_mapped, of_reply, read_write, refl, released, replied, replied_threads, saved, set}
+use Rattle.cap_audit.proofs.Common.{step_fits, sym, thread_at, true, with_pending, without_at, ℕ, ◌&&◌, ◌++◌, ◌<◌, ◌∙◌, ◌∷◌, ◌≡◌, ◌≢◌}
 use Rattle.authorities.specs.declared.authority.Authority.TheVariants as authorities
 use Rattle.cap_model.specs.declared.kind.Kind.TheVariants as kinds
 use Rattle.cap_machine.specs.declared.step.Step.TheVariants as steps
