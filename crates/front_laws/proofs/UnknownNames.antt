@@ -221,29 +221,15 @@ in_members s c m f h j i = search (rules, in_flat_map)
 
 -- a member from what it is read as
 composition_there : (c : Component) (k : Composition) → IsIn k (compositions c) → IsIn (members.Composition k) c.members
-composition_there c k i =
-    let m = from_filter_map as_composition k c.members i in let P : Member → Type 0 = λ z. IsIn z c.members in
-    subst P (the_member m.0 m.2) m.1
-  where
-    the_member : (m : Member) → as_composition m ≡ Some k → m ≡ members.Composition k
-    the_member (members.Composition x) e = let same : x ≡ k = cc in ap (λ z. members.Composition z) same
-    the_member _ e = cc
+composition_there c k i = search (rules, from_filter_map)
 
 configuration_there : (c : Component) (k : Configuration) → IsIn k (configurations c) → IsIn (members.Configuration k) c.members
-configuration_there c k i =
-    let m = from_filter_map as_configuration k c.members i in let P : Member → Type 0 = λ z. IsIn z c.members in
-    subst P (the_member m.0 m.2) m.1
-  where
-    the_member : (m : Member) → as_configuration m ≡ Some k → m ≡ members.Configuration k
-    the_member (members.Configuration x) e = let same : x ≡ k = cc in ap (λ z. members.Configuration z) same
-    the_member _ e = cc
+configuration_there c k i = search (rules, from_filter_map)
 
 in_owned : (s : Source) (owner : Option Known) (k : Composition) (f : Fault) → HasComposition s owner k
     → IsIn f (unknown_in_composition (known_in s) owner k) → IsIn f (unknown_names s)
 in_owned s owner k f (of_component c k' h j) i = in_members s c (members.Composition k') f h (composition_there c k' j) i
-in_owned s owner k f (of_assembly a h) i =
-    in_items s (items.Assembly a) f h (in_left f (unknown_in_composition (known_in s) None a.composition)
-    (unknown_if_configured (known_in s) (within (held_as a.composition)) a.configuration) i)
+in_owned s owner k f (of_assembly a h) i = search (rules, in_items, in_left)
 
 in_lines : (s : Source) (owner : Option Known) (k : Composition) (l : Line) (f : Fault) → HasComposition s owner k
     → IsIn l k.lines → IsIn f (unknown_in_line (known_in s) owner (held_as k) l) → IsIn f (unknown_names s)
@@ -251,21 +237,10 @@ in_lines s owner k l f h j i = in_owned s owner k f h (in_flat_map (unknown_in_l
     f k.lines j i)
 
 connection_there : (k : Composition) (w : Connection) → IsIn w (connections_in k) → IsIn (lines.Connection w) k.lines
-connection_there k w i =
-    let l = from_filter_map as_connection w k.lines i in let P : Line → Type 0 = λ z. IsIn z k.lines in
-    subst P (the_line l.0 l.2) l.1
-  where
-    the_line : (l : Line) → as_connection l ≡ Some w → l ≡ lines.Connection w
-    the_line (lines.Connection x) e = let same : x ≡ w = cc in ap (λ z. lines.Connection z) same
-    the_line _ e = cc
+connection_there k w i = search (rules, from_filter_map)
 
 export_there : (k : Composition) (w : Export) → IsIn w (exports_in k) → IsIn (lines.Export w) k.lines
-export_there k w i =
-    let l = from_filter_map as_export w k.lines i in let P : Line → Type 0 = λ z. IsIn z k.lines in subst P (the_line l.0 l.2) l.1
-  where
-    the_line : (l : Line) → as_export l ≡ Some w → l ≡ lines.Export w
-    the_line (lines.Export x) e = let same : x ≡ w = cc in ap (λ z. lines.Export z) same
-    the_line _ e = cc
+export_there k w i = search (rules, from_filter_map)
 
 -- an instance of a composition stands in a line
 in_instances : (s : Source) (owner : Option Known) (k : Composition) (i : Instance) → HasComposition s owner k
@@ -286,9 +261,7 @@ in_instances s owner k i h j none =
 in_one_setting : (s : Source) (owner : Option Known) (holds : Option Holding) (x : Setting) (f : Fault)
     → HasSetting s owner holds x
     → IsIn f (unknown_in_one_setting (known_in s) owner (scope_of_held holds) x) → IsIn f (unknown_names s)
-in_one_setting s owner holds x f (of_a_body c g y h j i) u =
-    in_members s c (members.Configuration g) f h (configuration_there c g j)
-    (in_flat_map (unknown_in_one_setting (known_in s) (Some (known_of c)) (scope_of_held (known_of c).holds)) y f g.settings i u)
+in_one_setting s owner holds x f (of_a_body c g y h j i) u = search (rules, in_members, configuration_there, in_flat_map)
 in_one_setting s owner holds x f (of_the_top a g y h e i) u =
     let P : Option Configuration → Type 0 = λ z. IsIn f (unknown_if_configured (known_in s) (within (held_as a.composition)) z) in
     in_items s (items.Assembly a) f h (in_right f (unknown_in_composition (known_in s) None a.composition)
@@ -308,10 +281,7 @@ there : (s : Source) (f g : Fault) → f ≡ g → IsIn g (unknown_names s) → 
 there s f g e i = let P : Fault → Type 0 = λ z. IsIn z (unknown_names s) in subst P (sym e) i
 
 pub in_unknown : (s : Source) (f : Fault) → IsUnknown s f → IsIn f (unknown_names s)
-in_unknown s f (in_a_setting owner holds x w h u e) =
-    there s f (unknown w) e (in_one_setting s owner holds x (unknown w) h
-    (in_left (unknown w) (unknown_in_setting (known_in s) (scope_of_held holds) x.words) (unknown_attribute owner x.setter)
-    (in_setting (known_in s) holds x.words w u)))
+in_unknown s f (in_a_setting owner holds x w h u e) = search (rules, there, in_one_setting, in_left, in_setting)
 in_unknown s f (an_attribute_referred owner holds x y h r l e) =
     let P : Setter → Type 0 = λ z. IsIn (unknown y) (unknown_attribute owner z) in
     there s f (unknown y) e (in_one_setting s owner holds x (unknown y) h
@@ -328,17 +298,7 @@ in_unknown s f (a_connector owner k x h j none e) =
     (flat_map (λ (e : End). unknown_in_dotted (known_in s) (held_as k) e.words) x.ends)
     (in_false (is_some (connector_of x.connector.name)) (unknown x.connector) (ap is_some none))))
 in_unknown s f (in_an_end owner k x d w h j i u e) =
-    there s f (unknown w) e (in_lines s owner k (lines.Connection x) (unknown w) h (connection_there k x j)
-    (in_right (unknown w) (unknown_connector x)
-    (flat_map (λ (e : End). unknown_in_dotted (known_in s) (held_as k) e.words) x.ends)
-    (in_flat_map (λ (e : End). unknown_in_dotted (known_in s) (held_as k) e.words) d (unknown w) x.ends i
-    (in_dotted (known_in s) (held_as k) d.words w u))))
-in_unknown s f (in_an_export owner k x w h j u e) =
-    there s f (unknown w) e (in_lines s owner k (lines.Export x) (unknown w) h (export_there k x j)
-    (in_left (unknown w) (unknown_in_dotted (known_in s) (held_as k) x.words) (unknown_target owner x.target)
-    (in_dotted (known_in s) (held_as k) x.words w u)))
+    search (rules, there, in_lines, connection_there, in_right, in_flat_map, in_dotted)
+in_unknown s f (in_an_export owner k x w h j u e) = search (rules, there, in_lines, export_there, in_left, in_dotted)
 in_unknown s f (a_target owner k x h j l e) =
-    there s f (unknown x.target) e (in_lines s owner k (lines.Export x) (unknown x.target) h (export_there k x j)
-    (in_right (unknown x.target) (unknown_in_dotted (known_in s) (held_as k) x.words) (unknown_target owner x.target)
-    (in_false (is_some (option_and_then (λ c. c.interface x.target.name) owner)) (unknown x.target)
-    (lacked_interface owner x.target.name l))))
+    search (rules, there, in_lines, export_there, in_right, in_false, is_some, lacked_interface)
