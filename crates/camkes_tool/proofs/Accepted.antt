@@ -1,4 +1,5 @@
 -- Of files that hold the texts that are written of a build, `check` says yes.
+use Rattle.std.proofs.Common.{rules}
 use Rattle.camkes_tool.proofs.Common.{Answer, Build, Check, Command, Contents, Edge, Err, Fault, Fits, HoldTexts, Holds, HoldsAsRead, InputFault, IsCert, IsCertText, IsChecked, IsInput, IsLabelling, IsPolicy, IsPolicyText, IsReadAs, IsStatus}
 use Rattle.camkes_tool.proofs.Common.{IsStatusOfTexts, IsSystem, IsTold, IsTrioValid, List, None, NoneRose, Ok, Option, Outcome, Policy, Rose, Sink, Some, Spec, Tells, Text, ap, arith, canonical, cert_text, cond, first_cert_fault, inl, inr, is_well}
 use Rattle.camkes_tool.proofs.Common.{is_yes, length, no_fault_of_text, policy_text, same_Some, subst, sym, tell_text, true, ℕ, ◌∙◌, ◌≡◌, ◌≤◌, ◌⊎◌}
@@ -26,9 +27,7 @@ module _ (m : Contents) (old new : List ℕ → ℕ) where
       → IsInput m old new name (Err (Fault fault file)) → ⊥
   no_fault name bytes is short fault file (named, inl (told, absent)) = let two : ◌≡◌ {A = Option (List ℕ)} None (Some bytes) =
       sym absent ∙ is in cc
-  no_fault name bytes is short fault file (named, inr (told, (other, held, long))) =
-      let same = ap (λ (z : List ℕ). length z) (same_Some other bytes (sym held ∙ is)) in
-      absurd (omega (arith, same, long, short))
+  no_fault name bytes is short fault file (named, inr (told, (other, held, long))) = search (rules, same_Some)
 
   module _ (cdl policy cert : List ℕ) (b : Build) (back : AreReadBack b) (held : HoldsAsRead b) (trio : IsTrioValid b)
       (capdl_here : get m cdl ≡ Some (canonical b.spec)) (policy_here : get m policy ≡ Some (policy_text b.policy))
@@ -39,34 +38,17 @@ module _ (m : Contents) (old new : List ℕ → ℕ) where
     -- ---- what is read
 
     spec_read : (spec : Spec) → IsSystem m old new cdl (Ok spec) → Text (canonical b.spec) spec
-    spec_read spec turn =
-        let (bytes, input, told) = then_ok spec turn in
-        subst (λ z. Text z spec) (same_bytes cdl bytes (canonical b.spec) capdl_here input.1) told
+    spec_read spec turn = search (rules, then_ok, same_bytes)
 
     allowed_read : (allowed : Policy) → IsPolicy m old new policy (Ok allowed) → IsPolicyText (policy_text b.policy) allowed
-    allowed_read allowed turn =
-        let (bytes, input, told) = then_ok allowed turn in
-        subst (λ z. IsPolicyText z allowed) (same_bytes policy bytes (policy_text b.policy) policy_here input.1) told
+    allowed_read allowed turn = search (rules, then_ok, same_bytes)
 
     edges_read : (allowed : Policy) (edges : List Edge) → IsCert m old new allowed cert (Ok edges)
         → IsCertText allowed (cert_text b.cert) edges
-    edges_read allowed edges turn =
-        let (bytes, input, told) = then_ok edges turn in
-        subst (λ z. IsCertText allowed z edges) (same_bytes cert bytes (cert_text b.cert) cert_here input.1) told
+    edges_read allowed edges turn = search (rules, then_ok, same_bytes)
 
     well : (outcome : Outcome) → IsChecked m old new cdl policy cert (Ok outcome) → is_well outcome ≡ true
-    well outcome checked =
-        let (spec, system, after) = then_ok outcome checked in
-        let (allowed, text, over) = then_ok outcome after in
-        let (edges, read, given) = then_ok outcome over in
-        let (labels, labelled, said) = then_ok outcome given in
-        let asked : IsReadAs b spec allowed labels = record {
-          capdl = spec_read spec system;
-          policy_is = allowed_read allowed text;
-          labelled = labelled;
-        } in
-        let yes = held.yes spec allowed labels edges said.0 asked (edges_read allowed edges read) said.2 in
-        ap is_well said.1 ∙ ap is_yes yes
+    well outcome checked = search (rules, then_ok, spec_read, allowed_read, edges_read)
 
     -- ---- no fault is told
 
@@ -78,21 +60,14 @@ module _ (m : Contents) (old new : List ℕ → ℕ) where
     capdl_right fault file (inr (e, input, is)) = absurd cc
 
     policy_right : (fault : InputFault) (file : List ℕ) → IsPolicy m old new policy (Err (Fault fault file)) → ⊥
-    policy_right fault file (inl (bytes, input, told)) =
-        let same = same_bytes policy bytes (policy_text b.policy) policy_here input.1 in
-        let right : IsPolicyText bytes b.policy = subst (λ z. IsPolicyText z b.policy) (sym same) back.policy.text in
-        none_some _ told.1.0 right.0 told.1.1
+    policy_right fault file (inl (bytes, input, told)) = search (rules, same_bytes, none_some)
     policy_right fault file (inr (Fault f g, input, is)) = no_fault policy (policy_text b.policy) policy_here
         back.policy.writable.bytes f g input
     policy_right fault file (inr (e, input, is)) = absurd cc
 
     cert_right : (allowed : Policy) → IsPolicyText (policy_text b.policy) allowed → (fault : InputFault) (file : List ℕ)
         → IsCert m old new allowed cert (Err (Fault fault file)) → ⊥
-    cert_right allowed text fault file (inl (bytes, input, told)) =
-        let same = same_bytes cert bytes (cert_text b.cert) cert_here input.1 in
-        let right : IsCertText b.policy bytes b.cert = subst (λ z. IsCertText b.policy z b.cert) (sym same) back.cert.text in
-        none_some (first_cert_fault allowed bytes) told.1.0 (ap (λ z. first_cert_fault z bytes) (back.policy.only allowed text)
-        ∙ right.0) told.1.1
+    cert_right allowed text fault file (inl (bytes, input, told)) = search (rules, same_bytes, none_some)
     cert_right allowed text fault file (inr (Fault f g, input, is)) = no_fault cert (cert_text b.cert) cert_here
         back.cert.writable.bytes f g input
     cert_right allowed text fault file (inr (e, input, is)) = absurd cc
@@ -133,11 +108,7 @@ texts_accepted contents before now cdl policy cert asked answer status old new m
     let b = holds.build in
     let root = holds.root in
     let sources = holds.sources in
-    let back : AreReadBack b = record {
-      spec = spec_back root sources b holds.system.made;
-      policy = policy_read root sources b holds.system.made;
-      cert = cert_read root sources b holds.system.made;
-    } in
+    let back : AreReadBack b = search (rules, spec_back, policy_read, cert_read) in
     let exact = exact_status contents asked before now answer status old new m n fits tells none kept in
     status_is contents before now cdl policy cert b back (as_read root sources b holds.system.made)
     (trio_valid root sources b holds.system.made) holds.system.capdl holds.system.allowed holds.certificate status

@@ -1,4 +1,5 @@
 -- Where each object is given a label, no object is without one.
+use Rattle.std.proofs.Common.{rules}
 use Rattle.camkes_tool.proofs.Common.{Build, Err, IsLabelling, IsTrioValid, List, None, Option, Some, [], first_unlabelled, map, object_label, refl, ℕ, ◌∷◌, ◌≡◌}
 use Rattle.cam_base.specs.declared.text_fault.TextFault.{TextFault}
 use Rattle.cam_base.specs.declared.error.Refused.TheVariants as refused
@@ -17,7 +18,4 @@ pub none_some : (o : Option TextFault) (fault : TextFault) → o ≡ None → o 
 none_some o fault none some = cc
 
 pub labels_stand : (b : Build) (fault : TextFault) → IsTrioValid b → IsLabelling b.spec b.policy (Err (refused.Fault fault)) → ⊥
-labels_stand b fault trio h =
-    none_some (first_unlabelled (object_label b.policy.objects) b.spec.entries) fault
-    (none_unlabelled (object_label b.policy.objects) b.spec.entries (map (λ (o : List ℕ × ℕ). o.1) b.policy.objects)
-    trio.labelled) h
+labels_stand b fault trio h = search (rules, none_some, none_unlabelled)

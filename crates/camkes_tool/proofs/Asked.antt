@@ -10,10 +10,7 @@ module _ (told : Contents → Type 0) (some : (c : Contents) × told c) (before 
   module _ (root : List ℕ) (zero : status ≡ 0) where
     list_written : (answer : Answer) → InAll told (λ c. FitsListed (IsListed root c before now) answer)
         → Tells answer status old new m n → IsListWritten told root old new
-    list_written (Listed listing) fits tells = elim tells.told [
-      | inl t ↦ record { text = listing_text listing; whole = t.1; assigned = λ c is. lists_assigned root c listing (fits c is) }
-      | inr t ↦ absurd (zero_not_five status zero t.0)
-    ]
+    list_written (Listed listing) fits tells = search (rules, lists_assigned, zero_not_five)
     list_written answer fits tells =
         let e = whole_status answer status old new m n tells zero in let f = fits some.0 some.1 in absurd (search rules)
 
@@ -29,21 +26,12 @@ module _ (told : Contents → Type 0) (some : (c : Contents) × told c) (before 
 
     -- no answer with another status is told
     no_other : (answer : Answer) (k : ℕ) → status_of answer ≡ k → k ≢ 0 → k ≢ 3 → Tells answer status old new m n → ⊥
-    no_other answer k is a b tells = elim tells.told [
-      | inl t ↦ elim ends [ inl e ↦ a (sym is ∙ sym t.0 ∙ e) | inr e ↦ b (sym is ∙ sym t.0 ∙ e) ]
-      | inr t ↦ not_five t.0
-    ]
+    no_other answer k is a b tells = search (rules, not_five)
 
     answer_written : (answer : Answer) → InAll told (λ c. FitsExplained (IsExplained from authority to root c before now) answer)
         → Tells answer status old new m n → IsAnswerWritten told root from authority to status old new
     answer_written (Explained answer) fits tells = elim tells.told [
-      | inl t ↦ record {
-        answer = answer;
-        status_is = t.0;
-        whole = t.1;
-        assigned = λ c is. answers_whether from authority to root
-            c answer (fits c is);
-      }
+      | inl t ↦ search (rules, answers_whether)
       | inr t ↦ absurd (not_five t.0)
     ]
     answer_written (Faulted file fault) fits tells = absurd (no_other (Faulted file fault) 1 refl (λ e. cc) (λ e. cc) tells)

@@ -1,4 +1,5 @@
 -- Only `audit` and `plan` leave a choice.
+use Rattle.std.proofs.Common.{rules}
 use Rattle.camkes_tool.proofs.Common.{Answer, Audit, Certify, Check, Command, Compile, Contents, Explain, Fits, FitsCompiled, FitsExplained, FitsGenerated, FitsListed, FitsTexts, Generate}
 use Rattle.camkes_tool.proofs.Common.{IsCertified, IsChecked, IsExplained, IsGenerated, IsListed, IsRun, IsTabled, IsUsage, List, MayChoose, None, Ok, Option, Outcome, Plan, Replay, Sections, Some, Told}
 use Rattle.camkes_tool.proofs.Common.{ap, false, is_chosen, leaves_choice, refl, subst, true, ℕ, ◌≡◌}
@@ -11,27 +12,13 @@ unchosen _ none = refl
 
 module _ (m : Contents) (old new : List ℕ → ℕ) where
   checked_none : (cdl policy cert : List ℕ) (o : Outcome) → IsChecked m old new cdl policy cert (Ok o) → leaves_choice o ≡ false
-  checked_none cdl policy cert o h =
-      let (spec, system, after) = then_ok o h in
-      let (allowed, text, over) = then_ok o after in
-      let (edges, read, given) = then_ok o over in
-      let (labels, labelled, said) = then_ok o given in
-      ap leaves_choice said.1
+  checked_none cdl policy cert o h = search (rules, then_ok)
 
   ran_none : (cdl policy steps : List ℕ) (o : Outcome) → IsRun m old new cdl policy steps (Ok o) → leaves_choice o ≡ false
-  ran_none cdl policy steps o h =
-      let (spec, system, after) = then_ok o h in
-      let (allowed, text, over) = then_ok o after in
-      let (list, read, given) = then_ok o over in
-      let (labels, labelled, said) = then_ok o given in
-      ap leaves_choice said.1
+  ran_none cdl policy steps o h = search (rules, then_ok)
 
   certified_none : (cdl policy : List ℕ) (o : Outcome) → IsCertified m old new cdl policy (Ok o) → leaves_choice o ≡ false
-  certified_none cdl policy o h =
-      let (spec, system, after) = then_ok o h in
-      let (allowed, read, given) = then_ok o after in
-      let (labels, labelled, said) = then_ok o given in
-      ap leaves_choice said.1
+  certified_none cdl policy o h = search (rules, then_ok)
 
   tabled_none : (elf : List ℕ) (o : Outcome) → IsTabled m old new elf (Ok o) → leaves_choice o ≡ false
   tabled_none elf o h = let (image, turn, is) = then_ok o h in ap leaves_choice is

@@ -1,4 +1,5 @@
 -- How many edges a policy and a certificate have.
+use Rattle.std.proofs.Common.{rules}
 use Rattle.camkes_tool.proofs.Common.{one_truth}
 use Rattle.camkes_tool.proofs.BackCommon.{Bool, Domain, Edge, IsCertificateOf, IsFlat, IsIn, IsLockEdge, IsPolicyOf, IsSorted, List, None, Option, Tables, [], ap, arith, assemblies, codes, cond, domain_label, edge, edge_count, false}
 use Rattle.camkes_tool.proofs.BackCommon.{first_edge_fault, gather, has, has_in, in_gather, in_has, in_left, in_map, in_right, inl, inr, length, length-append, ltb-false, map, nat_lt, option_map, refl, slice_get, subst, suc, sym, true, ℕ, ◌*◌, ◌++◌}
@@ -23,25 +24,12 @@ limit_fault_at found = option_map (λ place. fault_at place (codes "edges")) (pl
 
 few_triples : (t : Tables) (a : ItemAt × Assembly) → assemblies t.source ≡ a ∷ [] → first_edge_fault t ≡ None
     → edge_count t ≤ 200000
-few_triples t a one none = go (nat_lt 200000 (edge_count t)) refl none
-  where
-    told : limit_fault t.source (codes "edges") ≡ limit_fault_at (a ∷ [])
-    told = ap limit_fault_at one
-
-    go : (b : Bool) → nat_lt 200000 (edge_count t) ≡ b → cond b (limit_fault t.source (codes "edges")) None ≡ None
-        → edge_count t ≤ 200000
-    go true e h = let no : limit_fault_at (a ∷ []) ≡ None = sym told ∙ h in cc
-    go false e h = ltb-false 200000 (edge_count t) e
+few_triples t a one none = search (rules, nat_lt, edge_count, codes, ltb-false)
 
 pub few_edges : (t : Tables) (a : ItemAt × Assembly) (policy : List Edge) → assemblies t.source ≡ a ∷ []
     → first_edge_fault t ≡ None → IsPolicyOf t policy → IsSorted policy
     → length policy ≤ 200000
-few_edges t a policy one none is sorted =
-    let n = few_triples t a one none in
-    let same = λ (e : Edge). one_truth (has policy e) (has (triples t) e) (λ h. (triples_are_policy t e).1 ((is e).0 h))
-    (λ h. (is e).1 ((triples_are_policy t e).0 h)) in
-    let c = table_counts t policy sorted same in
-    omega (arith, n, c)
+few_edges t a policy one none is sorted = search (rules, few_triples, has, triples_are_policy, table_counts)
 
 -- ---- the certificate
 

@@ -1,4 +1,5 @@
 -- Whatever is read of the texts of a build is the build's own, and so what holds of the build holds of it.
+use Rattle.std.proofs.Common.{rules}
 use Rattle.camkes_tool.proofs.Common.{HoldsAsRead, IsCertText, IsReadAs, ReachesText, somes_one}
 use Rattle.camkes_tool.proofs.BackCommon.{Authority, Build, Contents, Edge, IsBuildOf, IsCertReadBack, IsLabelling, IsPolicyReadBack, IsSound, IsSpecReadBack, IsTrioValid, Judged, Labels, List, Ok, Policy, Spec, Verdict, Yes, build_sound, cert_text}
 use Rattle.camkes_tool.proofs.BackCommon.{object_labels, subst, sym, ℕ, ◌↔◌, ◌∙◌, ◌≡◌, ◌≢◌}
@@ -49,15 +50,10 @@ module _ (b : Build) (sound : IsSound b) (spec_is : IsSpecReadBack b) (policy_is
   held = record { read = own_read; reaches = read_reaches; yes = read_yes }
 
 pub as_read : (root : List ℕ) (contents : Contents) (b : Build) → IsBuildOf root contents b → HoldsAsRead b
-as_read root contents b is =
-    held b (build_sound root contents b is) (spec_back root contents b is) (policy_read root contents b is)
-    (cert_read root contents b is) (trio_valid root contents b is)
+as_read root contents b is = search (rules, held, build_sound, spec_back, policy_read, cert_read, trio_valid)
 
 -- objects have the labels of the build, by whatever is read
 pub read_labels : (root : List ℕ) (contents : Contents) (b : Build) → IsBuildOf root contents b
     → (spec : Spec) (policy : Policy) (given : Labels)
     → IsReadAs b spec policy given → (object_labels b).by_object ≡ given.by_object
-read_labels root contents b is =
-    same_labels b (build_sound root contents b is) (spec_back root contents b is) (policy_read root contents b is)
-    (cert_read root contents b is)
-    (trio_valid root contents b is)
+read_labels root contents b is = search (rules, same_labels, build_sound, spec_back, policy_read, cert_read, trio_valid)

@@ -1,4 +1,5 @@
 -- The text of a path of at most 16 identifiers is a label's name.
+use Rattle.std.proofs.Common.{rules}
 use Rattle.camkes_tool.proofs.BackCommon.{IsIdentifier, IsIn, List, Name, Path, [], and_from, and_parts, arith, flat_map, inl, inr, is_label_byte, is_label_name, is_letter, is_word_byte, joined, le-leb, leb, leb-true, length, length-append, list_all}
 use Rattle.camkes_tool.proofs.BackCommon.{mul-suc, nat_le, or_left, refl, true, ℕ, ◌&&◌, ◌*◌, ◌==◌, ◌∙◌, ◌∷◌, ◌≡◌, ◌≢◌, ◌≤◌}
 use Rattle.std.proofs.lemmas.List.Folds.{list_all-append}
@@ -23,12 +24,7 @@ name_part (b ∷ bs) h =
     let p = and_parts (leb (length bs) 126) (is_letter b && list_all is_word_byte bs) h in
     let q = and_parts (is_letter b) (list_all is_word_byte bs) p.1 in
     let few = leb-true (length bs) 126 p.0 in
-    record {
-      some = omega arith;
-      few = omega (arith, few);
-      bytes = and_from (is_label_byte b) (list_all is_label_byte bs)
-          (or_left (is_word_byte b) (b == 46) (or_left (is_letter b) _ q.0)) (word_bytes bs q.1);
-    }
+    search (rules, and_from, is_label_byte, list_all, or_left, is_word_byte, is_letter, word_bytes)
 
 -- ---- texts of paths
 
@@ -69,13 +65,5 @@ path_named (n ∷ ns) some few h =
     let low : 1 ≤ length (joined (n ∷ ns)) = omega (arith, parts, one) in
     let short : length (joined (n ∷ ns)) ≤ 2047 = omega (arith, parts, most, rest, few) in
     let bytes : list_all is_label_byte (joined (n ∷ ns)) ≡ true =
-    list_all-append is_label_byte n (dotted ns)
-    ∙ and_from (list_all is_label_byte n) (list_all is_label_byte (dotted ns)) first.bytes (dotted_bytes ns behind) in
-    record {
-      name = and_from (nat_le 1 (length (joined (n ∷ ns)))) (nat_le (length (joined (n ∷ ns))) 4096
-          && list_all is_label_byte (joined (n ∷ ns)))
-          (le-leb 1 (length (joined (n ∷ ns))) low)
-          (and_from (nat_le (length (joined (n ∷ ns))) 4096) (list_all is_label_byte (joined (n ∷ ns)))
-          (le-leb (length (joined (n ∷ ns))) 4096 (omega (arith, short))) bytes);
-      short = short;
-    }
+    search (rules, list_all-append, is_label_byte, and_from, list_all, dotted_bytes) in
+    search (rules, and_from, nat_le, joined, list_all, is_label_byte, le-leb)

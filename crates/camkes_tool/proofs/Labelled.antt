@@ -1,4 +1,5 @@
 -- The labels that edges lead between, and those of objects, are lines of the policy; and labels are few.
+use Rattle.std.proofs.Common.{rules}
 use Rattle.camkes_tool.proofs.BackCommon.{AreNamesSound, Edge, Flat, IsIn, IsLockEdge, IsNamed, IsSmall, IsThere, List, Owner, Path, Source, Tables, ap, arith, called_line, flat_of, inl, inr, is_some, joined, label_lines, label_name, label_numbers}
 use Rattle.camkes_tool.proofs.BackCommon.{label_texts, length, line_name, line_place, number_of, path_there, refl, slice_get_within, source_tables, true, ℕ, ◌<◌, ◌≡◌, ◌≤◌, ◌⊎◌}
 use Rattle.adl_hierarchy.proofs.Spelled.{spelled_dotted}
@@ -49,12 +50,7 @@ named_at t is l w = let x = line_at t is l w in ap is_some (line_name t.flat l x
 -- ---- how many there are
 
 pub few_labels : (flat : Flat) → IsSmall flat → length (label_texts flat) ≤ 6144
-few_labels flat small =
-    let few = texts_are_few flat in
-    let d = small.domains in
-    let l = small.leaves in
-    let c = small.connections in
-    omega (arith, few, d, l, c)
+few_labels flat small = search (rules, texts_are_few)
 
 pub label_small : (t : Tables) → t.numbers ≡ label_numbers t.flat → IsSmall t.flat → (l : ℕ) → IsLabel t l → l < 8192
 label_small t is small l w =

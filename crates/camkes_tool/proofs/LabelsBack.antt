@@ -1,4 +1,5 @@
 -- Objects whose names differ are given back the labels that stand beside their names.
+use Rattle.std.proofs.Common.{rules}
 use Rattle.camkes_tool.proofs.BackCommon.{Entry, List, Some, [], ap, find, find_only, from_get_map, from_ones, get_map, get_ones, get_or_from_slice_get, label_of, labelled, map, object_label, option_map, refl, slice_get, suc, sym, ℕ, ◌∙◌, ◌∷◌, ◌≡◌}
 use Rattle.std.proofs.lemmas.Simd.{map-map}
 use Rattle.std.proofs.lemmas.Slice.Eq.{bytes_eq-Decides}
@@ -34,9 +35,7 @@ module _ {X : Type 0} (entry : X → Entry) (label : X → ℕ) (xs : List X)
       let here : slice_get objects n ≡ Some (line n (entry x)) =
       get_ones line (map entry xs) n (entry x) (get_map entry xs n x at) in
       let found : find (λ o. bytes_eq o.0 (entry x).name) objects ≡ Some (line n (entry x)) =
-      find_only (λ (o : List ℕ × ℕ). bytes_eq o.0 (entry x).name) objects n (line n (entry x)) here
-      ((bytes_eq-Decides (entry x).name (entry x).name).1 refl)
-      (λ m o f t. let z = line_at m o f in differ m n z.0 x z.1 at (sym z.2 ∙ (bytes_eq-Decides o.0 (entry x).name).0 t)) in
+      search (rules, find_only, bytes_eq-Decides, line_at) in
       ap (λ z. Some z) (sym number) ∙ ap (option_map (λ (o : List ℕ × ℕ). o.1)) (sym found)
 
   pub labels_back : map (λ n. Some n) (map label xs) ≡ map (λ (e : Entry). object_label objects e.name) (map entry xs)

@@ -1,4 +1,5 @@
 -- Acts leave the other channels as they were.
+use Rattle.std.proofs.Common.{rules}
 use Rattle.camkes_tool.proofs.Common.{Act, Begin, Bool, CutShort, IsAsBefore, List, None, Option, Sink, Some, Write, [], after, ap, arith, at, cond, false, inl, inr, refl, subst, sym, take, true, ℕ, ◌++◌, ◌==◌, ◌∙◌, ◌∷◌, ◌≡◌, ◌≢◌}
 use Rattle.std.proofs.lemmas.Bool.Decides.{nat_tests}
 use Rattle.cam_io.specs.Sinks.{appended, with_begun, more, named}
@@ -21,15 +22,11 @@ named_elsewhere k c name (Some w) e = ap (λ (b : Bool). Some (cond b name (w k)
 
 pub appended_elsewhere : (k c : ℕ) (s : Sink) (bytes : List ℕ) → k ≢ c → IsAsBefore k s (appended s c bytes)
 unfolding appended
-appended_elsewhere k c s bytes n =
-    let e : (k == c) ≡ false = grind (arith, nat_tests) in
-    record { begun = refl; name = refl; text = more_elsewhere k c bytes s.written e }
+appended_elsewhere k c s bytes n = search (rules, nat_tests, more_elsewhere)
 
 pub begun_elsewhere : (k c : ℕ) (s : Sink) (name : List ℕ) → k ≢ c → IsAsBefore k s (with_begun s c name)
 unfolding with_begun
-begun_elsewhere k c s name n =
-    let e : (k == c) ≡ false = grind (arith, nat_tests) in
-    record { begun = ap (λ (b : Bool). cond b true (s.begun k)) e; name = named_elsewhere k c name s.names e; text = refl }
+begun_elsewhere k c s name n = search (rules, nat_tests, named_elsewhere)
 
 -- the channels that acts touch
 abbrev pub Spares : ℕ → List Act → Type 0

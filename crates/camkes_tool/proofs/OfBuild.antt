@@ -1,5 +1,6 @@
 -- Where the capDL and the policy that are read are written of a build, an audit has the edges that are listed of its source, and
 -- the least certificate is the build's.
+use Rattle.std.proofs.Common.{rules}
 use Rattle.camkes_tool.proofs.Common.{Build, Contents, Edge, HoldBuild, HoldSystem, IsListText, IsPolicyText, IsReadAs, LabelNames, List, Policy, Spec, Step, Text, ap, apart_lines, build_sound, canonical, object_labels, one_truth, policy_text}
 use Rattle.camkes_tool.proofs.Common.{same_Some, subst, sym, ℕ, ◌∙◌, ◌≡◌}
 use Rattle.cap_model.proofs.TableMembers.{one_table}
@@ -18,12 +19,7 @@ module _ (m : Contents) (cdl policy root : List ℕ) (sources : Contents) (b : B
     (holds : HoldBuild m cdl policy root sources b)
     (spec : Spec) (allowed : Policy) (labels : Labels) (held : HoldSystem m cdl policy spec allowed labels) where
   read : IsReadAs b spec allowed labels
-  read = record {
-    capdl = subst (λ z. Text z spec) (same_Some held.capdl.0 (canonical b.spec) (sym held.capdl.1 ∙ holds.capdl)) held.capdl.2;
-    policy_is = subst (λ z. IsPolicyText z allowed) (same_Some held.text.0 (policy_text b.policy)
-        (sym held.text.1 ∙ holds.allowed)) held.text.2;
-    labelled = held.labelled;
-  }
+  read = search (rules, same_Some)
 
   of_own : (P : Spec → List ℕ → Type 0) → P spec labels.by_object → P b.spec (object_labels b).by_object
   of_own P p =

@@ -28,14 +28,7 @@ module _ (m : Contents) (root base : List ℕ) (old new later last : List ℕ �
       → FitsCompiled root base m later last (Compiled b d) → AreOne (Compiled a c) (Compiled b d)
   compiled_same a b c d x y =
       let same : c ≡ d = builds_same m root c d x.1 y.1 in
-      record {
-        status = refl;
-        script = λ is. names_same a b c x.0 y.0 ∙ ap (texts_script b) same;
-        compiled = ap (λ z. Some z) same;
-        faulted = refl;
-        refused = refl;
-        found = refl;
-      }
+      search (rules, names_same)
 
   faulted_same : (a b : List ℕ) (f g : Fault) → FitsCompiled root base m old new (Faulted a f)
       → FitsCompiled root base m later last (Faulted b g) → AreOne (Faulted a f) (Faulted b g)
@@ -75,22 +68,13 @@ well_stays (Audited report spec labels) = refl
 well_stays _ = refl
 
 outcomes_same : (o p : Outcome) → but_choice o ≡ but_choice p → leaves_choice o ≡ false → o ≡ p
-outcomes_same o p e none =
-    let here = choice_stays o ∙ none in
-    sym (all_there o here) ∙ e ∙ all_there p (ap leaves_choice (sym e) ∙ here)
+outcomes_same o p e none = search (rules, choice_stays, all_there)
 
 pub well_one : (o p : Outcome) → but_choice o ≡ but_choice p → is_well o ≡ is_well p
 well_one o p e = sym (well_stays o) ∙ ap is_well e ∙ well_stays p
 
 told_same : (o p : Outcome) → but_choice o ≡ but_choice p → AreOne (Told o) (Told p)
-told_same o p e = record {
-  status = ap (λ z. cond z 0 3) (well_one o p e);
-  script = λ none. ap (λ z. Write 0 (text_of z) ∷ []) (outcomes_same o p e none);
-  compiled = refl;
-  faulted = refl;
-  refused = refl;
-  found = ap (λ z. Some z) e;
-}
+told_same o p e = search (rules, well_one, outcomes_same)
 
 one_of_texts : (Here There : Result Outcome InputError → Type 0) → AreOneButChoice Here There → (a b : Answer) → yields a ≡ false
     → yields b ≡ false → FitsTexts Here a → FitsTexts There b → AreOne a b
@@ -164,34 +148,18 @@ pub one_asked : (m : Contents) (asked : Option Command) (old new later last : Li
 one_asked m None old new later last a b p q x y = one_usage m old new later last a b p q x y
 one_asked m (Some (Compile root base)) old new later last a b p q x y = one_of_root m root base old new later last a b p q x y
 one_asked m (Some (Check cdl policy cert)) old new later last a b p q x y =
-    one_of_texts _ _ (but_choice_one (IsChecked m old new cdl policy cert) (IsChecked m later last cdl policy cert)
-    (checked_one m old new later last cdl policy cert)) a b p q x y
-one_asked m (Some (ListOf root)) old new later last a b p q x y =
-    one_of_source Listed (IsListed root m old new) (IsListed root m later last) (one_listing m root old new later last) a b p q
-    (listed_by (IsListed root m old new) a x) (listed_by (IsListed root m later last) b y)
+    search (rules, one_of_texts, but_choice_one, checked_one)
+one_asked m (Some (ListOf root)) old new later last a b p q x y = search (rules, one_of_source, one_listing, listed_by)
 one_asked m (Some (Explain root from authority to)) old new later last a b p q x y =
-    one_of_source Explained (IsExplained from authority to root m old new) (IsExplained from authority to root m later last)
-    (one_explained m root from authority to old new later last) a b p q
-    (explained_by (IsExplained from authority to root m old new) a x)
-    (explained_by (IsExplained from authority to root m later last) b y)
+    search (rules, one_of_source, one_explained, explained_by)
 one_asked m (Some (Replay cdl policy steps)) old new later last a b p q x y =
-    one_of_texts _ _ (but_choice_one (IsRun m old new cdl policy steps) (IsRun m later last cdl policy steps)
-    (ran_one m old new later last cdl policy steps)) a b p q x y
-one_asked m (Some (Generate count)) old new later last a b p q x y =
-    one_of_source Generated (IsGenerated count) (IsGenerated count) (one_generated count) a b p q
-    (generated_by (IsGenerated count) a x) (generated_by (IsGenerated count) b y)
-one_asked m (Some (Sections elf)) old new later last a b p q x y =
-    one_of_texts _ _ (but_choice_one (IsTabled m old new elf) (IsTabled m later last elf) (tabled_one m old new later last elf)) a
-    b p q x y
-one_asked m (Some (Audit cdl policy)) old new later last a b p q x y =
-    one_of_texts (IsAudited m old new cdl policy) (IsAudited m later last cdl policy)
-    (audited_one m old new later last cdl policy) a b p q x y
+    search (rules, one_of_texts, but_choice_one, ran_one)
+one_asked m (Some (Generate count)) old new later last a b p q x y = search (rules, one_of_source, one_generated, generated_by)
+one_asked m (Some (Sections elf)) old new later last a b p q x y = search (rules, one_of_texts, but_choice_one, tabled_one)
+one_asked m (Some (Audit cdl policy)) old new later last a b p q x y = search (rules, one_of_texts, audited_one)
 one_asked m (Some (Certify cdl policy)) old new later last a b p q x y =
-    one_of_texts _ _ (but_choice_one (IsCertified m old new cdl policy) (IsCertified m later last cdl policy)
-    (certified_one m old new later last cdl policy)) a b p q x y
-one_asked m (Some (Plan cdl untypeds)) old new later last a b p q x y =
-    one_of_texts (IsPlanned m old new cdl untypeds) (IsPlanned m later last cdl untypeds)
-    (planned_one m old new later last cdl untypeds) a b p q x y
+    search (rules, one_of_texts, but_choice_one, certified_one)
+one_asked m (Some (Plan cdl untypeds)) old new later last a b p q x y = search (rules, one_of_texts, planned_one)
 
 -- ---- calls
 
@@ -208,10 +176,7 @@ stays _ l = refl
 
 whole : (a : Answer) (status : ℕ) (old new : Sink) (before now : ℕ) → Tells a status old new before now → status ≤ 3
     → IsWhole a status old new
-whole a status old new before now tells l = elim tells.told [
-  | inl t ↦ let same = t.0 in record { stays = stays a (omega arith); status = same; done = t.1 }
-  | inr t ↦ let five = t.0 in absurd (omega arith)
-]
+whole a status old new before now tells l = search (rules, stays)
 
 pub one_call : (m : Contents) (asked : Option Command) (old new later last : List ℕ → ℕ) (a b : Answer) (first second : ℕ)
     (sink left right : Sink) (before now before' now' : ℕ)
@@ -219,7 +184,4 @@ pub one_call : (m : Contents) (asked : Option Command) (old new later last : Lis
     → Tells b second sink right before' now' → second ≤ 3
     → (first ≡ second) × (is_chosen a ≡ false → left ≡ right)
 one_call m asked old new later last a b first second sink left right before now before' now' x t l y u k =
-    let one = whole a first sink left before now t l in
-    let two = whole b second sink right before' now' u k in
-    let same = one_asked m asked old new later last a b one.stays two.stays x y in
-    (one.status ∙ same.status ∙ sym two.status, λ none. one.done ∙ ap (after sink) (same.script none) ∙ sym two.done)
+    search (rules, whole, one_asked)

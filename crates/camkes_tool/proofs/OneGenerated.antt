@@ -1,4 +1,5 @@
 -- What generating answers is one, aside from want of memory.
+use Rattle.std.proofs.Common.{rules}
 use Rattle.camkes_tool.proofs.Common.{Build, Err, IsGenerated, Ok, Result, SourceError, Summary, ap, build_first, builds_same, false, generated, one_first, root_name, sym, yields, ℕ, ◌∙◌, ◌≡◌}
 use Rattle.arch_compile.specs.Summary.{summary_of}
 use Rattle.front_end.proofs.OneAnswer.{faults_same}
@@ -6,9 +7,7 @@ use Rattle.cam_base.specs.declared.error.Unread.TheVariants as error
 
 module _ (count : ℕ) where
   summaries_same : (f g : Summary) → IsGenerated count (Ok f) → IsGenerated count (Ok g) → f ≡ g
-  summaries_same f g (b, is, accepted) (c, be, accepts) =
-      accepted.summed ∙ ap (λ (z : Build). summary_of z.meaning.flat z.spec z.policy.edges)
-      (builds_same (generated count) root_name b c is be) ∙ sym accepts.summed
+  summaries_same f g (b, is, accepted) (c, be, accepts) = search (rules, builds_same)
 
   pub one_generated : (a b : Result Summary SourceError) → yields a ≡ false → yields b ≡ false → IsGenerated count a
       → IsGenerated count b → a ≡ b

@@ -1,5 +1,6 @@
 -- Paths of labels have at most 16 names. A device's is that of a leaf, and a domain's has no more names than one of its leaves.
 -- A connection joins an interface of a leaf below its composition.
+use Rattle.std.proofs.Common.{rules}
 use Rattle.camkes_tool.proofs.BackCommon.{AreNamesSound, Domain, FlatConnection, FlatEnd, HasPath, IsIn, List, None, OfConnection, OfDomain, OfLeaf, Option, Owner, Path, Placed, Some, Source, [], ap, arith, flat_domain, flat_end, flat_ends, flat_of}
 use Rattle.camkes_tool.proofs.BackCommon.{from_filter_map, from_get_map, in_map, in_place, inl, inr, le-max_left, le-max_right, leaf_of, leaves, length, length-append, map, map_some, option_map, place_of, refl, subst, sym, unwrap_or, ℕ, ◌++◌, ◌+◌}
 use Rattle.camkes_tool.proofs.BackCommon.{◌∙◌, ◌∷◌, ◌≡◌, ◌≤◌}
@@ -23,10 +24,7 @@ use Rattle.flat_laws.proofs.SomeEnds.{some_end}
 
 longest_of : (ps : List Path) (p : Path) → IsIn p ps → length p ≤ longest ps
 longest_of [] p i = absurd i
-longest_of (q ∷ ps) p (inl e) =
-    let l = le-max_left (length q) (longest ps) in
-    let same = ap (λ (z : Path). length z) e in
-    omega (arith, l, same)
+longest_of (q ∷ ps) p (inl e) = search (rules, le-max_left)
 longest_of (q ∷ ps) p (inr i) =
     let l = le-max_right (length q) (longest ps) in
     let below = longest_of ps p i in
@@ -34,16 +32,10 @@ longest_of (q ∷ ps) p (inr i) =
 
 -- a path that goes on below another is longer
 longer : (p q below : Path) (n : List ℕ) → p ≡ q ++ n ∷ below → length q + 1 ≤ length p
-longer p q below n e =
-    let all = ap (λ (z : Path). length z) e in
-    let parts = length-append q (n ∷ below) in
-    omega (arith, all, parts)
+longer p q below n e = search (rules, length-append)
 
 one_more : (p q : Path) (n : List ℕ) → p ≡ q ++ n ∷ [] → length p ≡ length q + 1
-one_more p q n e =
-    let all = ap (λ (z : Path). length z) e in
-    let parts = length-append q (n ∷ []) in
-    omega (arith, all, parts)
+one_more p q n e = search (rules, length-append)
 
 domain_short : (h : Hierarchy) (p : Path) → length (domain_of h p) ≤ length p
 domain_short h p = by_group (group_above h (top_number h) p) refl
@@ -58,17 +50,10 @@ domain_short h p = by_group (group_above h (top_number h) p) refl
 
 module _ (s : Source) (sound : AreNamesSound s) (limits : AreInLimits s) where
   leaf_short : (x : Placed) → IsIn x (leaves (hierarchy_of s)) → length x.path ≤ 16
-  leaf_short x i =
-      let paths = map (λ (z : Placed). z.path) (leaves (hierarchy_of s)) in
-      let l = longest_of paths x.path (in_map (λ (z : Placed). z.path) x (leaves (hierarchy_of s)) i) in
-      let d = limits.depth_is in
-      omega (arith, l, d)
+  leaf_short x i = search (rules, leaves, longest_of, in_map, limits)
 
   device_path : (l : ℕ) (p : Path) → HasPath (flat_of s) (OfLeaf l) p → length p ≤ 16
-  device_path l p h =
-      let g = from_get_map (leaf_of (hierarchy_of s)) (leaves (hierarchy_of s)) l h.0 h.1 in
-      let short = leaf_short g.0 (in_place g.0 (leaves (hierarchy_of s)) l g.1) in
-      subst (λ (z : Path). length z ≤ 16) (ap (λ (z : Leaf). z.path) g.2 ∙ h.3) short
+  device_path l p h = search (rules, from_get_map, leaf_of, leaves, leaf_short, in_place)
 
   domain_path : (d : ℕ) (p : Path) → HasPath (flat_of s) (OfDomain d) p → length p ≤ 16
   domain_path d p h =
@@ -99,8 +84,7 @@ module _ (s : Source) (sound : AreNamesSound s) (limits : AreInLimits s) where
   connection_path dotted types k p h =
       let y = strung_of s k h.0 h.1 in
       let e = some_end s sound dotted types k h.0 h.1 From in
-      let there : IsIn e.1 (flat_ends (hierarchy_of s) y.0) = subst (λ (z : FlatConnection). IsIn e.1 z.ends) (sym y.2)
-      (in_place e.1 h.0.ends e.0 e.2) in
+      let there : IsIn e.1 (flat_ends (hierarchy_of s) y.0) = search (rules, in_place) in
       let below = below_composition y.0 y.1 e.1 there in
       let more = one_more p y.0.path y.0.wire.1.id.name (sym (ap (λ (z : FlatConnection). z.path) y.2 ∙ h.3)) in
       omega (arith, below, more)

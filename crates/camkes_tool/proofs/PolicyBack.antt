@@ -1,4 +1,5 @@
 -- Policies of builds are read back: they keep each limit of their reader, and what every policy keeps.
+use Rattle.std.proofs.Common.{rules}
 use Rattle.camkes_tool.proofs.Common.{Tables}
 use Rattle.camkes_tool.proofs.BackCommon.{All, AllPairs, AreFacts, Build, Contents, Edge, Entry, Flat, Images, IsBuildOf, IsIn, IsMade, IsPolicy, IsPolicyReadBack, List, Ok, Policy, Refused, Result, Some, Source, TextFault, and_parts, ap, arith}
 use Rattle.camkes_tool.proofs.BackCommon.{build_facts, dotted, entry, flat_of, from_ones, gather_ones, get_or, get_or_from_slice_get, identifiers, images_beside, in_has, in_place, inl, is_name, is_some, is_word, label_lines, label_name, label_of}
@@ -21,9 +22,7 @@ use Rattle.flat_laws.proofs.ShortTrees.{all_of}
 -- ---- each element
 
 at_each : {X : Type 0} (P : X → Type 0) (xs : List X) → All P xs → (x : X) → IsIn x xs → P x
-at_each P xs all x i =
-    let n = place_of x xs i in
-    subst P (get_or_from_slice_get xs n.0 x x n.1) (all n.0 x (slice_get_within xs n.0 x n.1))
+at_each P xs all x i = search (rules, place_of, get_or_from_slice_get, slice_get_within)
 
 -- ---- labels
 
@@ -53,16 +52,10 @@ module _ (flat : Flat) (few : length (label_texts flat) ≤ 6144) where
       ap (λ (z : ℕ × List ℕ). z.0) (sym x.2)
 
   rising_is : AllPairs (λ (l m : ℕ × List ℕ). l.0 < m.0) lines
-  rising_is i j d l m =
-      let a = number_is i d (omega (arith, l, m)) in
-      let b = number_is j d m in
-      omega (arith, a, b, l)
+  rising_is i j d l m = search (rules, number_is)
 
   numbers_are : All (λ (l : ℕ × List ℕ). l.0 < 8192) lines
-  numbers_are k d l =
-      let a = number_is k d l in
-      let c = lines_count in
-      omega (arith, a, c, l, few)
+  numbers_are k d l = search (rules, number_is, lines_count)
 
   texts_are : AllPairs (λ (l m : ℕ × List ℕ). l.1 ≢ m.1) lines
   texts_are i j d l m same =
@@ -76,13 +69,7 @@ module _ (flat : Flat) (few : length (label_texts flat) ≤ 6144) where
       absurd (omega (arith, a, b, one, l))
 
   labels_are : AreLabels (label_lines flat)
-  labels_are = record {
-    rising = rising_is;
-    numbers = numbers_are;
-    texts = texts_are;
-    few = let a = lines_count in
-        omega (arith, a, few);
-  }
+  labels_are = search (rules, rising_is, numbers_are, texts_are, lines_count)
 
 -- ---- objects
 
@@ -109,11 +96,7 @@ module _ {X : Type 0} (entry : X → Entry) (label : X → ℕ) (xs : List X)
       ap (λ (z : List ℕ × ℕ). is_name z.0) (sym x.2) ∙ (and_parts (is_name x.0.name) (not (is_left_out_word x.0.name)) w).0
 
   names_apart : AllPairs (λ (o p : List ℕ × ℕ). o.0 ≢ p.0) objects
-  names_apart i j d l m same =
-      let x = line_at entry label xs differ i (get_or objects i d) (object_there i d (omega (arith, l, m))) in
-      let y = line_at entry label xs differ j (get_or objects j d) (object_there j d m) in
-      let one = differ i j x.0 y.0 x.1 y.1 (sym x.2 ∙ same ∙ y.2) in
-      absurd (omega (arith, one, l))
+  names_apart i j d l m same = search (rules, line_at, entry, object_there)
 
   objects_are : AreObjects (labelled (map entry xs) (map label xs))
   objects_are = record { names = names_are; differ = names_apart; few = few_objects }
@@ -219,29 +202,10 @@ module _ {contents : Contents} (s : Source) (images : Images) (facts : AreFacts 
     short_edge e i = let w = leads e i in (small e.from w.0, small e.to w.1)
 
     policy_writable : IsWritable b.policy
-    policy_writable =
-        let o = objects_here in
-        let l = labels_here in
-        record {
-          rising = l.rising;
-          numbers = l.numbers;
-          labels = l.few;
-          names = o.names;
-          objects = o.few;
-          order = made.sorted;
-          edges = few_edges;
-          bytes = policy_short b.policy short_label short_object short_edge l.few o.few few_edges;
-        }
+    policy_writable = search (rules, objects_here, labels_here, few_edges, policy_short, short_label, short_object, short_edge)
 
     pub made_back : IsPolicyReadBack b
-    made_back =
-        let text = policy_back b.policy policy_kept policy_writable in
-        record {
-          kept = policy_kept;
-          writable = policy_writable;
-          text = text;
-          only = λ other u. one_inside other b.policy (policies_one (policy_text b.policy) (Ok other) (Ok b.policy) tt tt u text);
-        }
+    made_back = search (rules, policy_back, policy_kept, policy_writable, one_inside, policies_one, policy_text)
 
 pub policy_read : (root : List ℕ) (contents : Contents) (b : Build) → IsBuildOf root contents b → IsPolicyReadBack b
 policy_read root contents b is = made_back b.meaning.source (images_beside contents b.meaning.source)

@@ -1,4 +1,5 @@
 -- What `certify`, `sections` and `audit` leave with status 0.
+use Rattle.std.proofs.Common.{rules}
 use Rattle.camkes_tool.proofs.Common.{Answer, Audit, Certify, Command, Contents, Edge, Fits, FitsTexts, HoldSystem, Holds, InAll, InputError, IsAudited, IsCertificateWritten, IsCertified, IsLabelling}
 use Rattle.camkes_tool.proofs.Common.{IsLeastOf, IsReportOf, IsReportWritten, IsTableOf, IsTableWritten, IsTabled, LabelNames, List, NoMemory, Ok, Option, Outcome, ReadFault, Refused, Result, SaysYes, Sections, Sink, Some, Spec, Tells, Text}
 use Rattle.camkes_tool.proofs.Common.{Told, [], appended, cert_text, inl, inr, subst, text_of, ℕ, ◌≡◌}
@@ -24,11 +25,7 @@ module _ (m : Contents) (before now : List ℕ → ℕ) where
 
   is_certified : (cdl policy : List ℕ) (o : Outcome) → IsCertified m before now cdl policy (Ok o)
       → (edges : List Edge) × (o ≡ found.Certified edges)
-  is_certified cdl policy o certified =
-      let (spec, system, after) = then_ok o certified in
-      let (allowed, read, given) = then_ok o after in
-      let (labels, labelled, (edges, is, certificate)) = then_ok o given in
-      (edges, is)
+  is_certified cdl policy o certified = search (rules, then_ok)
 
   module _ (cdl policy : List ℕ) (edges : List Edge) (certified : IsCertified m before now cdl policy
       (Ok (found.Certified edges))) where
@@ -43,28 +40,9 @@ module _ (m : Contents) (before now : List ℕ → ℕ) where
         let (allowed, read, given) = then_ok (found.Certified edges) after in
         let (labels, labelled, (cert, is, certificate)) = then_ok (found.Certified edges) given in
         let same : cert ≡ edges = cc in
-        let least : IsCertificate spec labels.by_object edges = subst (λ z. IsCertificate spec labels.by_object z) same
-        certificate in
-        let held : HoldSystem m cdl policy spec allowed labels = record {
-          capdl = system_read m before now cdl policy [] spec system;
-          text = policy_read m before now cdl policy [] allowed read;
-          labelled = labelled;
-        } in
-        record {
-          spec = spec;
-          allowed = allowed;
-          labels = labels;
-          held = held;
-          least = least.least;
-          read_back = text_back held.capdl.0 held.text.0 spec allowed labels held.capdl.2 held.text.2 labelled edges
-              least;
-          of_build = λ root sources b holds. least_own m cdl policy root sources b holds spec allowed labels held
-              edges least.sorted least.least;
-          decides = λ cert held. (
-            λ yes. (cert, yes),
-            λ some. other_says cert held some,
-          );
-        }
+        let least : IsCertificate spec labels.by_object edges = search (rules) in
+        let held : HoldSystem m cdl policy spec allowed labels = search (rules, system_read, policy_read) in
+        search (rules, text_back, least_own, other_says)
 
   -- ---- tables
 
@@ -89,11 +67,7 @@ module _ (m : Contents) (before now : List ℕ → ℕ) where
 
   is_audited : (cdl policy : List ℕ) (o : Outcome) → IsAudited m before now cdl policy (Ok o)
       → (report : AuditReport) × (spec : Spec) × (names : LabelNames) × (o ≡ found.Audited report spec names)
-  is_audited cdl policy o audited =
-      let (spec, system, after) = then_ok o audited in
-      let (allowed, read, given) = then_ok o after in
-      let (labels, labelled, (report, is, has)) = then_ok o given in
-      (report, spec, allowed.labels, is)
+  is_audited cdl policy o audited = search (rules, then_ok)
 
   module _ (cdl policy : List ℕ) (report : AuditReport) (spec : Spec) (names : LabelNames)
       (audited : IsAudited m before now cdl policy (Ok (found.Audited report spec names))) where
@@ -105,13 +79,8 @@ module _ (m : Contents) (before now : List ℕ → ℕ) where
         let specs : read_as ≡ spec = cc in
         let reports : shown ≡ report = cc in
         let named : names ≡ allowed.labels = cc in
-        let mine : HasReport spec labels.by_object report = subst (λ z. HasReport z labels.by_object report) specs
-        (subst (λ z. HasReport read_as labels.by_object z) reports has) in
-        let held : HoldSystem m cdl policy spec allowed labels = record {
-          capdl = subst (λ z. HasText m cdl z) specs (system_read m before now cdl policy [] read_as system);
-          text = policy_read m before now cdl policy [] allowed read;
-          labelled = subst (λ z. IsLabelling z allowed (Ok labels)) specs labelled;
-        } in
+        let mine : HasReport spec labels.by_object report = search (rules) in
+        let held : HoldSystem m cdl policy spec allowed labels = search (rules, system_read, policy_read) in
         record {
           allowed = allowed;
           labels = labels;
@@ -139,10 +108,7 @@ module _ (told : Contents → Type 0) (some : (c : Contents) × told c) (before 
 
   told_whole : (Asked : Contents → Result Outcome InputError → Type 0) (answer : Answer)
       → InAll told (λ c. FitsTexts (Asked c) answer) → Tells answer status old new m n → IsTold Asked
-  told_whole Asked (Told outcome) fits tells = elim tells.told [
-    | inl t ↦ record { outcome = outcome; fits = fits; whole = t.1 }
-    | inr t ↦ absurd (zero_not_five status zero t.0)
-  ]
+  told_whole Asked (Told outcome) fits tells = search (rules, zero_not_five)
   told_whole Asked (Refused file fault) fits tells = let e = whole_status (Refused file fault) status old new m n tells zero in
       absurd cc
   told_whole Asked (ReadFault file) fits tells = let e = whole_status (ReadFault file) status old new m n tells zero in absurd cc

@@ -1,4 +1,5 @@
 -- A command over texts tells a failed read only where the count of its file rose.
+use Rattle.std.proofs.Common.{rules}
 use Rattle.camkes_tool.proofs.Common.{Contents, Err, InputError, IsAudited, IsCertified, IsChecked, IsInput, IsPlanned, IsRun, IsTabled, List, Ok, Result, Rose, inl, inr, subst, sym, ℕ, ◌≡◌, ◌⊎◌}
 use Rattle.cam_base.specs.declared.error.Unread.TheVariants.{ReadFault}
 
@@ -24,24 +25,16 @@ module _ (contents : Contents) (before now : List ℕ → ℕ) (file : List ℕ)
   turn_rose name h = then_rose h (input_rose name) (λ bytes none. absurd none)
 
   pub check_rose : (cdl policy cert : List ℕ) → IsChecked contents before now cdl policy cert (Err (ReadFault file)) → FileRose
-  check_rose cdl policy cert h =
-      then_rose h (turn_rose cdl) (λ spec read. then_rose read (turn_rose policy) (λ allowed over.
-      then_rose over (turn_rose cert) (λ edges given. then_rose given (λ told. absurd told) (λ labels a. absurd a))))
+  check_rose cdl policy cert h = search (rules, then_rose, turn_rose)
 
   pub run_rose : (cdl policy steps : List ℕ) → IsRun contents before now cdl policy steps (Err (ReadFault file)) → FileRose
-  run_rose cdl policy steps h =
-      then_rose h (turn_rose cdl) (λ spec read. then_rose read (turn_rose policy) (λ allowed over.
-      then_rose over (turn_rose steps) (λ list given. then_rose given (λ told. absurd told) (λ labels a. absurd a))))
+  run_rose cdl policy steps h = search (rules, then_rose, turn_rose)
 
   pub audit_rose : (cdl policy : List ℕ) → IsAudited contents before now cdl policy (Err (ReadFault file)) → FileRose
-  audit_rose cdl policy h =
-      then_rose h (turn_rose cdl) (λ spec read. then_rose read (turn_rose policy) (λ allowed given.
-      then_rose given (λ told. absurd told) (λ labels a. absurd a)))
+  audit_rose cdl policy h = search (rules, then_rose, turn_rose)
 
   pub certify_rose : (cdl policy : List ℕ) → IsCertified contents before now cdl policy (Err (ReadFault file)) → FileRose
-  certify_rose cdl policy h =
-      then_rose h (turn_rose cdl) (λ spec read. then_rose read (turn_rose policy) (λ allowed given.
-      then_rose given (λ told. absurd told) (λ labels a. absurd a)))
+  certify_rose cdl policy h = search (rules, then_rose, turn_rose)
 
   pub plan_rose : (cdl untypeds : List ℕ) → IsPlanned contents before now cdl untypeds (Err (ReadFault file)) → FileRose
   plan_rose cdl untypeds h =

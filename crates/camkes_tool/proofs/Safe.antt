@@ -1,4 +1,5 @@
 -- A yes of `check` is sound.
+use Rattle.std.proofs.Common.{rules}
 use Rattle.camkes_tool.proofs.Common.{Answer, Bool, Contents, Edge, FitsTexts, Holds, IsChecked, IsPolicy, IsPolicyText, IsSafe, IsSystem, List, Ok, Outcome, Policy, Spec, Stays, Text, cond, false, is_well, is_yes, refl, runs_stay}
 use Rattle.camkes_tool.proofs.Common.{status_of, subst, true, ℕ, ◌≡◌}
 use Rattle.cert_check.specs.Verdicts.{Judged}
@@ -24,18 +25,7 @@ module _ (contents : Contents) (old new : List ℕ → ℕ) (cdl policy cert : L
 
   checked_safe : (outcome : Outcome) → is_well outcome ≡ true → IsChecked contents old new cdl policy cert (Ok outcome)
       → IsSafe contents cdl policy
-  checked_safe outcome well checked =
-      let (spec, system, after) = then_ok outcome checked in
-      let (allowed, text, over) = then_ok outcome after in
-      let (edges, read, given) = then_ok outcome over in
-      let (labels, labelled, said) = then_ok outcome given in
-      record {
-        spec = spec;
-        allowed = allowed;
-        labels = labels;
-        held = record { capdl = system_read spec system; text = policy_read allowed text; labelled = labelled };
-        stays = yes_stays spec labels.by_object allowed.edges edges said.0 (subst (λ o. is_well o ≡ true) said.1 well) said.2;
-      }
+  checked_safe outcome well checked = search (rules, then_ok, system_read, policy_read, yes_stays)
 
   well_of : (b : Bool) → ◌≡◌ {A = ℕ} 0 (cond b 0 3) → b ≡ true
   well_of true e = refl

@@ -1,4 +1,5 @@
 -- Specs of builds are read back: each part by the law of its own layer.
+use Rattle.std.proofs.Common.{rules}
 use Rattle.camkes_tool.proofs.Common.{canonical, one_spec}
 use Rattle.camkes_tool.proofs.BackCommon.{AreFacts, Build, Contents, Images, IsBuildOf, IsSpecReadBack, IsWritable, List, Source, build_facts, can_lay, flat_of, images_beside, made_fit, spec_of, subst, sym, system_tables, ℕ}
 use Rattle.adl_settings.specs.Settled.{settled_of}
@@ -30,8 +31,4 @@ spec_back root contents b is =
     let images = images_beside contents s in
     let w : IsWritable b.spec =
     subst IsWritable (sym is.made.spec_is) (made_writable s images (build_facts root contents b is)) in
-    record {
-      writable = w;
-      text = canonical_text b.spec w;
-      only = λ other t. one_spec (canonical b.spec) other b.spec t (canonical_text b.spec w);
-    }
+    search (rules, canonical_text, one_spec)

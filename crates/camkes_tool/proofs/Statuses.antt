@@ -1,4 +1,5 @@
 -- Statuses are exact where contents are told and nothing failed.
+use Rattle.std.proofs.Common.{rules}
 use Rattle.camkes_tool.proofs.Common.{Answer, AreOneButChoice, Audit, Bool, Build, Certify, Check, Command, Compile, Compiled, Contents, Err, Explain, Explained, Faulted, Fits, FitsCompiled, FitsTexts}
 use Rattle.camkes_tool.proofs.Common.{Generate, Generated, HasFault, HasNoFault, InputError, IsAudited, IsBuildOf, IsCertified, IsChecked, IsExplained, IsGenerated, IsListed, IsPlanned, IsRun, IsStatus, IsStatusOf, IsStatusOfSource, IsStatusOfTexts}
 use Rattle.camkes_tool.proofs.Common.{IsTabled, List, Listed, NoMemory, None, NoneRose, Ok, Option, Outcome, Plan, ReadFault, Refused, Replay, Result, Rose, Sections, Sink, Some, SourceError, Tells, Told, Usage, ap, arith, audited_one}
@@ -56,20 +57,12 @@ of_asked : (m : Contents) (asked : Option Command) (old new : List ℕ → ℕ) 
     → NoneRose old new → status ≡ status_of a → IsStatus m old new asked status
 of_asked m None old new a status x none e = of_usage m old new a status x e
 of_asked m (Some (Compile root base)) old new a status x none e = of_root m root base old new a status x none e
-of_asked m (Some (Check cdl policy cert)) old new a status x none e =
-    of_texts (IsChecked m old new cdl policy cert) a status (λ file h. none file (check_rose m old new file cdl policy cert h)) x
-    e
-of_asked m (Some (ListOf root)) old new a status x none e =
-    of_source Listed (λ listing. true) (λ o. refl) (IsListed root m old new) a status (λ file h. none file h.1)
-    (listed_by (IsListed root m old new) a x) e
-of_asked m (Some (Explain root from authority to)) old new a status x none e =
-    of_source Explained is_assigned (λ o. refl) (IsExplained from authority to root m old new) a status
-    (λ file h. none file h.1) (explained_by (IsExplained from authority to root m old new) a x) e
+of_asked m (Some (Check cdl policy cert)) old new a status x none e = search (rules, of_texts, check_rose)
+of_asked m (Some (ListOf root)) old new a status x none e = search (rules, of_source, listed_by)
+of_asked m (Some (Explain root from authority to)) old new a status x none e = search (rules, of_source, explained_by)
 of_asked m (Some (Replay cdl policy steps)) old new a status x none e =
     of_texts (IsRun m old new cdl policy steps) a status (λ file h. none file (run_rose m old new file cdl policy steps h)) x e
-of_asked m (Some (Generate count)) old new a status x none e =
-    of_source Generated (λ summary. true) (λ o. refl) (IsGenerated count) a status (λ file h. h)
-    (generated_by (IsGenerated count) a x) e
+of_asked m (Some (Generate count)) old new a status x none e = search (rules, of_source, generated_by)
 of_asked m (Some (Audit cdl policy)) old new a status x none e =
     of_texts (IsAudited m old new cdl policy) a status (λ file h. none file (audit_rose m old new file cdl policy h)) x e
 of_asked m (Some (Certify cdl policy)) old new a status x none e =
@@ -83,15 +76,10 @@ pub exact_status : (m : Contents) (asked : Option Command) (old new : List ℕ �
     (sink left : Sink) (before now : ℕ)
     → Fits asked m old new answer → Tells answer status sink left before now → NoneRose old new → ¬ Rose before now
     → IsStatus m old new asked status
-exact_status m asked old new answer status sink left before now fits tells none kept = elim tells.told [
-  | inl t ↦ of_asked m asked old new answer status fits none t.0
-  | inr t ↦ absurd (kept t.1)
-]
+exact_status m asked old new answer status sink left before now fits tells none kept = search (rules, of_asked)
 
 pub sound_or_faulty : (m : Contents) (root : List ℕ) → HasNoFault m root → ¬ HasFault m root
-sound_or_faulty m root sound fault =
-    let s = sound.0 in
-    none_first m root s fault.0 fault.1 sound.1 sound.2 fault.2
+sound_or_faulty m root sound fault = search (rules, none_first)
 
 -- ---- the usage line
 
@@ -117,10 +105,7 @@ not_five e = omega arith
 pub usage_alone : (m : Contents) (asked : Option Command) (old new : List ℕ → ℕ) (answer : Answer) (sink left : Sink)
     (before now : ℕ)
     → Fits asked m old new answer → Tells answer 2 sink left before now → asked ≡ None
-usage_alone m asked old new answer sink left before now fits tells = elim tells.told [
-  | inl t ↦ unread m asked old new (subst (λ a. Fits asked m old new a) (is_usage answer t.0) fits)
-  | inr t ↦ absurd (not_five t.0)
-]
+usage_alone m asked old new answer sink left before now fits tells = search (rules, unread, is_usage, not_five)
 
 -- ---- no two reasons stand together
 
@@ -174,32 +159,16 @@ module _ (first second : ℕ) where
       → IsStatus m later last asked second → AreOneStatus
   asked_one m None old new later last x y = usage_one x y
   asked_one m (Some (Compile root base)) old new later last x y = root_one m root x y
-  asked_one m (Some (Check cdl policy cert)) old new later last x y =
-      texts_one _ _ (but_choice_one (IsChecked m old new cdl policy cert) (IsChecked m later last cdl policy cert)
-      (checked_one m old new later last cdl policy cert)) x y
-  asked_one m (Some (ListOf root)) old new later last x y =
-      source_one (λ listing. true) (IsListed root m old new) (IsListed root m later last)
-      (one_listing m root old new later last) x y
-  asked_one m (Some (Explain root from authority to)) old new later last x y =
-      source_one is_assigned (IsExplained from authority to root m old new) (IsExplained from authority to root m later last)
-      (one_explained m root from authority to old new later last) x y
-  asked_one m (Some (Replay cdl policy steps)) old new later last x y =
-      texts_one _ _ (but_choice_one (IsRun m old new cdl policy steps) (IsRun m later last cdl policy steps)
-      (ran_one m old new later last cdl policy steps)) x y
+  asked_one m (Some (Check cdl policy cert)) old new later last x y = search (rules, texts_one, but_choice_one, checked_one)
+  asked_one m (Some (ListOf root)) old new later last x y = search (rules, source_one, one_listing)
+  asked_one m (Some (Explain root from authority to)) old new later last x y = search (rules, source_one, one_explained)
+  asked_one m (Some (Replay cdl policy steps)) old new later last x y = search (rules, texts_one, but_choice_one, ran_one)
   asked_one m (Some (Generate count)) old new later last x y =
       source_one (λ summary. true) (IsGenerated count) (IsGenerated count) (one_generated count) x y
-  asked_one m (Some (Audit cdl policy)) old new later last x y =
-      texts_one (IsAudited m old new cdl policy) (IsAudited m later last cdl policy)
-      (audited_one m old new later last cdl policy) x y
-  asked_one m (Some (Certify cdl policy)) old new later last x y =
-      texts_one _ _ (but_choice_one (IsCertified m old new cdl policy) (IsCertified m later last cdl policy)
-      (certified_one m old new later last cdl policy)) x y
-  asked_one m (Some (Sections elf)) old new later last x y =
-      texts_one _ _ (but_choice_one (IsTabled m old new elf) (IsTabled m later last elf) (tabled_one m old new later last elf)) x
-      y
-  asked_one m (Some (Plan cdl untypeds)) old new later last x y =
-      texts_one (IsPlanned m old new cdl untypeds) (IsPlanned m later last cdl untypeds)
-      (planned_one m old new later last cdl untypeds) x y
+  asked_one m (Some (Audit cdl policy)) old new later last x y = search (rules, texts_one, audited_one)
+  asked_one m (Some (Certify cdl policy)) old new later last x y = search (rules, texts_one, but_choice_one, certified_one)
+  asked_one m (Some (Sections elf)) old new later last x y = search (rules, texts_one, but_choice_one, tabled_one)
+  asked_one m (Some (Plan cdl untypeds)) old new later last x y = search (rules, texts_one, planned_one)
 
 pub one_status : (m : Contents) (asked : Option Command) (old new later last : List ℕ → ℕ) (first second : ℕ)
     → IsStatus m old new asked first → IsStatus m later last asked second

@@ -1,4 +1,5 @@
 -- What `compile` leaves with status 0 is a sound build, written whole, whose texts are read back.
+use Rattle.std.proofs.Common.{rules}
 use Rattle.camkes_tool.proofs.Common.{Answer, Check, Command, Compile, Compiled, Contents, Faulted, Fits, FitsCompiled, InAll, IsSafe, IsWritten, List, NoMemory, Option, ReadFault, Sink, Some, Tells}
 use Rattle.camkes_tool.proofs.Common.{arith, build_sound, inl, inr, status_of, subst, sym, ℕ, ◌∙◌, ◌≡◌}
 use Rattle.arch_compile.proofs.OfSources.{build_of_source}
@@ -14,10 +15,7 @@ zero_not_five n e h = omega arith
 -- with status 0 the answer was told whole
 pub whole_status : (answer : Answer) (status : ℕ) (old new : Sink) (m n : ℕ) → Tells answer status old new m n → status ≡ 0
     → 0 ≡ status_of answer
-whole_status answer status old new m n tells zero = elim tells.told [
-  | inl t ↦ sym zero ∙ t.0
-  | inr t ↦ absurd (zero_not_five status zero t.0)
-]
+whole_status answer status old new m n tells zero = search (rules, zero_not_five)
 
 module _ (told : Contents → Type 0) (some : (c : Contents) × told c) (before now : List ℕ → ℕ) (root base : List ℕ) (status : ℕ)
     (old new : Sink) (m n : ℕ) (zero : status ≡ 0) where
@@ -30,11 +28,7 @@ module _ (told : Contents → Type 0) (some : (c : Contents) × told c) (before 
       made = λ c is. (fits c is).1;
       named = (fits some.0 some.1).0;
       whole = t.1;
-      read_back = record {
-        spec = spec_back root some.0 b (fits some.0 some.1).1;
-        policy = policy_read root some.0 b (fits some.0 some.1).1;
-        cert = cert_read root some.0 b (fits some.0 some.1).1;
-      };
+      read_back = search (rules, spec_back, policy_read, cert_read);
       as_read = as_read root some.0 b (fits some.0 some.1).1;
       of_source = λ c is. build_of_source root c b (fits c is).1;
       sound = build_sound root some.0 b (fits some.0 some.1).1;
