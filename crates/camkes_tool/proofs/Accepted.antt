@@ -1,8 +1,8 @@
 -- Of files that hold the texts that are written of a build, `check` says yes.
 use Rattle.std.proofs.Common.{rules}
-use Rattle.camkes_tool.proofs.Common.{Answer, Build, Check, Command, Contents, Edge, Err, Fault, Fits, HoldTexts, Holds, HoldsAsRead, InputFault, IsCert, IsCertText, IsChecked, IsInput, IsLabelling, IsPolicy, IsPolicyText, IsReadAs, IsStatus}
-use Rattle.camkes_tool.proofs.Common.{IsStatusOfTexts, IsSystem, IsTold, IsTrioValid, List, None, NoneRose, Ok, Option, Outcome, Policy, Rose, Sink, Some, Spec, Tells, Text, ap, arith, canonical, cert_text, cond, first_cert_fault, inl, inr, is_well}
-use Rattle.camkes_tool.proofs.Common.{is_yes, length, no_fault_of_text, policy_text, same_Some, subst, sym, tell_text, true, ℕ, ◌∙◌, ◌≡◌, ◌≤◌, ◌⊎◌}
+use Rattle.camkes_tool.proofs.Common.{Answer, Build, Check, Command, Contents, Edge, Err, Fault, Fits, HoldTexts, Holds, HoldsAsRead, InputFault, IsCert, IsCertText, IsChecked, IsInput, IsLabelling, IsPolicy, IsPolicyText, IsStatus}
+use Rattle.camkes_tool.proofs.Common.{IsStatusOfTexts, IsSystem, IsTold, IsTrioValid, List, None, NoneRose, Ok, Option, Outcome, Policy, Rose, Sink, Some, Spec, Tells, Text, ap, arith, canonical, cert_text, cond, inl, inr, is_well}
+use Rattle.camkes_tool.proofs.Common.{length, no_fault_of_text, policy_text, same_Some, subst, sym, tell_text, true, ℕ, ◌∙◌, ◌≡◌, ◌≤◌, ◌⊎◌}
 use Rattle.std.proofs.lemmas.Bool.{ltb-false}
 use Rattle.std.specs.FinMap.{get}
 use Rattle.camkes_tool.specs.ReadBack.{AreReadBack}

@@ -1,6 +1,6 @@
 -- Where each object is given a label, no object is without one.
 use Rattle.std.proofs.Common.{rules}
-use Rattle.camkes_tool.proofs.Common.{Build, Err, IsLabelling, IsTrioValid, List, None, Option, Some, [], first_unlabelled, map, object_label, refl, ℕ, ◌∷◌, ◌≡◌}
+use Rattle.camkes_tool.proofs.Common.{Build, Err, IsLabelling, IsTrioValid, List, None, Option, Some, [], first_unlabelled, map, refl, ℕ, ◌∷◌, ◌≡◌}
 use Rattle.cam_base.specs.declared.text_fault.TextFault.{TextFault}
 use Rattle.cam_base.specs.declared.error.Refused.TheVariants as refused
 use Rattle.cap_model.specs.declared.spec.Entry.{Entry}

@@ -1,6 +1,6 @@
 -- What `list` and `explain` leave is what the source assigns over its hierarchy.
 use Rattle.camkes_tool.proofs.Common.{Answer, Command, Contents, Explain, Explained, Faulted, Fits, FitsExplained, FitsListed, InAll, IsAnswerWritten, IsExplained, IsListWritten, IsListed, List, Listed, NoMemory, Option}
-use Rattle.camkes_tool.proofs.Common.{ReadFault, Sink, Some, Tells, inl, inr, listing_text, refl, status_of, subst, sym, ℕ, ◌∙◌, ◌≡◌, ◌≢◌, ◌⊎◌, rules}
+use Rattle.camkes_tool.proofs.Common.{ReadFault, Sink, Some, Tells, inl, inr, refl, status_of, subst, sym, ℕ, ◌∙◌, ◌≡◌, ◌≢◌, ◌⊎◌, rules}
 use Rattle.command_words.specs.declared.command.Command.TheVariants.{List as ListOf}
 use Rattle.source_commands.proofs.OverTree.{answers_whether, lists_assigned}
 use Rattle.camkes_tool.proofs.Written.{whole_status, zero_not_five}

@@ -1,26 +1,19 @@
 -- How many edges a policy and a certificate have.
 use Rattle.std.proofs.Common.{rules}
-use Rattle.camkes_tool.proofs.Common.{one_truth}
-use Rattle.camkes_tool.proofs.BackCommon.{Bool, Domain, Edge, IsCertificateOf, IsFlat, IsIn, IsLockEdge, IsPolicyOf, IsSorted, List, None, Option, Tables, [], ap, arith, assemblies, codes, cond, domain_label, edge, edge_count, false}
-use Rattle.camkes_tool.proofs.BackCommon.{first_edge_fault, gather, has, has_in, in_gather, in_has, in_left, in_map, in_right, inl, inr, length, length-append, ltb-false, map, nat_lt, option_map, refl, slice_get, subst, suc, sym, true, ℕ, ◌*◌, ◌++◌}
+use Rattle.camkes_tool.proofs.BackCommon.{Bool, Domain, Edge, IsCertificateOf, IsFlat, IsIn, IsLockEdge, IsPolicyOf, IsSorted, List, None, Option, Tables, [], arith, assemblies, codes, domain_label, edge, edge_count, false}
+use Rattle.camkes_tool.proofs.BackCommon.{first_edge_fault, gather, has, has_in, in_gather, in_has, in_left, in_map, in_right, inl, inr, length, length-append, ltb-false, map, nat_lt, refl, subst, suc, sym, true, ℕ, ◌*◌, ◌++◌}
 use Rattle.camkes_tool.proofs.BackCommon.{◌+◌, ◌∙◌, ◌∷◌, ◌≡◌, ◌≤◌}
 use Rattle.adl_ast.specs.declared.composition.Assembly.{Assembly}
 use Rattle.adl_meaning.specs.declared.item_at.ItemAt.{ItemAt}
 use Rattle.arch_policy.proofs.Counted.{table_counts}
 use Rattle.arch_policy.proofs.Listed.{triples_are_policy}
-use Rattle.arch_policy.specs.Triples.{triples}
 use Rattle.arch_policy.proofs.Given.{an_authority}
 use Rattle.cap_model.proofs.EdgeOrder.{edges_same}
 use Rattle.authorities.specs.Authorities.{authorities}
-use Rattle.cam_base.specs.declared.place.Fault.{Fault}
-use Rattle.cspace_layout.specs.Limit.{fault_at, limit_fault, place_in}
 use Rattle.reach_laws.proofs.EndLabels.{lock_domain}
 use Rattle.cap_model.proofs.EdgeLists.{no_more}
 
 -- ---- the policy
-
-abbrev limit_fault_at : List (ItemAt × Assembly) → Option Fault
-limit_fault_at found = option_map (λ place. fault_at place (codes "edges")) (place_in (slice_get found 0))
 
 few_triples : (t : Tables) (a : ItemAt × Assembly) → assemblies t.source ≡ a ∷ [] → first_edge_fault t ≡ None
     → edge_count t ≤ 200000

@@ -1,7 +1,7 @@
 -- Where the capDL and the policy that are read are written of a build, an audit has the edges that are listed of its source, and
 -- the least certificate is the build's.
 use Rattle.std.proofs.Common.{rules}
-use Rattle.camkes_tool.proofs.Common.{Build, Contents, Edge, HoldBuild, HoldSystem, IsListText, IsPolicyText, IsReadAs, LabelNames, List, Policy, Spec, Step, Text, ap, apart_lines, build_sound, canonical, object_labels, one_truth, policy_text}
+use Rattle.camkes_tool.proofs.Common.{Build, Contents, Edge, HoldBuild, HoldSystem, IsListText, IsReadAs, LabelNames, List, Policy, Spec, Step, ap, apart_lines, build_sound, object_labels, one_truth}
 use Rattle.camkes_tool.proofs.Common.{same_Some, subst, sym, ℕ, ◌∙◌, ◌≡◌}
 use Rattle.cap_model.proofs.TableMembers.{one_table}
 use Rattle.cap_model.specs.Tables.{IsSorted, has}

@@ -1,9 +1,9 @@
 -- For the same words and contents there is one answer, aside from failed reads and want of memory.
 use Rattle.camkes_tool.proofs.Common.{Answer, AreNamedBy, AreOne, AreOneButChoice, Audit, Build, Certify, Check, Command, Compile, Compiled, Contents, Err, Explain, Explained, Faulted, Fits, FitsCompiled, FitsExplained, FitsGenerated, rules}
-use Rattle.camkes_tool.proofs.Common.{FitsListed, FitsTexts, Generate, Generated, InputError, IsAudited, IsCertified, IsChecked, IsExplained, IsGenerated, IsListed, IsPlanned, IsRun, IsTabled, List, Listed, Listing, NoMemory, None, Ok, Option}
-use Rattle.camkes_tool.proofs.Common.{Outcome, Plan, ReadFault, Refused, Replay, Result, Sections, Sink, Some, SourceError, Summary, Tells, TextNames, Told, Usage, Write, [], after, answer_but_choice, ap, arith, audited_one, build_first}
-use Rattle.camkes_tool.proofs.Common.{builds_same, but_choice, certified_one, checked_one, cond, false, inl, inr, is_chosen, is_well, leaves_choice, one_explained, one_first, one_listing, planned_one}
-use Rattle.camkes_tool.proofs.Common.{ran_one, refl, script, status_of, subst, sym, tabled_one, text_of, texts_script, ℕ, ◌∙◌, ◌∷◌, ◌≡◌, ◌≤◌, ◌⊎◌}
+use Rattle.camkes_tool.proofs.Common.{FitsListed, FitsTexts, Generate, Generated, InputError, List, Listed, Listing, NoMemory, None, Ok, Option}
+use Rattle.camkes_tool.proofs.Common.{Outcome, Plan, ReadFault, Refused, Replay, Result, Sections, Sink, Some, SourceError, Summary, Tells, TextNames, Told, Usage, [], after, answer_but_choice, ap, arith, audited_one, build_first}
+use Rattle.camkes_tool.proofs.Common.{builds_same, but_choice, certified_one, checked_one, false, inl, inr, is_chosen, is_well, leaves_choice, one_explained, one_first, one_listing, planned_one}
+use Rattle.camkes_tool.proofs.Common.{ran_one, refl, script, status_of, subst, sym, tabled_one, texts_script, ℕ, ◌∙◌, ◌∷◌, ◌≡◌, ◌≤◌, ◌⊎◌}
 use Rattle.cam_base.specs.declared.place.Fault.{Fault}
 use Rattle.command_words.specs.declared.command.Command.TheVariants.{List as ListOf}
 use Rattle.cam_base.specs.Unread as errors

@@ -1,7 +1,6 @@
 -- What generating answers is one, aside from want of memory.
 use Rattle.std.proofs.Common.{rules}
-use Rattle.camkes_tool.proofs.Common.{Build, Err, IsGenerated, Ok, Result, SourceError, Summary, ap, build_first, builds_same, false, generated, one_first, root_name, sym, yields, ℕ, ◌∙◌, ◌≡◌}
-use Rattle.arch_compile.specs.Summary.{summary_of}
+use Rattle.camkes_tool.proofs.Common.{Err, IsGenerated, Ok, Result, SourceError, Summary, ap, build_first, builds_same, false, generated, one_first, root_name, yields, ℕ, ◌∙◌, ◌≡◌}
 use Rattle.front_end.proofs.OneAnswer.{faults_same}
 use Rattle.cam_base.specs.declared.error.Unread.TheVariants as error
 

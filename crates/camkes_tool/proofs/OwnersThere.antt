@@ -1,7 +1,7 @@
 -- Each object of connected tables belongs to a domain, a connection or a device that is there and has a label.
 use Rattle.std.proofs.Common.{rules}
 use Rattle.camkes_tool.proofs.Common.{Tables}
-use Rattle.camkes_tool.proofs.BackCommon.{Bool, Entry, FlatConnection, FlatEnd, IsIn, None, OfConnection, OfLeaf, Option, Owner, Some, [], ap, cond, false, frame_owner, from_gather, from_map, in_append, in_place, inl, inr, irq_owner, label_of}
+use Rattle.camkes_tool.proofs.BackCommon.{Bool, Entry, FlatConnection, FlatEnd, IsIn, None, OfConnection, OfLeaf, Option, Owner, Some, [], ap, false, frame_owner, from_gather, from_map, in_append, in_place, inl, inr, irq_owner, label_of}
 use Rattle.camkes_tool.proofs.BackCommon.{number_of, option_map_or, range_with_len, refl, slice_get, spec_of, subst, sym, true, ℕ, ◌∙◌, ◌≡◌}
 use Rattle.adl_meaning.specs.declared.connector.Connector.{Connector}
 use Rattle.adl_meaning.specs.declared.connector.Connector.TheVariants.{SharedMemory, Interrupt}
@@ -12,15 +12,11 @@ use Rattle.spec_laws.proofs.Mapped.{at_registers}
 use Rattle.spec_laws.proofs.Whose.{device_at, entry_is, label_there, labels, owner_of}
 use Rattle.spec_laws.specs.Connected.{IsConnected}
 use Rattle.spec_laws.specs.Policy.{given_tables}
-use Rattle.system_spec.proofs.There.{IsDomain, IsThere, Notifies}
+use Rattle.system_spec.proofs.There.{IsThere, Notifies}
 use Rattle.system_spec.specs.declared.part.What.{What}
 use Rattle.system_spec.specs.declared.part.What.TheVariants.{CNodeOf, EndpointOf, NotificationOf, IrqOf, FrameOf}
-use Rattle.vspace_layout.specs.Frames.{connection_frames, device_frame, device_frames, frame, frames, frames_at, is_first, memory_part, own_frame, own_frames, own_part, register_frames, register_part, shared_frames, shared_part}
-use Rattle.vspace_layout.specs.MappedPages.{mapped_pages}
-use Rattle.vspace_layout.specs.Memory.{is_shared, memory_paddr, memory_pages, registers}
-use Rattle.vspace_layout.specs.declared.mapped.MappedPage.{MappedPage}
-use Rattle.vspace_layout.specs.declared.mapped.Shown.{Shown}
-use Rattle.vspace_layout.specs.declared.mapped.Shown.TheVariants.{Own, Memory}
+use Rattle.vspace_layout.specs.Frames.{frames, memory_part, own_part, register_part, shared_part}
+use Rattle.vspace_layout.specs.Memory.{is_shared, registers}
 use Rattle.vspace_layout.specs.declared.owner.Owner.TheVariants as owners
 use Rattle.vspace_layout.specs.declared.spaces.FrameInfo.{FrameInfo}
 use Rattle.vspace_layout.specs.declared.spaces.Spaces.{Spaces}

@@ -2,7 +2,7 @@
 -- A connection joins an interface of a leaf below its composition.
 use Rattle.std.proofs.Common.{rules}
 use Rattle.camkes_tool.proofs.BackCommon.{AreNamesSound, Domain, FlatConnection, FlatEnd, HasPath, IsIn, List, None, OfConnection, OfDomain, OfLeaf, Option, Owner, Path, Placed, Some, Source, [], ap, arith, flat_domain, flat_end, flat_ends, flat_of}
-use Rattle.camkes_tool.proofs.BackCommon.{from_filter_map, from_get_map, in_map, in_place, inl, inr, le-max_left, le-max_right, leaf_of, leaves, length, length-append, map, map_some, option_map, place_of, refl, subst, sym, unwrap_or, ℕ, ◌++◌, ◌+◌}
+use Rattle.camkes_tool.proofs.BackCommon.{from_filter_map, from_get_map, in_map, in_place, inl, inr, le-max_left, le-max_right, leaf_of, leaves, length, length-append, map_some, option_map, place_of, refl, subst, sym, unwrap_or, ℕ, ◌++◌, ◌+◌}
 use Rattle.camkes_tool.proofs.BackCommon.{◌∙◌, ◌∷◌, ◌≡◌, ◌≤◌}
 use Rattle.adl_ast.specs.declared.composition.End.{End}
 use Rattle.adl_ast.specs.declared.composition.Role.TheVariants.{From}
@@ -16,7 +16,6 @@ use Rattle.adl_meaning.specs.Hierarchy.{Hierarchy, hierarchy_of, top_number}
 use Rattle.adl_meaning.specs.JoinFaults.{first_flat_fault, first_join_fault}
 use Rattle.adl_meaning.specs.Joins.{Strung, connections, joined_by}
 use Rattle.adl_meaning.specs.SizeFaults.{first_size_fault, longest}
-use Rattle.adl_meaning.specs.declared.flat.Leaf.{Leaf}
 use Rattle.adl_types.specs.TypeFaults.{first_type_fault}
 use Rattle.flat_laws.proofs.FewEnds.{no_first}
 use Rattle.flat_laws.proofs.FlatEnds.{strung_of}

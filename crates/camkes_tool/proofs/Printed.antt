@@ -1,8 +1,8 @@
 -- What `certify`, `sections` and `audit` leave with status 0.
 use Rattle.std.proofs.Common.{rules}
-use Rattle.camkes_tool.proofs.Common.{Answer, Audit, Certify, Command, Contents, Edge, Fits, FitsTexts, HoldSystem, Holds, InAll, InputError, IsAudited, IsCertificateWritten, IsCertified, IsLabelling}
+use Rattle.camkes_tool.proofs.Common.{Answer, Audit, Certify, Command, Contents, Edge, Fits, FitsTexts, HoldSystem, Holds, InAll, InputError, IsAudited, IsCertificateWritten, IsCertified}
 use Rattle.camkes_tool.proofs.Common.{IsLeastOf, IsReportOf, IsReportWritten, IsTableOf, IsTableWritten, IsTabled, LabelNames, List, NoMemory, Ok, Option, Outcome, ReadFault, Refused, Result, SaysYes, Sections, Sink, Some, Spec, Tells, Text}
-use Rattle.camkes_tool.proofs.Common.{Told, [], appended, cert_text, inl, inr, subst, text_of, ℕ, ◌≡◌}
+use Rattle.camkes_tool.proofs.Common.{Told, [], appended, cert_text, inr, subst, text_of, ℕ, ◌≡◌}
 use Rattle.cap_audit.specs.declared.report.AuditReport.{AuditReport}
 use Rattle.sect_table.specs.Elf.{Elf}
 use Rattle.std.specs.Prelude.{codes}

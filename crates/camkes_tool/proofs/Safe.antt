@@ -1,7 +1,7 @@
 -- A yes of `check` is sound.
 use Rattle.std.proofs.Common.{rules}
 use Rattle.camkes_tool.proofs.Common.{Answer, Bool, Contents, Edge, FitsTexts, Holds, IsChecked, IsPolicy, IsPolicyText, IsSafe, IsSystem, List, Ok, Outcome, Policy, Spec, Stays, Text, cond, false, is_well, is_yes, refl, runs_stay}
-use Rattle.camkes_tool.proofs.Common.{status_of, subst, true, ℕ, ◌≡◌}
+use Rattle.camkes_tool.proofs.Common.{status_of, true, ℕ, ◌≡◌}
 use Rattle.cert_check.specs.Verdicts.{Judged}
 use Rattle.cert_check.specs.declared.verdict.Verdict.{Verdict}
 use Rattle.cert_check.specs.declared.verdict.Verdict.TheVariants.{Yes, No}

@@ -1,6 +1,6 @@
 -- Specs of builds are read back: each part by the law of its own layer.
 use Rattle.std.proofs.Common.{rules}
-use Rattle.camkes_tool.proofs.Common.{canonical, one_spec}
+use Rattle.camkes_tool.proofs.Common.{one_spec}
 use Rattle.camkes_tool.proofs.BackCommon.{AreFacts, Build, Contents, Images, IsBuildOf, IsSpecReadBack, IsWritable, List, Source, build_facts, can_lay, flat_of, images_beside, made_fit, spec_of, subst, sym, system_tables, ℕ}
 use Rattle.adl_settings.specs.Settled.{settled_of}
 use Rattle.capdl_write.proofs.Whole.{canonical_text}

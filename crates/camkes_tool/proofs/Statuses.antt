@@ -1,9 +1,9 @@
 -- Statuses are exact where contents are told and nothing failed.
 use Rattle.std.proofs.Common.{rules}
 use Rattle.camkes_tool.proofs.Common.{Answer, AreOneButChoice, Audit, Bool, Build, Certify, Check, Command, Compile, Compiled, Contents, Err, Explain, Explained, Faulted, Fits, FitsCompiled, FitsTexts}
-use Rattle.camkes_tool.proofs.Common.{Generate, Generated, HasFault, HasNoFault, InputError, IsAudited, IsBuildOf, IsCertified, IsChecked, IsExplained, IsGenerated, IsListed, IsPlanned, IsRun, IsStatus, IsStatusOf, IsStatusOfSource, IsStatusOfTexts}
-use Rattle.camkes_tool.proofs.Common.{IsTabled, List, Listed, NoMemory, None, NoneRose, Ok, Option, Outcome, Plan, ReadFault, Refused, Replay, Result, Rose, Sections, Sink, Some, SourceError, Tells, Told, Usage, ap, arith, audited_one}
-use Rattle.camkes_tool.proofs.Common.{but_choice, certified_one, checked_one, cond, false, inl, inr, is_assigned, is_well, none_first, one_explained, one_listing, planned_one, ran_one, refl, status_of, sym, tabled_one, true, ℕ, ◌∙◌, ◌≡◌, subst, ◌⊎◌}
+use Rattle.camkes_tool.proofs.Common.{Generate, HasFault, HasNoFault, InputError, IsAudited, IsBuildOf, IsCertified, IsGenerated, IsPlanned, IsRun, IsStatus, IsStatusOf, IsStatusOfSource, IsStatusOfTexts}
+use Rattle.camkes_tool.proofs.Common.{IsTabled, List, NoMemory, None, NoneRose, Ok, Option, Outcome, Plan, ReadFault, Refused, Replay, Result, Rose, Sections, Sink, Some, SourceError, Tells, Told, Usage, ap, arith, audited_one}
+use Rattle.camkes_tool.proofs.Common.{but_choice, certified_one, checked_one, cond, false, inl, inr, is_assigned, is_well, none_first, one_explained, one_listing, planned_one, ran_one, refl, status_of, sym, tabled_one, true, ℕ, ◌∙◌, ◌≡◌, ◌⊎◌}
 use Rattle.command_words.specs.declared.command.Command.TheVariants.{List as ListOf}
 use Rattle.cam_base.specs.declared.error.Unread.TheVariants as errors
 use Rattle.cam_base.specs.declared.place.Fault.{Fault}

@@ -1,7 +1,7 @@
 -- What `compile` leaves with status 0 is a sound build, written whole, whose texts are read back.
 use Rattle.std.proofs.Common.{rules}
 use Rattle.camkes_tool.proofs.Common.{Answer, Check, Command, Compile, Compiled, Contents, Faulted, Fits, FitsCompiled, InAll, IsSafe, IsWritten, List, NoMemory, Option, ReadFault, Sink, Some, Tells}
-use Rattle.camkes_tool.proofs.Common.{arith, build_sound, inl, inr, status_of, subst, sym, ℕ, ◌∙◌, ◌≡◌}
+use Rattle.camkes_tool.proofs.Common.{arith, build_sound, inl, inr, status_of, subst, ℕ, ◌∙◌, ◌≡◌}
 use Rattle.arch_compile.proofs.OfSources.{build_of_source}
 use Rattle.camkes_tool.proofs.Safe.{answered_safe}
 use Rattle.camkes_tool.proofs.SpecBack.{spec_back}
